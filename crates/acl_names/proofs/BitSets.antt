@@ -1,0 +1,98 @@
+-- Sets of bits: what the operations leave of a bit, and sets with the same bits.
+use Rattle.std.proofs.Common.{◌≡◌, ℕ, zero, suc, ◌+◌, ◌^◌, ◌<◌, ◌≤◌, min, max, Bool, true, false, cond, not, ◌&&◌, ◌||◌, refl, sym, ap, ◌∙◌, arith, lit<, ◌-◌, inl, inr, ◌⊎◌}
+use mir.Val.{bits}
+use Rattle.std.specs.Int.{bit_at, bit_not, Width}
+use Rattle.std.specs.Prelude.{bit_and, bit_or, ◌%◌, ◌==◌}
+use Rattle.std.proofs.lemmas.Nat.Bits.{bit_at_and, bit_at_or, bit_at_xor, bit_at-lt, bit_at-zero, same_from_bits, bit_at_above, bit_at_not}
+use Rattle.std.proofs.lemmas.Bool.{true≢false, cases_lt}
+use Rattle.acl_names.specs.Bits.{has, without}
+
+one_of_min : (x y : ℕ) → x < 2 → y < 2 → (min x y == 1) ≡ ((x == 1) && (y == 1))
+one_of_min zero zero p q = refl
+one_of_min zero (suc zero) p q = refl
+one_of_min (suc zero) zero p q = refl
+one_of_min (suc zero) (suc zero) p q = refl
+one_of_min (suc (suc x)) y p q = absurd (omega arith)
+one_of_min zero (suc (suc y)) p q = absurd (omega arith)
+one_of_min (suc zero) (suc (suc y)) p q = absurd (omega arith)
+
+one_of_max : (x y : ℕ) → x < 2 → y < 2 → (max x y == 1) ≡ ((x == 1) || (y == 1))
+one_of_max zero zero p q = refl
+one_of_max zero (suc zero) p q = refl
+one_of_max (suc zero) zero p q = refl
+one_of_max (suc zero) (suc zero) p q = refl
+one_of_max (suc (suc x)) y p q = absurd (omega arith)
+one_of_max zero (suc (suc y)) p q = absurd (omega arith)
+one_of_max (suc zero) (suc (suc y)) p q = absurd (omega arith)
+
+one_of_difference : (x y : ℕ) → x < 2 → y < 2 → ((x + min x y) % 2 == 1) ≡ ((x == 1) && not (y == 1))
+one_of_difference zero zero p q = refl
+one_of_difference zero (suc zero) p q = refl
+one_of_difference (suc zero) zero p q = refl
+one_of_difference (suc zero) (suc zero) p q = refl
+one_of_difference (suc (suc x)) y p q = absurd (omega arith)
+one_of_difference zero (suc (suc y)) p q = absurd (omega arith)
+one_of_difference (suc zero) (suc (suc y)) p q = absurd (omega arith)
+
+same_digit : (x y : ℕ) → x < 2 → y < 2 → (x == 1) ≡ (y == 1) → x ≡ y
+same_digit zero zero p q e = refl
+same_digit zero (suc zero) p q e = absurd (true≢false (sym e))
+same_digit (suc zero) zero p q e = absurd (true≢false e)
+same_digit (suc zero) (suc zero) p q e = refl
+same_digit (suc (suc x)) y p q e = absurd (omega arith)
+same_digit zero (suc (suc y)) p q e = absurd (omega arith)
+same_digit (suc zero) (suc (suc y)) p q e = absurd (omega arith)
+
+pub has-and : (a b k : ℕ) → has (bit_and a b) k ≡ (has a k && has b k)
+unfolding has
+has-and a b k = ap (λ x. x == 1) (bit_at_and a b k) ∙ one_of_min _ _ (bit_at-lt a k) (bit_at-lt b k)
+
+pub has-or : (a b k : ℕ) → has (bit_or a b) k ≡ (has a k || has b k)
+unfolding has
+has-or a b k = ap (λ x. x == 1) (bit_at_or a b k) ∙ one_of_max _ _ (bit_at-lt a k) (bit_at-lt b k)
+
+pub has-without : (a b k : ℕ) → has (without a b) k ≡ (has a k && not (has b k))
+unfolding has without
+has-without a b k =
+    ap (λ x. x == 1) (bit_at_xor a (bit_and a b) k)
+    ∙ ap (λ x. (bit_at a k + x) % 2 == 1) (bit_at_and a b k)
+    ∙ one_of_difference _ _ (bit_at-lt a k) (bit_at-lt b k)
+
+pub has-zero : (k : ℕ) → has 0 k ≡ false
+unfolding has
+has-zero k = ap (λ x. x == 1) (bit_at-zero k)
+
+pub has-above : (n set k : ℕ) → set < 2 ^ n → n ≤ k → has set k ≡ false
+unfolding has
+has-above n set k small above = ap (λ x. x == 1) (bit_at_above set n k small above)
+
+-- sets with the same bits are the same
+pub same_bits : (a b : ℕ) → ((k : ℕ) → has a k ≡ has b k) → a ≡ b
+unfolding has
+same_bits a b same = same_from_bits a b (λ k. same_digit _ _ (bit_at-lt a k) (bit_at-lt b k) (same k))
+
+-- a set with no bit is empty
+pub no_bits : (a : ℕ) → ((k : ℕ) → has a k ≡ false) → a ≡ 0
+no_bits a none = same_bits a 0 (λ k. none k ∙ sym (has-zero k))
+
+not_digit : (y : ℕ) → y < 2 → (1 - y == 1) ≡ not (y == 1)
+not_digit zero small = refl
+not_digit (suc zero) small = refl
+not_digit (suc (suc y)) small = absurd (omega arith)
+
+has-bit_not : (w : Width) (set k : ℕ) → set < 2 ^ bits w → k < bits w → has (bit_not w set) k ≡ not (has set k)
+unfolding has
+has-bit_not w set k small below = ap (λ x. x == 1) (bit_at_not w set k small below) ∙ not_digit (bit_at set k) (bit_at-lt set k)
+
+-- `set & !removed` at a width
+pub and_not : (w : Width) (set removed : ℕ) → set < 2 ^ bits w → removed < 2 ^ bits w → bit_and set (bit_not w removed) ≡ without set removed
+and_not w set removed small_set small_removed = same_bits _ _ (λ k. has-and set (bit_not w removed) k ∙ go k (cases_lt k (bits w)) ∙ sym (has-without set removed k))
+  where
+    inside : (k : ℕ) → k < bits w → has (bit_not w removed) k ≡ not (has removed k)
+    inside k below = has-bit_not w removed k small_removed below
+
+    go : (k : ℕ) → (k < bits w) ⊎ (bits w ≤ k) → (has set k && has (bit_not w removed) k) ≡ (has set k && not (has removed k))
+    go k (inl below) = ap (λ b. has set k && b) (inside k below)
+    go k (inr above) =
+        let none : has set k ≡ false = has-above (bits w) set k small_set above in
+        ap (λ b. b && has (bit_not w removed) k) none ∙ sym (ap (λ b. b && not (has removed k)) none)

@@ -1,0 +1,9 @@
+pub mod Cutting
+pub mod ListTextLemmas
+pub mod Decimals
+pub mod NameLemmas
+pub mod PlainLines
+pub mod IdRoundTrip
+pub mod Fields
+pub mod BitSets
+pub mod AnyLemmas

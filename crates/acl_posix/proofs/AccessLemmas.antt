@@ -1,0 +1,184 @@
+-- The access check, case by case.
+use Rattle.std.proofs.Common.{◌≡◌, ◌∙◌, ℕ, Bool, true, false, ◌&&◌, ◌==◌, cond, List, [], ◌∷◌, Option, refl, ap, arith}
+use Rattle.std.specs.List.{list_any, filter}
+use Rattle.std.specs.Option.{option_map_or}
+use Rattle.std.proofs.lemmas.Bool.{false≢true, lt-ltb}
+use Rattle.acl_names.specs.Requester.{Identity, is_in_group}
+use Rattle.acl_posix.specs.declared.entry.Tag.{Tag}
+use Rattle.acl_posix.specs.declared.entry.Tag.TheVariants.{UserObj, User, GroupObj, Group, Mask, Other}
+use Rattle.acl_posix.specs.Entry.{Triple, same_tag, perms_of}
+use Rattle.acl_names.specs.Bits.{has_all}
+use Rattle.acl_posix.specs.Validity.{IsValid, count_of}
+use Rattle.acl_posix.specs.Access.{is_for_group_of, first_nonempty, is_under_mask, masked, effective_perms, grants}
+use Rattle.acl_posix.proofs.AnyLemmas.{list_any-agree, list_any-filter, list_any-and, filter-none}
+use Rattle.acl_posix.proofs.CountLemmas.{list_any-count_by}
+use Rattle.acl_posix.proofs.PermsLemmas.{and_true, has_all-masked}
+
+-- whether there is an entry with the tag, and whether one has the whole of the request
+abbrev pub has_tag : Tag → List Triple → Bool
+has_tag tag acl = list_any (λ entry. same_tag entry.tag tag) acl
+
+abbrev pub tag_has : Tag → List Triple → ℕ → Bool
+tag_has tag acl request = list_any (λ entry. same_tag entry.tag tag && has_all entry.perms request) acl
+
+-- the same of the entries for the groups of the requester
+abbrev pub has_group : Identity → ℕ → List Triple → Bool
+has_group requester group acl = list_any (λ entry. is_for_group_of requester group entry.tag) acl
+
+abbrev pub group_has : Identity → ℕ → List Triple → ℕ → Bool
+group_has requester group acl request = list_any (λ entry. is_for_group_of requester group entry.tag && has_all entry.perms request) acl
+
+-- whether the mask, where there is one, has the whole of the request
+abbrev pub mask_allows : List Triple → ℕ → Bool
+mask_allows acl request = option_map_or (λ mask. has_all mask request) (perms_of Mask acl) true
+
+-- the effective permissions of an entry with the tag, under the mask
+abbrev effective_under : Option ℕ → Tag → ℕ → ℕ
+effective_under mask tag perms = cond (is_under_mask tag) (masked mask perms) perms
+
+owner_entry : (mask : Option ℕ) (tag : Tag) (perms request : ℕ)
+    → (same_tag tag UserObj && has_all (effective_under mask tag perms) request) ≡ (same_tag tag UserObj && has_all perms request)
+owner_entry mask UserObj perms request = refl
+owner_entry mask (User uid) perms request = refl
+owner_entry mask GroupObj perms request = refl
+owner_entry mask (Group gid) perms request = refl
+owner_entry mask Mask perms request = refl
+owner_entry mask Other perms request = refl
+
+other_entry : (mask : Option ℕ) (tag : Tag) (perms request : ℕ)
+    → (same_tag tag Other && has_all (effective_under mask tag perms) request) ≡ (same_tag tag Other && has_all perms request)
+other_entry mask UserObj perms request = refl
+other_entry mask (User uid) perms request = refl
+other_entry mask GroupObj perms request = refl
+other_entry mask (Group gid) perms request = refl
+other_entry mask Mask perms request = refl
+other_entry mask Other perms request = refl
+
+under : (mask : Option ℕ) (b : Bool) (perms request : ℕ)
+    → (b && has_all (masked mask perms) request) ≡ ((b && has_all perms request) && option_map_or (λ limit. has_all limit request) mask true)
+under mask true perms request = has_all-masked mask perms request
+under mask false perms request = refl
+
+user_entry : (mask : Option ℕ) (uid : ℕ) (tag : Tag) (perms request : ℕ)
+    → (same_tag tag (User uid) && has_all (effective_under mask tag perms) request)
+    ≡ ((same_tag tag (User uid) && has_all perms request) && option_map_or (λ limit. has_all limit request) mask true)
+user_entry mask uid UserObj perms request = refl
+user_entry mask uid (User other) perms request = under mask (other == uid) perms request
+user_entry mask uid GroupObj perms request = refl
+user_entry mask uid (Group gid) perms request = refl
+user_entry mask uid Mask perms request = refl
+user_entry mask uid Other perms request = refl
+
+group_entry : (mask : Option ℕ) (requester : Identity) (group : ℕ) (tag : Tag) (perms request : ℕ)
+    → (is_for_group_of requester group tag && has_all (effective_under mask tag perms) request)
+    ≡ ((is_for_group_of requester group tag && has_all perms request) && option_map_or (λ limit. has_all limit request) mask true)
+group_entry mask requester group UserObj perms request = refl
+group_entry mask requester group (User uid) perms request = refl
+group_entry mask requester group GroupObj perms request = under mask (is_in_group requester group) perms request
+group_entry mask requester group (Group gid) perms request = under mask (is_in_group requester gid) perms request
+group_entry mask requester group Mask perms request = refl
+group_entry mask requester group Other perms request = refl
+
+-- a first list with a member is the first that isn't empty
+first : (entries : List Triple) (rest : List (List Triple)) → list_any (λ _. true) entries ≡ true → first_nonempty (entries ∷ rest) ≡ entries
+first [] rest some = absurd (false≢true some)
+first (entry ∷ entries) rest some = refl
+
+only : (entries : List Triple) → first_nonempty (entries ∷ []) ≡ entries
+only [] = refl
+only (entry ∷ entries) = refl
+
+first_kept : (p : Triple → Bool) (acl : List Triple) (rest : List (List Triple)) → list_any p acl ≡ true
+    → first_nonempty (filter p acl ∷ rest) ≡ filter p acl
+first_kept p acl rest some =
+    first (filter p acl) rest
+    (list_any-filter p (λ _. true) acl ∙ list_any-agree (λ e. p e && true) p (λ e. and_true (p e)) acl ∙ some)
+
+first_dropped : (p : Triple → Bool) (acl : List Triple) (rest : List (List Triple)) → list_any p acl ≡ false
+    → first_nonempty (filter p acl ∷ rest) ≡ first_nonempty rest
+first_dropped p acl rest none = ap (λ entries. first_nonempty (entries ∷ rest)) (filter-none p acl none)
+
+-- whether one of these has the whole of the request in its effective permissions
+abbrev one_has : List Triple → ℕ → List Triple → Bool
+one_has acl request entries = list_any (λ entry. has_all (effective_perms acl entry) request) entries
+
+-- in a valid list there is an entry for the owner
+pub has_tag-valid : (acl : List Triple) → IsValid acl → has_tag UserObj acl ≡ true
+has_tag-valid acl valid =
+    let one = valid.user_obj in
+    list_any-count_by (λ (entry : Triple). same_tag entry.tag UserObj) acl ∙ lt-ltb 0 (count_of UserObj acl) (omega arith)
+
+module _ (acl : List Triple) (owner group : ℕ) (requester : Identity) (request : ℕ) where
+  abbrev is_for_owner : Triple → Bool
+  is_for_owner entry = same_tag entry.tag UserObj
+
+  abbrev is_for_user : Triple → Bool
+  is_for_user entry = same_tag entry.tag (User requester.uid)
+
+  abbrev is_for_group : Triple → Bool
+  is_for_group entry = is_for_group_of requester group entry.tag
+
+  abbrev is_for_others : Triple → Bool
+  is_for_others entry = same_tag entry.tag Other
+
+  abbrev has_effective : Triple → Bool
+  has_effective entry = has_all (effective_perms acl entry) request
+
+  abbrev has_own : Triple → Bool
+  has_own entry = has_all entry.perms request
+
+  abbrev groups_on : List (List Triple)
+  groups_on = filter is_for_group acl ∷ filter is_for_others acl ∷ []
+
+  -- the owner's own entry decides
+  pub grants-owner : (requester.uid == owner) ≡ true → has_tag UserObj acl ≡ true
+      → grants acl owner group requester request ≡ tag_has UserObj acl request
+  grants-owner is_owner some =
+      ap (λ b. one_has acl request (first_nonempty (cond b (filter is_for_owner acl) [] ∷ filter is_for_user acl ∷ groups_on))) is_owner
+      ∙ ap (one_has acl request) (first_kept is_for_owner acl (filter is_for_user acl ∷ groups_on) some)
+      ∙ list_any-filter is_for_owner has_effective acl
+      ∙ list_any-agree (λ e. is_for_owner e && has_effective e) (λ e. is_for_owner e && has_own e)
+      (λ e. owner_entry (perms_of Mask acl) e.tag e.perms request) acl
+
+  -- past the owner, the lists that are left decide
+  past_owner : (requester.uid == owner) ≡ false
+      → grants acl owner group requester request ≡ one_has acl request (first_nonempty (filter is_for_user acl ∷ groups_on))
+  past_owner not_owner =
+      ap (λ b. one_has acl request (first_nonempty (cond b (filter is_for_owner acl) [] ∷ filter is_for_user acl ∷ groups_on))) not_owner
+
+  past_user : (requester.uid == owner) ≡ false → has_tag (User requester.uid) acl ≡ false
+      → grants acl owner group requester request ≡ one_has acl request (first_nonempty groups_on)
+  past_user not_owner no_user =
+      past_owner not_owner ∙ ap (one_has acl request) (first_dropped is_for_user acl groups_on no_user)
+
+  -- the entry of the user decides
+  pub grants-user : (requester.uid == owner) ≡ false → has_tag (User requester.uid) acl ≡ true
+      → grants acl owner group requester request ≡ (tag_has (User requester.uid) acl request && mask_allows acl request)
+  grants-user not_owner some =
+      past_owner not_owner
+      ∙ ap (one_has acl request) (first_kept is_for_user acl groups_on some)
+      ∙ list_any-filter is_for_user has_effective acl
+      ∙ list_any-agree (λ e. is_for_user e && has_effective e) (λ e. (is_for_user e && has_own e) && mask_allows acl request)
+      (λ e. user_entry (perms_of Mask acl) requester.uid e.tag e.perms request) acl
+      ∙ list_any-and (λ e. is_for_user e && has_own e) (mask_allows acl request) acl
+
+  -- the entries of the requester's groups decide
+  pub grants-group : (requester.uid == owner) ≡ false → has_tag (User requester.uid) acl ≡ false → has_group requester group acl ≡ true
+      → grants acl owner group requester request ≡ (group_has requester group acl request && mask_allows acl request)
+  grants-group not_owner no_user some =
+      past_user not_owner no_user
+      ∙ ap (one_has acl request) (first_kept is_for_group acl (filter is_for_others acl ∷ []) some)
+      ∙ list_any-filter is_for_group has_effective acl
+      ∙ list_any-agree (λ e. is_for_group e && has_effective e) (λ e. (is_for_group e && has_own e) && mask_allows acl request)
+      (λ e. group_entry (perms_of Mask acl) requester group e.tag e.perms request) acl
+      ∙ list_any-and (λ e. is_for_group e && has_own e) (mask_allows acl request) acl
+
+  -- the entry of the others decides
+  pub grants-other : (requester.uid == owner) ≡ false → has_tag (User requester.uid) acl ≡ false → has_group requester group acl ≡ false
+      → grants acl owner group requester request ≡ tag_has Other acl request
+  grants-other not_owner no_user no_group =
+      past_user not_owner no_user
+      ∙ ap (one_has acl request) (first_dropped is_for_group acl (filter is_for_others acl ∷ []) no_group ∙ only (filter is_for_others acl))
+      ∙ list_any-filter is_for_others has_effective acl
+      ∙ list_any-agree (λ e. is_for_others e && has_effective e) (λ e. is_for_others e && has_own e)
+      (λ e. other_entry (perms_of Mask acl) e.tag e.perms request) acl

@@ -1,0 +1,14 @@
+pub mod TagLemmas
+pub mod CountLemmas
+pub mod ValidityLemmas
+pub mod CanonicalLemmas
+pub mod PermsLemmas
+pub mod AnyLemmas
+pub mod AccessLemmas
+pub mod OrderLemmas
+pub mod PartLemmas
+pub mod SetLemmas
+pub mod FoundLemmas
+pub mod SortLemmas
+pub mod KindLemmas
+pub mod ModeLemmas

@@ -1,0 +1,74 @@
+-- Modes, and what they have to do with access control lists (1003.1e draft 17, section 23).
+use Rattle.std.specs.Prelude.{ℕ, ◌+◌, ◌*◌, ◌/◌, ◌%◌, Option, Some, None, List, [], ◌∷◌, map, is_some, unwrap_or, if◌then◌else◌}
+use Rattle.std.specs.List.{filter, fold}
+use Rattle.acl_posix.specs.declared.entry.Tag.{Tag}
+use Rattle.acl_posix.specs.declared.entry.Tag.TheVariants.{UserObj, GroupObj, Mask, Other}
+use Rattle.acl_posix.specs.Entry.{Triple, same_tag, perms_of}
+use Rattle.acl_names.specs.Bits.{◌∪◌}
+use Rattle.acl_posix.specs.Perms.{IsPermissions}
+use Rattle.acl_posix.specs.Access.{is_under_mask, masked}
+
+-- what the owner, the file's group and the others may do
+pub record Classes : Type 0 where
+  pub user : ℕ
+  pub group : ℕ
+  pub other : ℕ
+
+-- none of them has more than permissions to read, write and execute
+pub record AreClasses (mode : Classes) : Type 0 where
+  pub user_is : IsPermissions mode.user
+  pub group_is : IsPermissions mode.group
+  pub other_is : IsPermissions mode.other
+
+-- the number of a mode has an octal digit for each class
+abbrev pub number_of : Classes → ℕ
+number_of mode = 64 * mode.user + 8 * mode.group + mode.other
+
+-- the mode that a number is
+abbrev pub classes_of : ℕ → Classes
+classes_of number = record { user = number / 64; group = number / 8 % 8; other = number % 8 }
+
+-- the permissions of the entry with the tag; none where there is no such entry
+abbrev pub perms_at : Tag → List Triple → ℕ
+perms_at tag acl = unwrap_or (perms_of tag acl) 0
+
+-- the entry that stands for the group in a mode: the mask where there is one, else that of the file's group
+abbrev pub group_class_tag : List Triple → Tag
+group_class_tag acl = if is_some (perms_of Mask acl) then Mask else GroupObj
+
+-- the mode of an access control list
+abbrev pub mode_of : List Triple → Classes
+mode_of acl = record { user = perms_at UserObj acl; group = perms_at (group_class_tag acl) acl; other = perms_at Other acl }
+
+-- what a mode says of the entry with the tag, where it says anything
+abbrev pub mode_perms : Tag → Classes → Tag → Option ℕ
+mode_perms group_class mode UserObj = Some mode.user
+mode_perms group_class mode Other = Some mode.other
+mode_perms group_class mode tag = if same_tag tag group_class then Some mode.group else None
+
+-- an entry with what the mode says of it, and one with no more than that
+abbrev pub set_to : Tag → Classes → Triple → Triple
+set_to group_class mode entry = record { tag = entry.tag; perms = unwrap_or (mode_perms group_class mode entry.tag) entry.perms }
+
+abbrev pub met_with : Tag → Classes → Triple → Triple
+met_with group_class mode entry = record { tag = entry.tag; perms = masked (mode_perms group_class mode entry.tag) entry.perms }
+
+-- an access control list whose mode is changed
+abbrev pub chmod : List Triple → Classes → List Triple
+chmod acl mode = map (set_to (group_class_tag acl) mode) acl
+
+-- the access control list of a new file under a default one
+abbrev pub at_creation : List Triple → Classes → List Triple
+at_creation default mode = map (met_with (group_class_tag default) mode) default
+
+-- the access control list that says what a mode says
+abbrev pub of_mode : Classes → List Triple
+of_mode mode =
+    record { tag = UserObj; perms = mode.user }
+    ∷ record { tag = GroupObj; perms = mode.group }
+    ∷ record { tag = Other; perms = mode.other }
+    ∷ []
+
+-- the union of the permissions that a mask would limit
+abbrev pub calc_mask : List Triple → ℕ
+calc_mask acl = fold (λ all entry. all ∪ entry.perms) 0 (filter (λ entry. is_under_mask entry.tag) acl)

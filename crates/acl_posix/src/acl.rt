@@ -1,0 +1,95 @@
+ghost use Rattle.std.specs.Prelude.{List, ◌≡◌, ◌↔◌, None, OnOk, IfOk, IfErr, IfSome, option_map};
+ghost use Rattle.std.specs.List.{Contains};
+ghost use Rattle.std.specs.List.Sorted.{IsPermutation};
+
+mod access;
+mod modes;
+
+use crate::{Entries, Entry, Perms, Tag};
+use smallvec::SmallVec;
+use std::marker::Model;
+
+/// Why a list of entries is no access control list.
+#[derive(Clone, Copy, Debug, PartialEq, Eq)]
+pub enum Invalid {
+    /// The entry for the owner, the file's group or the others.
+    Missing,
+    /// A tag with its id stands twice.
+    Repeated,
+    /// A user or a group is named, and there is no mask.
+    NoMask,
+    Memory,
+}
+
+/// An access control list: a valid set of entries, which are kept in canonical order.
+#[derive(Debug, Drop)]
+pub struct Acl {
+    sorted: SmallVec<Entry, 8>,
+}
+
+impl Model for Acl {
+    ghost use Rattle.std.specs.Prelude.{List};
+    ghost use Rattle.acl_posix.specs.Entry.{Triple};
+    ghost use Rattle.acl_posix.specs.Canonical.{IsAcl};
+
+    ghost Value = { List Triple };
+
+    ghost view = { λ acl. acl.sorted.items };
+
+    ghost invariant = { λ acl. IsAcl acl.sorted.items };
+}
+
+impl Acl {
+    ghost use Rattle.acl_posix.specs.Entry.{Triple, perms_of};
+    ghost use Rattle.acl_posix.specs.Validity.{IsValid, IsRefusedFor, fault_of};
+    ghost use Rattle.acl_posix.specs.Canonical.{IsAcl, IsCanonical};
+    ghost use Rattle.acl_posix.specs.Perms.{bits_of, IsPermissions};
+
+    /// The access control list of these entries. They are dropped on a refusal.
+    pub fn new(entries: Entries) -> Result<Acl, Invalid>
+        ensures valid { OnOk result (IsValid entries) }
+        ensures same_entries { IfOk result (IsPermutation entries) }
+        ensures err { IfErr result (IsRefusedFor entries) }
+        ensures nothing_wrong { IsValid entries ↔ (fault_of entries ≡ None) }
+    {
+        let mut entries = entries;
+        let distinct = entries.sort();
+        if let Some(fault) = entries.fault(distinct) {
+            return Err(fault);
+        }
+        Ok(Acl {
+            sorted: entries.into_items(),
+        })
+    }
+
+    /// The entries in canonical order: the owner's, the users' by id, the file's group's, the groups' by id, the mask, and
+    /// the others'.
+    pub fn entries(&self) -> &[Entry]
+        ensures value { result.now ≡ self.now }
+        ensures acl { IsAcl self.now }
+
+        // It is known by the set of its entries.
+        ensures one_list { (other : List Triple) → IsAcl other → ((entry : Triple) → Contains self.now entry ↔ Contains other entry)
+            → self.now ≡ other }
+    {
+        self.sorted.as_slice()
+    }
+
+    pub fn mask(&self) -> Option<Perms>
+        ensures value { option_map bits_of result ≡ perms_of Tag.Mask self.now }
+        ensures permissions { IfSome result (λ perms. IsPermissions (bits_of perms)) }
+    {
+        self.perms_of(Tag::Mask)
+    }
+
+    /// The permissions of the entry with the tag.
+    fn perms_of(&self, tag: Tag) -> Option<Perms>
+        ensures acl { IsAcl self.now }
+        ensures value { option_map bits_of result ≡ perms_of tag self.now }
+    {
+        self.sorted
+            .iter()
+            .find(|entry| entry.tag.is(tag))
+            .map(|entry| entry.perms)
+    }
+}

@@ -1,0 +1,168 @@
+ghost use Rattle.std.specs.Prelude.{◌≡◌, map, IfOk, IfSome, option_map};
+ghost use Rattle.acl_posix.specs.Entry.{Triple};
+ghost use Rattle.acl_posix.specs.Mode.{mode_of, mode_perms, perms_at, group_class_tag, set_to, met_with, chmod, at_creation, of_mode, calc_mask};
+ghost use Rattle.acl_posix.specs.Perms.{bits_of, IsPermissions};
+ghost use Rattle.acl_posix.specs.Access.{is_under_mask};
+
+use crate::{Acl, Entry, Mode, Perms, Tag};
+use bitflags::Flags;
+use smallvec::SmallVec;
+use std::alloc::{AllocError, Global};
+
+/// What the mode says of the entry with the tag, where it says anything.
+fn mode_perms(group_class: &Tag, mode: Mode, tag: Tag) -> Option<Perms>
+    ensures value { option_map bits_of result ≡ mode_perms group_class.now mode tag }
+    ensures permissions { IfSome result (λ perms. IsPermissions (bits_of perms)) }
+{
+    match tag {
+        Tag::UserObj => Some(mode.user),
+        Tag::Other => Some(mode.other),
+        _ => {
+            if tag.is(*group_class) {
+                Some(mode.group)
+            } else {
+                None
+            }
+        }
+    }
+}
+
+/// The entry with what the mode says of it.
+fn set_to(group_class: &Tag, mode: Mode, entry: Entry) -> Entry
+    ensures { result ≡ set_to group_class.now mode entry }
+{
+    match mode_perms(group_class, mode, entry.tag) {
+        Some(perms) => Entry {
+            tag: entry.tag,
+            perms,
+        },
+        None => entry,
+    }
+}
+
+/// The entry with no more than what the mode says of it.
+fn met_with(group_class: &Tag, mode: Mode, entry: Entry) -> Entry
+    ensures { result ≡ met_with group_class.now mode entry }
+{
+    match mode_perms(group_class, mode, entry.tag) {
+        Some(perms) => Entry {
+            tag: entry.tag,
+            perms: entry.perms & perms,
+        },
+        None => entry,
+    }
+}
+
+fn set_all(entries: &mut [Entry], group_class: &Tag, mode: Mode)
+    ensures { entries.new ≡ map (set_to group_class.now mode) entries.old }
+{
+    for entry in entries.iter_mut() {
+        *entry = set_to(group_class, mode, *entry);
+    }
+}
+
+fn meet_all(entries: &mut [Entry], group_class: &Tag, mode: Mode)
+    ensures { entries.new ≡ map (met_with group_class.now mode) entries.old }
+{
+    for entry in entries.iter_mut() {
+        *entry = met_with(group_class, mode, *entry);
+    }
+}
+
+impl Acl {
+    /// The mode of a file with this access control list.
+    pub fn mode(&self) -> Mode
+        ensures { result ≡ mode_of self.now }
+    {
+        Mode {
+            user: self.perms_at(Tag::UserObj),
+            group: self.perms_at(self.group_class_tag()),
+            other: self.perms_at(Tag::Other),
+        }
+    }
+
+    /// Changes the mode: the entries that the mode stands for, and no other.
+    pub fn chmod(&mut self, mode: Mode)
+        ensures { self.new ≡ chmod self.old mode }
+    {
+        let _ = &mode.user;
+        let group_class = self.group_class_tag();
+        set_all(self.sorted.as_mut_slice(), &group_class, mode);
+    }
+
+    /// The access control list that says what the mode says.
+    pub fn of_mode(alloc: Global, mode: Mode) -> Result<Acl, AllocError>
+        ensures { IfOk result (λ acl. acl ≡ of_mode mode) }
+    {
+        let sorted = SmallVec::from_array(
+            alloc,
+            [
+                Entry {
+                    tag: Tag::UserObj,
+                    perms: mode.user,
+                },
+                Entry {
+                    tag: Tag::GroupObj,
+                    perms: mode.group,
+                },
+                Entry {
+                    tag: Tag::Other,
+                    perms: mode.other,
+                },
+            ],
+        )?;
+        Ok(Acl { sorted })
+    }
+
+    /// The access control list of a new file with this mode, under a default access control list.
+    pub fn at_creation(alloc: Global, default: &Acl, mode: Mode) -> Result<Acl, AllocError>
+        ensures { IfOk result (λ acl. acl ≡ at_creation default.now mode) }
+    {
+        let group_class = default.group_class_tag();
+        let mut sorted = SmallVec::from_slice(alloc, default.sorted.as_slice())?;
+        meet_all(sorted.as_mut_slice(), &group_class, mode);
+        Ok(Acl { sorted })
+    }
+
+    /// The union of the permissions that a mask would limit.
+    pub fn calc_mask(&self) -> Perms
+        ensures { bits_of result ≡ calc_mask self.now }
+    {
+        let mut all = Perms::empty();
+        for entry in self.sorted.iter() {
+            if entry.tag.is_under_mask() {
+                all = all | entry.perms;
+            }
+        }
+        all
+    }
+
+    pub fn try_clone(&self, alloc: Global) -> Result<Acl, AllocError>
+        ensures { IfOk result (λ acl. acl ≡ self.now) }
+    {
+        let sorted = SmallVec::from_slice(alloc, self.sorted.as_slice())?;
+        Ok(Acl { sorted })
+    }
+
+    /// The tag of the entry that stands for the group in a mode.
+    fn group_class_tag(&self) -> Tag
+        ensures { result ≡ group_class_tag self.now }
+    {
+        if self.mask().is_some() {
+            Tag::Mask
+        } else {
+            Tag::GroupObj
+        }
+    }
+
+    /// The permissions of the entry with the tag; none where there is no such entry.
+    fn perms_at(&self, tag: Tag) -> Perms
+        ensures value { bits_of result ≡ perms_at tag self.now }
+        ensures permissions { IsPermissions (bits_of result) }
+    {
+        match self.perms_of(tag) {
+            Some(perms) => perms,
+            None => Perms::empty(),
+        }
+    }
+}
