@@ -1,0 +1,13 @@
+pub mod AceLemmas
+pub mod Denials
+pub mod Evaluated
+pub mod Granted
+pub mod Idempotent
+pub mod Kept
+pub mod ModeBits
+pub mod NamedIn
+pub mod OneBit
+pub mod Rest
+pub mod Rows
+pub mod Shown
+pub mod Verdicts

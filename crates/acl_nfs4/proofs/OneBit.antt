@@ -1,0 +1,17 @@
+-- Whether a set has one bit, by the test that a program makes.
+use Rattle.std.proofs.Common.{◌≡◌, ℕ, zero, suc, ◌^◌, ◌*◌, ◌<◌, true, false, refl, sym, ap, ◌∙◌, arith}
+use Rattle.std.specs.Prelude.{◌==◌}
+use Rattle.std.specs.Int.{bit_at}
+use Rattle.std.proofs.lemmas.Bool.{eq-eqb, ne_eqb}
+use Rattle.std.proofs.lemmas.Nat.{pow_pos}
+use Rattle.std.proofs.lemmas.Nat.Bits.{and_pow, bit_at-lt}
+use Rattle.acl_names.specs.Bits.{has, ◌∩◌}
+
+pub contains-one : (set k : ℕ) → (set ∩ 2 ^ k == 2 ^ k) ≡ has set k
+unfolding has
+contains-one set k = ap (λ n. n == 2 ^ k) (and_pow set k) ∙ go (bit_at set k) (bit_at-lt set k)
+  where
+    go : (digit : ℕ) → digit < 2 → (digit * 2 ^ k == 2 ^ k) ≡ (digit == 1)
+    go zero small = ne_eqb (0 * 2 ^ k) (2 ^ k) (λ e. absurd (omega (arith, pow_pos k)))
+    go (suc zero) small = eq-eqb (1 * 2 ^ k) (2 ^ k) (omega arith)
+    go (suc (suc digit)) small = absurd (omega arith)

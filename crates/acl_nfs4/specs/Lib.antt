@@ -1,0 +1,9 @@
+pub mod Mask
+pub mod Flags
+pub mod Who
+pub mod Ace
+pub mod Acl
+pub mod Evaluation
+pub mod Inheritance
+pub mod ModeChange
+pub mod ModeChangeLaws

@@ -1,0 +1,18 @@
+//! NFSv4 access control lists, after RFC 8881, sections 6.2 to 6.4: ordered evaluation, the mode of a list, setting a mode
+//! without losing what the administrator wrote, inheritance, and the text form of this project.
+#![tactic(auto)]
+
+mod ace;
+mod acl;
+mod evaluation;
+mod flags;
+mod inheritance;
+mod mask;
+mod who;
+
+pub use ace::{Ace, AceType};
+pub use acl::{AceFault, Acl4};
+pub use flags::Flags;
+pub use inheritance::Kind;
+pub use mask::{Mask, mask_of};
+pub use who::Who;
