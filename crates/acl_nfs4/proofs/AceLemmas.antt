@@ -4,7 +4,7 @@ use Rattle.std.proofs.lemmas.Bool.{and_parts, and_from, or_cases, true≢false}
 use Rattle.acl_names.specs.Bits.{has, without, ◌∩◌, ◌∪◌}
 use Rattle.acl_names.proofs.BitSets.{has-and, has-or, has-without, has-zero, same_bits}
 use Rattle.acl_names.proofs.AnyLemmas.{and_false}
-use Rattle.acl_nfs4.specs.Ace.{IsAce, ace_of, flags_for}
+use Rattle.acl_nfs4.specs.Ace.{Nfsace4, IsAce, ace_of, flags_for, is_idle}
 use Rattle.acl_nfs4.specs.Flags.{all_flags, identifier_group}
 use Rattle.acl_nfs4.specs.Mask.{all_masks}
 use Rattle.acl_nfs4.specs.Who.{flags_of_who, is_named_group}
@@ -86,3 +86,25 @@ IsAce-made kind flags who mask {own_flags} {own_mask} f m =
     subst (λ (own : ℕ). IsAce (record { kind = kind; flags = own; who = who; mask = own_mask })) (sym f)
     (subst (λ (own : ℕ). IsAce (record { kind = kind; flags = flags_for who (flags ∩ all_flags); who = who; mask = own })) (sym m)
     (IsAce-ace_of kind flags who mask))
+
+idle-flags_of_who : (who : Who) → (has (flags_of_who who) 3 && not (has (flags_of_who who) 0 || has (flags_of_who who) 1)) ≡ false
+unfolding has
+idle-flags_of_who Owner = refl
+idle-flags_of_who Group = refl
+idle-flags_of_who Everyone = refl
+idle-flags_of_who (User uid) = refl
+idle-flags_of_who (NamedGroup gid) = refl
+
+-- an entry with no flags of its own
+pub IsAce-plain : (kind : AceType) (who : Who) (mask : ℕ) {own_flags : ℕ} → own_flags ≡ flags_of_who who → mask ∩ all_masks ≡ mask
+    → IsAce (record { kind = kind; flags = own_flags; who = who; mask = mask })
+IsAce-plain kind who mask f known = record {
+  known_flags = ap (λ (flags : ℕ). flags ∩ all_flags) f ∙ within-flags_of_who who ∙ sym f;
+  known_mask = known;
+  group_flag = ap (λ (flags : ℕ). has flags identifier_group) f ∙ has-flags_of_who who;
+}
+
+pub is_idle-plain : (kind : AceType) (who : Who) (mask : ℕ) {own_flags : ℕ} → own_flags ≡ flags_of_who who
+    → is_idle (record { kind = kind; flags = own_flags; who = who; mask = mask }) ≡ false
+is_idle-plain kind who mask f =
+    ap (λ (flags : ℕ). has flags 3 && not (has flags 0 || has flags 1)) f ∙ idle-flags_of_who who

@@ -1,13 +1,15 @@
 -- One entry's step of the evaluation of a mask.
-use Rattle.std.proofs.Common.{◌≡◌, ℕ, Bool, true, false, cond, not, ◌&&◌, ◌↔◌, refl, sym, ap, ◌∙◌, List, [], ◌∷◌, Some, ◌+◌, ◌<◌, suc, length, get_or, drop, subst, add-one}
-use Rattle.std.proofs.Math.Seq.{drop-cons}
+use Rattle.std.proofs.Common.{◌≡◌, ℕ, Bool, true, false, cond, not, ◌&&◌, ◌||◌, ◌↔◌, refl, sym, ap, ◌∙◌, List, [], ◌∷◌, Some, ◌+◌, ◌<◌, length, get_or, drop, subst, ap₂}
 use Rattle.std.specs.Prelude.{◌==◌, IsTrue, find, option_map, unwrap_or, bit_and}
 use Rattle.std.proofs.lemmas.Bool.{true≢false, and_parts, and_from, eqb-true, eq-eqb}
-use Rattle.acl_names.specs.Bits.{has, without}
+use Rattle.acl_names.specs.Bits.{has, without, ◌∩◌, ◌∪◌}
 use Rattle.acl_nfs4.specs.Ace.{decides, is_allow, Nfsace4}
+use Rattle.acl_names.proofs.AnyLemmas.{and_false, or_false}
+use Rattle.acl_nfs4.specs.Mask.{mode_bits}
+use Rattle.acl_nfs4.proofs.ListLemmas.{drop-here}
 use Rattle.acl_nfs4.specs.Evaluation.{speaks, allows, Grants}
 use Rattle.acl_nfs4.specs.declared.who.Who.{Who}
-use Rattle.acl_names.proofs.BitSets.{has-and, has-without, has-zero, no_bits}
+use Rattle.acl_names.proofs.BitSets.{has-and, has-or, has-without, has-zero, no_bits}
 
 module _ (applies : Who → Bool) where
   allows-cons : (bit : ℕ) (ace : Nfsace4) (rest : List Nfsace4)
@@ -19,20 +21,22 @@ module _ (applies : Who → Bool) where
       [ true ↦ refl | false ↦ refl ]
 
   -- an entry that applies to nobody concerned, or does not decide, changes nothing
+  allows-skip : (ace : Nfsace4) (rest : List Nfsace4) → (decides ace && applies ace.who) ≡ false
+      → (bit : ℕ) → allows applies bit (ace ∷ rest) ≡ allows applies bit rest
+  unfolding speaks
+  allows-skip ace rest idle bit =
+      allows-cons bit ace rest
+      ∙ ap (λ b. cond b (is_allow ace.kind) (allows applies bit rest)) (silent (decides ace) (applies ace.who) idle)
+    where
+      silent : (d a : Bool) → (d && a) ≡ false → (d && (a && has ace.mask bit)) ≡ false
+      silent true true e = absurd (true≢false e)
+      silent true false e = refl
+      silent false a e = refl
+
   pub Grants-skip : (ace : Nfsace4) (rest : List Nfsace4) (undecided : ℕ) → (decides ace && applies ace.who) ≡ false
       → Grants applies (ace ∷ rest) undecided ↔ Grants applies rest undecided
-  unfolding speaks
-  Grants-skip ace rest undecided idle = (λ g bit h. sym (same bit) ∙ g bit h, λ g bit h. same bit ∙ g bit h)
-    where
-      silent : (bit : ℕ) (d a : Bool) → (d && a) ≡ false → (d && (a && has ace.mask bit)) ≡ false
-      silent bit true true e = absurd (true≢false e)
-      silent bit true false e = refl
-      silent bit false a e = refl
-
-      same : (bit : ℕ) → allows applies bit (ace ∷ rest) ≡ allows applies bit rest
-      same bit =
-          allows-cons bit ace rest
-          ∙ ap (λ b. cond b (is_allow ace.kind) (allows applies bit rest)) (silent bit (decides ace) (applies ace.who) idle)
+  Grants-skip ace rest undecided idle =
+      (λ g bit h. sym (allows-skip ace rest idle bit) ∙ g bit h, λ g bit h. allows-skip ace rest idle bit ∙ g bit h)
 
   -- an entry that decides settles the bits of its mask, as its kind says
   settles : (ace : Nfsace4) (rest : List Nfsace4) (bit : ℕ) → decides ace ≡ true → applies ace.who ≡ true
@@ -115,7 +119,7 @@ module _ (applies : Who → Bool) where
       → whole ↔ Grants applies (drop i aces) before
       → whole ↔ Grants applies (drop (i + 1) aces) after
   Grants-step whole aces i ace before after inside here step so_far =
-      let split : drop i aces ≡ ace ∷ drop (i + 1) aces = rw add-one (drop-cons aces i ace inside ∙ ap (λ x. x ∷ drop (suc i) aces) (sym here)) in (
+      let split : drop i aces ≡ ace ∷ drop (i + 1) aces = drop-here aces i ace inside here in (
         λ g. step.0 (subst (λ xs. Grants applies xs before) split (so_far.0 g)),
         λ g. so_far.1 (subst (λ xs. Grants applies xs before) (sym split) (step.1 g)),
       )
@@ -126,7 +130,83 @@ module _ (applies : Who → Bool) where
       → whole ↔ Grants applies (drop i aces) before
       → IsTrue false ↔ whole
   denied-here whole aces i ace before inside here deny so_far =
-      let split : drop i aces ≡ ace ∷ drop (i + 1) aces = rw add-one (drop-cons aces i ace inside ∙ ap (λ x. x ∷ drop (suc i) aces) (sym here)) in (
+      let split : drop i aces ≡ ace ∷ drop (i + 1) aces = drop-here aces i ace inside here in (
         λ e. absurd (true≢false (sym e)),
         λ g. absurd (deny (subst (λ xs. Grants applies xs before) split (so_far.0 g))),
       )
+
+-- ---- what is allowed, bit by bit
+
+-- a bit is allowed where it was found to be, or is open and allowed by the rest
+abbrev pub found : Bool → Bool → Bool → Bool
+found allowed undecided rest = allowed || (undecided && rest)
+
+abbrev pub IsFound : (Who → Bool) → List Nfsace4 → List Nfsace4 → ℕ → ℕ → Type 0
+IsFound applies whole rest allowed undecided =
+    (bit : ℕ) → has mode_bits bit ≡ true → allows applies bit whole ≡ found (has allowed bit) (has undecided bit) (allows applies bit rest)
+
+module _ (applies : Who → Bool) (whole : List Nfsace4) where
+  -- before the first entry all of the mode's bits are open
+  pub IsFound-all : IsFound applies whole whole 0 mode_bits
+  IsFound-all bit of_mode = sym (ap₂ (λ a u. found a u (allows applies bit whole)) (has-zero bit) of_mode)
+
+  pub IsFound-skip : (ace : Nfsace4) (rest : List Nfsace4) (allowed undecided : ℕ) → (decides ace && applies ace.who) ≡ false
+      → IsFound applies whole (ace ∷ rest) allowed undecided → IsFound applies whole rest allowed undecided
+  IsFound-skip ace rest allowed undecided idle so_far bit of_mode =
+      so_far bit of_mode ∙ ap (found (has allowed bit) (has undecided bit)) (allows-skip applies ace rest idle bit)
+
+  pub IsFound-allow : (ace : Nfsace4) (rest : List Nfsace4) (allowed undecided : ℕ) → (decides ace && applies ace.who) ≡ true → is_allow ace.kind ≡ true
+      → IsFound applies whole (ace ∷ rest) allowed undecided
+      → IsFound applies whole rest (allowed ∪ undecided ∩ ace.mask) (without undecided ace.mask)
+  IsFound-allow ace rest allowed undecided concerned allow so_far bit of_mode =
+      let both = and_parts (decides ace) (applies ace.who) concerned in
+      so_far bit of_mode
+      ∙ ap (found (has allowed bit) (has undecided bit))
+      (settles applies ace rest bit both.0 both.1 ∙ ap (λ b. cond (has ace.mask bit) b (allows applies bit rest)) allow)
+      ∙ settle (has allowed bit) (has undecided bit) (has ace.mask bit)
+      ∙ sym (ap₂ (λ a u. found a u (allows applies bit rest))
+      (has-or allowed (undecided ∩ ace.mask) bit ∙ ap (λ b. has allowed bit || b) (has-and undecided ace.mask bit))
+      (has-without undecided ace.mask bit))
+    where
+      settle : (a u m : Bool) → found a u (cond m true (allows applies bit rest)) ≡ found (a || (u && m)) (u && not m) (allows applies bit rest)
+      settle true u m = refl
+      settle false true true = refl
+      settle false true false = refl
+      settle false false m = refl
+
+  pub IsFound-deny : (ace : Nfsace4) (rest : List Nfsace4) (allowed undecided : ℕ) → (decides ace && applies ace.who) ≡ true → is_allow ace.kind ≡ false
+      → IsFound applies whole (ace ∷ rest) allowed undecided → IsFound applies whole rest allowed (without undecided ace.mask)
+  IsFound-deny ace rest allowed undecided concerned deny so_far bit of_mode =
+      let both = and_parts (decides ace) (applies ace.who) concerned in
+      so_far bit of_mode
+      ∙ ap (found (has allowed bit) (has undecided bit))
+      (settles applies ace rest bit both.0 both.1 ∙ ap (λ b. cond (has ace.mask bit) b (allows applies bit rest)) deny)
+      ∙ settle (has allowed bit) (has undecided bit) (has ace.mask bit)
+      ∙ sym (ap (λ u. found (has allowed bit) u (allows applies bit rest)) (has-without undecided ace.mask bit))
+    where
+      settle : (a u m : Bool) → found a u (cond m false (allows applies bit rest)) ≡ found a (u && not m) (allows applies bit rest)
+      settle true u m = refl
+      settle false true true = refl
+      settle false true false = refl
+      settle false false m = refl
+
+  -- where no bit is open, all are found, and so they are at the end of the list
+  pub IsFound-none : (rest : List Nfsace4) (allowed undecided : ℕ) → undecided ≡ 0 → IsFound applies whole rest allowed undecided
+      → (bit : ℕ) → has mode_bits bit ≡ true → has allowed bit ≡ allows applies bit whole
+  IsFound-none rest allowed undecided none so_far bit of_mode =
+      sym (so_far bit of_mode
+      ∙ ap (λ u. found (has allowed bit) u (allows applies bit rest)) (ap (λ m. has m bit) none ∙ has-zero bit)
+      ∙ or_false (has allowed bit))
+
+  pub IsFound-end : (allowed undecided : ℕ) → IsFound applies whole [] allowed undecided
+      → (bit : ℕ) → has mode_bits bit ≡ true → has allowed bit ≡ allows applies bit whole
+  IsFound-end allowed undecided so_far bit of_mode =
+      sym (so_far bit of_mode ∙ ap (λ b. has allowed bit || b) (and_false (has undecided bit)) ∙ or_false (has allowed bit))
+
+  -- one entry further down the list
+  pub IsFound-step : (i : ℕ) (ace : Nfsace4) (allowed undecided allowed' undecided' : ℕ) → i < length whole → ace ≡ get_or whole i ace
+      → (IsFound applies whole (ace ∷ drop (i + 1) whole) allowed undecided → IsFound applies whole (drop (i + 1) whole) allowed' undecided')
+      → IsFound applies whole (drop i whole) allowed undecided → IsFound applies whole (drop (i + 1) whole) allowed' undecided'
+  IsFound-step i ace allowed undecided allowed' undecided' inside here step so_far =
+      let split : drop i whole ≡ ace ∷ drop (i + 1) whole = drop-here whole i ace inside here in
+      step (subst (λ xs. IsFound applies whole xs allowed undecided) split so_far)

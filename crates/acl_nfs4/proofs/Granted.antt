@@ -7,7 +7,7 @@ use Rattle.acl_names.specs.Bits.{has, without}
 use Rattle.acl_nfs4.specs.Ace.{decides, is_allow, is_deny, plain, unless_empty, Nfsace4}
 use Rattle.acl_nfs4.specs.Who.{is_special, matches, same_who}
 use Rattle.acl_nfs4.specs.Mask.{mask_of, mode_bits, rest_of}
-use Rattle.acl_nfs4.specs.Evaluation.{speaks, verdict, allows, shown_to, of_owner, of_group, of_everyone, mode_of}
+use Rattle.acl_nfs4.specs.Evaluation.{speaks, verdict, allows, shown_to, of_class, mode_of}
 use Rattle.acl_nfs4.specs.ModeChange.{kept, kept_mask, distinct, named_in, denial_of, for_owner, for_others, with_mode}
 use Rattle.acl_nfs4.specs.ModeChangeLaws.{names_any, GrantsOwner, GrantsGroup, GrantsOthers, LimitsNamed}
 use Rattle.acl_posix.specs.Mode.{Classes, AreClasses}
@@ -332,33 +332,30 @@ module _ (aces : List Nfsace4) (mode : Classes) where
   limits-named owner group requester bit of_mode ne named lacks =
       allowed-named (matches owner group requester) bit of_mode aces mode (ne_eqb requester.uid owner ne) named lacks
 
-not_owner : (who : Who) → is_special who ≡ false → of_owner who ≡ false
-not_owner Owner e = e
-not_owner Everyone e = e
-not_owner _ e = refl
+-- a named who is among none of them
+not_of_class : (class : Who) → is_special class ≡ true → (who : Who) → is_special who ≡ false → of_class class who ≡ false
+not_of_class class special who named = or_from (other class special) (other Everyone refl)
+  where
+    other : (special : Who) → is_special special ≡ true → same_who who special ≡ false
+    other special is =
+        false_unless (same_who who special)
+        (λ same. sym named ∙ ap is_special (same_who-true who special same) ∙ is)
 
-not_group : (who : Who) → is_special who ≡ false → of_group who ≡ false
-not_group Group e = e
-not_group Everyone e = e
-not_group _ e = refl
-
-not_everyone : (who : Who) → is_special who ≡ false → of_everyone who ≡ false
-not_everyone Everyone e = e
-not_everyone Owner e = refl
-not_everyone _ e = refl
+    or_from : {a b : Bool} → a ≡ false → b ≡ false → (a || b) ≡ false
+    or_from a b = ap₂ (λ x y. x || y) a b
 
 -- the mode shown is the mode set
 pub mode_of-with_mode : (aces : List Nfsace4) (mode : Classes) → AreClasses mode → mode_of (with_mode aces mode) ≡ mode
 mode_of-with_mode aces mode are = λ i. record { user = user i; group = group i; other = other i }
   where
-    user : shown_to of_owner (with_mode aces mode) ≡ mode.user
-    user = shown_to-allows of_owner (with_mode aces mode) mode.user are.user_is
-        (λ bit of_mode. allowed-owner of_owner bit of_mode aces mode refl ∙ has-mask_of mode.user bit of_mode)
+    user : shown_to (of_class Owner) (with_mode aces mode) ≡ mode.user
+    user = shown_to-allows (of_class Owner) (with_mode aces mode) mode.user are.user_is
+        (λ bit of_mode. allowed-owner (of_class Owner) bit of_mode aces mode refl ∙ has-mask_of mode.user bit of_mode)
 
-    group : shown_to of_group (with_mode aces mode) ≡ mode.group
-    group = shown_to-allows of_group (with_mode aces mode) mode.group are.group_is
-        (λ bit of_mode. allowed-group of_group bit of_mode aces mode refl refl (names-none of_group not_group aces) ∙ has-mask_of mode.group bit of_mode)
+    group : shown_to (of_class Group) (with_mode aces mode) ≡ mode.group
+    group = shown_to-allows (of_class Group) (with_mode aces mode) mode.group are.group_is
+        (λ bit of_mode. allowed-group (of_class Group) bit of_mode aces mode refl refl (names-none (of_class Group) (not_of_class Group refl) aces) ∙ has-mask_of mode.group bit of_mode)
 
-    other : shown_to of_everyone (with_mode aces mode) ≡ mode.other
-    other = shown_to-allows of_everyone (with_mode aces mode) mode.other are.other_is
-        (λ bit of_mode. allowed-other of_everyone bit of_mode aces mode refl refl refl (names-none of_everyone not_everyone aces) ∙ has-mask_of mode.other bit of_mode)
+    other : shown_to (of_class Everyone) (with_mode aces mode) ≡ mode.other
+    other = shown_to-allows (of_class Everyone) (with_mode aces mode) mode.other are.other_is
+        (λ bit of_mode. allowed-other (of_class Everyone) bit of_mode aces mode refl refl refl (names-none (of_class Everyone) (not_of_class Everyone refl) aces) ∙ has-mask_of mode.other bit of_mode)

@@ -3,7 +3,9 @@ pub mod Denials
 pub mod Evaluated
 pub mod Granted
 pub mod Idempotent
+pub mod InheritanceLemmas
 pub mod Kept
+pub mod ListLemmas
 pub mod ModeBits
 pub mod NamedIn
 pub mod OneBit

@@ -1,8 +1,9 @@
 -- What a list grants (RFC 8881, section 6.2.1), and the mode that it shows (section 6.3.2).
-use Rattle.std.specs.Prelude.{ℕ, ◌+◌, ◌^◌, Bool, true, false, ◌&&◌, if◌then◌else◌, IsTrue, List, Option, find, option_map, unwrap_or}
-use Rattle.acl_names.specs.Bits.{has}
+use Rattle.std.specs.Prelude.{ℕ, ◌^◌, Bool, false, ◌&&◌, ◌||◌, if◌then◌else◌, IsTrue, List, Option, find, option_map, unwrap_or}
+use Rattle.acl_names.specs.Bits.{has, ◌∪◌}
 use Rattle.acl_nfs4.specs.Ace.{Nfsace4, decides, is_allow}
 use Rattle.acl_nfs4.specs.Mask.{read_data, write_data, append_data, execute, read, write, run}
+use Rattle.acl_nfs4.specs.Who.{same_who}
 use Rattle.acl_posix.specs.Mode.{Classes}
 use Rattle.acl_nfs4.specs.declared.who.Who.{Who}
 use Rattle.acl_nfs4.specs.declared.who.Who.TheVariants.{Owner, Group, Everyone}
@@ -27,24 +28,17 @@ Grants applies aces mask = (bit : ℕ) → IsTrue (has mask bit) → IsTrue (all
 abbrev pub shown_to : (Who → Bool) → List Nfsace4 → ℕ
 shown_to applies aces =
     (if allows applies read_data aces then 2 ^ read else 0)
-    + (if allows applies write_data aces && allows applies append_data aces then 2 ^ write else 0)
-    + (if allows applies execute aces then 2 ^ run else 0)
+    ∪ (if allows applies write_data aces && allows applies append_data aces then 2 ^ write else 0)
+    ∪ (if allows applies execute aces then 2 ^ run else 0)
 
--- of the owner's, the group's and everyone's entries, those that tell the mode of each
-abbrev pub of_owner : Who → Bool
-of_owner Owner = true
-of_owner Everyone = true
-of_owner _ = false
-
-abbrev pub of_group : Who → Bool
-of_group Group = true
-of_group Everyone = true
-of_group _ = false
-
-abbrev pub of_everyone : Who → Bool
-of_everyone Everyone = true
-of_everyone _ = false
+-- the entries that tell the mode of one of OWNER@, GROUP@ and EVERYONE@: its own, and those of EVERYONE@
+abbrev pub of_class : Who → Who → Bool
+of_class class who = same_who who class || same_who who Everyone
 
 -- the mode that the list shows
 abbrev pub mode_of : List Nfsace4 → Classes
-mode_of aces = record { user = shown_to of_owner aces; group = shown_to of_group aces; other = shown_to of_everyone aces }
+mode_of aces = record {
+  user = shown_to (of_class Owner) aces;
+  group = shown_to (of_class Group) aces;
+  other = shown_to (of_class Everyone) aces;
+}

@@ -1,9 +1,8 @@
-ghost use Rattle.std.specs.Prelude.{◌≡◌, ◌||◌};
+ghost use Rattle.std.specs.Prelude.{◌≡◌, ◌||◌, false};
 ghost use Rattle.acl_nfs4.specs.Flags.{flag_bits};
 ghost use Rattle.acl_nfs4.specs.Mask.{mask_bits};
 
 use crate::{Flags, Mask, Who};
-use acl_names::{Gid, Requester, Uid};
 use bitflags::Flags as FlagSet;
 use std::marker::Model;
 
@@ -78,9 +77,11 @@ impl Model for Ace {
 }
 
 impl Ace {
-    ghost use Rattle.std.specs.Prelude.{◌&&◌};
     ghost use Rattle.acl_nfs4.specs.Ace.{Nfsace4, IsAce, ace_of, decides, is_inheritable, is_idle};
-    ghost use Rattle.acl_nfs4.specs.Who.{matches};
+    ghost use Rattle.acl_names.specs.Bits.{has, ◌∩◌};
+    ghost use Rattle.acl_nfs4.specs.Flags.{all_flags, identifier_group};
+    ghost use Rattle.acl_nfs4.specs.Mask.{all_masks};
+    ghost use Rattle.acl_nfs4.specs.Who.{flags_of_who};
 
     /// The entry of these parts. It sets `IDENTIFIER_GROUP` where `who` is a named group and clears it elsewhere, and leaves
     /// out bits without a name.
@@ -103,7 +104,8 @@ impl Ace {
     }
 
     pub fn flags(&self) -> Flags
-        ensures { flag_bits result ≡ self.now.flags }
+        ensures value { flag_bits result ≡ self.now.flags }
+        ensures ace { IsAce self.now }
     {
         self.flags
     }
@@ -115,7 +117,8 @@ impl Ace {
     }
 
     pub fn mask(&self) -> Mask
-        ensures { mask_bits result ≡ self.now.mask }
+        ensures value { mask_bits result ≡ self.now.mask }
+        ensures ace { IsAce self.now }
     {
         self.mask
     }
@@ -140,5 +143,47 @@ impl Ace {
         ensures { result ≡ is_idle self.now }
     {
         self.flags.has_inherit_only() && !self.is_inheritable()
+    }
+
+    /// An entry with no flags but what its who asks for.
+    pub(crate) fn plain(kind: AceType, who: Who, mask: Mask) -> Ace
+        requires { mask_bits mask ∩ all_masks ≡ mask_bits mask }
+        ensures value { result ≡ record { kind = kind; flags = flags_of_who who; who = who; mask = mask_bits mask } }
+        ensures effective { is_idle result ≡ false }
+    {
+        let flags = who.flags();
+        Ace {
+            kind,
+            flags,
+            who,
+            mask,
+        }
+    }
+
+    /// The entry with these flags in place of its own.
+    pub(crate) fn with_flags(&self, flags: Flags) -> Ace
+        requires known { flag_bits flags ∩ all_flags ≡ flag_bits flags }
+        requires group { has (flag_bits flags) identifier_group ≡ has self.now.flags identifier_group }
+        ensures { result ≡ record self.now { flags = flag_bits flags } }
+    {
+        Ace {
+            kind: self.kind,
+            flags,
+            who: self.who,
+            mask: self.mask,
+        }
+    }
+
+    /// The entry with this mask in place of its own.
+    pub(crate) fn with_mask(&self, mask: Mask) -> Ace
+        requires { mask_bits mask ∩ all_masks ≡ mask_bits mask }
+        ensures { result ≡ record self.now { mask = mask_bits mask } }
+    {
+        Ace {
+            kind: self.kind,
+            flags: self.flags,
+            who: self.who,
+            mask,
+        }
     }
 }

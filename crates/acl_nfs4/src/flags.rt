@@ -66,6 +66,12 @@ impl FlagSet for Flags {
 impl Flags {
     ghost use Rattle.acl_nfs4.specs.Flags.{flag_bits, all_flags, file_inherit, directory_inherit, no_propagate_inherit, inherit_only, inheritance_flags};
 
+    /// What a directory has of an entry that only files take over.
+    pub(crate) const PASSED_TO_FILES: Flags = Flags(0x9);
+
+    /// What a directory has of an entry that files and directories take over.
+    pub(crate) const PASSED_TO_ALL: Flags = Flags(0x3);
+
     /// The flags that speak of inheritance.
     const INHERITANCE: Flags = Flags(0xF);
 

@@ -4,10 +4,12 @@
 
 mod ace;
 mod acl;
+mod draft;
 mod evaluation;
 mod flags;
 mod inheritance;
 mod mask;
+mod mode;
 mod who;
 
 pub use ace::{Ace, AceType};

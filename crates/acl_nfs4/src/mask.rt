@@ -1,8 +1,9 @@
-ghost use Rattle.std.specs.Prelude.{⊤, ◌≡◌, [], ◌∷◌, codes, if◌then◌else◌};
+ghost use Rattle.std.specs.Prelude.{⊤, ◌≡◌, [], ◌∷◌, codes};
 ghost use Rattle.acl_names.specs.Bits.{without, ◌∩◌};
 ghost use Rattle.acl_posix.specs.Perms.{bits_of};
 ghost use Rattle.acl_nfs4.specs.Mask.{mask_bits, all_masks, mask_of, rest_of};
 
+use crate::mode::given;
 use acl_posix::Perms;
 use bitflags::{Flag, Flags as FlagSet, bitflag_items};
 
@@ -86,13 +87,6 @@ impl Mask {
     {
         self.intersection(Mask::all())
     }
-
-    /// This mask on a condition, and else the empty one.
-    fn given(self, condition: bool) -> Mask
-        ensures { mask_bits result ≡ (if condition then mask_bits self else 0) }
-    {
-        if condition { self } else { Mask::empty() }
-    }
 }
 
 /// The mask that stands for a file mode's permissions: to write stands for `WRITE_DATA` and `APPEND_DATA` together (RFC
@@ -100,9 +94,9 @@ impl Mask {
 pub fn mask_of(perms: Perms) -> Mask
     ensures { mask_bits result ≡ mask_of (bits_of perms) }
 {
-    let read = Mask::READ_DATA.given(perms.contains(Perms::READ));
-    let write = Mask::WRITE.given(perms.contains(Perms::WRITE));
-    let execute = Mask::EXECUTE.given(perms.contains(Perms::EXECUTE));
+    let read = given(Mask::READ_DATA, perms.contains(Perms::READ));
+    let write = given(Mask::WRITE, perms.contains(Perms::WRITE));
+    let execute = given(Mask::EXECUTE, perms.contains(Perms::EXECUTE));
     read.union(write).union(execute)
 }
 

@@ -47,6 +47,13 @@ impl Who {
         }
     }
 
+    /// Whether both are about the same.
+    pub(crate) fn is(&self, other: &Who) -> bool
+        ensures { result ≡ same_who self.now other.now }
+    {
+        *self == *other
+    }
+
     /// The flags of an entry that has none but what its who asks for.
     pub(crate) fn flags(&self) -> Flags
         ensures { flag_bits result ≡ flags_of_who self.now }

@@ -25,7 +25,7 @@ returns-then-intersects c =
     (Grants-denied applies c.ace-item.result (drop (c.loop-ace.ace-index + 1) c.args.aces.now) (mask_bits c.loop-ace.open) both.0 both.1
     (ap is_allow (sym c.kind.ensures) ∙ sym c.is_allow.ensures ∙ c.if-is_allow.false)
     (λ none. true≢false (sym c.if-intersects.true ∙ c.intersects.ensures tt
-    ∙ ap (λ (m : ℕ). not (bit_and (mask_bits c.loop-ace.open) m == 0)) c.mask-else-is_allow.ensures ∙ ap not (eq-eqb _ 0 none))))
+    ∙ ap (λ (m : ℕ). not (bit_and (mask_bits c.loop-ace.open) m == 0)) c.mask-else-is_allow.ensures.value ∙ ap not (eq-eqb _ 0 none))))
     c.loop-ace.invariant
 
 pub loop-ace-preserved : goal.loop-ace-preserved
@@ -39,14 +39,14 @@ loop-ace-preserved c =
       | then-concerns+then-is_allow w ↦
           let both = and_parts (decides ace) (applies ace.who) (sym c.concerns.ensures ∙ w.if-concerns.true) in
           subst (λ (now : ℕ). Grants applies (ace ∷ rest) open_bits ↔ Grants applies rest now)
-          (sym (ap mask_bits w.open-is ∙ w.without-open.ensures ∙ ap (λ (m : ℕ). without open_bits m) w.mask.ensures))
+          (sym (ap mask_bits w.open-is ∙ w.without-open.ensures ∙ ap (λ (m : ℕ). without open_bits m) w.mask.ensures.value))
           (Grants-allow applies ace rest open_bits both.0 both.1 (ap is_allow (sym w.kind.ensures) ∙ sym w.is_allow.ensures ∙ w.if-is_allow.true))
       | then-concerns+else-is_allow+else-intersects w ↦
           let both = and_parts (decides ace) (applies ace.who) (sym c.concerns.ensures ∙ w.if-concerns.true) in
           subst (λ (now : ℕ). Grants applies (ace ∷ rest) open_bits ↔ Grants applies rest now)
           (sym (ap mask_bits w.open-is))
           (Grants-past applies ace rest open_bits both.0 both.1
-          (ap (λ (m : ℕ). bit_and open_bits m) (sym w.mask-else-is_allow.ensures)
+          (ap (λ (m : ℕ). bit_and open_bits m) (sym w.mask-else-is_allow.ensures.value)
           ∙ eqb-true _ 0 (not-false _ (sym (w.intersects.ensures tt) ∙ w.if-intersects.false))))
       | else-concerns w ↦
           subst (λ (now : ℕ). Grants applies (ace ∷ rest) open_bits ↔ Grants applies rest now)
