@@ -1,21 +1,21 @@
 -- What a list with a mode set denies those whom the old list names.
 use Rattle.std.proofs.Common.{◌≡◌, ℕ, Bool, true, false, cond, not, ◌&&◌, ◌||◌, refl, sym, ap, ◌∙◌, List, [], ◌∷◌, ◌++◌, ap₂}
 use mathlib.Core.Path.{fun_ext}
-use Rattle.std.specs.Prelude.{flat_map, filter}
+use Rattle.std.specs.Prelude.{flat_map, filter, map}
 use Rattle.std.specs.List.{list_any}
 use Rattle.std.proofs.lemmas.Bool.{true≢false, and_parts, and_from, eqb-true, eq-eqb}
-use Rattle.acl_names.specs.Bits.{has, without, union}
+use Rattle.acl_names.specs.Bits.{has, without, union, ◌∪◌}
 use Rattle.acl_nfs4.specs.Ace.{decides, is_allow, is_deny, unless_empty, Nfsace4}
 use Rattle.acl_nfs4.specs.Who.{is_special, flags_of_who, same_who}
 use Rattle.acl_nfs4.specs.Mask.{mode_bits, rest_of}
-use Rattle.acl_nfs4.specs.ModeChange.{kept, kept_mask, distinct, named_in, denied_to, denial_of}
+use Rattle.acl_nfs4.specs.ModeChange.{kept, kept_mask, distinct, named_in, denied_to, denial_of, denials, kept_of, names}
 use Rattle.acl_nfs4.specs.declared.ace.AceType.{AceType}
 use Rattle.acl_nfs4.specs.declared.ace.AceType.TheVariants.{Allow, Deny}
 use Rattle.acl_nfs4.specs.declared.who.Who.{Who}
 use Rattle.acl_nfs4.specs.declared.who.Who.TheVariants.{Owner, Group, Everyone, User, NamedGroup}
-use Rattle.acl_names.proofs.BitSets.{has-or, has-zero, has-without}
-use Rattle.acl_nfs4.proofs.Kept.{kept_of, kept_of-cases, kept-cons, inherited_part, effective_part, reduced, decides-effective_part, decides-reduced, unless_empty-cases}
-use Rattle.acl_names.proofs.AnyLemmas.{or_true, list_any-append, list_any-elim, list_any-flat_map, list_any-filter, list_any-map, list_any-weaken}
+use Rattle.acl_names.proofs.BitSets.{has-or, has-zero, has-without, same_bits}
+use Rattle.acl_nfs4.proofs.Kept.{kept_of-cases, kept-cons, inherited_part, effective_part, reduced, decides-effective_part, decides-reduced, unless_empty-cases}
+use Rattle.acl_names.proofs.AnyLemmas.{or_true, or_false, list_any-append, list_any-elim, list_any-flat_map, list_any-filter, list_any-map, list_any-weaken}
 
 -- ---- whos
 
@@ -41,9 +41,6 @@ member who whos = list_any (λ other. same_who other who) whos
 
 -- ---- named and denied, as tests of the entries
 
-abbrev pub names : Who → Nfsace4 → Bool
-names who ace = (decides ace && not (is_special ace.who)) && same_who ace.who who
-
 abbrev pub denies : Who → ℕ → Nfsace4 → Bool
 denies who bit ace = (decides ace && (is_deny ace.kind && same_who ace.who who)) && has ace.mask bit
 
@@ -56,6 +53,42 @@ has-denied_to who bit aces =
     has-union bit _
     ∙ list_any-map (λ set. has set bit) (λ (ace : Nfsace4). ace.mask) (filter (λ ace. decides ace && (is_deny ace.kind && same_who ace.who who)) aces)
     ∙ sym (list_any-filter (λ ace. decides ace && (is_deny ace.kind && same_who ace.who who)) (λ ace. has ace.mask bit) aces)
+
+-- ---- the bits denied, entry by entry
+
+or_assoc : (a b c : ℕ) → (a ∪ b) ∪ c ≡ a ∪ (b ∪ c)
+or_assoc a b c = same_bits _ _ (λ k.
+    has-or (a ∪ b) c k ∙ ap (λ x. x || has c k) (has-or a b k)
+    ∙ regroup_or (has a k) (has b k) (has c k)
+    ∙ sym (has-or a (b ∪ c) k ∙ ap (λ x. has a k || x) (has-or b c k)))
+  where
+    regroup_or : (x y z : Bool) → ((x || y) || z) ≡ (x || (y || z))
+    regroup_or true y z = refl
+    regroup_or false y z = refl
+
+pub or-zero : (a : ℕ) → a ∪ 0 ≡ a
+or-zero a = same_bits _ _ (λ k. has-or a 0 k ∙ ap (λ b. has a k || b) (has-zero k) ∙ or_false (has a k))
+
+pub zero-or : (a : ℕ) → 0 ∪ a ≡ a
+zero-or a = same_bits _ _ (λ k. has-or 0 a k ∙ ap (λ b. b || has a k) (has-zero k))
+
+-- one more entry is looked at
+pub denied_to-step : (who : Who) (ace : Nfsace4) (rest : List Nfsace4) (so_far next total : ℕ) (denied : Bool)
+    → (decides ace && (is_deny ace.kind && same_who ace.who who)) ≡ denied → next ≡ cond denied (so_far ∪ ace.mask) so_far
+    → so_far ∪ denied_to who (ace ∷ rest) ≡ total → next ∪ denied_to who rest ≡ total
+denied_to-step who ace rest so_far next total denied is made e =
+    ap (λ (n : ℕ). n ∪ denied_to who rest) made ∙ go denied
+    ∙ ap (λ b. so_far ∪ union (map (λ (other : Nfsace4). other.mask)
+    (cond b (ace ∷ filter (λ other. decides other && (is_deny other.kind && same_who other.who who)) rest)
+    (filter (λ other. decides other && (is_deny other.kind && same_who other.who who)) rest)))) (sym is)
+    ∙ e
+  where
+    go : (b : Bool) → cond b (so_far ∪ ace.mask) so_far ∪ denied_to who rest
+        ≡ so_far ∪ union (map (λ (other : Nfsace4). other.mask)
+        (cond b (ace ∷ filter (λ other. decides other && (is_deny other.kind && same_who other.who who)) rest)
+        (filter (λ other. decides other && (is_deny other.kind && same_who other.who who)) rest)))
+    go true = or_assoc so_far ace.mask (denied_to who rest)
+    go false = refl
 
 -- to leave out those that are the same as one that is there changes no membership
 pub member-distinct : (who : Who) (whos : List Who) → member who (distinct whos) ≡ member who whos
@@ -171,10 +204,6 @@ denial_of-denies group aces who bit lacks undenied =
     unless_empty-denies who bit _
     (and_from _ _ (and_from _ _ (decides-plain_deny who (without (rest_of group) (denied_to who aces))) (same_who-refl who))
     (has-without (rest_of group) (denied_to who aces) bit ∙ and_from _ _ lacks (ap not undenied)))
-
--- the denials of a list
-abbrev pub denials : ℕ → List Nfsace4 → List Nfsace4
-denials group aces = flat_map (denial_of group aces) (named_in aces)
 
 -- a named user or group is denied each bit of the mode that the group lacks
 pub denied_anyway : (group : ℕ) (aces : List Nfsace4) (who : Who) (bit : ℕ)

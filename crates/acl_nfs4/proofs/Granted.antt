@@ -8,7 +8,7 @@ use Rattle.acl_nfs4.specs.Ace.{decides, is_allow, is_deny, plain, unless_empty, 
 use Rattle.acl_nfs4.specs.Who.{is_special, matches, same_who}
 use Rattle.acl_nfs4.specs.Mask.{mask_of, mode_bits, rest_of}
 use Rattle.acl_nfs4.specs.Evaluation.{speaks, verdict, allows, shown_to, of_class, mode_of}
-use Rattle.acl_nfs4.specs.ModeChange.{kept, kept_mask, distinct, named_in, denial_of, for_owner, for_others, with_mode}
+use Rattle.acl_nfs4.specs.ModeChange.{kept, kept_mask, distinct, named_in, denial_of, for_owner, for_others, with_mode, denials, kept_of, names}
 use Rattle.acl_nfs4.specs.ModeChangeLaws.{names_any, GrantsOwner, GrantsGroup, GrantsOthers, LimitsNamed}
 use Rattle.acl_posix.specs.Mode.{Classes, AreClasses}
 use Rattle.acl_nfs4.specs.declared.ace.AceType.TheVariants.{Allow, Deny}
@@ -16,9 +16,9 @@ use Rattle.acl_nfs4.specs.declared.who.Who.{Who}
 use Rattle.acl_nfs4.specs.declared.who.Who.TheVariants.{Owner, Group, Everyone}
 use Rattle.acl_names.proofs.BitSets.{has-without}
 use Rattle.acl_nfs4.proofs.ModeBits.{has-rest_of_mask, has-mask_of}
-use Rattle.acl_nfs4.proofs.Denials.{names, denies, denials, same_who-refl, same_who-true, list_any-kept, denied_anyway}
+use Rattle.acl_nfs4.proofs.Denials.{denies, same_who-refl, same_who-true, list_any-kept, denied_anyway}
 use Rattle.acl_nfs4.proofs.Idempotent.{middle, regroup}
-use Rattle.acl_nfs4.proofs.Kept.{kept_of, kept_of-cases, inherited_part, effective_part, reduced, decides-inherited_part, unless_empty-cases}
+use Rattle.acl_nfs4.proofs.Kept.{kept_of-cases, inherited_part, effective_part, reduced, decides-inherited_part, unless_empty-cases}
 use Rattle.acl_names.proofs.AnyLemmas.{and_false, or_false, false_unless, list_any-append, list_any-elim, list_any-none, list_any-witness, list_any-flat_map, list_any-filter, list_any-map, list_any-weaken}
 use Rattle.acl_nfs4.proofs.Shown.{shown_to-allows}
 use Rattle.acl_nfs4.proofs.Verdicts.{or_else, verdict-append, verdict-allow, verdict-deny}

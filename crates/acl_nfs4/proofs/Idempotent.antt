@@ -7,7 +7,7 @@ use Rattle.acl_names.specs.Bits.{has, without}
 use Rattle.acl_nfs4.specs.Ace.{decides, is_allow, is_deny, plain, unless_empty, Nfsace4}
 use Rattle.acl_nfs4.specs.Who.{is_special, flags_of_who, same_who}
 use Rattle.acl_nfs4.specs.Mask.{mask_of, mode_bits, rest_of}
-use Rattle.acl_nfs4.specs.ModeChange.{kept, kept_mask, named_in, denied_to, denial_of, for_owner, for_others, with_mode}
+use Rattle.acl_nfs4.specs.ModeChange.{kept, kept_mask, named_in, denied_to, denial_of, for_owner, for_others, with_mode, denials, kept_of, names}
 use Rattle.acl_posix.specs.Mode.{Classes}
 use Rattle.acl_nfs4.specs.declared.ace.AceType.{AceType}
 use Rattle.acl_nfs4.specs.declared.ace.AceType.TheVariants.{Allow, Deny}
@@ -15,8 +15,8 @@ use Rattle.acl_nfs4.specs.declared.who.Who.{Who}
 use Rattle.acl_nfs4.specs.declared.who.Who.TheVariants.{Owner, Group, Everyone, User, NamedGroup}
 use Rattle.acl_names.proofs.BitSets.{has-without, no_bits}
 use Rattle.acl_nfs4.proofs.ModeBits.{mask_of-within}
-use Rattle.acl_nfs4.proofs.Denials.{member, names, denies, denials, same_who-refl, member-named_in, named_not_special, has-denied_to, list_any-kept, denied_anyway, decides-plain_deny}
-use Rattle.acl_nfs4.proofs.Kept.{kept_of, kept_of-cases, kept-append, kept-none, kept-unchanged, kept-twice, effective_part, reduced, decides-inherited_part, unless_empty-cases}
+use Rattle.acl_nfs4.proofs.Denials.{member, denies, same_who-refl, member-named_in, named_not_special, has-denied_to, list_any-kept, denied_anyway, decides-plain_deny}
+use Rattle.acl_nfs4.proofs.Kept.{kept_of-cases, kept-append, kept-none, kept-unchanged, kept-twice, effective_part, reduced, decides-inherited_part, unless_empty-cases}
 use Rattle.acl_names.proofs.AnyLemmas.{and_false, or_true, or_false, list_any-append, list_any-flat_map, list_any-weaken}
 
 -- ---- sets within the mode's bits

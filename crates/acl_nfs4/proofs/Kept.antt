@@ -7,14 +7,11 @@ use Rattle.acl_nfs4.specs.Ace.{decides, is_allow, is_deny, unless_empty, is_inhe
 use Rattle.acl_nfs4.specs.Who.{is_special}
 use Rattle.acl_nfs4.specs.Flags.{inherit_only, inheritance_flags}
 use Rattle.acl_nfs4.specs.Mask.{mode_bits, rest_of}
-use Rattle.acl_nfs4.specs.ModeChange.{split, restricted, kept, kept_mask}
+use Rattle.acl_nfs4.specs.ModeChange.{split, restricted, kept, kept_mask, kept_of}
 use Rattle.acl_names.proofs.BitSets.{has-or, has-without, same_bits}
 use Rattle.acl_names.proofs.AnyLemmas.{and_false, or_true, flat_map-append}
 
 -- ---- the list, entry by entry
-
-abbrev pub kept_of : ℕ → Nfsace4 → List Nfsace4
-kept_of group ace = flat_map (restricted group) (split ace)
 
 pub kept-cons : (group : ℕ) (ace : Nfsace4) (aces : List Nfsace4) → kept group (ace ∷ aces) ≡ kept_of group ace ++ kept group aces
 kept-cons group ace aces = flat_map-append (restricted group) (split ace) (flat_map split aces)

@@ -9,6 +9,7 @@ pub mod ListLemmas
 pub mod ModeBits
 pub mod NamedIn
 pub mod OneBit
+pub mod PartLemmas
 pub mod Rest
 pub mod Rows
 pub mod Shown

@@ -1,7 +1,7 @@
 -- Lists as a loop goes through them.
 use Rattle.std.proofs.Common.{◌≡◌, ℕ, suc, ◌+◌, ◌<◌, ◌≤◌, ap, sym, ◌∙◌, List, [], ◌∷◌, ◌++◌, Option, Some, None, length, get_or, drop, take, append_assoc, length-append, add-one, arith, refl}
 use Rattle.std.proofs.Math.Seq.{drop-cons, take-suc}
-use Rattle.std.specs.Prelude.{filter_map}
+use Rattle.std.specs.Prelude.{filter_map, Result, Ok, Err, OnErr}
 use Rattle.std.specs.List.{cons_option}
 
 module _ {X : Type 0} where
@@ -24,3 +24,8 @@ length-filter_map {X} {Y} f (x ∷ xs) = go (f x) (length-filter_map f xs)
     go : (o : Option Y) → length (filter_map f xs) ≤ length xs → length (cons_option o (filter_map f xs)) ≤ length (x ∷ xs)
     go (Some y) below = omega arith
     go None below = omega arith
+
+-- what is known anyway is known on a refusal
+pub OnErr-from : {T E P : Type 0} (r : Result T E) → P → OnErr r P
+OnErr-from (Ok x) p = tt
+OnErr-from (Err e) p = p

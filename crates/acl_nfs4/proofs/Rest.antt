@@ -9,7 +9,7 @@ use Rattle.acl_nfs4.specs.Who.{flags_of_who}
 use Rattle.acl_nfs4.specs.Mask.{mask_of, rest_of}
 use Rattle.acl_nfs4.specs.Flags.{inherit_only, inheritance_flags, file_inherit, directory_inherit, no_propagate_inherit}
 use Rattle.acl_nfs4.specs.Inheritance.{flags_below, inherited_entry, inherited_list, with_inheritance_flags}
-use Rattle.acl_nfs4.specs.ModeChange.{kept, named_in, denial_of, for_owner, for_others, with_mode}
+use Rattle.acl_nfs4.specs.ModeChange.{kept, named_in, denial_of, for_owner, for_others, with_mode, denials, kept_of}
 use Rattle.acl_nfs4.specs.ModeChangeLaws.{IsSublist, audits_and_alarms, inherit_only_entries}
 use Rattle.acl_nfs4.specs.ModeChangeLaws.IsSublist.{ends, skips, keeps}
 use Rattle.acl_posix.specs.Mode.{Classes}
@@ -20,8 +20,7 @@ use Rattle.acl_nfs4.specs.declared.inheritance.Kind.TheVariants.{File, Dir}
 use Rattle.acl_nfs4.specs.declared.who.Who.{Who}
 use Rattle.acl_nfs4.specs.declared.who.Who.TheVariants.{Owner, Group, Everyone, User, NamedGroup}
 use Rattle.acl_names.proofs.BitSets.{has-and, has-or, has-without, same_bits}
-use Rattle.acl_nfs4.proofs.Denials.{denials}
-use Rattle.acl_nfs4.proofs.Kept.{kept_of, kept_of-cases, kept-cons, inherited_part, effective_part, reduced, unless_empty-cases, is_inheritable-effective_part}
+use Rattle.acl_nfs4.proofs.Kept.{kept_of-cases, kept-cons, inherited_part, effective_part, reduced, unless_empty-cases, is_inheritable-effective_part}
 use Rattle.acl_names.proofs.AnyLemmas.{or_false, and_false}
 
 -- ---- a function of lists that goes entry by entry, and that a change of mode leaves as it is

@@ -1,5 +1,5 @@
 -- A list with a mode set (within RFC 8881, section 6.4.1.1).
-use Rattle.std.specs.Prelude.{ℕ, ◌^◌, not, ◌&&◌, ◌==◌, if◌then◌else◌, List, [], ◌∷◌, ◌++◌, map, filter, flat_map}
+use Rattle.std.specs.Prelude.{ℕ, ◌^◌, Bool, not, ◌&&◌, ◌==◌, if◌then◌else◌, List, [], ◌∷◌, ◌++◌, map, filter, flat_map}
 use Rattle.acl_names.specs.Bits.{◌∪◌, without, union}
 use Rattle.acl_nfs4.specs.Ace.{decides, is_allow, is_deny, plain, unless_empty, is_inheritable, Nfsace4}
 use Rattle.acl_nfs4.specs.Who.{is_special, same_who}
@@ -29,6 +29,10 @@ kept_mask group ace =
 unfoldable pub restricted : ℕ → Nfsace4 → List Nfsace4
 restricted group ace = if decides ace then unless_empty (record ace { mask = kept_mask group ace }) else ace ∷ []
 
+-- what an entry leaves, split and restricted
+abbrev pub kept_of : ℕ → Nfsace4 → List Nfsace4
+kept_of group ace = flat_map (restricted group) (split ace)
+
 -- what the old list leaves beside a mode with this group
 abbrev pub kept : ℕ → List Nfsace4 → List Nfsace4
 kept group aces = flat_map (restricted group) (flat_map split aces)
@@ -38,9 +42,17 @@ abbrev pub distinct : List Who → List Who
 distinct [] = []
 distinct (who ∷ rest) = who ∷ filter (λ other. not (same_who other who)) (distinct rest)
 
+-- whether an entry decides about a named user or group
+abbrev pub names_someone : Nfsace4 → Bool
+names_someone ace = decides ace && not (is_special ace.who)
+
 -- the named users and groups that an entry decides about, in the order of their first entry
 abbrev pub named_in : List Nfsace4 → List Who
-named_in aces = distinct (map (λ ace. ace.who) (filter (λ ace. decides ace && not (is_special ace.who)) aces))
+named_in aces = distinct (map (λ ace. ace.who) (filter names_someone aces))
+
+-- whether an entry decides about this who by name
+abbrev pub names : Who → Nfsace4 → Bool
+names who ace = names_someone ace && same_who ace.who who
 
 -- the bits that the list denies this who by name
 abbrev pub denied_to : Who → List Nfsace4 → ℕ
@@ -57,10 +69,14 @@ for_owner user = plain Allow Owner (mask_of user) ++ plain Deny Owner (rest_of u
 abbrev pub for_others : ℕ → ℕ → List Nfsace4
 for_others group other = plain Allow Group (mask_of group) ++ plain Deny Group (rest_of group) ++ plain Allow Everyone (mask_of other)
 
+-- the denials of all whom the list names
+abbrev pub denials : ℕ → List Nfsace4 → List Nfsace4
+denials group aces = flat_map (denial_of group aces) (named_in aces)
+
 -- the list with the mode set
 abbrev pub with_mode : List Nfsace4 → Classes → List Nfsace4
 with_mode aces mode =
     for_owner mode.user
     ++ kept mode.group aces
-    ++ flat_map (denial_of mode.group aces) (named_in aces)
+    ++ denials mode.group aces
     ++ for_others mode.group mode.other

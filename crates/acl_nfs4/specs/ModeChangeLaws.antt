@@ -1,15 +1,16 @@
 -- What a change of mode keeps, and whom it grants what (RFC 8881, sections 6.3.2 and 6.4.1.1).
-use Rattle.std.specs.Prelude.{◌≡◌, ◌≢◌, ℕ, Bool, true, false, not, ◌&&◌, IsTrue, List, [], ◌∷◌, filter}
+use Rattle.std.specs.Prelude.{◌≡◌, ◌≢◌, ℕ, Bool, true, false, ◌&&◌, IsTrue, List, [], ◌∷◌, filter}
 use Rattle.std.specs.List.{list_any}
 use Rattle.acl_names.specs.Bits.{has}
 use Rattle.acl_names.specs.Requester.{Identity, is_in_group}
 use Rattle.acl_posix.specs.Mode.{Classes}
-use Rattle.acl_nfs4.specs.Ace.{Nfsace4, decides, is_audit_or_alarm}
-use Rattle.acl_nfs4.specs.Who.{is_special, matches}
+use Rattle.acl_nfs4.specs.Ace.{Nfsace4, is_audit_or_alarm}
+use Rattle.acl_nfs4.specs.Who.{matches}
 use Rattle.acl_nfs4.specs.Flags.{inherit_only}
 use Rattle.acl_nfs4.specs.Mask.{mode_bits, mask_of}
 use Rattle.acl_nfs4.specs.Evaluation.{allows}
 use Rattle.acl_nfs4.specs.Inheritance.{inherited_list}
+use Rattle.acl_nfs4.specs.ModeChange.{names_someone}
 use Rattle.acl_nfs4.specs.declared.inheritance.Kind.{Kind}
 use Rattle.acl_nfs4.specs.declared.who.Who.{Who}
 
@@ -27,7 +28,7 @@ inherit_only_entries aces = filter (λ ace. has ace.flags inherit_only) aces
 
 -- whether an entry that decides names someone to whom this applies
 abbrev pub names_any : (Who → Bool) → List Nfsace4 → Bool
-names_any applies aces = list_any (λ ace. (decides ace && not (is_special ace.who)) && applies ace.who) aces
+names_any applies aces = list_any (λ ace. names_someone ace && applies ace.who) aces
 
 -- of the mode's bits the owner is granted those of the mode's user
 abbrev pub GrantsOwner : List Nfsace4 → Classes → Type 0

@@ -10,6 +10,7 @@ mod flags;
 mod inheritance;
 mod mask;
 mod mode;
+mod mode_change;
 mod who;
 
 pub use ace::{Ace, AceType};
@@ -17,4 +18,5 @@ pub use acl::{AceFault, Acl4};
 pub use flags::Flags;
 pub use inheritance::Kind;
 pub use mask::{Mask, mask_of};
+pub use mode_change::Fault4;
 pub use who::Who;
