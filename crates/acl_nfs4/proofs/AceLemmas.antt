@@ -70,7 +70,7 @@ group_flag-flags_for who flags =
     ∙ has-flags_of_who who
 
 -- the entry of any parts
-IsAce-ace_of : (kind : AceType) (flags : ℕ) (who : Who) (mask : ℕ) → IsAce (ace_of kind flags who mask)
+pub IsAce-ace_of : (kind : AceType) (flags : ℕ) (who : Who) (mask : ℕ) → IsAce (ace_of kind flags who mask)
 IsAce-ace_of kind flags who mask = record {
   known_flags = within-or (without (flags ∩ all_flags) (2 ^ identifier_group)) (flags_of_who who) all_flags
       (within-without (flags ∩ all_flags) (2 ^ identifier_group) all_flags (within-and flags all_flags))

@@ -5,11 +5,13 @@ pub mod Granted
 pub mod Idempotent
 pub mod InheritanceLemmas
 pub mod Kept
+pub mod LetterLemmas
 pub mod ListLemmas
 pub mod ModeBits
 pub mod NamedIn
 pub mod OneBit
 pub mod PartLemmas
+pub mod ReadLemmas
 pub mod Rest
 pub mod Rows
 pub mod Shown

@@ -7,3 +7,6 @@ pub mod Evaluation
 pub mod Inheritance
 pub mod ModeChange
 pub mod ModeChangeLaws
+pub mod Letters
+pub mod AceText
+pub mod AceViews

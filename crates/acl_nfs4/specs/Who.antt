@@ -1,5 +1,6 @@
 -- Whom an entry is about (RFC 8881, section 6.2.1.5).
-use Rattle.std.specs.Prelude.{ℕ, ◌^◌, Bool, true, false, ◌==◌}
+use Rattle.std.specs.Prelude.{ℕ, ◌^◌, ◌≤◌, Bool, true, false, ◌==◌}
+use Rattle.acl_names.specs.Ids.{max_id}
 use Rattle.acl_names.specs.Requester.{Identity, is_in_group}
 use Rattle.acl_nfs4.specs.Flags.{identifier_group}
 use Rattle.acl_nfs4.specs.declared.who.Who.{Who}
@@ -35,3 +36,13 @@ matches owner group requester (NamedGroup named) = is_in_group requester named
 abbrev pub flags_of_who : Who → ℕ
 flags_of_who (NamedGroup _) = 2 ^ identifier_group
 flags_of_who _ = 0
+
+-- the id that it names; the special identifiers name none
+abbrev pub id_of : Who → ℕ
+id_of (User uid) = uid
+id_of (NamedGroup gid) = gid
+id_of _ = 0
+
+-- the id that it names is one
+abbrev pub HasId : Who → Type 0
+HasId who = id_of who ≤ max_id

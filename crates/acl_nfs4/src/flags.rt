@@ -64,7 +64,7 @@ impl FlagSet for Flags {
 }
 
 impl Flags {
-    ghost use Rattle.acl_nfs4.specs.Flags.{flag_bits, all_flags, file_inherit, directory_inherit, no_propagate_inherit, inherit_only, inheritance_flags};
+    ghost use Rattle.acl_nfs4.specs.Flags.{flag_bits, all_flags, file_inherit, directory_inherit, no_propagate_inherit, inherit_only, inheritance_flags, identifier_group};
 
     /// What a directory has of an entry that only files take over.
     pub(crate) const PASSED_TO_FILES: Flags = Flags(0x9);
@@ -97,6 +97,12 @@ impl Flags {
         ensures { result ≡ has (flag_bits self) inherit_only }
     {
         self.contains(Flags::INHERIT_ONLY)
+    }
+
+    pub(crate) fn has_identifier_group(self) -> bool
+        ensures { result ≡ has (flag_bits self) identifier_group }
+    {
+        self.contains(Flags::IDENTIFIER_GROUP)
     }
 
     /// Whether any flag speaks of inheritance.
