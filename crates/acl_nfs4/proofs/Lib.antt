@@ -13,6 +13,7 @@ pub mod OneBit
 pub mod PartLemmas
 pub mod ReadLemmas
 pub mod Rest
+pub mod RoundTrip
 pub mod Rows
 pub mod Shown
 pub mod Verdicts

@@ -1,8 +1,9 @@
 -- Lists as a loop goes through them.
-use Rattle.std.proofs.Common.{◌≡◌, ℕ, suc, ◌+◌, ◌<◌, ◌≤◌, ap, sym, ◌∙◌, List, [], ◌∷◌, ◌++◌, Option, Some, None, length, get_or, drop, take, append_assoc, length-append, add-one, arith, refl}
+use Rattle.std.proofs.Common.{◌≡◌, ℕ, suc, ◌+◌, ◌<◌, ◌≤◌, ap, sym, ◌∙◌, List, [], ◌∷◌, ◌++◌, Option, Some, None, length, get_or, drop, take, append_assoc, length-append, add-one, arith, refl, subst}
 use Rattle.std.proofs.Math.Seq.{drop-cons, take-suc}
 use Rattle.std.specs.Prelude.{filter_map, Result, Ok, Err, OnErr}
-use Rattle.std.specs.List.{cons_option}
+use Rattle.std.specs.List.{All, cons_option}
+use Rattle.std.proofs.lemmas.List.Elements.{All-nil, All-cons, All-append}
 
 module _ {X : Type 0} where
   -- what is left at an element is the element and what is left after it
@@ -29,3 +30,10 @@ length-filter_map {X} {Y} f (x ∷ xs) = go (f x) (length-filter_map f xs)
 pub OnErr-from : {T E P : Type 0} (r : Result T E) → P → OnErr r P
 OnErr-from (Ok x) p = tt
 OnErr-from (Err e) p = p
+
+-- what holds of the elements so far, and of the next
+pub All-take-next : {X : Type 0} (P : X → Type 0) (xs : List X) (i : ℕ) (x : X) → i < length xs → x ≡ get_or xs i x
+    → All P (take i xs) → P x → All P (take (i + 1) xs)
+All-take-next P xs i x inside here before holds =
+    subst (All P) (sym (rw add-one (take-suc xs i x inside) ∙ ap (λ y. take i xs ++ y ∷ []) (sym here)))
+    (All-append P (take i xs) (x ∷ []) before (All-cons P x [] holds (All-nil P)))

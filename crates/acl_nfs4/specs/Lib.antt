@@ -10,3 +10,4 @@ pub mod ModeChangeLaws
 pub mod Letters
 pub mod AceText
 pub mod AceViews
+pub mod PrintedText

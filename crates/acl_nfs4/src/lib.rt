@@ -12,6 +12,7 @@ mod letters;
 mod mask;
 mod mode;
 mod mode_change;
+mod printing;
 mod reading;
 mod who;
 
