@@ -9,6 +9,7 @@ use Rattle.acl_names.specs.Bits.{◌∩◌, ◌∪◌}
 use Rattle.acl_names.specs.Letters.{letters_of, letters_text, IsTable, is_letters_text, bits_of_rows, rows_in, occurs}
 use Rattle.acl_names.specs.declared.letters.Letter.{Letter}
 use Rattle.acl_nfs4.specs.Flags.{all_flags}
+use Rattle.acl_nfs4.specs.Mask.{all_masks}
 use Rattle.acl_nfs4.specs.Letters.{flag_table, mask_table}
 use Rattle.acl_nfs4.proofs.AceLemmas.{within-or}
 
@@ -26,18 +27,24 @@ rows-within all test (row ∷ rows) each bits within = go (test row) (rows-withi
     go true rest = rest (bits ∪ row.bit) (within-or bits row.bit all within each.0)
     go false rest = rest bits within
 
-spelt-known : (text : List ℕ) → bits_of_rows (rows_in flag_table text) ∩ all_flags ≡ bits_of_rows (rows_in flag_table text)
-spelt-known text =
-    rows-within all_flags (λ row. occurs row.letter text) flag_table (refl, (refl, (refl, (refl, (refl, (refl, (refl, tt))))))) 0 refl
-
--- flags that are spelt have names
-pub flags-known : (text : List ℕ) (bits : ℕ) → Some bits ≡ letters_of flag_table text → bits ∩ all_flags ≡ bits
+spelt-known : (table : List Letter) (all : ℕ) → AllByRecursion (λ row. row.bit ∩ all ≡ row.bit) table
+    → (text : List ℕ) (bits : ℕ) → Some bits ≡ letters_of table text → bits ∩ all ≡ bits
 unfolding letters_of
-flags-known text bits e = go (is_letters_text flag_table text) e
+spelt-known table all each text bits e = go (is_letters_text table text) e (rows-within all (λ row. occurs row.letter text) table each 0 refl)
   where
-    go : (b : Bool) → Some bits ≡ cond b (Some (bits_of_rows (rows_in flag_table text))) None → bits ∩ all_flags ≡ bits
-    go true e = let same : bits ≡ bits_of_rows (rows_in flag_table text) = cc in subst (λ (n : ℕ). n ∩ all_flags ≡ n) (sym same) (spelt-known text)
-    go false e = absurd (cc)
+    go : (b : Bool) → Some bits ≡ cond b (Some (bits_of_rows (rows_in table text))) None
+        → bits_of_rows (rows_in table text) ∩ all ≡ bits_of_rows (rows_in table text) → bits ∩ all ≡ bits
+    go true e spelt = let same : bits ≡ bits_of_rows (rows_in table text) = cc in subst (λ (n : ℕ). n ∩ all ≡ n) (sym same) spelt
+    go false e spelt = absurd (cc)
+
+-- flags and masks that are spelt have names
+pub flags-known : (text : List ℕ) (bits : ℕ) → Some bits ≡ letters_of flag_table text → bits ∩ all_flags ≡ bits
+flags-known = spelt-known flag_table all_flags (refl, (refl, (refl, (refl, (refl, (refl, (refl, tt)))))))
+
+pub mask-known : (text : List ℕ) (bits : ℕ) → Some bits ≡ letters_of mask_table text → bits ∩ all_masks ≡ bits
+mask-known =
+    spelt-known mask_table all_masks
+    (refl, (refl, (refl, (refl, (refl, (refl, (refl, (refl, (refl, (refl, (refl, (refl, (refl, (refl, tt))))))))))))))
 
 pub flags-small : (text : List ℕ) (bits : ℕ) → Some bits ≡ letters_of flag_table text → bits ≤ all_flags
 flags-small text bits e = subst (λ (n : ℕ). n ≤ all_flags) (flags-known text bits e) (and_le_r bits all_flags)

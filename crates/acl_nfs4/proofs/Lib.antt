@@ -15,5 +15,6 @@ pub mod ReadLemmas
 pub mod Rest
 pub mod RoundTrip
 pub mod Rows
+pub mod ShapeLemmas
 pub mod Shown
 pub mod Verdicts

@@ -78,6 +78,12 @@ parts_of known piece ace e =
       has_effect = ap is_idle (sym last.0) ∙ last.1;
     }
 
+pub value_of_parts : (known : Known) (piece : List ℕ) (ace : Nfsace4) → Parts known piece ace → piece_value known piece ≡ Ok ace
+unfolding piece_value
+value_of_parts known piece ace parts =
+    rw (parts.cut, parts.kind_is, parts.flags_are, parts.written_is, parts.mask_is, parts.who_is)
+    (ap effective parts.made ∙ ap (λ b. cond b (Err InheritOnly) (Ok ace)) parts.has_effect)
+
 -- what holds of each value of a piece holds of each member of a list that pieces say
 each_said : (P : Nfsace4 → Type 0) (known : Known) → ((piece : List ℕ) (ace : Nfsace4) → piece_value known piece ≡ Ok ace → P ace)
     → (texts : List (List ℕ)) (aces : List Nfsace4) → Say (piece_value known) texts aces → All P aces

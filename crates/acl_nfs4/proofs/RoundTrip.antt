@@ -26,7 +26,7 @@ use Rattle.acl_names.proofs.LettersAgain.{letters_again}
 use Rattle.acl_names.proofs.PlainLines.{IsPlain, IsMark, nothing, Lacks, pieces_of_lines}
 use Rattle.acl_nfs4.specs.Ace.{Nfsace4, IsAce, ace_of, flags_for, is_idle}
 use Rattle.acl_nfs4.specs.AceText.{AceFields, WrittenWho, as_fields, fields_of, type_of, written_who, who_of_parts, name_at, named, resolved_who, effective, piece_value}
-use Rattle.acl_nfs4.specs.AceText as text
+use Rattle.acl_nfs4.specs.AceText as form
 use Rattle.acl_nfs4.specs.Flags.{all_flags, identifier_group}
 use Rattle.acl_nfs4.specs.Letters.{flag_table, mask_table}
 use Rattle.acl_nfs4.specs.PrintedText.{type_text, named_text, who_text, ace_text, line_text, aces_text, HaveIds}
@@ -39,6 +39,7 @@ use Rattle.acl_nfs4.specs.declared.who.Who.{Who}
 use Rattle.acl_nfs4.specs.declared.who.Who.TheVariants.{Owner, Group, Everyone, User, NamedGroup}
 use Rattle.acl_nfs4.proofs.AceLemmas.{within-has}
 use Rattle.acl_nfs4.proofs.LetterLemmas.{flag_table_is, mask_table_is, flags-field, mask-field}
+use Rattle.acl_nfs4.proofs.ReadLemmas.{value_of_parts}
 use Rattle.acl_nfs4.proofs.OneBit.{contains-one, lacks-one}
 
 -- ---- bytes of fields
@@ -86,6 +87,33 @@ decimal_bytes : (id : ℕ) → id ≤ max_id → All (λ byte. is_ascii_digit by
 decimal_bytes id small =
     let numeral = decimal_is_IsNumeral id (omega arith) in
     AllPass-from_list_all is_ascii_digit (decimal id) (digits_model.from (decimal id) numeral.0.1)
+
+-- a name in the domain is read again
+pub at_again : (name domain : List ℕ) → has_name_shape name ≡ true → has_domain_shape domain ≡ true
+    → who_of_parts (name ∷ domain ∷ []) ≡ Some (form.At name domain)
+at_again name [] shaped domain_shaped = absurd (cc)
+at_again name (byte ∷ bytes) shaped domain_shaped =
+    ap (λ written. name_at written (byte ∷ bytes)) (written_name name shaped)
+    ∙ ap (λ b. cond b (Some (form.At name (byte ∷ bytes))) None) domain_shaped
+
+pub parts_at : (name domain : List ℕ) → has_name_shape name ≡ true → has_domain_shape domain ≡ true → parts 64 (name ++ 64 ∷ domain) ≡ name ∷ domain ∷ []
+parts_at name domain shaped domain_shaped =
+    slice_split_at (λ x. x == 64) name 64 domain
+    (All-weaker (λ byte. continues_name byte ≡ true) (λ byte. (byte == 64) ≡ false) name_byte_no_at name (name_bytes name shaped)) refl
+    ∙ ap (λ rest. name ∷ rest)
+    (slice_split_none (λ x. x == 64) domain
+    (All-weaker (λ byte. stands_in_domain byte ≡ true) (λ byte. (byte == 64) ≡ false) domain_byte_no_at domain (domain_bytes domain domain_shaped)))
+
+-- a text of one part
+pub parts_name : (name : List ℕ) → has_name_shape name ≡ true → parts 64 name ≡ name ∷ []
+parts_name name shaped =
+    slice_split_none (λ x. x == 64) name
+    (All-weaker (λ byte. continues_name byte ≡ true) (λ byte. (byte == 64) ≡ false) name_byte_no_at name (name_bytes name shaped))
+
+pub parts_digits : (text : List ℕ) → All (λ byte. is_ascii_digit byte ≡ true) text → parts 64 text ≡ text ∷ []
+parts_digits text digits =
+    slice_split_none (λ x. x == 64) text
+    (All-weaker (λ byte. is_ascii_digit byte ≡ true) (λ byte. (byte == 64) ≡ false) digit_no_at text digits)
 
 -- ---- an entry's flags and mask are those of its parts
 
@@ -153,27 +181,6 @@ module _ (known : Known) (apart : TellsNamesApart known) where
   who_field (User uid) has_id = named_field (uid_of known) (user_name known) uid apart.users has_id
   who_field (NamedGroup gid) has_id = named_field (gid_of known) (group_name known) gid apart.groups has_id
 
-  -- a name in the domain is read again
-  at_again : (name domain : List ℕ) → has_name_shape name ≡ true → has_domain_shape domain ≡ true
-      → who_of_parts (name ∷ domain ∷ []) ≡ Some (text.At name domain)
-  at_again name [] shaped domain_shaped = absurd (cc)
-  at_again name (byte ∷ bytes) shaped domain_shaped =
-      ap (λ written. name_at written (byte ∷ bytes)) (written_name name shaped)
-      ∙ ap (λ b. cond b (Some (text.At name (byte ∷ bytes))) None) domain_shaped
-
-  parts_at : (name domain : List ℕ) → has_name_shape name ≡ true → has_domain_shape domain ≡ true → parts 64 (name ++ 64 ∷ domain) ≡ name ∷ domain ∷ []
-  parts_at name domain shaped domain_shaped =
-      slice_split_at (λ x. x == 64) name 64 domain
-      (All-weaker (λ byte. continues_name byte ≡ true) (λ byte. (byte == 64) ≡ false) name_byte_no_at name (name_bytes name shaped)) refl
-      ∙ ap (λ rest. name ∷ rest)
-      (slice_split_none (λ x. x == 64) domain
-      (All-weaker (λ byte. stands_in_domain byte ≡ true) (λ byte. (byte == 64) ≡ false) domain_byte_no_at domain (domain_bytes domain domain_shaped)))
-
-  parts_decimal : (id : ℕ) → id ≤ max_id → parts 64 (decimal id) ≡ decimal id ∷ []
-  parts_decimal id small =
-      slice_split_none (λ x. x == 64) (decimal id)
-      (All-weaker (λ byte. is_ascii_digit byte ≡ true) (λ byte. (byte == 64) ≡ false) digit_no_at (decimal id) (decimal_bytes id small))
-
   -- a who that is read as this one
   record ReadsAs (text : List ℕ) (is_group : Bool) (who : Who) : Type 0 where
     pub written : WrittenWho
@@ -193,22 +200,22 @@ module _ (known : Known) (apart : TellsNamesApart known) where
 
       go : (name : Option (List ℕ)) → name_of id ≡ name → ReadsAs (named_text name known.domain id) is_group (tag id)
       go None e = record {
-        written = text.Id (Number id);
-        written_is = ap who_of_parts (parts_decimal id small) ∙ ap (option_map (λ written. text.Id written)) (written_decimal id small);
+        written = form.Id (Number id);
+        written_is = ap who_of_parts (parts_digits (decimal id) (decimal_bytes id small)) ∙ ap (option_map (λ written. form.Id written)) (written_decimal id small);
         who_is = looks_up (Number id) ∙ ap (λ b. option_map tag (cond b (Some id) None)) (at_most id max_id small);
       }
       go (Some name) e =
           let told = back id name e in
           record {
-            written = text.At name known.domain;
+            written = form.At name known.domain;
             written_is = ap who_of_parts (parts_at name known.domain told.0 apart.domain) ∙ at_again name known.domain told.0 apart.domain;
             who_is = ap (λ b. cond b (named known is_group (Name name)) None) same_domain ∙ looks_up (Name name) ∙ ap (option_map tag) told.1;
           }
 
   who_again : (who : Who) → HasId who → ReadsAs (who_text known who) (is_named_group who) who
-  who_again Owner has_id = record { written = text.Owner; written_is = refl; who_is = refl }
-  who_again Group has_id = record { written = text.Group; written_is = refl; who_is = refl }
-  who_again Everyone has_id = record { written = text.Everyone; written_is = refl; who_is = refl }
+  who_again Owner has_id = record { written = form.Owner; written_is = refl; who_is = refl }
+  who_again Group has_id = record { written = form.Group; written_is = refl; who_is = refl }
+  who_again Everyone has_id = record { written = form.Everyone; written_is = refl; who_is = refl }
   who_again (User uid) has_id =
       named_again (uid_of known) (user_name known) false (λ id. User id) uid apart.users has_id (λ written. refl)
   who_again (NamedGroup gid) has_id =
@@ -226,26 +233,33 @@ module _ (known : Known) (apart : TellsNamesApart known) where
       → AllByRecursion IsField (type_text ace.kind ∷ letters_text flag_table ace.flags ∷ who_text known ace.who ∷ letters_text mask_table ace.mask ∷ [])
   fields_are ace has_id = (type_field ace.kind, (flags-field ace.flags, (who_field ace.who has_id, (mask-field ace.mask, tt))))
 
-  -- a piece whose parts are read is read
-  read_parts : (ace : Nfsace4) (fields : AceFields) → fields_of (ace_text known ace) ≡ Some fields → type_of fields.kind ≡ Some ace.kind
-      → letters_of flag_table fields.flags ≡ Some ace.flags → ReadsAs fields.who (has ace.flags identifier_group) ace.who
-      → letters_of mask_table fields.letters ≡ Some ace.mask → effective (ace_of ace.kind ace.flags ace.who ace.mask) ≡ Ok ace
-      → piece_value known (ace_text known ace) ≡ Ok ace
-  unfolding piece_value
-  read_parts ace fields cut kind flags reads mask last = rw (cut, kind, flags, reads.written_is, mask, reads.who_is) last
-
   -- an entry is read again
   piece_again : (ace : Nfsace4) → IsAce ace → HasId ace.who → is_idle ace ≡ false → piece_value known (ace_text known ace) ≡ Ok ace
   piece_again ace is has_id effect =
-      read_parts ace
-      (record { kind = type_text ace.kind; flags = letters_text flag_table ace.flags; who = who_text known ace.who; letters = letters_text mask_table ace.mask })
-      (ap as_fields (fields_again (type_text ace.kind) (letters_text flag_table ace.flags ∷ who_text known ace.who ∷ letters_text mask_table ace.mask ∷ [])
-      (fields_are ace has_id)))
-      (type_again ace.kind)
-      (letters_again flag_table ace.flags flag_table_is is.known_flags)
-      (subst (λ (b : Bool). ReadsAs (who_text known ace.who) b ace.who) (sym is.group_flag) (who_again ace.who has_id))
-      (letters_again mask_table ace.mask mask_table_is is.known_mask)
-      (ap effective (ace_of-same ace is) ∙ ap (λ b. cond b (Err InheritOnly) (Ok ace)) effect)
+      let reads = subst (λ (b : Bool). ReadsAs (who_text known ace.who) b ace.who) (sym is.group_flag) (who_again ace.who has_id) in
+      value_of_parts known (ace_text known ace) ace
+      (record {
+        fields = record {
+          kind = type_text ace.kind;
+          flags = letters_text flag_table ace.flags;
+          who = who_text known ace.who;
+          letters = letters_text mask_table ace.mask;
+        };
+        kind = ace.kind;
+        flags = ace.flags;
+        written = reads.written;
+        mask = ace.mask;
+        who = ace.who;
+        cut = ap as_fields (fields_again (type_text ace.kind) (letters_text flag_table ace.flags ∷ who_text known ace.who ∷ letters_text mask_table ace.mask ∷ [])
+            (fields_are ace has_id));
+        kind_is = type_again ace.kind;
+        flags_are = letters_again flag_table ace.flags flag_table_is is.known_flags;
+        written_is = reads.written_is;
+        mask_is = letters_again mask_table ace.mask mask_table_is is.known_mask;
+        who_is = reads.who_is;
+        made = ace_of-same ace is;
+        has_effect = effect;
+      })
 
   -- ---- the list
 

@@ -11,3 +11,4 @@ pub mod Letters
 pub mod AceText
 pub mod AceViews
 pub mod PrintedText
+pub mod AceShapes

@@ -23,5 +23,5 @@ pub use inheritance::Kind;
 pub use letters::{letters_are_told_apart, read_letters};
 pub use mask::{Mask, mask_of};
 pub use mode_change::Fault4;
-pub use reading::read_aces;
+pub use reading::{pieces_have_shapes, read_aces};
 pub use who::Who;

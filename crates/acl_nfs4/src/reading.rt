@@ -1,11 +1,13 @@
 //! Reading lists of entries.
 
-ghost use Rattle.std.specs.Prelude.{◌≡◌, List, option_map, IfOk, IfErr, MatchResult};
+ghost use Rattle.std.specs.Prelude.{◌≡◌, ◌↔◌, ℕ, List, Ok, option_map, IfOk, IfErr, MatchResult};
 ghost use Rattle.acl_names.specs.Bits.{has};
+ghost use Rattle.acl_names.specs.Directory.{Known};
 ghost use Rattle.acl_names.specs.ListText.{Spells, IsFaultOf};
 ghost use Rattle.acl_names.specs.Ids.{written_id};
 ghost use Rattle.acl_names.specs.Views.{view_written};
 ghost use Rattle.acl_nfs4.specs.Ace.{Nfsace4};
+ghost use Rattle.acl_nfs4.specs.AceShapes.{HasShape};
 ghost use Rattle.acl_nfs4.specs.AceText.{effective, fields_of, name_at, named, piece_value, resolved_who, special_of, type_of, written_who};
 ghost use Rattle.acl_nfs4.specs.AceViews.{list_fault, view_fields, view_who};
 ghost use Rattle.acl_nfs4.specs.Flags.{flag_bits, identifier_group};
@@ -214,3 +216,8 @@ fn effective(ace: Ace) -> Result<Ace, PieceFault>
         Ok(ace)
     }
 }
+
+/// What a piece says is what the shapes say, both ways. This does nothing: it states the law.
+pub fn pieces_have_shapes()
+    ensures { (known : Known) (piece : List ℕ) (ace : Nfsace4) → (piece_value known piece ≡ Ok ace) ↔ HasShape known piece ace }
+{}
