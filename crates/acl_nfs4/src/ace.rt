@@ -128,21 +128,24 @@ impl Ace {
     pub(crate) fn decides(&self) -> bool
         ensures { result ≡ decides self.now }
     {
-        self.kind.decides() && !self.flags.has_inherit_only()
+        let kind = self.kind;
+        kind.decides() && !self.flags.has_inherit_only()
     }
 
     /// Whether something made below inherits the entry.
     pub(crate) fn is_inheritable(&self) -> bool
         ensures { result ≡ is_inheritable self.now }
     {
-        self.flags.has_file_inherit() || self.flags.has_directory_inherit()
+        let flags = self.flags;
+        flags.has_file_inherit() || flags.has_directory_inherit()
     }
 
     /// Whether the entry has an effect neither where it stands nor below.
     pub(crate) fn is_idle(&self) -> bool
         ensures { result ≡ is_idle self.now }
     {
-        self.flags.has_inherit_only() && !self.is_inheritable()
+        let flags = self.flags;
+        flags.has_inherit_only() && !self.is_inheritable()
     }
 
     /// An entry with no flags but what its who asks for.

@@ -14,6 +14,8 @@ mod mode;
 mod mode_change;
 mod printing;
 mod reading;
+#[cfg(test)]
+mod tests;
 mod who;
 
 pub use ace::{Ace, AceType};
