@@ -1,5 +1,5 @@
 -- The access check, case by case.
-use Rattle.std.proofs.Common.{◌≡◌, ◌∙◌, ℕ, Bool, true, false, ◌&&◌, ◌==◌, cond, List, [], ◌∷◌, Option, refl, ap, arith}
+use Rattle.std.proofs.Common.{◌≡◌, ◌∙◌, ℕ, Bool, true, false, ◌&&◌, ◌==◌, cond, List, [], ◌∷◌, Option, refl, sym, ap, arith}
 use Rattle.std.specs.List.{list_any, filter}
 use Rattle.std.specs.Option.{option_map_or}
 use Rattle.std.proofs.lemmas.Bool.{false≢true, lt-ltb}
@@ -10,8 +10,8 @@ use Rattle.acl_posix.specs.Entry.{Triple, same_tag, perms_of}
 use Rattle.acl_names.specs.Bits.{has_all}
 use Rattle.acl_posix.specs.Validity.{IsValid, count_of}
 use Rattle.acl_posix.specs.Access.{is_for_group_of, first_nonempty, is_under_mask, masked, effective_perms, grants}
-use Rattle.acl_posix.proofs.AnyLemmas.{list_any-agree, list_any-filter, list_any-and, filter-none}
-use Rattle.acl_posix.proofs.CountLemmas.{list_any-count_by}
+use Rattle.acl_names.proofs.AnyLemmas.{list_any-agree, list_any-filter, list_any-and, filter-none}
+use Rattle.acl_names.proofs.Counting.{list_any-count_by}
 use Rattle.acl_posix.proofs.PermsLemmas.{and_true, has_all-masked}
 
 -- whether there is an entry with the tag, and whether one has the whole of the request
@@ -92,7 +92,7 @@ first_kept : (p : Triple → Bool) (acl : List Triple) (rest : List (List Triple
     → first_nonempty (filter p acl ∷ rest) ≡ filter p acl
 first_kept p acl rest some =
     first (filter p acl) rest
-    (list_any-filter p (λ _. true) acl ∙ list_any-agree (λ e. p e && true) p (λ e. and_true (p e)) acl ∙ some)
+    (sym (list_any-filter p (λ _. true) acl) ∙ list_any-agree (λ e. p e && true) p (λ e. and_true (p e)) acl ∙ some)
 
 first_dropped : (p : Triple → Bool) (acl : List Triple) (rest : List (List Triple)) → list_any p acl ≡ false
     → first_nonempty (filter p acl ∷ rest) ≡ first_nonempty rest
@@ -136,7 +136,7 @@ module _ (acl : List Triple) (owner group : ℕ) (requester : Identity) (request
   grants-owner is_owner some =
       ap (λ b. one_has acl request (first_nonempty (cond b (filter is_for_owner acl) [] ∷ filter is_for_user acl ∷ groups_on))) is_owner
       ∙ ap (one_has acl request) (first_kept is_for_owner acl (filter is_for_user acl ∷ groups_on) some)
-      ∙ list_any-filter is_for_owner has_effective acl
+      ∙ sym (list_any-filter is_for_owner has_effective acl)
       ∙ list_any-agree (λ e. is_for_owner e && has_effective e) (λ e. is_for_owner e && has_own e)
       (λ e. owner_entry (perms_of Mask acl) e.tag e.perms request) acl
 
@@ -157,7 +157,7 @@ module _ (acl : List Triple) (owner group : ℕ) (requester : Identity) (request
   grants-user not_owner some =
       past_owner not_owner
       ∙ ap (one_has acl request) (first_kept is_for_user acl groups_on some)
-      ∙ list_any-filter is_for_user has_effective acl
+      ∙ sym (list_any-filter is_for_user has_effective acl)
       ∙ list_any-agree (λ e. is_for_user e && has_effective e) (λ e. (is_for_user e && has_own e) && mask_allows acl request)
       (λ e. user_entry (perms_of Mask acl) requester.uid e.tag e.perms request) acl
       ∙ list_any-and (λ e. is_for_user e && has_own e) (mask_allows acl request) acl
@@ -168,7 +168,7 @@ module _ (acl : List Triple) (owner group : ℕ) (requester : Identity) (request
   grants-group not_owner no_user some =
       past_user not_owner no_user
       ∙ ap (one_has acl request) (first_kept is_for_group acl (filter is_for_others acl ∷ []) some)
-      ∙ list_any-filter is_for_group has_effective acl
+      ∙ sym (list_any-filter is_for_group has_effective acl)
       ∙ list_any-agree (λ e. is_for_group e && has_effective e) (λ e. (is_for_group e && has_own e) && mask_allows acl request)
       (λ e. group_entry (perms_of Mask acl) requester group e.tag e.perms request) acl
       ∙ list_any-and (λ e. is_for_group e && has_own e) (mask_allows acl request) acl
@@ -179,6 +179,6 @@ module _ (acl : List Triple) (owner group : ℕ) (requester : Identity) (request
   grants-other not_owner no_user no_group =
       past_user not_owner no_user
       ∙ ap (one_has acl request) (first_dropped is_for_group acl (filter is_for_others acl ∷ []) no_group ∙ only (filter is_for_others acl))
-      ∙ list_any-filter is_for_others has_effective acl
+      ∙ sym (list_any-filter is_for_others has_effective acl)
       ∙ list_any-agree (λ e. is_for_others e && has_effective e) (λ e. is_for_others e && has_own e)
       (λ e. other_entry (perms_of Mask acl) e.tag e.perms request) acl
