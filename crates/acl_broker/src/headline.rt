@@ -16,5 +16,4 @@ use crate::Service;
 pub fn journal_merges_prefixes<S: Service>()
     ensures { (old : BrokerState S S.Request S.Reply) (history : History S.Request S.Reply) (new : BrokerState S S.Request S.Reply)
         → GoesOnAll S.next S.reply old history new → Merges S.next S.reply old history new }
-{
-}
+{}
