@@ -4,7 +4,7 @@ use Rattle.std.proofs.Common.{ap, sym, ◌∙◌, arith, subst, get_or, inl, inr
 use Rattle.std.proofs.lemmas.Bool.Decides.{eqb_tells}
 use Rattle.std.proofs.lemmas.List.{get_or_append_left, get_or_push, nil_from_length}
 use Rattle.acl_broker.specs.Ends.{IsEndOf, AreEndsOf, AreFirstEndsOf, StaysEndOf}
-use Rattle.acl_broker.specs.declared.ends.End.{End}
+use Rattle.acl_broker.specs.declared.end.End.{End}
 use Rattle.acl_broker.specs.declared.taker_side.TakerSide.{TakerSide}
 
 before_last : {A : Type 0} (items : List A) (last : A) (i : ℕ) → i < length (items ++ last ∷ []) → (i ≡ length items → ⊥) → i < length items

@@ -3,7 +3,7 @@ ghost use Rattle.std.specs.Prelude.{◌≤◌, [], ◌∷◌};
 ghost use Rattle.acl_broker.specs.Ends.{AreEndsOf};
 ghost use Rattle.acl_broker.specs.Takers as takers;
 ghost use Rattle.acl_broker.specs.declared.limits.TheConstants.{SESSIONS};
-ghost use Rattle.acl_broker.specs.declared.ends.End.TheVariants.{Open};
+ghost use Rattle.acl_broker.specs.declared.end.End.TheVariants.{Open};
 
 use crate::{Broker, CancelRefused, End, Service, SessionEnd, StepResult, TakeRefused, Taker};
 use std::alloc::{AllocError, Global};

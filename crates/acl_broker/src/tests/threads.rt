@@ -2,7 +2,7 @@
 ghost use Rattle.std.specs.Prelude.{◌≡◌, [], ◌∷◌, IfOk};
 ghost use Rattle.acl_broker.specs.Ends.{StaysEndOf, KeepEnds};
 ghost use Rattle.acl_broker.specs.Takers.{view};
-ghost use Rattle.acl_broker.specs.declared.ends.End.TheVariants.{Open};
+ghost use Rattle.acl_broker.specs.declared.end.End.TheVariants.{Open};
 
 use crate::tests::fixture::{Follows, Last, open_broker, reply_to};
 use crate::{Broker, End, SessionEnd, TakeRefused, Taker};

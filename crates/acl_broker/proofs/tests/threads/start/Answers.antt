@@ -1,6 +1,6 @@
 use Rattle.std.proofs.Common.{subst}
 use Rattle.acl_broker.specs.Ends.{IsEndOf}
-use Rattle.acl_broker.specs.declared.ends.End.TheVariants.{Open}
+use Rattle.acl_broker.specs.declared.end.End.TheVariants.{Open}
 use Rattle.acl_broker.proofs.tests.threads.start.Goals as goal
 
 pub spawn_with-requires-clause-keeps : goal.spawn_with-requires-clause-keeps

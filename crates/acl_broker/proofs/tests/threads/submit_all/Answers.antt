@@ -1,6 +1,6 @@
 use Rattle.std.proofs.Common.{sym, subst}
 use Rattle.acl_broker.specs.Ends.{IsEndOf}
-use Rattle.acl_broker.specs.declared.ends.End.TheVariants.{Open}
+use Rattle.acl_broker.specs.declared.end.End.TheVariants.{Open}
 use Rattle.acl_broker.proofs.tests.threads.submit_all.Goals as goal
 use Rattle.acl_broker.proofs.tests.threads.submit_all.Goals.{then-in_time, else-in_time}
 

@@ -1,7 +1,7 @@
 use Rattle.std.specs.Prelude.{◌≡◌, length, Some}
 use Rattle.std.proofs.Common.{ap, sym, ◌∙◌, arith}
 use Rattle.std.proofs.lemmas.Bool.{eqb-true}
-use Rattle.acl_broker.specs.declared.ends.End.TheVariants.{Open}
+use Rattle.acl_broker.specs.declared.end.End.TheVariants.{Open}
 use Rattle.acl_broker.proofs.EndLists.{popped_both}
 use Rattle.acl_broker.proofs.tests.threads.two_open_ends.Goals as goal
 
