@@ -9,6 +9,9 @@ use crate::{Broker, CancelRefused, End, Service, SessionEnd, StepResult, TakeRef
 use std::alloc::{AllocError, Global};
 use std::test::Fail;
 
+/// A request for which the service never has memory enough.
+pub(super) const HEAVY: u16 = 60_000;
+
 /// A service that knows the request that it applied last.
 #[derive(Drop)]
 pub(super) struct Last {
@@ -35,6 +38,9 @@ impl Service for Last {
     ghost reply = { λ last request. record { before = last.request; request = request } };
 
     fn apply(&mut self, request: &u16) -> Result<Follows, AllocError> {
+        if *request == HEAVY {
+            return Err(AllocError);
+        }
         let reply = Follows {
             before: self.request,
             request: *request,

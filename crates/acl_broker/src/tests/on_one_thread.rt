@@ -1,5 +1,5 @@
 //! Examples of a broker on one thread.
-use crate::tests::fixture::{answer_of, open_broker, reply_to};
+use crate::tests::fixture::{HEAVY, answer_of, open_broker, reply_to};
 use crate::{CancelRefused, CloseRefused, Refused, Step, StepResult, SubmitRefusal, TakeRefused};
 use std::test::Fail;
 
@@ -109,5 +109,22 @@ fn cancelled(rt: HostRuntime) -> Result<(), Fail> {
     assert_eq!(rt; broker.cancel(1), Err(CancelRefused::UnknownSession));
     assert_eq!(rt; broker.journal().len(), 1);
     assert!(rt; !broker.all_open());
+    Ok(())
+}
+
+#[test]
+fn item_that_wants_memory_stays_first(rt: HostRuntime) -> Result<(), Fail> {
+    let mut broker = open_broker(rt.alloc(), 1)?;
+    for item in [1, HEAVY, 2] {
+        assert_eq!(rt; refusal(broker.submit(0, item)), None);
+    }
+    assert_eq!(rt; broker.take(0), Ok(0));
+    for _ in 0..3 {
+        assert_eq!(rt; broker.take(0), Err(TakeRefused::Memory));
+        assert_eq!(rt; broker.journal().len(), 1);
+        assert_eq!(rt; broker.service().request, 1);
+    }
+    assert_eq!(rt; broker.answer(0), reply_to(0, 1));
+    assert_eq!(rt; broker.answer(0), None);
     Ok(())
 }

@@ -1,5 +1,5 @@
 //! Examples of a broker that is split, and rejoined.
-use crate::tests::fixture::{Halves, answer_of, open_broker, reply_to};
+use crate::tests::fixture::{HEAVY, Halves, answer_of, open_broker, reply_to};
 use crate::{SLOTS, Step, StepResult, TakeRefused};
 use std::test::Fail;
 
@@ -74,7 +74,12 @@ fn full_end(rt: HostRuntime) -> Result<(), Fail> {
         return Err("a slot for the end mark".into());
     };
     assert_eq!(rt; taker.take(0), Ok(0));
-    assert!(rt; end.close().is_ok());
+    let Ok(mut closed) = end.close() else {
+        return Err("no slot for the end mark".into());
+    };
+    assert!(rt; taker.deliver(0));
+    assert_eq!(rt; closed.poll(), reply_to(0, 1));
+    assert_eq!(rt; closed.poll(), None);
     Ok(())
 }
 
@@ -132,6 +137,27 @@ fn outbox_beyond_the_ring(rt: HostRuntime) -> Result<(), Fail> {
     for item in 2..301_u16 {
         assert_eq!(rt; broker.answer(0), reply_to(item - 1, item));
     }
+    assert_eq!(rt; broker.answer(0), None);
+    Ok(())
+}
+
+#[test]
+fn hand_that_wants_memory_stays_first(rt: HostRuntime) -> Result<(), Fail> {
+    let mut halves = Halves::split(open_broker(rt.alloc(), 1)?)?;
+    for item in [1, HEAVY, 2] {
+        assert_eq!(rt; halves.submit(item), Ok(()));
+    }
+    assert_eq!(rt; halves.take(), Ok(0));
+    for _ in 0..3 {
+        assert_eq!(rt; halves.take(), Err(TakeRefused::Memory));
+        assert_eq!(rt; halves.taker.journal().len(), 1);
+        assert_eq!(rt; halves.taker.owed(0), 1);
+    }
+
+    let mut broker = halves.rejoin(rt.alloc())?;
+    assert_eq!(rt; broker.take(0), Err(TakeRefused::Memory));
+    assert_eq!(rt; broker.service().request, 1);
+    assert_eq!(rt; broker.answer(0), reply_to(0, 1));
     assert_eq!(rt; broker.answer(0), None);
     Ok(())
 }
