@@ -11,7 +11,7 @@ pub enum End<I, R> {
 /// What a broker, which holds both sides of each lane, does to one of them.
 impl<I: Drop, R: Drop> End<I, R> {
     ghost use Rattle.std.specs.Prelude.{◌≡◌, ◌++◌, [], true, OnOk, OnErr, IfNone, option_to_list};
-    ghost use Rattle.acl_broker.specs.Lanes.{IsPaired, lane_state, submitted, submit_answer};
+    ghost use Rattle.acl_broker.specs.Lanes.{IsPaired, submitted, handed, submit_answer};
     ghost use Rattle.acl_broker.specs.Ends.{IsSamePair, EndSeen, lane_of, side_of, is_closed};
     ghost use Rattle.acl_broker.specs.TakerSides.{known_waiting, known_in_ring, received_items};
     ghost use Rattle.acl_broker.specs.SessionSides as session_side;
@@ -52,7 +52,7 @@ impl<I: Drop, R: Drop> End<I, R> {
         requires { IsPaired (side_of self.old) taker.old }
         ensures same { IsSamePair self.old taker.old self.new taker.new }
         ensures given { (lane_of self.old taker.old).owed ≡ option_to_list result ++ (lane_of self.new taker.new).owed }
-        ensures kept { lane_of self.new taker.new ≡ record (lane_of self.old taker.old) { polled = (lane_of self.old taker.old).polled ++ option_to_list result; owed = (lane_of self.new taker.new).owed } }
+        ensures kept { lane_of self.new taker.new ≡ handed (lane_of self.old taker.old) result (lane_of self.new taker.new).owed }
         ensures none { IfNone result ((lane_of self.old taker.old).owed ≡ []) }
     {
         match self {

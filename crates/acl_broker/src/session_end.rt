@@ -36,7 +36,8 @@ impl<I: Drop, R: Drop> SessionEnd<I, R> {
         ensures same { IsSameEnd (Open self.old) (Open self.new) }
         ensures pairs { StaysEndOf (Open self.old) (Open self.new) }
         ensures polled { (polled_by (Open self.new) ≡ polled_by (Open self.old)) × (due (Open self.new) ≡ due (Open self.old)) }
-        ensures ok { OnOk result ((sent_by (Open self.new) ≡ sent_by (Open self.old) ++ item ∷ []) × (spare (Open self.old) ≤ spare (Open self.new) + 1)) }
+        ensures sent { OnOk result (sent_by (Open self.new) ≡ sent_by (Open self.old) ++ item ∷ []) }
+        ensures spare { OnOk result (spare (Open self.old) ≤ spare (Open self.new) + 1) }
         ensures full { IfErr result (λ back. (back ≡ item) × (sent_by (Open self.new) ≡ sent_by (Open self.old))) }
         ensures succeeds { 0 < spare (Open self.old) → IsOk result }
     {
@@ -58,8 +59,12 @@ impl<I: Drop, R: Drop> SessionEnd<I, R> {
     /// Ends the session: nothing can be submitted by the end that comes back, and answers can still be polled. `Err` gives
     /// the end back as it was, where no slot is known to be free for the end mark.
     pub fn close(self) -> Result<ClosedEnd<I, R>, SessionEnd<I, R>>
-        ensures end { MatchResult result (λ closed. IsUnmovedEnd (Open self) (Closed closed)) (λ back. IsUnmovedEnd (Open self) (Open back)) }
-        ensures pairs { MatchResult result (λ closed. StaysEndOf (Open self) (Closed closed)) (λ back. StaysEndOf (Open self) (Open back)) }
+        ensures end { MatchResult result
+            (λ closed. IsUnmovedEnd (Open self) (Closed closed))
+            (λ back. IsUnmovedEnd (Open self) (Open back)) }
+        ensures pairs { MatchResult result
+            (λ closed. StaysEndOf (Open self) (Closed closed))
+            (λ back. StaysEndOf (Open self) (Open back)) }
         ensures succeeds { 0 < spare (Open self) → IsOk result }
     {
         let SessionEnd { session, mut side } = self;
