@@ -1,0 +1,4 @@
+//! The command `decide`.
+
+mod command_line;
+mod fault;
