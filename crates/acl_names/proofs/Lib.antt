@@ -1,9 +1,12 @@
 pub mod Cutting
 pub mod ListTextLemmas
 pub mod Decimals
-pub mod NameLemmas
 pub mod PlainLines
-pub mod IdRoundTrip
-pub mod Fields
 pub mod BitSets
 pub mod AnyLemmas
+pub mod Counting
+pub mod AscendingLemmas
+pub mod Keys
+pub mod Indexes
+pub mod MapLemmas
+pub mod DirectoryLemmas

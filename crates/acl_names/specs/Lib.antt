@@ -1,7 +1,9 @@
 pub mod Pieces
 pub mod ListText
 pub mod Ids
-pub mod Names
 pub mod Views
 pub mod Requester
 pub mod Bits
+pub mod Ascending
+pub mod Named
+pub mod Directory

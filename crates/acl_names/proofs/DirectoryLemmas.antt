@@ -1,0 +1,158 @@
+-- The order of the users and of the groups plays no part in what is wrong with them and in what is found.
+use Rattle.std.proofs.Common.{◌≡◌, ◌∙◌, ℕ, ◌<◌, ◌==◌, Bool, true, false, cond, not, nat_lt, nat_eq, ◌||◌, Option, Some, None, List, [], ◌∷◌, length, refl, sym, ap, inl, inr, find, option_map, is_none}
+use Rattle.std.specs.Cmp.Lexicographic.{slice_cmp}
+use Rattle.std.specs.List.{list_any, filter_map, slice_get}
+use Rattle.std.specs.List.Sorted.{IsPermutation}
+use Rattle.std.specs.Option.{option_and_then, option_map_or}
+use Rattle.std.specs.Ordering.{nat_cmp}
+use Rattle.std.specs.Str.{bytes_eq}
+use Rattle.std.proofs.lemmas.Bool.{or_parts}
+use Rattle.std.proofs.lemmas.Cmp.{nat_cmp_total, nat_list_cmp_total}
+use Rattle.std.proofs.lemmas.List.Sorted.{length_permutation, list_any-IsPermutation}
+use Rattle.acl_names.specs.Ascending.{repeats}
+use Rattle.acl_names.specs.Directory.{KnownUser, KnownGroup, Known, AnswersAs, IsRefusedFor, fault_of, is_too_many, has_bad_name, repeats_name, repeats_id, has_unknown_group, user_named, group_named, user_with, group_with, groups_of, gid_of, first_of}
+use Rattle.acl_names.specs.Ids.{has_name_shape, has_domain_shape}
+use Rattle.acl_names.specs.declared.directory.SetupFault.{SetupFault}
+use Rattle.acl_names.specs.declared.directory.SetupFault.TheVariants.{BadName, RepeatedName, RepeatedId, UnknownGroup, TooMany, Memory}
+use Rattle.acl_names.proofs.AnyLemmas.{list_any-agree}
+use Rattle.acl_names.proofs.AscendingLemmas.{find-permutation, repeats-permutation}
+use Rattle.acl_names.proofs.Keys.{same_id, same_name}
+use Rattle.acl_names.proofs.MapLemmas.{filter_map-agree}
+
+-- the tests in their order, of which the last is asked only where no name stands twice
+first_of_tests : Bool → Bool → Bool → Bool → Bool → Option SetupFault
+first_of_tests a b c d e =
+    cond a (Some TooMany) (cond b (Some BadName) (cond c (Some RepeatedName) (cond d (Some RepeatedId) (cond e (Some UnknownGroup) None))))
+
+last_test : (a b c d e f : Bool) → (c ≡ false → e ≡ f) → first_of_tests a b c d e ≡ first_of_tests a b c d f
+unfolding first_of_tests
+last_test a b true d e f same = refl
+last_test a b false d e f same = ap (λ t. first_of_tests a b false d t) (same refl)
+
+none_wrong : (a b c d e : Bool) → first_of_tests a b c d e ≡ None → (c ≡ false) × (d ≡ false)
+unfolding first_of_tests
+none_wrong true b c d e is = absurd (cc)
+none_wrong false true c d e is = absurd (cc)
+none_wrong false false true d e is = absurd (cc)
+none_wrong false false false true e is = absurd (cc)
+none_wrong false false false false e is = (refl, refl)
+
+-- no test tells of want of memory
+no_memory : (a b c d e : Bool) → first_of_tests a b c d e ≡ Some Memory → ⊥
+unfolding first_of_tests
+no_memory true b c d e is = cc
+no_memory false true c d e is = cc
+no_memory false false true d e is = cc
+no_memory false false false true e is = cc
+no_memory false false false false true is = cc
+no_memory false false false false false is = cc
+
+-- a fault that is found is one that the lists are refused for
+pub refused_for : (known : Known) (fault : SetupFault) → fault_of known ≡ Some fault → IsRefusedFor known fault
+unfolding first_of_tests
+refused_for known BadName is = is
+refused_for known RepeatedName is = is
+refused_for known RepeatedId is = is
+refused_for known UnknownGroup is = is
+refused_for known TooMany is = is
+refused_for known Memory is = absurd (no_memory (is_too_many known) (has_bad_name known) (repeats_name known) (repeats_id known) (has_unknown_group known) is)
+
+module _ (domain : List ℕ) (users sorted_users : List KnownUser) (groups sorted_groups : List KnownGroup)
+    (moved_users : IsPermutation users sorted_users) (moved_groups : IsPermutation groups sorted_groups) where
+  abbrev parts : Known
+  parts = record { domain = domain; users = users; groups = groups }
+
+  abbrev known : Known
+  known = record { domain = domain; users = sorted_users; groups = sorted_groups }
+
+  same_too_many : is_too_many parts ≡ is_too_many known
+  same_too_many =
+      rw (length_permutation users sorted_users moved_users, length_permutation groups sorted_groups moved_groups, ← list_any-IsPermutation (λ (user : KnownUser). nat_lt 32 (length user.groups)) users sorted_users moved_users) refl
+
+  same_bad_name : has_bad_name parts ≡ has_bad_name known
+  same_bad_name =
+      rw (list_any-IsPermutation (λ (user : KnownUser). not (has_name_shape user.name)) users sorted_users moved_users,
+      list_any-IsPermutation (λ (group : KnownGroup). not (has_name_shape group.name)) groups sorted_groups moved_groups) refl
+
+  same_repeated_name : repeats_name parts ≡ repeats_name known
+  same_repeated_name =
+      rw (repeats-permutation (slice_cmp nat_cmp) nat_list_cmp_total (λ (user : KnownUser). user.name) bytes_eq same_name users sorted_users moved_users,
+      repeats-permutation (slice_cmp nat_cmp) nat_list_cmp_total (λ (group : KnownGroup). group.name) bytes_eq same_name groups sorted_groups moved_groups,
+      list_any-IsPermutation (λ (user : KnownUser). repeats bytes_eq (λ (name : List ℕ). name) user.groups) users sorted_users moved_users) refl
+
+  same_repeated_id : repeats_id parts ≡ repeats_id known
+  same_repeated_id =
+      rw (repeats-permutation nat_cmp nat_cmp_total (λ (user : KnownUser). user.uid) nat_eq same_id users sorted_users moved_users,
+      repeats-permutation nat_cmp nat_cmp_total (λ (group : KnownGroup). group.gid) nat_eq same_id groups sorted_groups moved_groups) refl
+
+  -- where no name stands twice, names are found alike
+  same_user_named : repeats bytes_eq (λ (user : KnownUser). user.name) sorted_users ≡ false → (name : List ℕ) → user_named known name ≡ user_named parts name
+  same_user_named once name =
+      sym (find-permutation (slice_cmp nat_cmp) nat_list_cmp_total (λ (user : KnownUser). user.name) bytes_eq same_name users sorted_users name moved_users once)
+
+  same_group_named : repeats bytes_eq (λ (group : KnownGroup). group.name) sorted_groups ≡ false → (name : List ℕ) → group_named known name ≡ group_named parts name
+  same_group_named once name =
+      sym (find-permutation (slice_cmp nat_cmp) nat_list_cmp_total (λ (group : KnownGroup). group.name) bytes_eq same_name groups sorted_groups name moved_groups once)
+
+  -- and where no id stands twice, ids are
+  same_user_with : repeats nat_eq (λ (user : KnownUser). user.uid) sorted_users ≡ false → (uid : ℕ) → user_with known uid ≡ user_with parts uid
+  same_user_with once uid =
+      sym (find-permutation nat_cmp nat_cmp_total (λ (user : KnownUser). user.uid) nat_eq same_id users sorted_users uid moved_users once)
+
+  same_group_with : repeats nat_eq (λ (group : KnownGroup). group.gid) sorted_groups ≡ false → (gid : ℕ) → group_with known gid ≡ group_with parts gid
+  same_group_with once gid =
+      sym (find-permutation nat_cmp nat_cmp_total (λ (group : KnownGroup). group.gid) nat_eq same_id groups sorted_groups gid moved_groups once)
+
+  same_unknown_group : repeats_name known ≡ false → has_unknown_group parts ≡ has_unknown_group known
+  same_unknown_group none =
+      let both = or_parts (repeats bytes_eq (λ (user : KnownUser). user.name) sorted_users || repeats bytes_eq (λ (group : KnownGroup). group.name) sorted_groups)
+      (list_any (λ (user : KnownUser). repeats bytes_eq (λ (name : List ℕ). name) user.groups) sorted_users) none in
+      let names = or_parts (repeats bytes_eq (λ (user : KnownUser). user.name) sorted_users) (repeats bytes_eq (λ (group : KnownGroup). group.name) sorted_groups) both.0 in
+      list_any-IsPermutation (λ (user : KnownUser). list_any (λ (name : List ℕ). is_none (group_named parts name)) user.groups) users sorted_users moved_users
+      ∙ list_any-agree (λ (user : KnownUser). list_any (λ (name : List ℕ). is_none (group_named parts name)) user.groups)
+      (λ (user : KnownUser). list_any (λ (name : List ℕ). is_none (group_named known name)) user.groups)
+      (λ user. list_any-agree (λ (name : List ℕ). is_none (group_named parts name)) (λ (name : List ℕ). is_none (group_named known name))
+      (λ name. ap is_none (sym (same_group_named names.1 name))) user.groups) sorted_users
+
+  pub fault_of-moved : fault_of parts ≡ fault_of known
+  unfolding first_of_tests
+  fault_of-moved =
+      let same : first_of_tests (is_too_many parts) (has_bad_name parts) (repeats_name parts) (repeats_id parts) (has_unknown_group parts)
+          ≡ first_of_tests (is_too_many known) (has_bad_name known) (repeats_name known) (repeats_id known) (has_unknown_group parts) =
+      rw (same_too_many, same_bad_name, same_repeated_name, same_repeated_id) refl in
+      same ∙ last_test (is_too_many known) (has_bad_name known) (repeats_name known) (repeats_id known) (has_unknown_group parts) (has_unknown_group known) same_unknown_group
+
+  -- where nothing is wrong, every look-up answers alike
+  pub answers_alike : fault_of known ≡ None → AnswersAs known parts
+  unfolding first_of_tests
+  answers_alike faultless =
+      let none = none_wrong (is_too_many known) (has_bad_name known) (repeats_name known) (repeats_id known) (has_unknown_group known) faultless in
+      let names_both = or_parts (repeats bytes_eq (λ (user : KnownUser). user.name) sorted_users || repeats bytes_eq (λ (group : KnownGroup). group.name) sorted_groups)
+      (list_any (λ (user : KnownUser). repeats bytes_eq (λ (name : List ℕ). name) user.groups) sorted_users) none.0 in
+      let names = or_parts (repeats bytes_eq (λ (user : KnownUser). user.name) sorted_users) (repeats bytes_eq (λ (group : KnownGroup). group.name) sorted_groups) names_both.0 in
+      let ids = or_parts (repeats nat_eq (λ (user : KnownUser). user.uid) sorted_users) (repeats nat_eq (λ (group : KnownGroup). group.gid) sorted_groups) none.1 in
+      let gid_alike : (name : List ℕ) → gid_of known name ≡ gid_of parts name =
+      λ name. ap (option_map (λ (group : KnownGroup). group.gid)) (same_group_named names.1 name) in
+      let groups_alike : (uid : ℕ) → groups_of known uid ≡ groups_of parts uid =
+      λ uid. ap (λ found. option_map_or (λ (user : KnownUser). user.groups) found []) (same_user_with ids.0 uid) in
+      record {
+        domain = refl;
+        uids = λ name. ap (option_map (λ (user : KnownUser). user.uid)) (same_user_named names.0 name);
+        gids = gid_alike;
+        user_names = λ uid. ap (option_map (λ (user : KnownUser). user.name)) (same_user_with ids.0 uid);
+        group_names = λ gid. ap (option_map (λ (group : KnownGroup). group.name)) (same_group_with ids.1 gid);
+        first_groups = λ uid. ap (λ names. option_and_then (gid_of known) (first_of names)) (groups_alike uid) ∙ and_then_alike gid_alike (first_of (groups_of parts uid));
+        requesters = λ uid i. record {
+          uid = uid;
+          gids = (ap (filter_map (gid_of known)) (groups_alike uid) ∙ filter_map-agree (gid_of known) (gid_of parts) gid_alike (groups_of parts uid)) i;
+        };
+      }
+    where
+      and_then_alike : ((name : List ℕ) → gid_of known name ≡ gid_of parts name) → (name : Option (List ℕ)) → option_and_then (gid_of known) name ≡ option_and_then (gid_of parts) name
+      and_then_alike alike None = refl
+      and_then_alike alike (Some name) = alike name
+
+-- what is no `Some` is `None`
+pub none_from : (found : Option SetupFault) → ((fault : SetupFault) → found ≡ Some fault → ⊥) → found ≡ None
+none_from None never = refl
+none_from (Some fault) never = absurd (never fault refl)

@@ -1,0 +1,22 @@
+//! How much a directory may hold, and how long its names may be.
+
+/// The most users of a directory.
+pub const MAX_USERS: usize = 1024;
+
+/// The most groups of a directory.
+pub const MAX_GROUPS: usize = 1024;
+
+/// The most groups of a user.
+pub const MAX_GROUPS_OF_USER: usize = 32;
+
+/// The most bytes of a user's or group's name.
+pub const MAX_NAME_LEN: usize = 32;
+
+/// The most bytes of a domain.
+pub const MAX_DOMAIN_LEN: usize = 255;
+
+/// The greatest uid or gid. The number above it means "no id" to `chown`, and is nobody's.
+pub const MAX_ID: u32 = 4_294_967_294;
+
+/// The most digits of an id.
+pub const MAX_DIGITS: usize = 10;

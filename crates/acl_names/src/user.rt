@@ -1,0 +1,90 @@
+//! Users.
+
+ghost use Rattle.std.specs.Prelude.{◌≡◌, nat_lt, length, count_by, find, is_none, string_bytes};
+ghost use Rattle.std.specs.Cmp.Lexicographic.{slice_cmp};
+ghost use Rattle.std.specs.List.{list_any};
+ghost use Rattle.std.specs.Ordering.{nat_cmp};
+ghost use Rattle.std.specs.Str.{bytes_eq};
+ghost use Rattle.acl_names.specs.Ascending.{repeats, IsAscending};
+
+use crate::group::Group;
+use crate::id::Uid;
+use crate::named::{Named, find_by_name};
+use std::marker::Model;
+
+/// A user: a name, a uid, and the names of the groups that the user is in, the first group first.
+#[derive(Debug, Drop)]
+pub struct User {
+    pub name: String,
+    pub uid: Uid,
+    pub groups: Vec<String>,
+}
+
+impl Model for User {
+    ghost use Rattle.std.specs.Prelude.{map, string_bytes};
+    ghost use Rattle.acl_names.specs.Directory.{KnownUser};
+
+    ghost Value = { KnownUser };
+
+    ghost view = { λ user. record { name = string_bytes user.name; uid = user.uid; groups = map string_bytes user.groups.items } };
+}
+
+impl Named for User {
+    ghost name_of = { λ user. user.name };
+
+    ghost id_of = { λ user. user.uid };
+
+    fn name(&self) -> &str {
+        self.name.as_str()
+    }
+
+    fn id(&self) -> u32 {
+        self.uid.value()
+    }
+}
+
+impl User {
+    /// How many groups the user is in.
+    pub(crate) fn group_count(&self) -> usize
+        ensures { result ≡ length self.now.groups }
+    {
+        self.groups.len()
+    }
+
+    /// Whether the user is twice in one group. It looks at each pair, of which there are few: a user is in at most 32 groups.
+    pub(crate) fn repeats_group(&self) -> bool
+        ensures { result ≡ repeats bytes_eq (λ name. name) self.now.groups }
+    {
+        repeats_text(&self.groups)
+    }
+
+    /// Whether the user is in a group that is not among these, which are in the order of their names.
+    pub(crate) fn is_in_unknown_group(&self, groups: &[Group]) -> bool
+        requires { IsAscending (slice_cmp nat_cmp) (λ group. group.name) groups.now }
+        ensures { result ≡ list_any (λ name. is_none (find (λ group. bytes_eq group.name name) groups.now)) self.now.groups }
+    {
+        lacks_group(groups, &self.groups)
+    }
+}
+
+fn repeats_text(texts: &[String]) -> bool
+    ensures { result ≡ repeats bytes_eq string_bytes texts.now }
+{
+    texts.iter().any(|text| count_of(texts, text.as_str()) > 1)
+}
+
+fn count_of(texts: &[String], text: &str) -> usize
+    ensures { result ≡ count_by (λ other. bytes_eq (string_bytes other) text.now) texts.now }
+{
+    texts.iter().filter(|other| other.as_str() == text).count()
+}
+
+fn lacks_group(groups: &[Group], names: &[String]) -> bool
+    requires { IsAscending (slice_cmp nat_cmp) (λ group. group.name) groups.now }
+    ensures { result
+        ≡ list_any (λ name. is_none (find (λ group. bytes_eq group.name (string_bytes name)) groups.now)) names.now }
+{
+    names
+        .iter()
+        .any(|name| find_by_name(groups, name.as_str()).is_none())
+}
