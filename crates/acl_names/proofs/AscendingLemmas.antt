@@ -1,9 +1,9 @@
 -- What is found in a list that ascends by its keys, and which sorted lists ascend.
-use Rattle.std.proofs.Common.{◌≡◌, ◌∙◌, ◌⊎◌, ℕ, zero, suc, ◌+◌, ◌<◌, ◌≤◌, Bool, true, false, cond, not, nat_lt, ◌==◌, Ordering, Option, Some, None, Err, List, [], ◌∷◌, length, get_or, IsTrue, refl, sym, subst, ap, arith, inl, inr}
+use Rattle.std.proofs.Common.{◌≡◌, ◌∙◌, ◌⊎◌, ℕ, zero, suc, ◌+◌, ◌<◌, ◌≤◌, Bool, true, false, cond, not, nat_lt, Ordering, Some, None, Err, List, [], ◌∷◌, length, get_or, IsTrue, refl, sym, subst, ap, arith, inl, inr}
 use Rattle.std.specs.declared.cmp.Ordering.TheVariants.{Less, Equal, Greater}
 use Rattle.std.specs.Cmp.{IsTotalOrder}
 use Rattle.std.specs.List.{list_any, count_by, find, slice_get, All, Contains, HoldsAt, IsAllAdjacentAnswer}
-use Rattle.std.specs.List.Sorted.{IsPermutation, IsSortedBy, IsSortedByKey, IsNonDecreasingBy, IsBinarySearchResult}
+use Rattle.std.specs.List.Sorted.{IsPermutation, IsSortedByKey, IsNonDecreasingBy, IsBinarySearchResult}
 use Rattle.std.specs.Ordering.{is_eq, is_lt, ordering_index, ordering_reverse}
 use Rattle.std.proofs.lemmas.Bool.{cases_Bool, cases_lt, both_ways, or_parts, le-ltb, lt-ltb, false≢true, true≢false}
 use Rattle.std.proofs.lemmas.Bool.Decides.{nat_tests}
@@ -31,7 +31,7 @@ find-none p (x ∷ xs) none =
     ∙ find-none p xs (λ k d inside. none (suc k) d (omega arith))
 
 -- no element passes
-any_false : {X : Type 0} (xs : List X) (p : X → Bool) → list_any p xs ≡ false → (k : ℕ) (d : X) → k < length xs → p (get_or xs k d) ≡ false
+pub any_false : {X : Type 0} (xs : List X) (p : X → Bool) → list_any p xs ≡ false → (k : ℕ) (d : X) → k < length xs → p (get_or xs k d) ≡ false
 any_false [] p none k d inside = absurd (omega arith)
 any_false (x ∷ xs) p none zero d inside = (or_parts (p x) (list_any p xs) none).0
 any_false (x ∷ xs) p none (suc k) d inside = any_false xs p (or_parts (p x) (list_any p xs) none).1 k d (omega arith)
@@ -53,7 +53,7 @@ slice_get-within (x ∷ xs) zero d inside = refl
 slice_get-within (x ∷ xs) (suc i) d inside = slice_get-within xs i d (omega arith)
 
 -- what is found passes and stands in the list; else none passes
-first_or_none : {X : Type 0} (p : X → Bool) (xs : List X)
+pub first_or_none : {X : Type 0} (p : X → Bool) (xs : List X)
     → ((x : X) × ((find p xs ≡ Some x) × (p x ≡ true))) ⊎ ((find p xs ≡ None) × All (λ x. p x ≡ false) xs)
 first_or_none p [] = inr (refl, λ k d inside. absurd (omega arith))
 first_or_none {X} p (x ∷ xs) =
@@ -71,7 +71,7 @@ first_or_none {X} p (x ∷ xs) =
     none_of fails rest zero d inside = fails
     none_of fails rest (suc k) d inside = rest k d (omega arith)
 
-Contains-find : {X : Type 0} (p : X → Bool) (xs : List X) (x : X) → find p xs ≡ Some x → Contains xs x
+pub Contains-find : {X : Type 0} (p : X → Bool) (xs : List X) (x : X) → find p xs ≡ Some x → Contains xs x
 Contains-find p [] x found = absurd (none_or_some found)
   where
     none_or_some : {Y : Type 0} {y : Y} → None ≡ Some y → ⊥

@@ -1,5 +1,5 @@
 -- Sets of bits: what the operations leave of a bit, and sets with the same bits.
-use Rattle.std.proofs.Common.{◌≡◌, ℕ, zero, suc, ◌+◌, ◌^◌, ◌<◌, ◌≤◌, min, max, Bool, true, false, cond, not, ◌&&◌, ◌||◌, refl, sym, ap, ◌∙◌, arith, lit<, ◌-◌, inl, inr, ◌⊎◌}
+use Rattle.std.proofs.Common.{◌≡◌, ℕ, zero, suc, ◌+◌, ◌^◌, ◌<◌, ◌≤◌, min, max, false, not, ◌&&◌, ◌||◌, refl, sym, ap, ◌∙◌, arith, ◌-◌, inl, inr, ◌⊎◌}
 use mir.Val.{bits}
 use Rattle.std.specs.Int.{bit_at, bit_not, Width}
 use Rattle.std.specs.Prelude.{bit_and, bit_or, ◌%◌, ◌==◌}

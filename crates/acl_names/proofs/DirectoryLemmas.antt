@@ -1,21 +1,23 @@
 -- The order of the users and of the groups plays no part in what is wrong with them and in what is found.
-use Rattle.std.proofs.Common.{◌≡◌, ◌∙◌, ℕ, ◌<◌, ◌==◌, Bool, true, false, cond, not, nat_lt, nat_eq, ◌||◌, Option, Some, None, List, [], ◌∷◌, length, refl, sym, ap, inl, inr, find, option_map, is_none}
+use Rattle.std.proofs.Common.{◌≡◌, ◌∙◌, ℕ, ◌==◌, Bool, true, false, cond, not, nat_lt, nat_eq, ◌||◌, Option, Some, None, List, [], length, get_or, refl, sym, ap, inl, inr, find, option_map, is_none}
 use Rattle.std.specs.Cmp.Lexicographic.{slice_cmp}
-use Rattle.std.specs.List.{list_any, filter_map, slice_get}
+use Rattle.std.specs.List.{Contains, list_any, filter_map}
 use Rattle.std.specs.List.Sorted.{IsPermutation}
 use Rattle.std.specs.Option.{option_and_then, option_map_or}
 use Rattle.std.specs.Ordering.{nat_cmp}
 use Rattle.std.specs.Str.{bytes_eq}
 use Rattle.std.proofs.lemmas.Bool.{or_parts}
+use Rattle.std.proofs.lemmas.Bool.Decides.{Decides-eqb}
+use Rattle.std.proofs.lemmas.Slice.Eq.{bytes_eq-Decides}
 use Rattle.std.proofs.lemmas.Cmp.{nat_cmp_total, nat_list_cmp_total}
 use Rattle.std.proofs.lemmas.List.Sorted.{length_permutation, list_any-IsPermutation}
 use Rattle.acl_names.specs.Ascending.{repeats}
-use Rattle.acl_names.specs.Directory.{KnownUser, KnownGroup, Known, AnswersAs, IsRefusedFor, fault_of, is_too_many, has_bad_name, repeats_name, repeats_id, has_unknown_group, user_named, group_named, user_with, group_with, groups_of, gid_of, first_of}
-use Rattle.acl_names.specs.Ids.{has_name_shape, has_domain_shape}
+use Rattle.acl_names.specs.Directory.{KnownUser, KnownGroup, Known, AnswersAs, IsRefusedFor, TellsNamesApart, fault_of, is_too_many, has_bad_name, repeats_name, repeats_id, has_unknown_group, user_named, group_named, user_with, group_with, groups_of, gid_of, first_of}
+use Rattle.acl_names.specs.Ids.{ReadBack, has_name_shape, has_domain_shape}
 use Rattle.acl_names.specs.declared.directory.SetupFault.{SetupFault}
 use Rattle.acl_names.specs.declared.directory.SetupFault.TheVariants.{BadName, RepeatedName, RepeatedId, UnknownGroup, TooMany, Memory}
 use Rattle.acl_names.proofs.AnyLemmas.{list_any-agree}
-use Rattle.acl_names.proofs.AscendingLemmas.{find-permutation, repeats-permutation}
+use Rattle.acl_names.proofs.AscendingLemmas.{Contains-find, any_false, find-distinct, find-permutation, first_or_none, get_or-within, repeats-permutation, slice_get-within}
 use Rattle.acl_names.proofs.Keys.{same_id, same_name}
 use Rattle.acl_names.proofs.MapLemmas.{filter_map-agree}
 
@@ -57,6 +59,12 @@ refused_for known UnknownGroup is = is
 refused_for known TooMany is = is
 refused_for known Memory is = absurd (no_memory (is_too_many known) (has_bad_name known) (repeats_name known) (repeats_id known) (has_unknown_group known) is)
 
+shapes_right : (a b c d e : Bool) → first_of_tests a b c d e ≡ None → b ≡ false
+unfolding first_of_tests
+shapes_right true b c d e is = absurd (cc)
+shapes_right false true c d e is = absurd (cc)
+shapes_right false false c d e is = refl
+
 module _ (domain : List ℕ) (users sorted_users : List KnownUser) (groups sorted_groups : List KnownGroup)
     (moved_users : IsPermutation users sorted_users) (moved_groups : IsPermutation groups sorted_groups) where
   abbrev parts : Known
@@ -71,19 +79,25 @@ module _ (domain : List ℕ) (users sorted_users : List KnownUser) (groups sorte
 
   same_bad_name : has_bad_name parts ≡ has_bad_name known
   same_bad_name =
-      rw (list_any-IsPermutation (λ (user : KnownUser). not (has_name_shape user.name)) users sorted_users moved_users,
-      list_any-IsPermutation (λ (group : KnownGroup). not (has_name_shape group.name)) groups sorted_groups moved_groups) refl
+      rw (
+        list_any-IsPermutation (λ (user : KnownUser). not (has_name_shape user.name)) users sorted_users moved_users,
+        list_any-IsPermutation (λ (group : KnownGroup). not (has_name_shape group.name)) groups sorted_groups moved_groups,
+      ) refl
 
   same_repeated_name : repeats_name parts ≡ repeats_name known
   same_repeated_name =
-      rw (repeats-permutation (slice_cmp nat_cmp) nat_list_cmp_total (λ (user : KnownUser). user.name) bytes_eq same_name users sorted_users moved_users,
-      repeats-permutation (slice_cmp nat_cmp) nat_list_cmp_total (λ (group : KnownGroup). group.name) bytes_eq same_name groups sorted_groups moved_groups,
-      list_any-IsPermutation (λ (user : KnownUser). repeats bytes_eq (λ (name : List ℕ). name) user.groups) users sorted_users moved_users) refl
+      rw (
+        repeats-permutation (slice_cmp nat_cmp) nat_list_cmp_total (λ (user : KnownUser). user.name) bytes_eq same_name users sorted_users moved_users,
+        repeats-permutation (slice_cmp nat_cmp) nat_list_cmp_total (λ (group : KnownGroup). group.name) bytes_eq same_name groups sorted_groups moved_groups,
+        list_any-IsPermutation (λ (user : KnownUser). repeats bytes_eq (λ (name : List ℕ). name) user.groups) users sorted_users moved_users,
+      ) refl
 
   same_repeated_id : repeats_id parts ≡ repeats_id known
   same_repeated_id =
-      rw (repeats-permutation nat_cmp nat_cmp_total (λ (user : KnownUser). user.uid) nat_eq same_id users sorted_users moved_users,
-      repeats-permutation nat_cmp nat_cmp_total (λ (group : KnownGroup). group.gid) nat_eq same_id groups sorted_groups moved_groups) refl
+      rw (
+        repeats-permutation nat_cmp nat_cmp_total (λ (user : KnownUser). user.uid) nat_eq same_id users sorted_users moved_users,
+        repeats-permutation nat_cmp nat_cmp_total (λ (group : KnownGroup). group.gid) nat_eq same_id groups sorted_groups moved_groups,
+      ) refl
 
   -- where no name stands twice, names are found alike
   same_user_named : repeats bytes_eq (λ (user : KnownUser). user.name) sorted_users ≡ false → (name : List ℕ) → user_named known name ≡ user_named parts name
@@ -118,7 +132,7 @@ module _ (domain : List ℕ) (users sorted_users : List KnownUser) (groups sorte
   unfolding first_of_tests
   fault_of-moved =
       let same : first_of_tests (is_too_many parts) (has_bad_name parts) (repeats_name parts) (repeats_id parts) (has_unknown_group parts)
-          ≡ first_of_tests (is_too_many known) (has_bad_name known) (repeats_name known) (repeats_id known) (has_unknown_group parts) =
+      ≡ first_of_tests (is_too_many known) (has_bad_name known) (repeats_name known) (repeats_id known) (has_unknown_group parts) =
       rw (same_too_many, same_bad_name, same_repeated_name, same_repeated_id) refl in
       same ∙ last_test (is_too_many known) (has_bad_name known) (repeats_name known) (repeats_id known) (has_unknown_group parts) (has_unknown_group known) same_unknown_group
 
@@ -156,3 +170,50 @@ module _ (domain : List ℕ) (users sorted_users : List KnownUser) (groups sorte
 pub none_from : (found : Option SetupFault) → ((fault : SetupFault) → found ≡ Some fault → ⊥) → found ≡ None
 none_from None never = refl
 none_from (Some fault) never = absurd (never fault refl)
+
+-- members whose names have their shape, of which none stands twice, are found again by their names
+read_back : {X : Type 0} (name_of : X → List ℕ) (id_of : X → ℕ) (members : List X) → repeats bytes_eq name_of members ≡ false
+    → list_any (λ member. not (has_name_shape (name_of member))) members ≡ false
+    → ReadBack (λ name. option_map id_of (find (λ member. bytes_eq (name_of member) name) members))
+    (λ id. option_map name_of (find (λ member. id_of member == id) members))
+read_back name_of id_of members once shaped id name found =
+    elim (first_or_none (λ member. id_of member == id) members) [
+      | inl (member, (is, passes)) ↦
+          let named : Some (name_of member) ≡ Some name = sym (ap (option_map name_of) is) ∙ found in
+          let same : name_of member ≡ name = cc in
+          let there : Contains members member = Contains-find (λ m. id_of m == id) members member is in
+          let at : (d : _) → get_or members there.0 d ≡ member = λ d. get_or-within members there.0 d member there.1 ∙ there.2 in
+          let has_shape : has_name_shape (name_of member) ≡ true =
+          not_false _ (ap (λ m. not (has_name_shape (name_of m))) (sym (at member)) ∙ any_false members (λ m. not (has_name_shape (name_of m))) shaped there.0 member there.1) in
+          let by_name : find (λ m. bytes_eq (name_of m) name) members ≡ Some member =
+          find-distinct (slice_cmp nat_cmp) nat_list_cmp_total name_of bytes_eq same_name members name once there.0 there.1
+          (λ d. (bytes_eq-Decides (name_of (get_or members there.0 d)) name).1 (ap name_of (at d) ∙ same))
+          ∙ slice_get-within members there.0 member there.1 ∙ ap Some there.2 in
+          let that : id_of member ≡ id = (Decides-eqb (id_of member) id).0 passes in
+          (ap has_name_shape (sym same) ∙ has_shape, ap (option_map id_of) by_name ∙ ap Some that)
+      | inr none ↦ absurd (nothing name (sym (ap (option_map name_of) none.0) ∙ found))
+    ]
+  where
+    not_false : (b : Bool) → not b ≡ false → b ≡ true
+    not_false true e = refl
+    not_false false e = absurd (cc)
+
+    nothing : (n : List ℕ) → None ≡ Some n → ⊥
+    nothing n e = cc
+
+-- where nothing is wrong, names can be told apart
+pub tells_names_apart : (known : Known) → fault_of known ≡ None → TellsNamesApart known
+unfolding first_of_tests
+tells_names_apart known faultless =
+    let none = none_wrong (is_too_many known) (has_bad_name known) (repeats_name known) (repeats_id known) (has_unknown_group known) faultless in
+    let shaped = shapes_right (is_too_many known) (has_bad_name known) (repeats_name known) (repeats_id known) (has_unknown_group known) faultless in
+    let names_both = or_parts (repeats bytes_eq (λ (user : KnownUser). user.name) known.users || repeats bytes_eq (λ (group : KnownGroup). group.name) known.groups)
+    (list_any (λ (user : KnownUser). repeats bytes_eq (λ (name : List ℕ). name) user.groups) known.users) none.0 in
+    let names = or_parts (repeats bytes_eq (λ (user : KnownUser). user.name) known.users) (repeats bytes_eq (λ (group : KnownGroup). group.name) known.groups) names_both.0 in
+    let shapes_both = or_parts (not (has_domain_shape known.domain) || list_any (λ (user : KnownUser). not (has_name_shape user.name)) known.users)
+    (list_any (λ (group : KnownGroup). not (has_name_shape group.name)) known.groups) shaped in
+    let shapes = or_parts (not (has_domain_shape known.domain)) (list_any (λ (user : KnownUser). not (has_name_shape user.name)) known.users) shapes_both.0 in
+    record {
+      users = read_back (λ (user : KnownUser). user.name) (λ user. user.uid) known.users names.0 shapes.1;
+      groups = read_back (λ (group : KnownGroup). group.name) (λ group. group.gid) known.groups names.1 shapes_both.1;
+    }

@@ -1,10 +1,9 @@
 -- The index of members by their ids.
-use Rattle.std.proofs.Common.{◌≡◌, ◌∙◌, ℕ, zero, suc, ◌+◌, ◌<◌, ◌≤◌, ◌==◌, Bool, true, false, cond, nat_lt, nat_eq, Option, Some, None, Err, List, [], ◌∷◌, ◌||◌, length, get_or, refl, sym, ap, arith, inl, inr, find, map, option_map}
+use Rattle.std.proofs.Common.{◌≡◌, ◌∙◌, ℕ, suc, ◌+◌, ◌<◌, ◌==◌, Bool, true, false, cond, nat_lt, nat_eq, Some, None, Err, List, [], ◌∷◌, ◌||◌, length, get_or, refl, sym, ap, arith, find, map, option_map}
 use Rattle.std.specs.List.{list_any, count_by, slice_get, HoldsAt, enumerate_from, position_from}
 use Rattle.std.specs.List.Sorted.{IsPermutation, IsSortedByKey, IsBinarySearchResult}
 use Rattle.std.specs.declared.cmp.Ordering.TheVariants.{Equal}
 use Rattle.std.specs.Ordering.{nat_cmp}
-use Rattle.std.proofs.lemmas.Bool.{cases_Bool}
 use Rattle.std.proofs.lemmas.Cmp.{nat_cmp_total}
 use Rattle.acl_names.specs.Ascending.{repeats}
 use Rattle.acl_names.specs.Named.{ids_with_places, IsIndexOf}

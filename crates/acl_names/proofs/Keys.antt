@@ -1,6 +1,5 @@
 -- The keys by which members are sorted: names and ids.
-use Rattle.std.proofs.Common.{◌≡◌, ℕ, ◌==◌, Bool, List, sym, nat_lt, cond, arith}
-use Rattle.std.specs.Cmp.{IsTotalOrder}
+use Rattle.std.proofs.Common.{◌≡◌, ℕ, ◌==◌, List, sym, arith}
 use Rattle.std.specs.Cmp.Lexicographic.{slice_cmp}
 use Rattle.std.specs.Ordering.{is_eq, nat_cmp}
 use Rattle.std.specs.Str.{bytes_eq}

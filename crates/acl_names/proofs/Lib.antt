@@ -10,3 +10,7 @@ pub mod Keys
 pub mod Indexes
 pub mod MapLemmas
 pub mod DirectoryLemmas
+pub mod IdTexts
+pub mod Fields
+pub mod LettersAgain
+pub mod Prefixes

@@ -1,6 +1,6 @@
 -- Lists that are seen through a map.
 use Rattle.std.proofs.Common.{◌≡◌, ◌∙◌, ◌+◌, Bool, cond, nat_lt, Option, Some, None, List, [], ◌∷◌, refl, ap, map}
-use Rattle.std.specs.List.{list_any, count_by, filter_map}
+use Rattle.std.specs.List.{count_by, filter_map}
 use Rattle.std.proofs.lemmas.List.Folds.{fold-map}
 use Rattle.acl_names.specs.Ascending.{repeats}
 use Rattle.acl_names.proofs.AnyLemmas.{list_any-agree, list_any-map}

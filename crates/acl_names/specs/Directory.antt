@@ -1,13 +1,13 @@
 -- The users and groups that there are, what is asked of them, and which lists make a directory.
-use Rattle.std.specs.Prelude.{◌≡◌, true, ℕ, Bool, ◌==◌, ◌||◌, not, nat_lt, nat_eq, List, [], ◌∷◌, length, Option, Some, None, is_none, option_map, unwrap_or, if◌then◌else◌, decimal}
-use Rattle.std.specs.List.{find, filter_map, list_any, list_all}
+use Rattle.std.specs.Prelude.{◌≡◌, ℕ, Bool, ◌==◌, ◌||◌, not, nat_lt, nat_eq, List, [], ◌∷◌, length, Option, Some, None, is_none, option_map, if◌then◌else◌}
+use Rattle.std.specs.List.{find, filter_map, list_any}
 use Rattle.std.specs.Option.{option_and_then, option_map_or}
 use Rattle.std.specs.Str.{bytes_eq}
 use Rattle.std.specs.Cmp.Lexicographic.{slice_cmp}
 use Rattle.std.specs.Ordering.{nat_cmp}
 use Rattle.acl_names.specs.Ascending.{repeats, IsAscending}
 use Rattle.acl_names.specs.Named.{IsIndexOf}
-use Rattle.acl_names.specs.Ids.{Written, Number, Name, has_name_shape, has_domain_shape}
+use Rattle.acl_names.specs.Ids.{ReadBack, has_name_shape, has_domain_shape}
 use Rattle.acl_names.specs.Requester.{Identity}
 use Rattle.acl_names.specs.declared.directory.SetupFault.{SetupFault}
 use Rattle.acl_names.specs.declared.directory.SetupFault.TheVariants.{BadName, RepeatedName, RepeatedId, UnknownGroup, TooMany, Memory}
@@ -71,17 +71,6 @@ first_group known uid = option_and_then (gid_of known) (first_of (groups_of know
 abbrev pub requester_of : Known → ℕ → Identity
 requester_of known uid = record { uid = uid; gids = filter_map (gid_of known) (groups_of known uid) }
 
--- How an id is written and printed, by its look-up: that of users, or that of groups.
-
--- the id that is written: a number stands for itself, a name for the one who has it
-abbrev pub resolved : (List ℕ → Option ℕ) → Written → Option ℕ
-resolved id_of (Number number) = Some number
-resolved id_of (Name name) = id_of name
-
--- how an id is printed: its name where there is one, else its decimal
-abbrev pub id_text : (ℕ → Option (List ℕ)) → ℕ → List ℕ
-id_text name_of id = unwrap_or (name_of id) (decimal id)
-
 -- What is wrong with the lists, in the order in which it is told.
 
 abbrev pub is_too_many : Known → Bool
@@ -122,8 +111,8 @@ IsRefusedFor known fault = fault_of known ≡ Some fault
 
 -- Each name that is printed for an id reads as that id.
 pub record TellsNamesApart (known : Known) : Type 0 where
-  pub users : (uid : ℕ) (name : List ℕ) → user_name known uid ≡ Some name → (has_name_shape name ≡ true) × (uid_of known name ≡ Some uid)
-  pub groups : (gid : ℕ) (name : List ℕ) → group_name known gid ≡ Some name → (has_name_shape name ≡ true) × (gid_of known name ≡ Some gid)
+  pub users : ReadBack (uid_of known) (user_name known)
+  pub groups : ReadBack (gid_of known) (group_name known)
 
 -- Each look-up of one answers as that of the other.
 pub record AnswersAs (known parts : Known) : Type 0 where

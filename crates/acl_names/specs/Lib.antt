@@ -7,3 +7,5 @@ pub mod Bits
 pub mod Ascending
 pub mod Named
 pub mod Directory
+pub mod Letters
+pub mod Steps

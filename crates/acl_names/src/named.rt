@@ -55,7 +55,9 @@ fn sort_by_name<T: Named>(members: &mut Vec<T>) -> bool
     ensures ascending { IsTrue result → IsAscending (slice_cmp nat_cmp) T.name_of members.new.items }
 {
     members.sort_unstable_by(|one, other| one.name().cmp(other.name()));
-    members.as_slice().is_sorted_by(|one, later| one.name() < later.name())
+    members
+        .as_slice()
+        .is_sorted_by(|one, later| one.name() < later.name())
 }
 
 /// Puts the members in the order of their ids, and tells whether no two have one id. It takes no memory.
@@ -64,7 +66,9 @@ fn sort_by_id<T: Named>(members: &mut Vec<T>) -> bool
     ensures distinct { result ≡ not (repeats nat_eq T.id_of members.old.items) }
 {
     members.sort_unstable_by_key(|member| member.id());
-    members.as_slice().is_sorted_by(|one, later| one.id() < later.id())
+    members
+        .as_slice()
+        .is_sorted_by(|one, later| one.id() < later.id())
 }
 
 /// The id of each member with its place, in the order of the ids.
@@ -80,10 +84,7 @@ pub(crate) fn index_by_id<T: Named>(
     Ok(index)
 }
 
-fn ids_with_places<T: Named>(
-    alloc: Global,
-    members: &[T],
-) -> Result<Vec<(u32, usize)>, AllocError>
+fn ids_with_places<T: Named>(alloc: Global, members: &[T]) -> Result<Vec<(u32, usize)>, AllocError>
     ensures { IfOk result (λ entries. entries.items ≡ ids_with_places T.id_of members.now) }
 {
     members

@@ -12,3 +12,6 @@ pub mod FoundLemmas
 pub mod SortLemmas
 pub mod KindLemmas
 pub mod ModeLemmas
+pub mod RoundTrip
+pub mod ShapeLemmas
+pub mod ReadLemmas

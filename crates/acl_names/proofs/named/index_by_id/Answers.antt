@@ -1,5 +1,4 @@
 use Rattle.std.proofs.Common.{rules}
-use Rattle.std.specs.List.Sorted.{IsPermutation}
 use Rattle.std.proofs.lemmas.List.Sorted.{answers_always}
 use Rattle.acl_names.proofs.Indexes.{index_from_sorted}
 use Rattle.acl_names.proofs.named.index_by_id.Goals as goal

@@ -1,6 +1,6 @@
 use Rattle.std.proofs.Common.{◌≡◌, ◌∙◌, sym, None}
 use Rattle.std.specs.String.{string_bytes}
-use Rattle.acl_names.specs.Directory.{Known, AnswersAs, fault_of}
+use Rattle.acl_names.specs.Directory.{Known, fault_of}
 use Rattle.acl_names.proofs.DirectoryLemmas.{answers_alike, fault_of-moved, none_from, refused_for}
 use Rattle.acl_names.proofs.directory.Directory.from_parts.Goals as goal
 
@@ -28,8 +28,9 @@ pub returns-clause-made : goal.returns-clause-made
 returns-clause-made c =
     let found = rw (c.deref.ensures, c.deref-2.ensures.value, c.deref-3.ensures.value) at c.first_fault.ensures in
     let faultless : fault_of (record { domain = string_bytes c.args.domain; users = c.sort-user_keys.new.members.items; groups = c.sort-group_keys.new.members.items }) ≡ None =
-    sym found ∙ none_from _ c.in_default.not-Some in
-    (fault_of-moved (string_bytes c.args.domain) c.args.users.items c.sort-user_keys.new.members.items c.args.groups.items c.sort-group_keys.new.members.items
-    c.sort-user_keys.ensures.permutation c.sort-group_keys.ensures.permutation ∙ faultless,
-    answers_alike (string_bytes c.args.domain) c.args.users.items c.sort-user_keys.new.members.items c.args.groups.items c.sort-group_keys.new.members.items
-    c.sort-user_keys.ensures.permutation c.sort-group_keys.ensures.permutation faultless)
+    sym found ∙ none_from _ c.in_default.not-Some in (
+      fault_of-moved (string_bytes c.args.domain) c.args.users.items c.sort-user_keys.new.members.items c.args.groups.items c.sort-group_keys.new.members.items
+          c.sort-user_keys.ensures.permutation c.sort-group_keys.ensures.permutation ∙ faultless,
+      answers_alike (string_bytes c.args.domain) c.args.users.items c.sort-user_keys.new.members.items c.args.groups.items c.sort-group_keys.new.members.items
+          c.sort-user_keys.ensures.permutation c.sort-group_keys.ensures.permutation faultless,
+    )

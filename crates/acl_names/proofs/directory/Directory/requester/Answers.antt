@@ -2,7 +2,6 @@ use Rattle.std.proofs.Common.{◌∙◌, sym, ap}
 use Rattle.std.specs.List.{filter_map}
 use Rattle.std.specs.String.{string_bytes}
 use Rattle.acl_names.specs.Directory.{gid_of}
-use Rattle.acl_names.specs.Requester.{Identity}
 use Rattle.acl_names.proofs.MapLemmas.{filter_map-map}
 use Rattle.acl_names.proofs.directory.Directory.requester.Goals as goal
 

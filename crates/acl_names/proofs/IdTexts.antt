@@ -1,0 +1,74 @@
+-- What is printed of an id is read as that id.
+use Rattle.std.proofs.Common.{◌≡◌, ℕ, ◌≤◌, ◌<◌, Bool, true, false, ◌&&◌, cond, nat_le, List, [], ◌∷◌, length, Option, option_and_then, Some, None, unwrap_or, get_or, lit<, inl, inr, refl, ap, ◌∙◌, arith, decimal}
+use Rattle.std.specs.List.{All, list_all}
+use Rattle.std.specs.Char.{is_ascii_digit}
+use Rattle.std.specs.Str.{IsUtf8}
+use Rattle.std.proofs.lemmas.Str.{IsUtf8-from_ascii}
+use Rattle.std.proofs.lemmas.List.{get_or_past}
+use Rattle.std.proofs.lemmas.List.Elements.{All-weaker}
+use Rattle.std.proofs.lemmas.List.Sums.{AllPass-from_list_all}
+use Rattle.std.specs.Str.Parse.{digits_value, IsNumeral}
+use Rattle.std.proofs.lemmas.Fmt.{decimal_is_IsNumeral, length-decimal-le}
+use Rattle.std.proofs.lemmas.Bool.{cases_lt}
+use Rattle.std.proofs.lemmas.Bool.Decides.{nat_tests}
+use Rattle.acl_names.specs.Ids.{Number, Name, written_id, number_or_name, decimal_value, is_decimal, has_name_shape, begins_name, continues_name, max_id, id_text, resolved, ReadBack}
+use Rattle.acl_names.proofs.Decimals.{digits_model}
+
+pub and_first : (a b : Bool) → (a && b) ≡ true → a ≡ true
+and_first true b e = refl
+and_first false b e = cc
+
+pub and_second : (a b : Bool) → (a && b) ≡ true → b ≡ true
+and_second true b e = e
+and_second false b e = cc
+
+name_byte_is_ascii : (byte : ℕ) → continues_name byte ≡ true → byte < 128
+name_byte_is_ascii byte is = grind (arith, nat_tests)
+
+-- a name is text
+pub name_is_utf8 : (name : List ℕ) → has_name_shape name ≡ true → IsUtf8 name
+name_is_utf8 [] shaped = cc
+name_is_utf8 (c ∷ cs) shaped =
+    let len = nat_le 1 (length (c ∷ cs)) && nat_le (length (c ∷ cs)) 32 in
+    let bytes : list_all continues_name (c ∷ cs) ≡ true = and_second (len && begins_name c) (list_all continues_name (c ∷ cs)) shaped in
+    let below : All (λ byte. byte < 128) (c ∷ cs) =
+    All-weaker (λ byte. continues_name byte ≡ true) (λ byte. byte < 128) name_byte_is_ascii (c ∷ cs) (AllPass-from_list_all continues_name (c ∷ cs) bytes) in
+    IsUtf8-from_ascii (c ∷ cs) (λ i. elim (cases_lt i (length (c ∷ cs))) [
+      | inl inside ↦ below i 0 inside
+      | inr past ↦ let none : get_or (c ∷ cs) i 0 ≡ 0 = get_or_past (c ∷ cs) i 0 past in rw none (lit< tt)
+    ])
+
+letter_no_digit : (c : ℕ) → begins_name c ≡ true → is_ascii_digit c ≡ false
+letter_no_digit c begins = grind (arith, nat_tests)
+
+name_no_decimal : (name : List ℕ) → has_name_shape name ≡ true → decimal_value name ≡ None
+name_no_decimal [] shaped = cc
+name_no_decimal (c ∷ cs) shaped =
+    let len = nat_le 1 (length (c ∷ cs)) && nat_le (length (c ∷ cs)) 32 in
+    let begins : begins_name c ≡ true = and_second len (begins_name c) (and_first (len && begins_name c) (list_all continues_name (c ∷ cs)) shaped) in
+    rw (letter_no_digit c begins) refl
+
+pub written_name : (name : List ℕ) → has_name_shape name ≡ true → written_id name ≡ Some (Name name)
+written_name name shaped = ap (λ number. number_or_name number name) (name_no_decimal name shaped) ∙ ap (λ t. cond t (Some (Name name)) None) shaped
+
+at_most : (a b : ℕ) → a ≤ b → nat_le a b ≡ true
+at_most a b h = grind (arith, nat_tests)
+
+pub written_decimal : (n : ℕ) → n ≤ max_id → written_id (decimal n) ≡ Some (Number n)
+written_decimal n small =
+    let numeral : IsNumeral 10 (decimal n) × (digits_value 10 (decimal n) ≡ n) = decimal_is_IsNumeral n (omega arith) in
+    let digits : list_all is_ascii_digit (decimal n) ≡ true = digits_model.from (decimal n) numeral.0.1 in
+    let some : nat_le 1 (length (decimal n)) ≡ true = at_most 1 (length (decimal n)) numeral.0.0 in
+    let few : nat_le (length (decimal n)) 10 ≡ true = at_most (length (decimal n)) 10 (length-decimal-le 10 n (omega arith) (omega arith) (omega arith)) in
+    let low : nat_le (digits_value 10 (decimal n)) max_id ≡ true = at_most (digits_value 10 (decimal n)) max_id (rw numeral.1 small) in
+    let is : is_decimal (decimal n) ≡ true = rw (digits, some, few, low) refl in
+    ap (λ number. number_or_name number (decimal n)) (ap (λ t. cond t (Some (digits_value 10 (decimal n))) None) is ∙ ap Some numeral.1)
+
+-- what is printed of an id writes the id
+pub id_again : (id_of : List ℕ → Option ℕ) (name_of : ℕ → Option (List ℕ)) (id : ℕ) → ReadBack id_of name_of → id ≤ max_id
+    → option_and_then (resolved id_of) (written_id (id_text name_of id)) ≡ Some id
+id_again id_of name_of id back small = by_name (name_of id) refl
+  where
+    by_name : (name : Option (List ℕ)) → name_of id ≡ name → option_and_then (resolved id_of) (written_id (unwrap_or name (decimal id))) ≡ Some id
+    by_name None e = ap (option_and_then (resolved id_of)) (written_decimal id small) ∙ ap (λ t. cond t (Some id) None) (at_most id max_id small)
+    by_name (Some name) e = ap (option_and_then (resolved id_of)) (written_name name (back id name e).0) ∙ (back id name e).1
