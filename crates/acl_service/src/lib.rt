@@ -6,6 +6,7 @@ mod fault;
 mod input;
 mod words;
 
+pub use decide_command::decide;
 pub use fault::RunFault;
 pub use input::{CapFault, read_capped};
 pub use words::{WordsFault, words_of};

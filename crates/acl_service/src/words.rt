@@ -43,3 +43,6 @@ fn drop_empty_last(words: &mut Vec<String>)
         _ => {}
     }
 }
+
+#[cfg(test)]
+mod tests;

@@ -17,7 +17,11 @@ fn decide_command<'a>(alloc: Global) -> Result<Command<'a>, AllocError>
         .arg(required_option(alloc, "owner", "The uid of the file's owner"))?
         .arg(required_option(alloc, "group", "The gid of the file's group"))?
         .arg(required_option(alloc, "uid", "The uid of who asks"))?
-        .arg(optional_option(alloc, "gids", "The gids of who asks, at most 32, between commas"))?
+        .arg(optional_option(
+            alloc,
+            "gids",
+            "The gids of who asks, at most 32, between commas",
+        ))?
         .arg(required_option(
             alloc,
             "perms",

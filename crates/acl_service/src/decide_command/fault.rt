@@ -3,7 +3,9 @@ ghost use Rattle.std.specs.Prelude.{◌≡◌, Some, IfSome, OnOk};
 ghost use Rattle.std.specs.Io.KnownBytes.{Appends};
 
 use crate::RunFault;
+use acl_posix::{Invalid, TextFault};
 use clap::error::ErrorKind;
+use std::alloc::{AllocError, AllocFailed};
 use std::{fmt, io};
 use thiserror::Error;
 
@@ -96,6 +98,26 @@ impl From<clap::Error> for DecideFault {
     }
 }
 
+impl From<AllocError> for DecideFault {
+    ghost use Rattle.acl_service.specs.Faults.{want_of_memory};
+
+    ghost from_gives = { λ _ becomes. becomes ≡ want_of_memory };
+
+    fn from(_refused: AllocError) -> DecideFault {
+        DecideFault::Run(RunFault::Memory)
+    }
+}
+
+impl<T: Drop> From<AllocFailed<T>> for DecideFault {
+    ghost use Rattle.acl_service.specs.Faults.{want_of_memory};
+
+    ghost from_gives = { λ _ becomes. becomes ≡ want_of_memory };
+
+    fn from(_refused: AllocFailed<T>) -> DecideFault {
+        DecideFault::Run(RunFault::Memory)
+    }
+}
+
 impl From<FieldFault> for DecideFault {
     ghost use Rattle.acl_service.specs.declared.decide_command.fault.DecideFault.TheVariants as fault;
 
@@ -103,5 +125,35 @@ impl From<FieldFault> for DecideFault {
 
     fn from(fault: FieldFault) -> DecideFault {
         DecideFault::Field(fault)
+    }
+}
+
+impl From<TextFault> for DecideFault {
+    ghost use Rattle.acl_service.specs.Faults.{fault_of_text};
+
+    ghost from_gives = { λ text becomes. becomes ≡ fault_of_text text };
+
+    fn from(fault: TextFault) -> DecideFault {
+        match fault {
+            TextFault::Syntax => DecideFault::Field(FieldFault::BadAcl),
+            TextFault::UnknownName => DecideFault::Field(FieldFault::UnknownName),
+            TextFault::TooMany => DecideFault::Field(FieldFault::TooMany),
+            TextFault::Memory => DecideFault::Run(RunFault::Memory),
+        }
+    }
+}
+
+impl From<Invalid> for DecideFault {
+    ghost use Rattle.acl_service.specs.Faults.{fault_of_invalid};
+
+    ghost from_gives = { λ invalid becomes. becomes ≡ fault_of_invalid invalid };
+
+    fn from(fault: Invalid) -> DecideFault {
+        match fault {
+            Invalid::Missing | Invalid::Repeated | Invalid::NoMask => DecideFault::Field(
+                FieldFault::InvalidAcl,
+            ),
+            Invalid::Memory => DecideFault::Run(RunFault::Memory),
+        }
     }
 }
