@@ -2,9 +2,8 @@
 use Rattle.std.specs.Prelude.{ℕ, ◌⊎◌, List, [], ◌∷◌, Option, codes, if◌then◌else◌}
 use Rattle.std.specs.Str.{bytes_eq}
 use Rattle.acl_service.specs.Outcome.{EndsAs, Outcome, outcome_of}
-use Rattle.acl_service.specs.Words.{lines_of}
 use Rattle.aclctl.specs.Fault.{status_of}
-use Rattle.aclctl.specs.Input.{IsInputFault}
+use Rattle.aclctl.specs.Input.{AreWordsOf, IsInputFault}
 use Rattle.aclctl.specs.declared.fault.ProgramFault.{ProgramFault}
 use Rattle.aclctl.specs.declared.fault.ProgramFault.TheVariants.{NoCommand}
 
@@ -17,8 +16,8 @@ abbrev pub program_outcome : List (List ℕ) → Outcome
 program_outcome [] = refusal NoCommand
 program_outcome (first ∷ more) = if bytes_eq first (codes "decide") then outcome_of (first ∷ more) else refusal NoCommand
 
--- with these bytes on standard input, a run ended as their lines come to, or was refused for a fault of the bytes or of
+-- with these bytes on standard input, a run ended as their words come to, or was refused for a fault of the bytes or of
 -- reading them
 abbrev pub EndsFrom : List ℕ → Option (List ℕ) → Option (List ℕ) → ℕ → Type 0
-EndsFrom bytes old new status = EndsAs (program_outcome (lines_of bytes)) old new status
+EndsFrom bytes old new status = ((words : List (List ℕ)) × AreWordsOf bytes words × EndsAs (program_outcome words) old new status)
     ⊎ ((fault : ProgramFault) × IsInputFault fault bytes × EndsAs (refusal fault) old new status)

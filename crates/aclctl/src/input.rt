@@ -1,8 +1,7 @@
 //! The words of the program: those that it is given, or else those of standard input.
 ghost use Rattle.std.specs.Prelude.{◌≡◌, ◌≢◌, [], map, IfErr, IfOk, IfSome, IsOkAnd};
 ghost use Rattle.std.specs.String.{string_bytes};
-ghost use Rattle.acl_service.specs.Words.{lines_of};
-ghost use Rattle.aclctl.specs.Input.{IsInputFault};
+ghost use Rattle.aclctl.specs.Input.{AreWordsOf, IsInputFault};
 
 use crate::fault::ProgramFault;
 use acl_service::{read_capped, words_of};
@@ -22,7 +21,7 @@ pub fn command_words<R: Read>(
 
     // Of a reader that tells its bytes.
     ensures read { given.items ≡ [] → IfOk result (λ words. IfSome (R.remaining reader.old)
-        (λ told. map string_bytes words.items ≡ lines_of told)) }
+        (λ bytes. AreWordsOf bytes (map string_bytes words.items))) }
     ensures refused { IfErr result (λ fault. IfSome (R.remaining reader.old) (IsInputFault fault)) }
 {
     if !given.is_empty() {

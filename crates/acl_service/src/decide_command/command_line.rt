@@ -13,6 +13,7 @@ fn decide_command<'a>(alloc: Global) -> Result<Command<'a>, AllocError>
     ensures { IfOk result (λ command. app_of command ≡ decide_line) }
 {
     Command::new(alloc, "decide")
+        .bin_name("aclctl decide")?
         .about("Tells whether an access control list grants a request: `granted` or `denied`.")
         .arg(required_option(alloc, "owner", "The uid of the file's owner"))?
         .arg(required_option(alloc, "group", "The gid of the file's group"))?

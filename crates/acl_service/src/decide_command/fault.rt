@@ -150,10 +150,8 @@ impl From<Invalid> for DecideFault {
 
     fn from(fault: Invalid) -> DecideFault {
         match fault {
-            Invalid::Missing | Invalid::Repeated | Invalid::NoMask => DecideFault::Field(
-                FieldFault::InvalidAcl,
-            ),
             Invalid::Memory => DecideFault::Run(RunFault::Memory),
+            _ => DecideFault::Field(FieldFault::InvalidAcl),
         }
     }
 }

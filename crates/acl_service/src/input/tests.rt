@@ -99,3 +99,12 @@ fn faults_say_what_they_are(rt: HostRuntime) -> Result<(), Fail> {
     }
     Ok(())
 }
+
+/// With memory enough the bytes are read, and where it runs out that is told.
+#[test]
+fn want_of_memory_is_told(rt: HostRuntime) {
+    match read_capped(rt.alloc(), &mut io::repeat(b'x').take(5000), 5000) {
+        Ok(bytes) => assert_eq!(rt; bytes.len(), 5000),
+        Err(fault) => assert_eq!(rt; fault, CapFault::Memory),
+    }
+}
