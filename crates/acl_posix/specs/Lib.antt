@@ -12,3 +12,4 @@ pub mod Shapes
 pub mod PrintedText
 pub mod Views
 pub mod ReadFault
+pub mod CheckSteps

@@ -35,10 +35,15 @@ entry_text known entry = join_with_byte 58 (word_text entry.tag ∷ qualifier_te
 abbrev pub long_text : Known → List Triple → List ℕ
 long_text known = flat_map (λ entry. entry_text known entry ++ 10 ∷ [])
 
--- a tab, `#effective:` and three characters, where the mask removes something
+-- a tab, `#effective:` and three characters, where permissions are left by a mask that removes some
+abbrev pub mark_of : Option ℕ → List ℕ
+mark_of None = []
+mark_of (Some left) = 9 ∷ codes "#effective:" ++ perms_text left
+
+-- the mark of an entry, where the mask removes something from it
 abbrev pub effective_mark : Option ℕ → Triple → List ℕ
 effective_mark None entry = []
-effective_mark (Some mask) entry = if is_under_mask entry.tag && not (has_all mask entry.perms) then 9 ∷ codes "#effective:" ++ perms_text (entry.perms ∩ mask) else []
+effective_mark (Some mask) entry = if is_under_mask entry.tag && not (has_all mask entry.perms) then mark_of (Some (entry.perms ∩ mask)) else []
 
 -- a line: the entry, its mark, and a newline
 abbrev pub line_text : Known → Option ℕ → Triple → List ℕ

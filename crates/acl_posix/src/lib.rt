@@ -8,6 +8,7 @@ mod entry;
 mod limits;
 mod mode;
 mod perms;
+mod printing;
 mod reading;
 
 pub use acl::{Acl, Invalid};
