@@ -19,7 +19,7 @@ use Rattle.acl_service.specs.declared.decide_command.fault.FieldFault.TheVariant
 use Rattle.acl_service.proofs.ReadLemmas.{at_most_read-all, at_most_read-fault, at_most_read-many}
 
 -- what a piece says, as the field has it
-abbrev field_of : List ℕ → Result Triple FieldFault
+abbrev pub field_of : List ℕ → Result Triple FieldFault
 field_of piece = as_field (entry_of nobody piece)
 
 Say-as_field : (texts : List Text) (entries : List Triple) → Say (entry_of nobody) texts entries → Say field_of texts entries

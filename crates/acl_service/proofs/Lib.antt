@@ -3,3 +3,4 @@ pub mod CommandLemmas
 pub mod ReadLemmas
 pub mod AclLemmas
 pub mod OutcomeLemmas
+pub mod AskLemmas

@@ -38,7 +38,7 @@ module _ {A : Type 0} (read : Text → Result A FieldFault) where
       rw (first, each_read-fault front values text rest fault more is) refl
 
   -- there are as many values as texts
-  length-Say : (texts : List Text) (values : List A) → Say read texts values → length texts ≡ length values
+  pub length-Say : (texts : List Text) (values : List A) → Say read texts values → length texts ≡ length values
   length-Say texts values said = sym (length-map texts read) ∙ ap length said ∙ length-map values Ok
 
   module _ (most : ℕ) where

@@ -7,3 +7,4 @@ pub mod AclText
 pub mod Asked
 pub mod Question
 pub mod Outcome
+pub mod Ask

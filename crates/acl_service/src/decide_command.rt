@@ -1,7 +1,8 @@
 //! The command `decide`.
-ghost use Rattle.std.specs.Prelude.{◌≡◌, ◌≢◌, ◌≤◌, map, IfErr, IsOkAnd, OnOk};
+ghost use Rattle.std.specs.Prelude.{◌≡◌, ◌≢◌, ◌≤◌, ◌↔◌, ℕ, List, Ok, map, IfErr, IsOkAnd, OnOk};
 ghost use Rattle.std.specs.Io.KnownBytes.{Appends, Keeps};
-ghost use Rattle.acl_service.specs.Asked.{asked_by};
+ghost use Rattle.acl_service.specs.Ask.{Ask};
+ghost use Rattle.acl_service.specs.Asked.{Asked, asked_by};
 ghost use Rattle.acl_service.specs.CommandLine.{TakesWords};
 ghost use Rattle.acl_service.specs.Faults.{IsFaultOf, failed_write};
 ghost use Rattle.acl_service.specs.Outcome.{EndsAs, answer_text, is_granted, outcome_of};
@@ -60,6 +61,12 @@ pub fn decide<S: AsStr, W: Write, E: Write>(
         Err(fault) => fault.report(err),
     }
 }
+
+/// Words ask what their fields give, each field by itself, and nothing else. This does nothing: it states the law.
+pub fn words_ask_what_they_give()
+    ensures { (words : List (List ℕ)) (asked : Asked)
+        → Ask words asked ↔ (TakesWords words × (asked_by words ≡ Ok asked)) }
+{}
 
 #[cfg(test)]
 mod tests;
