@@ -169,9 +169,17 @@ module _ (words : List Text) where
 
 pub asked_by-Ask : (words : List Text) (asked : Asked) → Ask words asked → TakesWords words × (asked_by words ≡ Ok asked)
 unfolding asked_in
-asked_by-Ask words asked ask =
-    (ask.taken, rw (id_in-given words _ _ ask.owner, id_in-given words _ _ ask.group, id_in-given words _ _ ask.uid, gids_in-given words _ ask.gids,
-    perms_in-given words _ ask.request, acl_in-given words _ ask.entries ask.valid) refl)
+asked_by-Ask words asked ask = (
+  ask.taken,
+  rw (
+    id_in-given words _ _ ask.owner,
+    id_in-given words _ _ ask.group,
+    id_in-given words _ _ ask.uid,
+    gids_in-given words _ ask.gids,
+    perms_in-given words _ ask.request,
+    acl_in-given words _ ask.entries ask.valid,
+  ) refl,
+)
 
 pub Ask-asked_by : (words : List Text) (asked : Asked) → TakesWords words → asked_by words ≡ Ok asked → Ask words asked
 unfolding asked_in

@@ -67,6 +67,3 @@ pub fn words_ask_what_they_give()
     ensures { (words : List (List ℕ)) (asked : Asked)
         → Ask words asked ↔ (TakesWords words × (asked_by words ≡ Ok asked)) }
 {}
-
-#[cfg(test)]
-mod tests;

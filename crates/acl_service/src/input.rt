@@ -53,6 +53,3 @@ pub fn read_capped<R: Read>(alloc: Global, reader: &mut R, cap: usize) -> Result
     }
     Err(CapFault::Read)
 }
-
-#[cfg(test)]
-mod tests;

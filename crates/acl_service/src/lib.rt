@@ -10,3 +10,6 @@ pub use decide_command::{decide, words_ask_what_they_give};
 pub use fault::RunFault;
 pub use input::{CapFault, read_capped};
 pub use words::{WordsFault, words_of};
+
+#[cfg(test)]
+mod tests;

@@ -43,6 +43,3 @@ fn drop_empty_last(words: &mut Vec<String>)
         _ => {}
     }
 }
-
-#[cfg(test)]
-mod tests;

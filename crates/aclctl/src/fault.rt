@@ -123,6 +123,11 @@ impl From<io::Error> for ProgramFault {
 }
 
 impl From<AllocError> for ProgramFault {
+    ghost use Rattle.std.specs.Prelude.{◌≡◌};
+    ghost use Rattle.aclctl.specs.declared.fault.ProgramFault.TheVariants as fault;
+
+    ghost from_gives = { λ _ becomes. becomes ≡ fault.Memory };
+
     fn from(_refused: AllocError) -> ProgramFault {
         ProgramFault::Memory
     }

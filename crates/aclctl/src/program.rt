@@ -51,6 +51,3 @@ pub fn run<R: Read, W: Write, E: Write>(
         Err(fault) => fault.report(err),
     }
 }
-
-#[cfg(test)]
-mod tests;

@@ -1,5 +1,6 @@
-use super::*;
-use std::io;
+use crate::decide;
+use std::alloc::Global;
+use std::io::{self, Write};
 use std::test::Fail;
 
 /// The fields in order: owner, group, uid, gids, perms, TEXT.
@@ -337,22 +338,4 @@ fn failed_writes(rt: HostRuntime) {
         decide(rt.alloc(), ["decide"].as_slice(), &mut Broken, &mut Broken),
         2
     );
-}
-
-/// With memory enough there is the answer; where it runs out that is told, and nothing goes to the output.
-#[test]
-fn want_of_memory_is_told(rt: HostRuntime) {
-    let mut lines = [0; 64];
-    let mut faults = [0; 64];
-    let mut out = lines.as_mut_slice();
-    let mut err = faults.as_mut_slice();
-    let status = decide(rt.alloc(), words_for(&ASKED).as_slice(), &mut out, &mut err);
-    let (room, fault_room) = (out.len(), err.len());
-    if status == 0 {
-        assert_eq!(rt; (room, fault_room), (56, 64));
-        assert!(rt; lines.starts_with(b"granted\n".as_slice()));
-    } else {
-        assert_eq!(rt; (status, room, fault_room), (3, 64, 44));
-        assert!(rt; faults.starts_with(b"aclctl: run: memory\n".as_slice()));
-    }
 }

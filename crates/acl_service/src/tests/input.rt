@@ -1,5 +1,5 @@
-use super::*;
-use std::io;
+use crate::{CapFault, read_capped};
+use std::io::{self, ErrorKind, Read};
 use std::test::Fail;
 
 /// Gives one byte, and then fails.
@@ -98,13 +98,4 @@ fn faults_say_what_they_are(rt: HostRuntime) -> Result<(), Fail> {
         assert_eq!(rt; shown.as_str(), words);
     }
     Ok(())
-}
-
-/// With memory enough the bytes are read, and where it runs out that is told.
-#[test]
-fn want_of_memory_is_told(rt: HostRuntime) {
-    match read_capped(rt.alloc(), &mut io::repeat(b'x').take(5000), 5000) {
-        Ok(bytes) => assert_eq!(rt; bytes.len(), 5000),
-        Err(fault) => assert_eq!(rt; fault, CapFault::Memory),
-    }
 }

@@ -1,4 +1,4 @@
-use super::*;
+use crate::{WordsFault, words_of};
 use std::test::Fail;
 
 #[test]
@@ -43,13 +43,4 @@ fn faults_say_what_they_are(rt: HostRuntime) -> Result<(), Fail> {
         assert_eq!(rt; shown.as_str(), words);
     }
     Ok(())
-}
-
-/// With memory enough there are words, and where it runs out that is told.
-#[test]
-fn want_of_memory_is_told(rt: HostRuntime) {
-    match words_of(rt.alloc(), b"one\ntwo\nthree\nfour\nfive\n".as_slice()) {
-        Ok(words) => assert_eq!(rt; words.len(), 5),
-        Err(fault) => assert_eq!(rt; fault, WordsFault::Memory),
-    }
 }

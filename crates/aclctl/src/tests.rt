@@ -1,6 +1,6 @@
-use super::*;
-use std::alloc::AllocError;
-use std::io;
+use crate::program::{run, run_command};
+use std::alloc::{AllocError, Global};
+use std::io::{self, Read, Write};
 use std::test::Fail;
 
 const ASKED: [&str; 12] = [
