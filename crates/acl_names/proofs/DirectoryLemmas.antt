@@ -171,6 +171,10 @@ pub none_from : (found : Option SetupFault) → ((fault : SetupFault) → found 
 none_from None never = refl
 none_from (Some fault) never = absurd (never fault refl)
 
+not_false : (b : Bool) → not b ≡ false → b ≡ true
+not_false true e = refl
+not_false false e = absurd (cc)
+
 -- members whose names have their shape, of which none stands twice, are found again by their names
 read_back : {X : Type 0} (name_of : X → List ℕ) (id_of : X → ℕ) (members : List X) → repeats bytes_eq name_of members ≡ false
     → list_any (λ member. not (has_name_shape (name_of member))) members ≡ false
@@ -194,10 +198,6 @@ read_back name_of id_of members once shaped id name found =
       | inr none ↦ absurd (nothing name (sym (ap (option_map name_of) none.0) ∙ found))
     ]
   where
-    not_false : (b : Bool) → not b ≡ false → b ≡ true
-    not_false true e = refl
-    not_false false e = absurd (cc)
-
     nothing : (n : List ℕ) → None ≡ Some n → ⊥
     nothing n e = cc
 
@@ -214,6 +214,7 @@ tells_names_apart known faultless =
     (list_any (λ (group : KnownGroup). not (has_name_shape group.name)) known.groups) shaped in
     let shapes = or_parts (not (has_domain_shape known.domain)) (list_any (λ (user : KnownUser). not (has_name_shape user.name)) known.users) shapes_both.0 in
     record {
+      domain = not_false (has_domain_shape known.domain) shapes.0;
       users = read_back (λ (user : KnownUser). user.name) (λ user. user.uid) known.users names.0 shapes.1;
       groups = read_back (λ (group : KnownGroup). group.name) (λ group. group.gid) known.groups names.1 shapes_both.1;
     }

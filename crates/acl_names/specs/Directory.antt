@@ -1,5 +1,5 @@
 -- The users and groups that there are, what is asked of them, and which lists make a directory.
-use Rattle.std.specs.Prelude.{◌≡◌, ℕ, Bool, ◌==◌, ◌||◌, not, nat_lt, nat_eq, List, [], ◌∷◌, length, Option, Some, None, is_none, option_map, if◌then◌else◌}
+use Rattle.std.specs.Prelude.{◌≡◌, ℕ, Bool, true, ◌==◌, ◌||◌, not, nat_lt, nat_eq, List, [], ◌∷◌, length, Option, Some, None, is_none, option_map, if◌then◌else◌}
 use Rattle.std.specs.List.{find, filter_map, list_any}
 use Rattle.std.specs.Option.{option_and_then, option_map_or}
 use Rattle.std.specs.Str.{bytes_eq}
@@ -109,8 +109,9 @@ abbrev pub IsRefusedFor : Known → SetupFault → Type 0
 IsRefusedFor known Memory = fault_of known ≡ None
 IsRefusedFor known fault = fault_of known ≡ Some fault
 
--- Each name that is printed for an id reads as that id.
+-- Each name that is printed for an id reads as that id, and the domain in which it stands has its shape.
 pub record TellsNamesApart (known : Known) : Type 0 where
+  pub domain : has_domain_shape known.domain ≡ true
   pub users : ReadBack (uid_of known) (user_name known)
   pub groups : ReadBack (gid_of known) (group_name known)
 

@@ -87,7 +87,7 @@ impl Acl {
         ensures acl { IsAcl self.now }
         ensures value { option_map bits_of result ≡ perms_of tag self.now }
     {
-        let entries = self.sorted.as_slice();
+        let entries = self.entries();
         match entries.binary_search_by_key(&tag, |entry| entry.tag) {
             Ok(place) => {
                 let found = &entries[place];

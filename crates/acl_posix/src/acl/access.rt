@@ -78,7 +78,7 @@ impl Acl {
         ensures value { result ≡ group_answer self.now group requester.now (bits_of request) }
     {
         match groups_answer(self.entries(), requester, group, request) {
-            Some(has) => Some(has && self.mask_allows(request)),
+            Some(granted) => Some(granted && self.mask_allows(request)),
             None => None,
         }
     }

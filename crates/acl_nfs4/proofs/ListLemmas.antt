@@ -1,0 +1,39 @@
+-- Lists as a loop goes through them.
+use Rattle.std.proofs.Common.{◌≡◌, ℕ, suc, ◌+◌, ◌<◌, ◌≤◌, ap, sym, ◌∙◌, List, [], ◌∷◌, ◌++◌, Option, Some, None, length, get_or, drop, take, append_assoc, length-append, add-one, arith, refl, subst}
+use Rattle.std.proofs.Math.Seq.{drop-cons, take-suc}
+use Rattle.std.specs.Prelude.{filter_map, Result, Ok, Err, OnErr}
+use Rattle.std.specs.List.{All, cons_option}
+use Rattle.std.proofs.lemmas.List.Elements.{All-nil, All-cons, All-append}
+
+module _ {X : Type 0} where
+  -- what is left at an element is the element and what is left after it
+  pub drop-here : (xs : List X) (i : ℕ) (x : X) → i < length xs → x ≡ get_or xs i x → drop i xs ≡ x ∷ drop (i + 1) xs
+  drop-here xs i x inside here = rw add-one (drop-cons xs i x inside ∙ ap (λ y. y ∷ drop (suc i) xs) (sym here))
+
+  -- a list in the making that has a further element to come is shorter than the whole
+  pub shorter : (made : List X) (x : X) (rest whole : List X) → made ++ x ∷ rest ≡ whole → length made < length whole
+  shorter made x rest whole e = omega (arith, ap length e, length-append made (x ∷ rest))
+
+  -- one more element is made
+  pub made-next : (made : List X) (x : X) (rest whole : List X) → made ++ x ∷ rest ≡ whole → (made ++ x ∷ []) ++ rest ≡ whole
+  made-next made x rest whole e = append_assoc made (x ∷ []) rest ∙ e
+
+pub length-filter_map : {X Y : Type 0} (f : X → Option Y) (xs : List X) → length (filter_map f xs) ≤ length xs
+length-filter_map f [] = omega arith
+length-filter_map {X} {Y} f (x ∷ xs) = go (f x) (length-filter_map f xs)
+  where
+    go : (o : Option Y) → length (filter_map f xs) ≤ length xs → length (cons_option o (filter_map f xs)) ≤ length (x ∷ xs)
+    go (Some y) below = omega arith
+    go None below = omega arith
+
+-- what is known anyway is known on a refusal
+pub OnErr-from : {T E P : Type 0} (r : Result T E) → P → OnErr r P
+OnErr-from (Ok x) p = tt
+OnErr-from (Err e) p = p
+
+-- what holds of the elements so far, and of the next
+pub All-take-next : {X : Type 0} (P : X → Type 0) (xs : List X) (i : ℕ) (x : X) → i < length xs → x ≡ get_or xs i x
+    → All P (take i xs) → P x → All P (take (i + 1) xs)
+All-take-next P xs i x inside here before holds =
+    subst (All P) (sym (rw add-one (take-suc xs i x inside) ∙ ap (λ y. take i xs ++ y ∷ []) (sym here)))
+    (All-append P (take i xs) (x ∷ []) before (All-cons P x [] holds (All-nil P)))

@@ -1,0 +1,106 @@
+-- What a piece says that is read: an entry with an effect.
+use Rattle.std.proofs.Common.{◌≡◌, ℕ, Bool, true, false, cond, List, [], ◌∷◌, Option, Some, None, Result, Ok, Err, map, refl, sym, ap, subst, ◌∙◌}
+use Rattle.std.specs.List.{All}
+use Rattle.std.proofs.lemmas.List.Elements.{All-nil, All-cons, All-weaker}
+use Rattle.acl_names.specs.Bits.{has}
+use Rattle.acl_names.specs.Directory.{Known}
+use Rattle.acl_names.specs.Letters.{letters_of}
+use Rattle.acl_names.specs.ListText.{Say, Spells}
+use Rattle.acl_names.specs.Steps.{◌>>=◌, or_fault}
+use Rattle.acl_nfs4.specs.Ace.{Nfsace4, IsAce, ace_of, is_idle}
+use Rattle.acl_nfs4.specs.AceText.{AceFields, WrittenWho, fields_of, type_of, written_who, resolved_who, effective, piece_value}
+use Rattle.acl_nfs4.specs.Acl.{AreAces}
+use Rattle.acl_nfs4.specs.Flags.{identifier_group}
+use Rattle.acl_nfs4.specs.Letters.{flag_table, mask_table}
+use Rattle.acl_nfs4.specs.declared.ace.AceType.{AceType}
+use Rattle.acl_nfs4.specs.declared.reading.PieceFault.{PieceFault}
+use Rattle.acl_nfs4.specs.declared.reading.PieceFault.TheVariants.{Syntax, UnknownName, InheritOnly}
+use Rattle.acl_nfs4.specs.declared.who.Who.{Who}
+use Rattle.acl_nfs4.proofs.AceLemmas.{IsAce-ace_of}
+
+-- a step that succeeded
+bind_ok : {A B F : Type 0} (r : Result A F) (f : A → Result B F) (y : B) → (r >>= f) ≡ Ok y → (x : A) × (r ≡ Ok x) × (f x ≡ Ok y)
+bind_ok (Ok x) f y e = (x, refl, e)
+bind_ok (Err fault) f y e = absurd (cc)
+
+given : {A F : Type 0} (fault : F) (o : Option A) (x : A) → or_fault fault o ≡ Ok x → o ≡ Some x
+given fault (Some y) x e = cc
+given fault None x e = absurd (cc)
+
+effective_ok : (ace made : Nfsace4) → effective made ≡ Ok ace → (made ≡ ace) × (is_idle made ≡ false)
+effective_ok ace made e = go (is_idle made) e
+  where
+    go : (b : Bool) → cond b (Err InheritOnly) (Ok made) ≡ Ok ace → (made ≡ ace) × (b ≡ false)
+    go true e = absurd (cc)
+    go false e = (cc, refl)
+
+-- the parts of a piece that says an entry
+pub record Parts (known : Known) (piece : List ℕ) (ace : Nfsace4) : Type 0 where
+  pub fields : AceFields
+  pub kind : AceType
+  pub flags : ℕ
+  pub written : WrittenWho
+  pub mask : ℕ
+  pub who : Who
+  pub cut : fields_of piece ≡ Some fields
+  pub kind_is : type_of fields.kind ≡ Some kind
+  pub flags_are : letters_of flag_table fields.flags ≡ Some flags
+  pub written_is : written_who fields.who ≡ Some written
+  pub mask_is : letters_of mask_table fields.letters ≡ Some mask
+  pub who_is : resolved_who known (has flags identifier_group) written ≡ Some who
+  pub made : ace_of kind flags who mask ≡ ace
+  pub has_effect : is_idle ace ≡ false
+
+pub parts_of : (known : Known) (piece : List ℕ) (ace : Nfsace4) → piece_value known piece ≡ Ok ace → Parts known piece ace
+unfolding piece_value
+parts_of known piece ace e =
+    let cut = bind_ok (or_fault Syntax (fields_of piece)) _ ace e in
+    let kind = bind_ok (or_fault Syntax (type_of cut.0.kind)) _ ace cut.2 in
+    let flags = bind_ok (or_fault Syntax (letters_of flag_table cut.0.flags)) _ ace kind.2 in
+    let written = bind_ok (or_fault Syntax (written_who cut.0.who)) _ ace flags.2 in
+    let mask = bind_ok (or_fault Syntax (letters_of mask_table cut.0.letters)) _ ace written.2 in
+    let who = bind_ok (or_fault UnknownName (resolved_who known (has flags.0 identifier_group) written.0)) _ ace mask.2 in
+    let last = effective_ok ace (ace_of kind.0 flags.0 who.0 mask.0) who.2 in
+    record {
+      fields = cut.0;
+      kind = kind.0;
+      flags = flags.0;
+      written = written.0;
+      mask = mask.0;
+      who = who.0;
+      cut = given Syntax (fields_of piece) cut.0 cut.1;
+      kind_is = given Syntax (type_of cut.0.kind) kind.0 kind.1;
+      flags_are = given Syntax (letters_of flag_table cut.0.flags) flags.0 flags.1;
+      written_is = given Syntax (written_who cut.0.who) written.0 written.1;
+      mask_is = given Syntax (letters_of mask_table cut.0.letters) mask.0 mask.1;
+      who_is = given UnknownName (resolved_who known (has flags.0 identifier_group) written.0) who.0 who.1;
+      made = last.0;
+      has_effect = ap is_idle (sym last.0) ∙ last.1;
+    }
+
+pub value_of_parts : (known : Known) (piece : List ℕ) (ace : Nfsace4) → Parts known piece ace → piece_value known piece ≡ Ok ace
+unfolding piece_value
+value_of_parts known piece ace parts =
+    rw (parts.cut, parts.kind_is, parts.flags_are, parts.written_is, parts.mask_is, parts.who_is)
+    (ap effective parts.made ∙ ap (λ b. cond b (Err InheritOnly) (Ok ace)) parts.has_effect)
+
+-- what holds of each value of a piece holds of each member of a list that pieces say
+each_said : (P : Nfsace4 → Type 0) (known : Known) → ((piece : List ℕ) (ace : Nfsace4) → piece_value known piece ≡ Ok ace → P ace)
+    → (texts : List (List ℕ)) (aces : List Nfsace4) → Say (piece_value known) texts aces → All P aces
+each_said P known holds texts [] said = All-nil P
+each_said P known holds [] (ace ∷ aces) said = absurd (cc)
+each_said P known holds (text ∷ texts) (ace ∷ aces) said =
+    let here : piece_value known text ≡ Ok ace = cc in
+    let rest : Say (piece_value known) texts aces = cc in
+    All-cons P ace aces (holds text ace here) (each_said P known holds texts aces rest)
+
+pub IsAce-read : (known : Known) (piece : List ℕ) (ace : Nfsace4) → piece_value known piece ≡ Ok ace → IsAce ace
+IsAce-read known piece ace e =
+    let parts = parts_of known piece ace e in subst IsAce parts.made (IsAce-ace_of parts.kind parts.flags parts.who parts.mask)
+
+pub AreAces-read : (known : Known) (text : List ℕ) (aces : List Nfsace4) → Spells (piece_value known) 128 text aces → AreAces aces
+AreAces-read known text aces spells = record {
+  within = spells.within;
+  each = each_said IsAce known (IsAce-read known) _ aces spells.said;
+  effective = each_said (λ ace. is_idle ace ≡ false) known (λ piece ace e. (parts_of known piece ace e).has_effect) _ aces spells.said;
+}

@@ -1,0 +1,299 @@
+-- The printed text of a list spells its entries.
+use Rattle.std.proofs.Common.{◌≡◌, ℕ, ◌≤◌, ◌<◌, ◌^◌, Bool, true, false, cond, not, ◌&&◌, ◌||◌, List, [], ◌∷◌, ◌++◌, length, map, Option, Some, None, option_map, Ok, Err, refl, sym, ap, ap₂, subst, ◌∙◌, arith, codes, decimal, get_or, length-append, nat_le, append-nil}
+use Rattle.std.specs.Prelude.{◌==◌, bit_and}
+use Rattle.std.specs.List.{All, AllByRecursion, join_with_byte, list_all, flat_map}
+use Rattle.std.specs.Char.{is_ascii_digit}
+use Rattle.std.specs.Str.{bytes_eq}
+use Rattle.std.proofs.lemmas.Bool.{eqb-true, and_parts}
+use Rattle.std.proofs.lemmas.Bool.Decides.{nat_tests}
+use Rattle.std.proofs.lemmas.Fmt.{decimal_is_IsNumeral}
+use Rattle.std.proofs.lemmas.List.Elements.{All-nil, All-head, All-tail, All-cons, All-append, All-weaker}
+use Rattle.std.proofs.lemmas.List.Splits.{slice_split_at, slice_split_none}
+use Rattle.std.proofs.lemmas.List.Sums.{AllPass-from_list_all}
+use Rattle.std.proofs.lemmas.Slice.Eq.{bytes_eq-Decides}
+use Rattle.acl_names.specs.Bits.{has, without, ◌∩◌, ◌∪◌}
+use Rattle.acl_names.specs.Directory.{Known, TellsNamesApart, uid_of, gid_of, user_name, group_name}
+use Rattle.acl_names.specs.Ids.{Written, Number, Name, written_id, resolved, max_id, ReadBack, has_domain_shape, has_name_shape, stands_in_domain, continues_name, begins_name, is_decimal}
+use Rattle.acl_names.specs.Letters.{letters_of, letters_text}
+use Rattle.acl_names.specs.ListText.{Say, Spells}
+use Rattle.acl_names.specs.Pieces.{parts, pieces}
+use Rattle.acl_names.specs.Steps.{◌>>=◌, or_fault}
+use Rattle.acl_names.proofs.BitSets.{has-and, has-or, has-without, has-zero, same_bits}
+use Rattle.acl_names.proofs.Decimals.{digits_model}
+use Rattle.acl_names.proofs.Fields.{is_field_byte, IsField, fields_again, joined_plain}
+use Rattle.acl_names.proofs.IdTexts.{and_first, and_second, written_name, written_decimal}
+use Rattle.acl_names.proofs.LettersAgain.{letters_again}
+use Rattle.acl_names.proofs.PlainLines.{IsPlain, IsMark, nothing, Lacks, pieces_of_lines}
+use Rattle.acl_nfs4.specs.Ace.{Nfsace4, IsAce, ace_of, flags_for, is_idle}
+use Rattle.acl_nfs4.specs.AceText.{AceFields, WrittenWho, as_fields, fields_of, type_of, written_who, who_of_parts, name_at, named, resolved_who, effective, piece_value}
+use Rattle.acl_nfs4.specs.AceText as form
+use Rattle.acl_nfs4.specs.Flags.{all_flags, identifier_group}
+use Rattle.acl_nfs4.specs.Letters.{flag_table, mask_table}
+use Rattle.acl_nfs4.specs.PrintedText.{type_text, named_text, who_text, ace_text, line_text, aces_text, HaveIds}
+use Rattle.acl_nfs4.specs.Who.{HasId, flags_of_who, is_named_group}
+use Rattle.acl_nfs4.specs.Acl.{AreAces}
+use Rattle.acl_nfs4.specs.declared.ace.AceType.{AceType}
+use Rattle.acl_nfs4.specs.declared.ace.AceType.TheVariants.{Allow, Deny, Audit, Alarm}
+use Rattle.acl_nfs4.specs.declared.reading.PieceFault.TheVariants.{Syntax, UnknownName, InheritOnly}
+use Rattle.acl_nfs4.specs.declared.who.Who.{Who}
+use Rattle.acl_nfs4.specs.declared.who.Who.TheVariants.{Owner, Group, Everyone, User, NamedGroup}
+use Rattle.acl_nfs4.proofs.AceLemmas.{within-has}
+use Rattle.acl_nfs4.proofs.LetterLemmas.{flag_table_is, mask_table_is, flags-field, mask-field}
+use Rattle.acl_nfs4.proofs.ReadLemmas.{value_of_parts}
+use Rattle.acl_nfs4.proofs.OneBit.{contains-one, lacks-one}
+
+-- ---- bytes of fields
+
+tested_field : (text : List ℕ) → list_all is_field_byte text ≡ true → IsField text
+tested_field text passes = AllPass-from_list_all is_field_byte text passes
+
+type_field : (kind : AceType) → IsField (type_text kind)
+type_field Allow = tested_field (codes "A") refl
+type_field Deny = tested_field (codes "D") refl
+type_field Audit = tested_field (codes "U") refl
+type_field Alarm = tested_field (codes "L") refl
+
+domain_byte_in_field : (byte : ℕ) → stands_in_domain byte ≡ true → is_field_byte byte ≡ true
+domain_byte_in_field byte is = grind (arith, nat_tests)
+
+name_byte_in_field : (byte : ℕ) → continues_name byte ≡ true → is_field_byte byte ≡ true
+name_byte_in_field byte is = grind (arith, nat_tests)
+
+digit_in_field : (byte : ℕ) → is_ascii_digit byte ≡ true → is_field_byte byte ≡ true
+digit_in_field byte is = grind (arith, nat_tests)
+
+domain_byte_no_at : (byte : ℕ) → stands_in_domain byte ≡ true → (byte == 64) ≡ false
+domain_byte_no_at byte is = grind (arith, nat_tests)
+
+name_byte_no_at : (byte : ℕ) → continues_name byte ≡ true → (byte == 64) ≡ false
+name_byte_no_at byte is = grind (arith, nat_tests)
+
+digit_no_at : (byte : ℕ) → is_ascii_digit byte ≡ true → (byte == 64) ≡ false
+digit_no_at byte is = grind (arith, nat_tests)
+
+-- the bytes of a name, of a domain, of a decimal
+name_bytes : (name : List ℕ) → has_name_shape name ≡ true → All (λ byte. continues_name byte ≡ true) name
+name_bytes [] shaped = absurd (cc)
+name_bytes (c ∷ cs) shaped =
+    AllPass-from_list_all continues_name (c ∷ cs)
+    (and_second (nat_le 1 (length (c ∷ cs)) && nat_le (length (c ∷ cs)) 32 && begins_name c) (list_all continues_name (c ∷ cs)) shaped)
+
+domain_bytes : (domain : List ℕ) → has_domain_shape domain ≡ true → All (λ byte. stands_in_domain byte ≡ true) domain
+domain_bytes domain shaped =
+    AllPass-from_list_all stands_in_domain domain
+    (and_second (nat_le 1 (length domain) && nat_le (length domain) 255) (list_all stands_in_domain domain) shaped)
+
+decimal_bytes : (id : ℕ) → id ≤ max_id → All (λ byte. is_ascii_digit byte ≡ true) (decimal id)
+decimal_bytes id small =
+    let numeral = decimal_is_IsNumeral id (omega arith) in
+    AllPass-from_list_all is_ascii_digit (decimal id) (digits_model.from (decimal id) numeral.0.1)
+
+-- a name in the domain is read again
+pub at_again : (name domain : List ℕ) → has_name_shape name ≡ true → has_domain_shape domain ≡ true
+    → who_of_parts (name ∷ domain ∷ []) ≡ Some (form.At name domain)
+at_again name [] shaped domain_shaped = absurd (cc)
+at_again name (byte ∷ bytes) shaped domain_shaped =
+    ap (λ written. name_at written (byte ∷ bytes)) (written_name name shaped)
+    ∙ ap (λ b. cond b (Some (form.At name (byte ∷ bytes))) None) domain_shaped
+
+pub parts_at : (name domain : List ℕ) → has_name_shape name ≡ true → has_domain_shape domain ≡ true → parts 64 (name ++ 64 ∷ domain) ≡ name ∷ domain ∷ []
+parts_at name domain shaped domain_shaped =
+    slice_split_at (λ x. x == 64) name 64 domain
+    (All-weaker (λ byte. continues_name byte ≡ true) (λ byte. (byte == 64) ≡ false) name_byte_no_at name (name_bytes name shaped)) refl
+    ∙ ap (λ rest. name ∷ rest)
+    (slice_split_none (λ x. x == 64) domain
+    (All-weaker (λ byte. stands_in_domain byte ≡ true) (λ byte. (byte == 64) ≡ false) domain_byte_no_at domain (domain_bytes domain domain_shaped)))
+
+-- a text of one part
+pub parts_name : (name : List ℕ) → has_name_shape name ≡ true → parts 64 name ≡ name ∷ []
+parts_name name shaped =
+    slice_split_none (λ x. x == 64) name
+    (All-weaker (λ byte. continues_name byte ≡ true) (λ byte. (byte == 64) ≡ false) name_byte_no_at name (name_bytes name shaped))
+
+pub parts_digits : (text : List ℕ) → All (λ byte. is_ascii_digit byte ≡ true) text → parts 64 text ≡ text ∷ []
+parts_digits text digits =
+    slice_split_none (λ x. x == 64) text
+    (All-weaker (λ byte. is_ascii_digit byte ≡ true) (λ byte. (byte == 64) ≡ false) digit_no_at text digits)
+
+-- ---- an entry's flags and mask are those of its parts
+
+-- the group flag stands where it is to stand
+flags_for-same : (who : Who) (flags : ℕ) → has flags identifier_group ≡ is_named_group who → flags_for who flags ≡ flags
+flags_for-same who flags stands = same_bits _ _ (λ k.
+    has-or (without flags 64) (flags_of_who who) k
+    ∙ ap (λ b. b || has (flags_of_who who) k) (has-without flags 64 k)
+    ∙ by_who who stands k)
+  where
+    alone : (k : ℕ) → flags ∩ 64 ≡ 0 → ((has flags k && not (has 64 k)) || has 0 k) ≡ has flags k
+    alone k none =
+        ap (λ b. (has flags k && not (has 64 k)) || b) (has-zero k)
+        ∙ apart (has flags k) (has 64 k) (sym (has-and flags 64 k) ∙ ap (λ (set : ℕ). has set k) none ∙ has-zero k)
+      where
+        apart : (f g : Bool) → (f && g) ≡ false → ((f && not g) || false) ≡ f
+        apart true true e = sym e
+        apart true false e = refl
+        apart false g e = refl
+
+    there : (k : ℕ) → flags ∩ 64 ≡ 64 → ((has flags k && not (has 64 k)) || has 64 k) ≡ has flags k
+    there k whole = go (has flags k) (has 64 k) (sym (has-and flags 64 k) ∙ ap (λ (set : ℕ). has set k) whole)
+      where
+        go : (f g : Bool) → (f && g) ≡ g → ((f && not g) || g) ≡ f
+        go true true e = refl
+        go true false e = refl
+        go false true e = sym e
+        go false false e = refl
+
+    by_who : (who : Who) → has flags identifier_group ≡ is_named_group who → (k : ℕ)
+        → ((has flags k && not (has 64 k)) || has (flags_of_who who) k) ≡ has flags k
+    by_who Owner e k = alone k (lacks-one flags 6 e)
+    by_who Group e k = alone k (lacks-one flags 6 e)
+    by_who Everyone e k = alone k (lacks-one flags 6 e)
+    by_who (User uid) e k = alone k (lacks-one flags 6 e)
+    by_who (NamedGroup gid) e k = there k (eqb-true (flags ∩ 64) 64 (contains-one flags 6 ∙ e))
+
+ace_of-same : (ace : Nfsace4) → IsAce ace → ace_of ace.kind ace.flags ace.who ace.mask ≡ ace
+ace_of-same ace is = λ i. record {
+  kind = ace.kind;
+  flags = (ap (flags_for ace.who) is.known_flags ∙ flags_for-same ace.who ace.flags is.group_flag) i;
+  who = ace.who;
+  mask = is.known_mask i;
+}
+
+module _ (known : Known) (apart : TellsNamesApart known) where
+  -- ---- the who
+
+  named_field : (id_of : List ℕ → Option ℕ) (name_of : ℕ → Option (List ℕ)) (id : ℕ) → ReadBack id_of name_of → id ≤ max_id
+      → IsField (named_text (name_of id) known.domain id)
+  named_field id_of name_of id back small = go (name_of id) refl
+    where
+      go : (name : Option (List ℕ)) → name_of id ≡ name → IsField (named_text name known.domain id)
+      go None e = All-weaker (λ byte. is_ascii_digit byte ≡ true) (λ byte. is_field_byte byte ≡ true) digit_in_field (decimal id) (decimal_bytes id small)
+      go (Some name) e =
+          All-append (λ byte. is_field_byte byte ≡ true) name (64 ∷ known.domain)
+          (All-weaker (λ byte. continues_name byte ≡ true) (λ byte. is_field_byte byte ≡ true) name_byte_in_field name (name_bytes name (back id name e).0))
+          (All-cons (λ byte. is_field_byte byte ≡ true) 64 known.domain refl
+          (All-weaker (λ byte. stands_in_domain byte ≡ true) (λ byte. is_field_byte byte ≡ true) domain_byte_in_field known.domain (domain_bytes known.domain apart.domain)))
+
+  who_field : (who : Who) → HasId who → IsField (who_text known who)
+  who_field Owner has_id = tested_field (codes "OWNER@") refl
+  who_field Group has_id = tested_field (codes "GROUP@") refl
+  who_field Everyone has_id = tested_field (codes "EVERYONE@") refl
+  who_field (User uid) has_id = named_field (uid_of known) (user_name known) uid apart.users has_id
+  who_field (NamedGroup gid) has_id = named_field (gid_of known) (group_name known) gid apart.groups has_id
+
+  -- a who that is read as this one
+  record ReadsAs (text : List ℕ) (is_group : Bool) (who : Who) : Type 0 where
+    pub written : WrittenWho
+    pub written_is : written_who text ≡ Some written
+    pub who_is : resolved_who known is_group written ≡ Some who
+
+  same_domain : bytes_eq known.domain known.domain ≡ true
+  same_domain = (bytes_eq-Decides known.domain known.domain).1 refl
+
+  named_again : (id_of : List ℕ → Option ℕ) (name_of : ℕ → Option (List ℕ)) (is_group : Bool) (tag : ℕ → Who) (id : ℕ) → ReadBack id_of name_of → id ≤ max_id
+      → ((written : Written) → named known is_group written ≡ option_map tag (resolved id_of written))
+      → ReadsAs (named_text (name_of id) known.domain id) is_group (tag id)
+  named_again id_of name_of is_group tag id back small looks_up = go (name_of id) refl
+    where
+      at_most : (a b : ℕ) → a ≤ b → nat_le a b ≡ true
+      at_most a b h = grind (arith, nat_tests)
+
+      go : (name : Option (List ℕ)) → name_of id ≡ name → ReadsAs (named_text name known.domain id) is_group (tag id)
+      go None e = record {
+        written = form.Id (Number id);
+        written_is = ap who_of_parts (parts_digits (decimal id) (decimal_bytes id small)) ∙ ap (option_map (λ written. form.Id written)) (written_decimal id small);
+        who_is = looks_up (Number id) ∙ ap (λ b. option_map tag (cond b (Some id) None)) (at_most id max_id small);
+      }
+      go (Some name) e =
+          let told = back id name e in
+          record {
+            written = form.At name known.domain;
+            written_is = ap who_of_parts (parts_at name known.domain told.0 apart.domain) ∙ at_again name known.domain told.0 apart.domain;
+            who_is = ap (λ b. cond b (named known is_group (Name name)) None) same_domain ∙ looks_up (Name name) ∙ ap (option_map tag) told.1;
+          }
+
+  who_again : (who : Who) → HasId who → ReadsAs (who_text known who) (is_named_group who) who
+  who_again Owner has_id = record { written = form.Owner; written_is = refl; who_is = refl }
+  who_again Group has_id = record { written = form.Group; written_is = refl; who_is = refl }
+  who_again Everyone has_id = record { written = form.Everyone; written_is = refl; who_is = refl }
+  who_again (User uid) has_id =
+      named_again (uid_of known) (user_name known) false (λ id. User id) uid apart.users has_id (λ written. refl)
+  who_again (NamedGroup gid) has_id =
+      named_again (gid_of known) (group_name known) true (λ id. NamedGroup id) gid apart.groups has_id (λ written. refl)
+
+  -- ---- the entry
+
+  type_again : (kind : AceType) → type_of (type_text kind) ≡ Some kind
+  type_again Allow = refl
+  type_again Deny = refl
+  type_again Audit = refl
+  type_again Alarm = refl
+
+  fields_are : (ace : Nfsace4) → HasId ace.who
+      → AllByRecursion IsField (type_text ace.kind ∷ letters_text flag_table ace.flags ∷ who_text known ace.who ∷ letters_text mask_table ace.mask ∷ [])
+  fields_are ace has_id = (type_field ace.kind, (flags-field ace.flags, (who_field ace.who has_id, (mask-field ace.mask, tt))))
+
+  -- an entry is read again
+  piece_again : (ace : Nfsace4) → IsAce ace → HasId ace.who → is_idle ace ≡ false → piece_value known (ace_text known ace) ≡ Ok ace
+  piece_again ace is has_id effect =
+      let reads = subst (λ (b : Bool). ReadsAs (who_text known ace.who) b ace.who) (sym is.group_flag) (who_again ace.who has_id) in
+      value_of_parts known (ace_text known ace) ace
+      (record {
+        fields = record {
+          kind = type_text ace.kind;
+          flags = letters_text flag_table ace.flags;
+          who = who_text known ace.who;
+          letters = letters_text mask_table ace.mask;
+        };
+        kind = ace.kind;
+        flags = ace.flags;
+        written = reads.written;
+        mask = ace.mask;
+        who = ace.who;
+        cut = ap as_fields (fields_again (type_text ace.kind) (letters_text flag_table ace.flags ∷ who_text known ace.who ∷ letters_text mask_table ace.mask ∷ [])
+            (fields_are ace has_id));
+        kind_is = type_again ace.kind;
+        flags_are = letters_again flag_table ace.flags flag_table_is is.known_flags;
+        written_is = reads.written_is;
+        mask_is = letters_again mask_table ace.mask mask_table_is is.known_mask;
+        who_is = reads.who_is;
+        made = ace_of-same ace is;
+        has_effect = effect;
+      })
+
+  -- ---- the list
+
+  -- what is printed is an entry whose id is within its range, and that has an effect
+  record IsPrinted (ace : Nfsace4) : Type 0 where
+    pub is_ace : IsAce ace
+    pub has_id : HasId ace.who
+    pub has_effect : is_idle ace ≡ false
+
+  are_printed : (aces : List Nfsace4) → AreAces aces → HaveIds aces → All IsPrinted aces
+  are_printed aces are have = λ k d inside. record { is_ace = are.each k d inside; has_id = have k d inside; has_effect = are.effective k d inside }
+
+  each_again : (aces : List Nfsace4) → All IsPrinted aces → Say (piece_value known) (map (ace_text known) aces) aces
+  each_again [] are = refl
+  each_again (ace ∷ aces) are =
+      let here : IsPrinted ace = All-head IsPrinted ace aces are in
+      rw (piece_again ace here.is_ace here.has_id here.has_effect, each_again aces (All-tail IsPrinted ace aces are)) refl
+
+  abbrev IsLine : Nfsace4 → Type 0
+  IsLine ace = (0 < length (ace_text known ace)) × IsPlain (ace_text known ace) × IsMark []
+
+  line_is : (ace : Nfsace4) → IsPrinted ace → IsLine ace
+  line_is ace is =
+      let rest = letters_text flag_table ace.flags ∷ who_text known ace.who ∷ letters_text mask_table ace.mask ∷ [] in (
+        omega (arith, length-append (type_text ace.kind) (58 ∷ join_with_byte 58 rest)),
+        joined_plain (type_text ace.kind) rest (fields_are ace is.has_id),
+        nothing,
+      )
+
+  pub aces_spelt : (aces : List Nfsace4) → AreAces aces → HaveIds aces → Spells (piece_value known) 128 (aces_text known aces) aces
+  aces_spelt aces are have =
+      let printed = are_printed aces are have in
+      record {
+        said = ap (map (piece_value known)) (pieces_of_lines (ace_text known) (λ _. []) aces (All-weaker IsPrinted IsLine line_is aces printed))
+            ∙ each_again aces printed;
+        within = are.within;
+      }

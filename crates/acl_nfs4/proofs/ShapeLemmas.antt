@@ -1,0 +1,299 @@
+-- What the reader's function answers is what the shapes say.
+use Rattle.std.proofs.Common.{◌≡◌, ◌⊎◌, ℕ, ◌≤◌, Bool, true, false, cond, ◌&&◌, ◌↔◌, List, [], ◌∷◌, ◌++◌, length, nat_le, Option, Some, None, option_map, Ok, refl, sym, ap, ap₂, subst, ◌∙◌, inl, inr, codes}
+use Rattle.std.specs.List.{join_with_byte, list_all}
+use Rattle.std.specs.Char.{is_ascii_digit}
+use Rattle.std.specs.Str.{bytes_eq}
+use Rattle.std.specs.Str.Parse.{digits_value}
+use Rattle.std.proofs.lemmas.List.Splits.{join_with_byte-slice_split}
+use Rattle.std.proofs.lemmas.List.Sums.{AllPass-from_list_all}
+use Rattle.std.proofs.lemmas.Slice.Eq.{bytes_eq-Decides}
+use Rattle.acl_names.specs.Bits.{has}
+use Rattle.acl_names.specs.Directory.{Known, uid_of, gid_of}
+use Rattle.acl_names.specs.Ids.{Written, Number, Name, written_id, number_or_name, decimal_value, is_decimal, has_name_shape, has_domain_shape, resolved, max_id}
+use Rattle.acl_names.specs.Letters.{letters_of}
+use Rattle.acl_names.specs.Pieces.{parts}
+use Rattle.acl_names.proofs.IdTexts.{and_first, and_second, written_name}
+use Rattle.acl_nfs4.specs.Ace.{Nfsace4, ace_of, flags_for, is_idle}
+use Rattle.acl_nfs4.specs.AceShapes.{IsTypeLetter, WritesName, WritesId, IsWho, HasShape}
+use Rattle.acl_nfs4.specs.AceText.{WrittenWho, type_of, special_of, name_at, who_of_parts, written_who, named, resolved_who, piece_value}
+use Rattle.acl_nfs4.specs.AceText as form
+use Rattle.acl_nfs4.specs.Flags.{identifier_group}
+use Rattle.acl_nfs4.specs.Letters.{flag_table, mask_table}
+use Rattle.acl_nfs4.specs.declared.ace.AceType.{AceType}
+use Rattle.acl_nfs4.specs.declared.ace.AceType.TheVariants.{Allow, Deny, Audit, Alarm}
+use Rattle.acl_nfs4.specs.declared.who.Who.{Who}
+use Rattle.acl_nfs4.specs.declared.who.Who.TheVariants as one
+use Rattle.acl_nfs4.proofs.LetterLemmas.{flags-known, mask-known}
+use Rattle.acl_nfs4.proofs.ReadLemmas.{Parts, parts_of, value_of_parts}
+use Rattle.acl_nfs4.proofs.RoundTrip.{at_again, parts_at, parts_name, parts_digits}
+
+same_bytes : (a b : List ℕ) → bytes_eq a b ≡ true → a ≡ b
+same_bytes a b e = (bytes_eq-Decides a b).0 e
+
+some_from_cond : {A : Type 0} (t : Bool) (x y : A) → cond t (Some x) None ≡ Some y → (t ≡ true) × (x ≡ y)
+some_from_cond true x y e = (refl, cc)
+some_from_cond false x y e = absurd (cc)
+
+-- what holds of a thing holds of the same thing
+of_same : {A : Type 0} (P : A → Type 0) (x y : A) → x ≡ y → P x → P y
+of_same P x y e p = subst P e p
+
+-- ---- the type
+
+type_says : (text : List ℕ) (kind : AceType) → type_of text ≡ Some kind → IsTypeLetter text kind
+type_says text kind e =
+    go (bytes_eq text (codes "A")) refl (bytes_eq text (codes "D")) refl (bytes_eq text (codes "U")) refl (bytes_eq text (codes "L")) refl e
+  where
+    go : (a : Bool) → bytes_eq text (codes "A") ≡ a → (d : Bool) → bytes_eq text (codes "D") ≡ d
+        → (u : Bool) → bytes_eq text (codes "U") ≡ u → (l : Bool) → bytes_eq text (codes "L") ≡ l
+        → cond a (Some Allow) (cond d (Some Deny) (cond u (Some Audit) (cond l (Some Alarm) None))) ≡ Some kind → IsTypeLetter text kind
+    go true ea d ed u eu l el e = of_same (IsTypeLetter text) Allow kind (cc) (same_bytes text (codes "A") ea)
+    go false ea true ed u eu l el e = of_same (IsTypeLetter text) Deny kind (cc) (same_bytes text (codes "D") ed)
+    go false ea false ed true eu l el e = of_same (IsTypeLetter text) Audit kind (cc) (same_bytes text (codes "U") eu)
+    go false ea false ed false eu true el e = of_same (IsTypeLetter text) Alarm kind (cc) (same_bytes text (codes "L") el)
+    go false ea false ed false eu false el e = absurd (cc)
+
+type_read : (text : List ℕ) (kind : AceType) → IsTypeLetter text kind → type_of text ≡ Some kind
+type_read text Allow e = ap type_of e
+type_read text Deny e = ap type_of e
+type_read text Audit e = ap type_of e
+type_read text Alarm e = ap type_of e
+
+-- ---- ids
+
+-- what a text writes as an id
+abbrev Writes : List ℕ → Written → Type 0
+Writes text (Number number) = decimal_value text ≡ Some number
+Writes text (Name name) = (has_name_shape text ≡ true) × (text ≡ name)
+
+written_says : (text : List ℕ) (written : Written) → written_id text ≡ Some written → Writes text written
+written_says text written e = go (decimal_value text) refl e
+  where
+    go : (number : Option ℕ) → decimal_value text ≡ number → number_or_name number text ≡ Some written → Writes text written
+    go (Some n) d e = of_same (Writes text) (Number n) written (cc) d
+    go None d e =
+        let choice = some_from_cond (has_name_shape text) (Name text) written e in subst (Writes text) choice.1 (choice.0, refl)
+
+-- who is named by what is written, by the look-up
+named_says : (known : Known) (id_of : List ℕ → Option ℕ) (tag : ℕ → Who) (text : List ℕ) (written : Written) (named_one : Who)
+    → Writes text written → option_map tag (resolved id_of written) ≡ Some named_one
+    → (id : ℕ) × (named_one ≡ tag id) × ((decimal_value text ≡ Some id) ⊎ ((has_name_shape text ≡ true) × (id_of text ≡ Some id)))
+named_says known id_of tag text written named_one writes e = go (resolved id_of written) refl e
+  where
+    from_number : (n id : ℕ) → decimal_value text ≡ Some n → cond (nat_le n max_id) (Some n) None ≡ Some id → decimal_value text ≡ Some id
+    from_number n id d r = d ∙ ap Some (some_from_cond (nat_le n max_id) n id r).1
+
+    says : (w : Written) → Writes text w → (id : ℕ) → resolved id_of w ≡ Some id
+        → (decimal_value text ≡ Some id) ⊎ ((has_name_shape text ≡ true) × (id_of text ≡ Some id))
+    says (Number n) d id r = inl (from_number n id d r)
+    says (Name name) d id r = inr (d.0, ap id_of d.1 ∙ r)
+
+    go : (found : Option ℕ) → resolved id_of written ≡ found → option_map tag found ≡ Some named_one
+        → (id : ℕ) × (named_one ≡ tag id) × ((decimal_value text ≡ Some id) ⊎ ((has_name_shape text ≡ true) × (id_of text ≡ Some id)))
+    go None f e = absurd (cc)
+    go (Some id) f e = (id, cc, says written writes id f)
+
+-- a name or a decimal, alone
+id_says : (known : Known) (is_group : Bool) (text : List ℕ) (written : Written) (who : Who)
+    → Writes text written → named known is_group written ≡ Some who → IsWho known is_group text who
+id_says known true text written who writes e =
+    let says = named_says known (gid_of known) (λ gid. one.NamedGroup gid) text written who writes e in
+    subst (IsWho known true text) (sym says.1)
+    (refl, elim says.2 [ inl d ↦ inl d | inr name ↦ inr (text, (name.0, inl refl), name.1) ])
+id_says known false text written who writes e =
+    let says = named_says known (uid_of known) (λ uid. one.User uid) text written who writes e in
+    subst (IsWho known false text) (sym says.1)
+    (refl, elim says.2 [ inl d ↦ inl d | inr name ↦ inr (text, (name.0, inl refl), name.1) ])
+
+-- a name in the domain
+at_says : (known : Known) (is_group : Bool) (name : List ℕ) (who : Who) → has_name_shape name ≡ true → has_domain_shape known.domain ≡ true
+    → named known is_group (Name name) ≡ Some who → IsWho known is_group (name ++ 64 ∷ known.domain) who
+at_says known true name who shaped domain_shaped e = go (gid_of known name) refl e
+  where
+    go : (found : Option ℕ) → gid_of known name ≡ found → option_map (λ gid. one.NamedGroup gid) found ≡ Some who
+        → IsWho known true (name ++ 64 ∷ known.domain) who
+    go None f e = absurd (cc)
+    go (Some gid) f e = of_same (IsWho known true (name ++ 64 ∷ known.domain)) (one.NamedGroup gid) who (cc) (refl, inr (name, (shaped, inr (refl, domain_shaped)), f))
+at_says known false name who shaped domain_shaped e = go (uid_of known name) refl e
+  where
+    go : (found : Option ℕ) → uid_of known name ≡ found → option_map (λ uid. one.User uid) found ≡ Some who
+        → IsWho known false (name ++ 64 ∷ known.domain) who
+    go None f e = absurd (cc)
+    go (Some uid) f e = of_same (IsWho known false (name ++ 64 ∷ known.domain)) (one.User uid) who (cc) (refl, inr (name, (shaped, inr (refl, domain_shaped)), f))
+
+-- ---- the who
+
+-- a special identifier
+special_says : (known : Known) (is_group : Bool) (word : List ℕ) (written : WrittenWho) (who : Who)
+    → special_of word ≡ Some written → resolved_who known is_group written ≡ Some who → IsWho known is_group (word ++ 64 ∷ []) who
+special_says known is_group word written who e r =
+    go (bytes_eq word (codes "OWNER")) refl (bytes_eq word (codes "GROUP")) refl (bytes_eq word (codes "EVERYONE")) refl e
+  where
+    behind : (special : List ℕ) → bytes_eq word special ≡ true → word ++ 64 ∷ [] ≡ special ++ 64 ∷ []
+    behind special e = ap (λ (xs : List ℕ). xs ++ 64 ∷ []) (same_bytes word special e)
+
+    resolves : (w : WrittenWho) → w ≡ written → resolved_who known is_group w ≡ Some who
+    resolves w same = ap (resolved_who known is_group) same ∙ r
+
+    is_owner : resolved_who known is_group form.Owner ≡ Some who → word ++ 64 ∷ [] ≡ codes "OWNER@" → IsWho known is_group (word ++ 64 ∷ []) who
+    is_owner f same = of_same (IsWho known is_group (word ++ 64 ∷ [])) one.Owner who (cc) same
+
+    is_group_class : resolved_who known is_group form.Group ≡ Some who → word ++ 64 ∷ [] ≡ codes "GROUP@" → IsWho known is_group (word ++ 64 ∷ []) who
+    is_group_class f same = of_same (IsWho known is_group (word ++ 64 ∷ [])) one.Group who (cc) same
+
+    is_everyone : resolved_who known is_group form.Everyone ≡ Some who → word ++ 64 ∷ [] ≡ codes "EVERYONE@" → IsWho known is_group (word ++ 64 ∷ []) who
+    is_everyone f same = of_same (IsWho known is_group (word ++ 64 ∷ [])) one.Everyone who (cc) same
+
+    go : (o : Bool) → bytes_eq word (codes "OWNER") ≡ o → (g : Bool) → bytes_eq word (codes "GROUP") ≡ g
+        → (v : Bool) → bytes_eq word (codes "EVERYONE") ≡ v
+        → cond o (Some form.Owner) (cond g (Some form.Group) (cond v (Some form.Everyone) None)) ≡ Some written
+        → IsWho known is_group (word ++ 64 ∷ []) who
+    go true eo g eg v ev e = is_owner (resolves form.Owner (cc)) (behind (codes "OWNER") eo)
+    go false eo true eg v ev e = is_group_class (resolves form.Group (cc)) (behind (codes "GROUP") eg)
+    go false eo false eg true ev e = is_everyone (resolves form.Everyone (cc)) (behind (codes "EVERYONE") ev)
+    go false eo false eg false ev e = absurd (cc)
+
+-- a name in a domain, which is the directory's where it is resolved
+name_at_says : (known : Known) (is_group : Bool) (name domain : List ℕ) (written : WrittenWho) (who : Who)
+    → name_at (written_id name) domain ≡ Some written → resolved_who known is_group written ≡ Some who
+    → IsWho known is_group (name ++ 64 ∷ domain) who
+name_at_says known is_group name domain written who e r = go (written_id name) refl e
+  where
+    resolves : (n : List ℕ) → form.At n domain ≡ written → cond (bytes_eq domain known.domain) (named known is_group (Name n)) None ≡ Some who
+    resolves n same = ap (resolved_who known is_group) same ∙ r
+
+    in_domain : (n : List ℕ) (b : Bool) → bytes_eq domain known.domain ≡ b → cond b (named known is_group (Name n)) None ≡ Some who
+        → (domain ≡ known.domain) × (named known is_group (Name n) ≡ Some who)
+    in_domain n true same f = (same_bytes domain known.domain same, f)
+    in_domain n false same f = absurd (cc)
+
+    go : (w : Option Written) → written_id name ≡ w → name_at w domain ≡ Some written → IsWho known is_group (name ++ 64 ∷ domain) who
+    go None is e = absurd (cc)
+    go (Some (Number n)) is e = absurd (cc)
+    go (Some (Name n)) is e =
+        let choice = some_from_cond (has_domain_shape domain) (form.At n domain) written e in
+        let writes = written_says name (Name n) is in
+        let inside = in_domain n (bytes_eq domain known.domain) refl (resolves n choice.1) in
+        subst (λ (d : List ℕ). IsWho known is_group (name ++ 64 ∷ d) who) (sym inside.0)
+        (at_says known is_group name who writes.0 (ap has_domain_shape (sym inside.0) ∙ choice.0)
+        (ap (λ (m : List ℕ). named known is_group (Name m)) writes.1 ∙ inside.1))
+
+-- by the parts round each '@'
+parts_say : (known : Known) (is_group : Bool) (written : WrittenWho) (who : Who) → resolved_who known is_group written ≡ Some who
+    → (texts : List (List ℕ)) → who_of_parts texts ≡ Some written → IsWho known is_group (join_with_byte 64 texts) who
+parts_say known is_group written who r [] e = absurd (cc)
+parts_say known is_group written who r (id ∷ []) e = go (written_id id) refl e
+  where
+    go : (w : Option Written) → written_id id ≡ w → option_map (λ written. form.Id written) w ≡ Some written → IsWho known is_group id who
+    go None is e = absurd (cc)
+    go (Some w) is e =
+        let same : form.Id w ≡ written = cc in
+        id_says known is_group id w who (written_says id w is) (ap (resolved_who known is_group) same ∙ r)
+parts_say known is_group written who r (word ∷ [] ∷ []) e = special_says known is_group word written who e r
+parts_say known is_group written who r (name ∷ (byte ∷ bytes) ∷ []) e = name_at_says known is_group name (byte ∷ bytes) written who e r
+parts_say known is_group written who r (name ∷ [] ∷ more ∷ rest) e = absurd (cc)
+parts_say known is_group written who r (name ∷ (byte ∷ bytes) ∷ more ∷ rest) e = absurd (cc)
+
+who_says : (known : Known) (is_group : Bool) (text : List ℕ) (written : WrittenWho) (who : Who)
+    → written_who text ≡ Some written → resolved_who known is_group written ≡ Some who → IsWho known is_group text who
+who_says known is_group text written who e r =
+    subst (λ (t : List ℕ). IsWho known is_group t who) (join_with_byte-slice_split 64 text)
+    (parts_say known is_group written who r (parts 64 text) e)
+
+-- a who that is written so is read so
+record IsRead (known : Known) (is_group : Bool) (text : List ℕ) (who : Who) : Type 0 where
+  pub written : WrittenWho
+  pub written_is : written_who text ≡ Some written
+  pub who_is : resolved_who known is_group written ≡ Some who
+
+id_read : (known : Known) (is_group : Bool) (id_of : List ℕ → Option ℕ) (tag : ℕ → Who) (text : List ℕ) (id : ℕ)
+    → ((written : Written) → named known is_group written ≡ option_map tag (resolved id_of written))
+    → WritesId known id_of text id → IsRead known is_group text (tag id)
+id_read known is_group id_of tag text id looks_up (inl d) =
+    let number = some_from_cond (is_decimal text) (digits_value 10 text) id d in
+    let low : nat_le id max_id ≡ true =
+    ap (λ (n : ℕ). nat_le n max_id) (sym number.1)
+    ∙ and_second (list_all is_ascii_digit text && nat_le 1 (length text) && nat_le (length text) 10) (nat_le (digits_value 10 text) max_id) number.0 in
+    let digits : list_all is_ascii_digit text ≡ true =
+    and_first (list_all is_ascii_digit text) (nat_le 1 (length text))
+    (and_first (list_all is_ascii_digit text && nat_le 1 (length text)) (nat_le (length text) 10)
+    (and_first (list_all is_ascii_digit text && nat_le 1 (length text) && nat_le (length text) 10) (nat_le (digits_value 10 text) max_id) number.0)) in
+    record {
+      written = form.Id (Number id);
+      written_is = ap who_of_parts (parts_digits text (AllPass-from_list_all is_ascii_digit text digits))
+          ∙ ap (λ n. option_map (λ written. form.Id written) (number_or_name n text)) d;
+      who_is = looks_up (Number id) ∙ ap (λ b. option_map tag (cond b (Some id) None)) low;
+    }
+id_read known is_group id_of tag text id looks_up (inr (name, (shaped, inl alone), found)) = record {
+  written = form.Id (Name name);
+  written_is = ap (λ (t : List ℕ). who_of_parts (parts 64 t)) alone ∙ ap who_of_parts (parts_name name shaped)
+      ∙ ap (option_map (λ written. form.Id written)) (written_name name shaped);
+  who_is = looks_up (Name name) ∙ ap (option_map tag) found;
+}
+id_read known is_group id_of tag text id looks_up (inr (name, (shaped, inr (joined, domain_shaped)), found)) = record {
+  written = form.At name known.domain;
+  written_is = ap (λ (t : List ℕ). who_of_parts (parts 64 t)) joined ∙ ap who_of_parts (parts_at name known.domain shaped domain_shaped)
+      ∙ at_again name known.domain shaped domain_shaped;
+  who_is = ap (λ b. cond b (named known is_group (Name name)) None) ((bytes_eq-Decides known.domain known.domain).1 refl)
+      ∙ looks_up (Name name) ∙ ap (option_map tag) found;
+}
+
+who_read : (known : Known) (is_group : Bool) (text : List ℕ) (who : Who) → IsWho known is_group text who → IsRead known is_group text who
+who_read known is_group text one.Owner e = record { written = form.Owner; written_is = ap written_who e; who_is = refl }
+who_read known is_group text one.Group e = record { written = form.Group; written_is = ap written_who e; who_is = refl }
+who_read known is_group text one.Everyone e = record { written = form.Everyone; written_is = ap written_who e; who_is = refl }
+who_read known true text (one.User uid) (is, writes) = absurd (cc)
+who_read known false text (one.User uid) (is, writes) = id_read known false (uid_of known) (λ uid. one.User uid) text uid (λ written. refl) writes
+who_read known true text (one.NamedGroup gid) (is, writes) =
+    id_read known true (gid_of known) (λ gid. one.NamedGroup gid) text gid (λ written. refl) writes
+who_read known false text (one.NamedGroup gid) (is, writes) = absurd (cc)
+
+-- ---- the piece
+
+shape_of_value : (known : Known) (piece : List ℕ) (ace : Nfsace4) → piece_value known piece ≡ Ok ace → HasShape known piece ace
+shape_of_value known piece ace e =
+    let parts = parts_of known piece ace e in
+    let flags_in = flags-known parts.fields.flags parts.flags (sym parts.flags_are) in
+    let mask_in = mask-known parts.fields.letters parts.mask (sym parts.mask_is) in
+    record {
+      fields = parts.fields;
+      flags = parts.flags;
+      cut = parts.cut;
+      kind_is = subst (IsTypeLetter parts.fields.kind) (ap (λ (a : Nfsace4). a.kind) parts.made) (type_says parts.fields.kind parts.kind parts.kind_is);
+      flags_are = parts.flags_are;
+      who_is = subst (IsWho known (has parts.flags identifier_group) parts.fields.who) (ap (λ (a : Nfsace4). a.who) parts.made)
+          (who_says known (has parts.flags identifier_group) parts.fields.who parts.written parts.who parts.written_is parts.who_is);
+      mask_is = parts.mask_is ∙ ap Some (sym mask_in ∙ ap (λ (a : Nfsace4). a.mask) parts.made);
+      flags_kept = sym (ap (λ (a : Nfsace4). a.flags) parts.made) ∙ ap (flags_for parts.who) flags_in
+          ∙ ap (λ (w : Who). flags_for w parts.flags) (ap (λ (a : Nfsace4). a.who) parts.made);
+      has_effect = parts.has_effect;
+    }
+
+value_of_shape : (known : Known) (piece : List ℕ) (ace : Nfsace4) → HasShape known piece ace → piece_value known piece ≡ Ok ace
+value_of_shape known piece ace shape =
+    let reads = who_read known (has shape.flags identifier_group) shape.fields.who ace.who shape.who_is in
+    value_of_parts known piece ace
+    (record {
+      fields = shape.fields;
+      kind = ace.kind;
+      flags = shape.flags;
+      written = reads.written;
+      mask = ace.mask;
+      who = ace.who;
+      cut = shape.cut;
+      kind_is = type_read shape.fields.kind ace.kind shape.kind_is;
+      flags_are = shape.flags_are;
+      written_is = reads.written_is;
+      mask_is = shape.mask_is;
+      who_is = reads.who_is;
+      made = λ i. record {
+        kind = ace.kind;
+        flags = (ap (flags_for ace.who) (flags-known shape.fields.flags shape.flags (sym shape.flags_are)) ∙ sym shape.flags_kept) i;
+        who = ace.who;
+        mask = mask-known shape.fields.letters ace.mask (sym shape.mask_is) i;
+      };
+      has_effect = shape.has_effect;
+    })
+
+pub value_is_shape : (known : Known) (piece : List ℕ) (ace : Nfsace4) → (piece_value known piece ≡ Ok ace) ↔ HasShape known piece ace
+value_is_shape known piece ace = (shape_of_value known piece ace, value_of_shape known piece ace)

@@ -1,0 +1,43 @@
+use Rattle.std.proofs.Common.{◌≡◌, ◌∙◌, sym, ap, subst, List}
+use Rattle.acl_posix.specs.Mode.{AreClasses}
+use Rattle.acl_nfs4.specs.Ace.{Nfsace4}
+use Rattle.acl_nfs4.specs.Evaluation.{mode_of}
+use Rattle.acl_nfs4.specs.ModeChange.{with_mode}
+use Rattle.acl_nfs4.specs.ModeChangeLaws.{GrantsOwner, GrantsGroup, GrantsOthers, LimitsNamed, KeepsAudits, KeepsInheritOnly, InheritsAlike}
+use Rattle.acl_nfs4.proofs.Granted.{grants-owner, grants-group, grants-others, limits-named, mode_of-with_mode}
+use Rattle.acl_nfs4.proofs.Idempotent.{with_mode-twice}
+use Rattle.acl_nfs4.proofs.Rest.{audits-with_mode, inherit_only-with_mode, inherited-with_mode}
+use Rattle.acl_nfs4.proofs.acl.Acl4.chmod4.Goals as goal
+use Rattle.acl_nfs4.proofs.acl.Acl4.chmod4.Goals.{Joined-draft}
+
+-- the new list is the old one with the mode set
+set : (c : Joined-draft) → with_mode c.args.self.now c.args.mode ≡ c.in-Ok-finished.acl
+set c =
+    sym (c.in-Ok-finished.ensures ∙ c.in-Ok.ensures.ok ∙ ap (λ (aces : List Nfsace4). with_mode aces c.args.mode) c.aces.ensures.value)
+
+pub returns-in-Ok-finished-clause-shown : goal.returns-in-Ok-finished-clause-shown
+returns-in-Ok-finished-clause-shown c = subst (λ (new : List Nfsace4). mode_of new ≡ c.args.mode) (set c) (mode_of-with_mode c.args.self.now c.args.mode (subst AreClasses c.mode.view_is c.mode.invariant))
+
+pub returns-in-Ok-finished-clause-owner_granted : goal.returns-in-Ok-finished-clause-owner_granted
+returns-in-Ok-finished-clause-owner_granted c = subst (λ (new : List Nfsace4). GrantsOwner new c.args.mode) (set c) (grants-owner c.args.self.now c.args.mode)
+
+pub returns-in-Ok-finished-clause-group_granted : goal.returns-in-Ok-finished-clause-group_granted
+returns-in-Ok-finished-clause-group_granted c = subst (λ (new : List Nfsace4). GrantsGroup c.args.self.now new c.args.mode) (set c) (grants-group c.args.self.now c.args.mode)
+
+pub returns-in-Ok-finished-clause-others_granted : goal.returns-in-Ok-finished-clause-others_granted
+returns-in-Ok-finished-clause-others_granted c = subst (λ (new : List Nfsace4). GrantsOthers c.args.self.now new c.args.mode) (set c) (grants-others c.args.self.now c.args.mode)
+
+pub returns-in-Ok-finished-clause-named_limited : goal.returns-in-Ok-finished-clause-named_limited
+returns-in-Ok-finished-clause-named_limited c = subst (λ (new : List Nfsace4). LimitsNamed c.args.self.now new c.args.mode) (set c) (limits-named c.args.self.now c.args.mode)
+
+pub returns-in-Ok-finished-clause-audits_kept : goal.returns-in-Ok-finished-clause-audits_kept
+returns-in-Ok-finished-clause-audits_kept c = subst (λ (new : List Nfsace4). KeepsAudits c.args.self.now new) (set c) (audits-with_mode c.args.self.now c.args.mode)
+
+pub returns-in-Ok-finished-clause-inherit_only_kept : goal.returns-in-Ok-finished-clause-inherit_only_kept
+returns-in-Ok-finished-clause-inherit_only_kept c = subst (λ (new : List Nfsace4). KeepsInheritOnly c.args.self.now new) (set c) (inherit_only-with_mode c.args.self.now c.args.mode)
+
+pub returns-in-Ok-finished-clause-inherits_alike : goal.returns-in-Ok-finished-clause-inherits_alike
+returns-in-Ok-finished-clause-inherits_alike c = subst (λ (new : List Nfsace4). InheritsAlike c.args.self.now new) (set c) (λ kind. inherited-with_mode kind c.args.self.now c.args.mode)
+
+pub returns-in-Ok-finished-clause-again : goal.returns-in-Ok-finished-clause-again
+returns-in-Ok-finished-clause-again c = subst (λ (new : List Nfsace4). with_mode new c.args.mode ≡ new) (set c) (with_mode-twice c.args.self.now c.args.mode)

@@ -1,0 +1,14 @@
+use Rattle.std.proofs.Common.{subst, List}
+use Rattle.std.proofs.lemmas.Result.{on_ok_weaker}
+use Rattle.acl_nfs4.specs.Ace.{Nfsace4}
+use Rattle.acl_nfs4.specs.Acl.{AreAces}
+use Rattle.acl_nfs4.specs.PrintedText.{HaveIds}
+use Rattle.acl_nfs4.proofs.RoundTrip.{aces_spelt}
+use Rattle.acl_nfs4.proofs.acl.Acl4.print_aces.Goals as goal
+
+pub returns-else-is_err-clause-read_again : goal.returns-else-is_err-clause-read_again
+returns-else-is_err-clause-read_again c =
+    on_ok_weaker c.push_lines-printed.result
+    (λ have. aces_spelt c.args.directory.now c.tell_names_apart.ensures c.args.self.now c.aces.ensures.aces
+    (subst HaveIds c.aces.ensures.value have))
+    c.push_lines-printed.ensures.have_ids

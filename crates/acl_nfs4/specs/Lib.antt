@@ -1,0 +1,14 @@
+pub mod Mask
+pub mod Flags
+pub mod Who
+pub mod Ace
+pub mod Acl
+pub mod Evaluation
+pub mod Inheritance
+pub mod ModeChange
+pub mod ModeChangeLaws
+pub mod Letters
+pub mod AceText
+pub mod AceViews
+pub mod PrintedText
+pub mod AceShapes

@@ -1,0 +1,82 @@
+-- A list with a mode set (within RFC 8881, section 6.4.1.1).
+use Rattle.std.specs.Prelude.{ℕ, ◌^◌, Bool, not, ◌&&◌, ◌==◌, if◌then◌else◌, List, [], ◌∷◌, ◌++◌, map, filter, flat_map}
+use Rattle.acl_names.specs.Bits.{◌∪◌, without, union}
+use Rattle.acl_nfs4.specs.Ace.{decides, is_allow, is_deny, plain, unless_empty, is_inheritable, Nfsace4}
+use Rattle.acl_nfs4.specs.Who.{is_special, same_who}
+use Rattle.acl_nfs4.specs.Mask.{mask_of, rest_of, mode_bits}
+use Rattle.acl_nfs4.specs.Flags.{inherit_only, inheritance_flags}
+use Rattle.acl_nfs4.specs.declared.ace.AceType.TheVariants.{Allow, Deny}
+use Rattle.acl_posix.specs.Mode.{Classes}
+use Rattle.acl_nfs4.specs.declared.who.Who.{Who}
+use Rattle.acl_nfs4.specs.declared.who.Who.TheVariants.{Owner, Group, Everyone}
+
+-- an entry that decides and is inherited too, as one entry for each
+unfoldable pub split : Nfsace4 → List Nfsace4
+split ace =
+    if decides ace && is_inheritable ace
+    then record ace { flags = ace.flags ∪ 2 ^ inherit_only } ∷ record ace { flags = without ace.flags inheritance_flags } ∷ []
+    else ace ∷ []
+
+-- what an entry that decides keeps of its mask: a special identifier's nothing of the mode's bits,
+-- and one that allows a named user or group nothing of those that the mode's group lacks
+unfoldable pub kept_mask : ℕ → Nfsace4 → ℕ
+kept_mask group ace =
+    if is_special ace.who then without ace.mask mode_bits
+    else if is_allow ace.kind then without ace.mask (rest_of group)
+    else ace.mask
+
+-- what is left of an entry beside a mode with this group
+unfoldable pub restricted : ℕ → Nfsace4 → List Nfsace4
+restricted group ace = if decides ace then unless_empty (record ace { mask = kept_mask group ace }) else ace ∷ []
+
+-- what an entry leaves, split and restricted
+abbrev pub kept_of : ℕ → Nfsace4 → List Nfsace4
+kept_of group ace = flat_map (restricted group) (split ace)
+
+-- what the old list leaves beside a mode with this group
+abbrev pub kept : ℕ → List Nfsace4 → List Nfsace4
+kept group aces = flat_map (restricted group) (flat_map split aces)
+
+-- each who at its first place alone
+abbrev pub distinct : List Who → List Who
+distinct [] = []
+distinct (who ∷ rest) = who ∷ filter (λ other. not (same_who other who)) (distinct rest)
+
+-- whether an entry decides about a named user or group
+abbrev pub names_someone : Nfsace4 → Bool
+names_someone ace = decides ace && not (is_special ace.who)
+
+-- the named users and groups that an entry decides about, in the order of their first entry
+abbrev pub named_in : List Nfsace4 → List Who
+named_in aces = distinct (map (λ ace. ace.who) (filter names_someone aces))
+
+-- whether an entry decides about this who by name
+abbrev pub names : Who → Nfsace4 → Bool
+names who ace = names_someone ace && same_who ace.who who
+
+-- the bits that the list denies this who by name
+abbrev pub denied_to : Who → List Nfsace4 → ℕ
+denied_to who aces = union (map (λ ace. ace.mask) (filter (λ ace. decides ace && (is_deny ace.kind && same_who ace.who who)) aces))
+
+-- the bits that the mode's group lacks, denied to this who as far as the list does not deny them
+abbrev pub denial_of : ℕ → List Nfsace4 → Who → List Nfsace4
+denial_of group aces who = plain Deny who (without (rest_of group) (denied_to who aces))
+
+-- the entries in front, for the owner, and behind, for the group and everyone
+abbrev pub for_owner : ℕ → List Nfsace4
+for_owner user = plain Allow Owner (mask_of user) ++ plain Deny Owner (rest_of user)
+
+abbrev pub for_others : ℕ → ℕ → List Nfsace4
+for_others group other = plain Allow Group (mask_of group) ++ plain Deny Group (rest_of group) ++ plain Allow Everyone (mask_of other)
+
+-- the denials of all whom the list names
+abbrev pub denials : ℕ → List Nfsace4 → List Nfsace4
+denials group aces = flat_map (denial_of group aces) (named_in aces)
+
+-- the list with the mode set
+abbrev pub with_mode : List Nfsace4 → Classes → List Nfsace4
+with_mode aces mode =
+    for_owner mode.user
+    ++ kept mode.group aces
+    ++ denials mode.group aces
+    ++ for_others mode.group mode.other

@@ -1,0 +1,102 @@
+ghost use Rattle.std.specs.Prelude.{◌≡◌, ◌<◌, ◌↔◌, true, [], ◌∷◌, ◌++◌, length, OnOk, OnErr, IfOk, IfErr, Err};
+
+use crate::Ace;
+use smallvec::SmallVec;
+use std::alloc::{AllocError, Global};
+use std::marker::Model;
+
+/// How many entries a list may have.
+pub const MOST_ACES: usize = 128;
+
+/// Why a text, or an entry, was refused.
+#[derive(Clone, Copy, Debug, PartialEq, Eq)]
+pub enum AceFault {
+    /// A piece of the text has none of the shapes of an entry.
+    Syntax,
+    /// A well-shaped name that the directory lacks.
+    UnknownName,
+    /// The list would have more than 128 entries.
+    TooMany,
+    /// `INHERIT_ONLY` without `FILE_INHERIT` or `DIRECTORY_INHERIT`.
+    InheritOnly,
+    Memory,
+}
+
+/// An access control list: entries in the order in which they are evaluated, at most 128. None of them has
+/// `INHERIT_ONLY` without `FILE_INHERIT` or `DIRECTORY_INHERIT`.
+#[derive(Debug, Drop)]
+pub struct Acl4 {
+    aces: SmallVec<Ace, 16>,
+}
+
+impl Model for Acl4 {
+    ghost use Rattle.std.specs.Prelude.{List};
+    ghost use Rattle.acl_nfs4.specs.Ace.{Nfsace4};
+    ghost use Rattle.acl_nfs4.specs.Acl.{AreAces};
+
+    ghost Value = { List Nfsace4 };
+
+    ghost view = { λ acl. acl.aces.items };
+
+    ghost invariant = { λ acl. AreAces acl.aces.items };
+}
+
+impl Acl4 {
+    ghost use Rattle.acl_nfs4.specs.Acl.{AreAces, IsPushFault};
+    ghost use Rattle.acl_nfs4.specs.Ace.{is_idle};
+
+    /// The list with no entries. It grants nothing but the empty request.
+    pub fn empty(alloc: Global) -> Acl4
+        ensures { result ≡ [] }
+    {
+        Acl4 {
+            aces: SmallVec::new(alloc),
+        }
+    }
+
+    /// The list of these entries.
+    pub(crate) fn from_items(aces: SmallVec<Ace, 16>) -> Acl4
+        requires { AreAces aces.items }
+        ensures { result ≡ aces.items }
+    {
+        Acl4 { aces }
+    }
+
+    /// Puts the entry behind the others. It is refused with `TooMany` where there are 128, then with `InheritOnly`, then
+    /// with `Memory`; the list is as before then.
+    pub fn push(&mut self, ace: Ace) -> Result<(), AceFault>
+        ensures ok { OnOk result (self.new ≡ self.old ++ ace ∷ []) }
+        ensures too_many { (result ≡ Err AceFault.TooMany) ↔ (length self.old ≡ 128) }
+        ensures inherit_only { (result ≡ Err AceFault.InheritOnly) ↔ ((length self.old < 128) × (is_idle ace ≡ true)) }
+        ensures only { IfErr result IsPushFault }
+        ensures err { OnErr result (self.new ≡ self.old) }
+    {
+        let _mask = ace.mask();
+        if self.aces.len() >= MOST_ACES {
+            return Err(AceFault::TooMany);
+        }
+        if ace.is_idle() {
+            return Err(AceFault::InheritOnly);
+        }
+        match self.aces.push(ace) {
+            Ok(()) => Ok(()),
+            Err(_) => Err(AceFault::Memory),
+        }
+    }
+
+    /// The entries, in the order in which they are evaluated.
+    pub fn aces(&self) -> &[Ace]
+        ensures value { result.now ≡ self.now }
+        ensures aces { AreAces self.now }
+    {
+        self.aces.as_slice()
+    }
+
+    /// A list of the same entries.
+    pub fn try_clone(&self, alloc: Global) -> Result<Acl4, AllocError>
+        ensures { IfOk result (λ acl. acl ≡ self.now) }
+    {
+        let aces = SmallVec::from_slice(alloc, self.aces.as_slice())?;
+        Ok(Acl4 { aces })
+    }
+}

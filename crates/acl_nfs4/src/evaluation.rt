@@ -1,0 +1,50 @@
+ghost use Rattle.std.specs.Prelude.{◌≡◌, ◌↔◌, ◌&&◌, IsTrue, ℕ};
+ghost use Rattle.acl_nfs4.specs.Ace.{decides};
+ghost use Rattle.acl_nfs4.specs.Who.{matches};
+ghost use Rattle.acl_nfs4.specs.Mask.{mask_bits};
+ghost use Rattle.acl_nfs4.specs.Evaluation.{Grants};
+
+use crate::{Ace, Acl4, Mask};
+use acl_names::{Gid, Requester, Uid};
+use bitflags::Flags as FlagSet;
+
+impl Ace {
+    /// Whether the entry decides about the requester of a file with this owner and this group.
+    fn concerns(&self, owner: Uid, group: Gid, requester: &Requester) -> bool
+        ensures { result ≡ (decides self.now && matches owner group requester.now self.now.who) }
+    {
+        self.decides() && self.who().matches(owner, group, requester)
+    }
+}
+
+/// Whether the entries grant all that is requested. It goes down the list once and carries the bits that are still open: an
+/// `ALLOW` closes those of its mask, a `DENY` that holds one of them ends it, and so does an empty rest.
+fn grants(aces: &[Ace], owner: Uid, group: Gid, requester: &Requester, requested: Mask) -> bool
+    ensures { IsTrue result ↔ Grants (matches owner group requester.now) aces.now (mask_bits requested) }
+{
+    let mut open = requested;
+    for ace in aces {
+        if open.is_empty() {
+            return true;
+        }
+        if ace.concerns(owner, group, requester) {
+            if ace.kind().is_allow() {
+                open = open.without(ace.mask());
+            } else if open.intersects(ace.mask()) {
+                return false;
+            }
+        }
+    }
+    open.is_empty()
+}
+
+impl Acl4 {
+    /// Whether the requester may do all of what is requested with a file of this owner and this group: of each bit the first
+    /// entry that speaks of it to the requester decides, and a bit of which none speaks is denied (RFC 8881, section 6.2.1).
+    /// The empty request is granted.
+    pub fn grants4(&self, owner: Uid, group: Gid, requester: &Requester, requested: Mask) -> bool
+        ensures { IsTrue result ↔ Grants (matches owner group requester.now) self.now (mask_bits requested) }
+    {
+        grants(self.aces(), owner, group, requester, requested)
+    }
+}

@@ -1,0 +1,83 @@
+ghost use Rattle.std.specs.Prelude.{◌≡◌, ◌==◌, not, option_map, IfOk, IfSome};
+ghost use Rattle.std.specs.List.{list_any};
+ghost use Rattle.acl_names.specs.Bits.{has, ◌∩◌};
+ghost use Rattle.acl_nfs4.specs.Flags.{flag_bits, file_inherit, directory_inherit, no_propagate_inherit, inheritance_flags};
+ghost use Rattle.acl_nfs4.specs.Inheritance.{flags_below, inherited_entry, inherited_list};
+
+use crate::draft::Draft;
+use crate::{Ace, Acl4, Flags};
+use bitflags::Flags as FlagSet;
+use std::alloc::{AllocError, Global};
+
+/// What is made in a directory.
+#[derive(Clone, Copy, Debug, PartialEq, Eq)]
+pub enum Kind {
+    File,
+    Dir,
+}
+
+/// The inheritance flags of an entry in what is made below, where it is inherited.
+fn flags_below(kind: Kind, flags: Flags) -> Option<Flags>
+    ensures { option_map flag_bits result
+        ≡ flags_below kind (has (flag_bits flags) file_inherit) (has (flag_bits flags) directory_inherit)
+        (has (flag_bits flags) no_propagate_inherit) }
+{
+    let for_files = flags.has_file_inherit();
+    let for_directories = flags.has_directory_inherit();
+    let stops = flags.has_no_propagate_inherit();
+    match (kind, for_files, for_directories, stops) {
+        (Kind::File, true, _, _) => Some(Flags::empty()),
+        (Kind::File, false, _, _) => None,
+        (Kind::Dir, false, false, _) => None,
+        (Kind::Dir, true, false, false) => Some(Flags::PASSED_TO_FILES),
+        (Kind::Dir, true, false, true) => None,
+        (Kind::Dir, false, true, false) => Some(Flags::DIRECTORY_INHERIT),
+        (Kind::Dir, true, true, false) => Some(Flags::PASSED_TO_ALL),
+        (Kind::Dir, _, true, true) => Some(Flags::empty()),
+    }
+}
+
+impl Ace {
+    ghost use Rattle.std.specs.Prelude.{false};
+    ghost use Rattle.acl_nfs4.specs.Ace.{is_idle};
+
+    /// What the entry is in what is made below, where it is inherited.
+    fn inherited(&self, kind: Kind) -> Option<Ace>
+        ensures value { result ≡ inherited_entry kind self.now }
+        ensures effective { IfSome result (λ ace. is_idle ace ≡ false) }
+    {
+        match flags_below(kind, self.flags()) {
+            Some(below) => {
+                let flags = self.flags().without_inheritance().union(below);
+                Some(self.with_flags(flags))
+            }
+            None => None,
+        }
+    }
+}
+
+impl Acl4 {
+    /// The list of a new file or directory in a directory with this list, before a mode is set: each entry that it inherits,
+    /// in order (RFC 8881, section 6.4.3). Files take over entries with `FILE_INHERIT`, and their inheritance flags go;
+    /// directories those with `DIRECTORY_INHERIT`, and those with `FILE_INHERIT` alone only to pass them on. With
+    /// `NO_PROPAGATE_INHERIT` nothing is passed on.
+    pub fn inherited(&self, alloc: Global, kind: Kind) -> Result<Acl4, AllocError>
+        ensures { IfOk result (λ acl. acl ≡ inherited_list kind self.now) }
+    {
+        let mut draft = Draft::new(alloc);
+        for ace in self.aces() {
+            if let Some(below) = ace.inherited(kind) {
+                draft.push_within(below);
+            }
+        }
+        draft.finished(alloc)
+    }
+
+    /// Whether any entry has one of the flags `FILE_INHERIT`, `DIRECTORY_INHERIT`, `NO_PROPAGATE_INHERIT` and
+    /// `INHERIT_ONLY`.
+    pub fn has_inheritance(&self) -> bool
+        ensures { result ≡ list_any (λ ace. not (ace.flags ∩ inheritance_flags == 0)) self.now }
+    {
+        self.aces().iter().any(|ace| ace.flags().has_inheritance())
+    }
+}

@@ -1,0 +1,147 @@
+//! The letters that flags and the bits of a mask have in texts.
+
+ghost use Rattle.std.specs.Prelude.{◌≡◌, ◌++◌, length, take, option_map, OnOk};
+ghost use Rattle.acl_names.specs.Letters.{letters_of, letters_text, IsTable};
+ghost use Rattle.acl_nfs4.specs.Flags.{flag_bits};
+ghost use Rattle.acl_nfs4.specs.Letters.{flag_table, mask_table};
+ghost use Rattle.acl_nfs4.specs.Mask.{mask_bits};
+
+use crate::{Flags, Mask};
+use acl_names::{Letter, push_letters as push_letters_of, read_letters as read_letters_of};
+use bitflags::Flags as FlagSet;
+use std::alloc::AllocError;
+
+/// The flags, in the order in which they are printed.
+const FLAG_TABLE: [Letter; 7] = [
+    Letter {
+        letter: b'f',
+        bit: 0x1,
+    },
+    Letter {
+        letter: b'd',
+        bit: 0x2,
+    },
+    Letter {
+        letter: b'n',
+        bit: 0x4,
+    },
+    Letter {
+        letter: b'i',
+        bit: 0x8,
+    },
+    Letter {
+        letter: b'S',
+        bit: 0x10,
+    },
+    Letter {
+        letter: b'F',
+        bit: 0x20,
+    },
+    Letter {
+        letter: b'g',
+        bit: 0x40,
+    },
+];
+
+/// The bits of a mask, in the order in which they are printed.
+const MASK_TABLE: [Letter; 14] = [
+    Letter {
+        letter: b'r',
+        bit: 0x1,
+    },
+    Letter {
+        letter: b'w',
+        bit: 0x2,
+    },
+    Letter {
+        letter: b'a',
+        bit: 0x4,
+    },
+    Letter {
+        letter: b'x',
+        bit: 0x20,
+    },
+    Letter {
+        letter: b'd',
+        bit: 0x10000,
+    },
+    Letter {
+        letter: b'D',
+        bit: 0x40,
+    },
+    Letter {
+        letter: b't',
+        bit: 0x80,
+    },
+    Letter {
+        letter: b'T',
+        bit: 0x100,
+    },
+    Letter {
+        letter: b'n',
+        bit: 0x8,
+    },
+    Letter {
+        letter: b'N',
+        bit: 0x10,
+    },
+    Letter {
+        letter: b'c',
+        bit: 0x20000,
+    },
+    Letter {
+        letter: b'C',
+        bit: 0x40000,
+    },
+    Letter {
+        letter: b'o',
+        bit: 0x80000,
+    },
+    Letter {
+        letter: b'y',
+        bit: 0x100000,
+    },
+];
+
+/// The mask whose letters make up the text, in any order, each at most once; no letters are the empty mask. The letters are
+/// `rwaxdDtTnNcCoy`.
+pub fn read_letters(text: &[u8]) -> Option<Mask>
+    ensures { option_map mask_bits result ≡ letters_of mask_table text.now }
+{
+    match read_letters_of(&MASK_TABLE, text) {
+        Some(bits) => Some(Mask::from_bits_retain(bits)),
+        None => None,
+    }
+}
+
+/// The flags whose letters make up the text, in any order, each at most once, or none.
+pub(crate) fn read_flags(text: &[u8]) -> Option<Flags>
+    ensures { option_map flag_bits result ≡ letters_of flag_table text.now }
+{
+    match read_letters_of(&FLAG_TABLE, text) {
+        Some(bits) => Some(Flags::from_bits_retain(bits as u8)),
+        None => None,
+    }
+}
+
+/// Appends the letters of the mask.
+pub(crate) fn push_mask(mask: Mask, out: &mut Vec<u8>) -> Result<(), AllocError>
+    ensures text { OnOk result (out.new.items ≡ out.old.items ++ letters_text mask_table (mask_bits mask)) }
+    ensures kept { take (length out.old.items) out.new.items ≡ out.old.items }
+{
+    push_letters_of(&MASK_TABLE, mask.bits(), out)
+}
+
+/// Appends the letters of the flags.
+pub(crate) fn push_flags(flags: Flags, out: &mut Vec<u8>) -> Result<(), AllocError>
+    ensures text { OnOk result (out.new.items ≡ out.old.items ++ letters_text flag_table (flag_bits flags)) }
+    ensures kept { take (length out.old.items) out.new.items ≡ out.old.items }
+{
+    push_letters_of(&FLAG_TABLE, u32::from(flags.bits()), out)
+}
+
+/// Each letter stands for one bit, and no two letters are the same. This does nothing: it states the law.
+pub fn letters_are_told_apart()
+    ensures flags { IsTable flag_table }
+    ensures mask { IsTable mask_table }
+{}

@@ -1,0 +1,29 @@
+//! NFSv4 access control lists, after RFC 8881, sections 6.2 to 6.4: ordered evaluation, the mode of a list, setting a mode
+//! without losing what the administrator wrote, inheritance, and the text form of this project.
+#![tactic(auto)]
+
+mod ace;
+mod acl;
+mod draft;
+mod evaluation;
+mod flags;
+mod inheritance;
+mod letters;
+mod mask;
+mod mode;
+mod mode_change;
+mod printing;
+mod reading;
+#[cfg(test)]
+mod tests;
+mod who;
+
+pub use ace::{Ace, AceType};
+pub use acl::{AceFault, Acl4};
+pub use flags::Flags;
+pub use inheritance::Kind;
+pub use letters::{letters_are_told_apart, read_letters};
+pub use mask::{Mask, mask_of};
+pub use mode_change::Fault4;
+pub use reading::{pieces_have_shapes, read_aces};
+pub use who::Who;

@@ -1,0 +1,108 @@
+ghost use Rattle.std.specs.Prelude.{⊤, ◌≡◌, [], ◌∷◌, codes};
+ghost use Rattle.acl_names.specs.Bits.{without, ◌∩◌};
+ghost use Rattle.acl_posix.specs.Perms.{bits_of};
+ghost use Rattle.acl_nfs4.specs.Mask.{mask_bits, all_masks, mask_of, rest_of};
+
+use crate::mode::given;
+use acl_posix::Perms;
+use bitflags::{Flag, Flags as FlagSet, bitflag_items};
+
+/// What an entry allows, denies or watches: an access mask (RFC 8881, section 6.2.1.3).
+#[derive(Clone, Copy, Debug, PartialEq, Eq)]
+pub struct Mask(u32);
+
+bitflag_items! {
+    impl Mask: u32 {
+        const READ_DATA = 0x1;
+        const WRITE_DATA = 0x2;
+        const APPEND_DATA = 0x4;
+        const READ_NAMED_ATTRS = 0x8;
+        const WRITE_NAMED_ATTRS = 0x10;
+        const EXECUTE = 0x20;
+        const DELETE_CHILD = 0x40;
+        const READ_ATTRIBUTES = 0x80;
+        const WRITE_ATTRIBUTES = 0x100;
+        const DELETE = 0x10000;
+        const READ_ACL = 0x20000;
+        const WRITE_ACL = 0x40000;
+        const WRITE_OWNER = 0x80000;
+        const SYNCHRONIZE = 0x100000;
+    }
+}
+
+impl FlagSet for Mask {
+    type Bits = u32;
+
+    ghost exact = { ⊤ };
+
+    ghost table = { (codes "READ_DATA", 0x1)
+        ∷ (codes "WRITE_DATA", 0x2)
+        ∷ (codes "APPEND_DATA", 0x4)
+        ∷ (codes "READ_NAMED_ATTRS", 0x8)
+        ∷ (codes "WRITE_NAMED_ATTRS", 0x10)
+        ∷ (codes "EXECUTE", 0x20)
+        ∷ (codes "DELETE_CHILD", 0x40)
+        ∷ (codes "READ_ATTRIBUTES", 0x80)
+        ∷ (codes "WRITE_ATTRIBUTES", 0x100)
+        ∷ (codes "DELETE", 0x10000)
+        ∷ (codes "READ_ACL", 0x20000)
+        ∷ (codes "WRITE_ACL", 0x40000)
+        ∷ (codes "WRITE_OWNER", 0x80000)
+        ∷ (codes "SYNCHRONIZE", 0x100000)
+        ∷ [] };
+
+    ghost set_of = { mask_bits };
+
+    fn flags<'a>() -> &'a [Flag<Mask>] {
+        Mask::FLAGS
+    }
+
+    fn bits(&self) -> u32 {
+        self.0
+    }
+
+    fn from_bits_retain(bits: u32) -> Mask {
+        Mask(bits)
+    }
+}
+
+impl Mask {
+    /// The bits that a file mode speaks of.
+    pub(crate) const OF_MODE: Mask = Mask(0x27);
+
+    /// `WRITE_DATA` and `APPEND_DATA`, which a file mode knows as one permission.
+    pub(crate) const WRITE: Mask = Mask(0x6);
+
+    /// The bits that are not among those removed.
+    #[tactic(auto, unfolding(acl_names::specs::Bits::without))]
+    pub(crate) fn without(self, removed: Mask) -> Mask
+        ensures { mask_bits result ≡ without (mask_bits self) (mask_bits removed) }
+    {
+        self.symmetric_difference(self.intersection(removed))
+    }
+
+    /// The bits that have a name.
+    pub(crate) fn named(self) -> Mask
+        ensures { mask_bits result ≡ mask_bits self ∩ all_masks }
+    {
+        self.intersection(Mask::all())
+    }
+}
+
+/// The mask that stands for a file mode's permissions: to write stands for `WRITE_DATA` and `APPEND_DATA` together (RFC
+/// 8881, section 6.3.2).
+pub fn mask_of(perms: Perms) -> Mask
+    ensures { mask_bits result ≡ mask_of (bits_of perms) }
+{
+    let read = given(Mask::READ_DATA, perms.contains(Perms::READ));
+    let write = given(Mask::WRITE, perms.contains(Perms::WRITE));
+    let execute = given(Mask::EXECUTE, perms.contains(Perms::EXECUTE));
+    read.union(write).union(execute)
+}
+
+/// The bits of a file mode that the permissions lack.
+pub(crate) fn rest_of(perms: Perms) -> Mask
+    ensures { mask_bits result ≡ rest_of (bits_of perms) }
+{
+    Mask::OF_MODE.without(mask_of(perms))
+}

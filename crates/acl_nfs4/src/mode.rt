@@ -1,0 +1,88 @@
+ghost use Rattle.std.specs.Prelude.{◌≡◌, ◌↔◌, ◌&&◌, ◌||◌, IsTrue, ℕ, if◌then◌else◌};
+ghost use Rattle.acl_names.specs.Bits.{has, ◌∪◌};
+ghost use Rattle.acl_posix.specs.Perms.{bits_of};
+ghost use Rattle.acl_nfs4.specs.Ace.{decides};
+ghost use Rattle.acl_nfs4.specs.Mask.{mask_bits, mode_bits, write_data, append_data};
+ghost use Rattle.acl_nfs4.specs.Evaluation.{allows, mode_of, of_class, shown_to};
+
+use crate::{Ace, Acl4, Mask, Who};
+use acl_posix::{Mode, Perms};
+use bitflags::Flags as FlagSet;
+
+/// The flags on a condition, and else none.
+pub(crate) fn given<F: FlagSet>(flags: F, condition: bool) -> F
+    ensures { F.exact → F.set_of result ≡ (if condition then F.set_of flags else 0) }
+{
+    if condition { flags } else { F::empty() }
+}
+
+impl Who {
+    /// Whether its entries tell the mode of one of `OWNER@`, `GROUP@` and `EVERYONE@`.
+    fn is_of_class(&self, class: &Who) -> bool
+        ensures { result ≡ of_class class.now self.now }
+    {
+        self.is(class) || self.is(&Who::Everyone)
+    }
+}
+
+impl Ace {
+    /// Whether the entry decides about a class of the mode.
+    fn tells_mode_of(&self, class: &Who) -> bool
+        ensures { result ≡ (decides self.now && of_class class.now self.now.who) }
+    {
+        self.decides() && self.who().is_of_class(class)
+    }
+}
+
+/// The bits of the mode that the entries allow a class. It goes down the list once, until no bit is open.
+fn allowed_to(aces: &[Ace], class: &Who) -> Mask
+    ensures { (bit : ℕ) → IsTrue (has mode_bits bit) → has (mask_bits result) bit ≡ allows (of_class class.now) bit aces.now }
+{
+    let mut allowed = Mask::empty();
+    let mut open = Mask::OF_MODE;
+    for ace in aces {
+        if open.is_empty() {
+            return allowed;
+        }
+        if ace.tells_mode_of(class) {
+            if ace.kind().is_allow() {
+                allowed = allowed.union(open.intersection(ace.mask()));
+            }
+            open = open.without(ace.mask());
+        }
+    }
+    allowed
+}
+
+/// Whether it allows all that the mode's permission to write stands for.
+fn allows_writing(allowed: Mask) -> bool
+    ensures { result ≡ (has (mask_bits allowed) write_data && has (mask_bits allowed) append_data) }
+{
+    allowed.contains(Mask::WRITE_DATA) && allowed.contains(Mask::APPEND_DATA)
+}
+
+/// The permissions that the entries show for a class: to write where both `WRITE_DATA` and `APPEND_DATA` are allowed.
+fn shown_to(aces: &[Ace], class: &Who) -> Perms
+    ensures { bits_of result ≡ shown_to (of_class class.now) aces.now }
+{
+    let allowed = allowed_to(aces, class);
+    let read = given(Perms::READ, allowed.contains(Mask::READ_DATA));
+    let write = given(Perms::WRITE, allows_writing(allowed));
+    let execute = given(Perms::EXECUTE, allowed.contains(Mask::EXECUTE));
+    read | write | execute
+}
+
+impl Acl4 {
+    /// The mode of a file with this list: for each of `OWNER@`, `GROUP@` and `EVERYONE@` what its own entries and those of
+    /// `EVERYONE@` grant (RFC 8881, section 6.3.2).
+    pub fn mode4(&self) -> Mode
+        ensures { result ≡ mode_of self.now }
+    {
+        let aces = self.aces();
+        Mode {
+            user: shown_to(aces, &Who::Owner),
+            group: shown_to(aces, &Who::Group),
+            other: shown_to(aces, &Who::Everyone),
+        }
+    }
+}

@@ -1,0 +1,251 @@
+ghost use Rattle.std.specs.Prelude.{◌≡◌, ◌<◌, ◌↔◌, ◌++◌, false, length, flat_map, Err, OnOk, OnErr, IfOk};
+ghost use Rattle.std.specs.List.{list_any};
+ghost use Rattle.acl_posix.specs.Perms.{bits_of};
+ghost use Rattle.acl_posix.specs.Mode.{AreClasses};
+ghost use Rattle.acl_nfs4.specs.Ace.{is_idle, is_deny};
+ghost use Rattle.acl_nfs4.specs.Acl.{HaveEffect, IsTooLong};
+ghost use Rattle.acl_nfs4.specs.Mask.{mask_bits};
+ghost use Rattle.acl_nfs4.specs.Evaluation.{mode_of};
+ghost use Rattle.acl_nfs4.specs.ModeChange.{kept_mask, kept_of, kept, names_someone, names, named_in, denied_to, denial_of, denials, for_owner, for_others, with_mode};
+ghost use Rattle.acl_nfs4.specs.ModeChangeLaws.{GrantsOwner, GrantsGroup, GrantsOthers, LimitsNamed, KeepsAudits, KeepsInheritOnly, InheritsAlike};
+
+use crate::draft::{Draft, Full};
+use crate::mask::{mask_of, rest_of};
+use crate::{Ace, AceType, Acl4, Flags, Mask, Who};
+use acl_posix::{Mode, Perms};
+use bitflags::Flags as FlagSet;
+use std::alloc::Global;
+
+/// Why a mode was not set.
+#[derive(Clone, Copy, Debug, PartialEq, Eq)]
+pub enum Fault4 {
+    /// The list would have more than 128 entries.
+    TooMany,
+    Memory,
+}
+
+impl Ace {
+    ghost use Rattle.acl_names.specs.Bits.{without, ◌∪◌};
+    ghost use Rattle.acl_nfs4.specs.Ace.{IsAce, decides, is_inheritable};
+    ghost use Rattle.acl_nfs4.specs.Flags.{inheritance_flags};
+    ghost use Rattle.acl_nfs4.specs.Who.{same_who};
+    ghost use Rattle.std.specs.Prelude.{true, ◌&&◌};
+
+    /// What an entry that decides keeps of its mask beside a mode with this group.
+    #[tactic(auto, unfolding(crate::specs::ModeChange::kept_mask))]
+    fn kept_mask(&self, group: Perms) -> Mask
+        ensures value { mask_bits result ≡ kept_mask (bits_of group) self.now }
+        ensures ace { IsAce self.now }
+    {
+        if self.who().is_special() {
+            self.mask().without(Mask::OF_MODE)
+        } else if self.kind().is_allow() {
+            self.mask().without(rest_of(group))
+        } else {
+            self.mask()
+        }
+    }
+
+    /// The entry with no more of its mask than it keeps.
+    fn reduced(&self, group: Perms) -> Ace
+        ensures { result ≡ record self.now { mask = kept_mask (bits_of group) self.now } }
+    {
+        self.with_mask(self.kept_mask(group))
+    }
+
+    /// The part of the entry that is only inherited.
+    fn inherited_part(&self) -> Ace
+        requires { is_inheritable self.now ≡ true }
+        ensures value { result ≡ record self.now { flags = self.now.flags ∪ 8 } }
+        ensures effective { is_idle result ≡ false }
+    {
+        self.with_flags(self.flags().union(Flags::INHERIT_ONLY))
+    }
+
+    /// The part of the entry that takes effect where it stands.
+    fn effective_part(&self, group: Perms) -> Ace
+        ensures value { result ≡ record self.now { flags = without self.now.flags inheritance_flags; mask = kept_mask (bits_of group) self.now } }
+        ensures effective { is_idle result ≡ false }
+    {
+        self.reduced(group)
+            .with_flags(self.flags().without_inheritance())
+    }
+
+    /// Whether the entry decides about a named user or group.
+    fn names_someone(&self) -> bool
+        ensures { result ≡ names_someone self.now }
+    {
+        self.decides() && !self.who().is_special()
+    }
+
+    /// Whether the entry decides about this who by name.
+    fn names(&self, who: &Who) -> bool
+        ensures { result ≡ names who.now self.now }
+    {
+        self.names_someone() && self.who().is(who)
+    }
+
+    /// Whether the entry denies this who something.
+    fn denies(&self, who: &Who) -> bool
+        ensures { result ≡ (decides self.now && (is_deny self.now.kind && same_who self.now.who who.now)) }
+    {
+        self.decides() && self.kind().is_deny() && self.who().is(who)
+    }
+}
+
+/// In front: what the mode's user has is allowed to the owner, and the rest of the mode's bits denied.
+fn push_owner(draft: &mut Draft, user: Perms) -> Result<(), Full>
+    ensures ok { OnOk result (draft.new ≡ draft.old ++ for_owner (bits_of user)) }
+    ensures full { OnErr result (IsTooLong (draft.old ++ for_owner (bits_of user))) }
+{
+    draft.push_plain(AceType::Allow, Who::Owner, mask_of(user))?;
+    draft.push_plain(AceType::Deny, Who::Owner, rest_of(user))
+}
+
+/// Behind: the same for the group, and what the mode's others have is allowed to everyone.
+fn push_others(draft: &mut Draft, group: Perms, other: Perms) -> Result<(), Full>
+    ensures ok { OnOk result (draft.new ≡ draft.old ++ for_others (bits_of group) (bits_of other)) }
+    ensures full { OnErr result (IsTooLong (draft.old ++ for_others (bits_of group) (bits_of other))) }
+{
+    draft.push_plain(AceType::Allow, Who::Group, mask_of(group))?;
+    draft.push_plain(AceType::Deny, Who::Group, rest_of(group))?;
+    draft.push_plain(AceType::Allow, Who::Everyone, mask_of(other))
+}
+
+/// What an entry leaves: one that doesn't decide stays; one that is inherited too becomes one entry for each; and what takes
+/// effect keeps no bit that the mode takes.
+fn push_kept_of(draft: &mut Draft, ace: &Ace, group: Perms) -> Result<(), Full>
+    requires { is_idle ace.now ≡ false }
+    ensures ok { OnOk result (draft.new ≡ draft.old ++ kept_of (bits_of group) ace.now) }
+    ensures full { OnErr result (IsTooLong (draft.old ++ kept_of (bits_of group) ace.now)) }
+{
+    if !ace.decides() {
+        return draft.push(*ace);
+    }
+    if ace.is_inheritable() {
+        draft.push(ace.inherited_part())?;
+        return draft.push_unless_empty(ace.effective_part(group));
+    }
+    draft.push_unless_empty(ace.reduced(group))
+}
+
+/// What the old entries leave.
+fn push_kept(draft: &mut Draft, aces: &[Ace], group: Perms) -> Result<(), Full>
+    requires { HaveEffect aces.now }
+    ensures ok { OnOk result (draft.new ≡ draft.old ++ kept (bits_of group) aces.now) }
+    ensures full { OnErr result (IsTooLong (draft.old ++ kept (bits_of group) aces.now)) }
+{
+    for ace in aces {
+        push_kept_of(draft, ace, group)?;
+    }
+    Ok(())
+}
+
+/// Whether an entry decides about this who by name.
+fn are_naming(aces: &[Ace], who: &Who) -> bool
+    ensures { result ≡ list_any (names who.now) aces.now }
+{
+    aces.iter().any(|ace| ace.names(who))
+}
+
+/// The bits that the entries deny this who by name.
+fn denied_to(aces: &[Ace], who: &Who) -> Mask
+    ensures { mask_bits result ≡ denied_to who.now aces.now }
+{
+    let mut denied = Mask::empty();
+    for ace in aces {
+        if ace.denies(who) {
+            denied = denied.union(ace.mask());
+        }
+    }
+    denied
+}
+
+/// What the mode's group lacks, denied to this who as far as the old entries don't.
+fn push_denial(draft: &mut Draft, aces: &[Ace], group: Perms, who: Who) -> Result<(), Full>
+    ensures ok { OnOk result (draft.new ≡ draft.old ++ denial_of (bits_of group) aces.now who) }
+    ensures full { OnErr result (IsTooLong (draft.old ++ denial_of (bits_of group) aces.now who)) }
+{
+    let denied = denied_to(aces, &who);
+    draft.push_plain(AceType::Deny, who, rest_of(group).without(denied))
+}
+
+/// A denial for each who that the old entries name, in the order of its first entry.
+///
+/// For each entry that names someone this looks at the entries before it, and for each who at all entries. The list has at
+/// most 128 of them; to sort them by who and back would cost a second list and gain nothing at this length.
+fn push_denials(draft: &mut Draft, aces: &[Ace], group: Perms) -> Result<(), Full>
+    ensures ok { OnOk result (draft.new ≡ draft.old ++ denials (bits_of group) aces.now) }
+    ensures full { OnErr result (IsTooLong (draft.old ++ denials (bits_of group) aces.now)) }
+{
+    for place in 0..aces.len() {
+        let ace = &aces[place];
+        if ace.names_someone() && !are_naming(&aces[..place], &ace.who()) {
+            push_denial(draft, aces, group, ace.who())?;
+        }
+    }
+    Ok(())
+}
+
+/// The entries with the mode set.
+fn with_mode(alloc: Global, aces: &[Ace], mode: Mode) -> Result<Draft, Full>
+    requires { HaveEffect aces.now }
+    ensures ok { IfOk result (λ draft. draft ≡ with_mode aces.now mode) }
+    ensures full { OnErr result (IsTooLong (with_mode aces.now mode)) }
+{
+    let mut draft = Draft::new(alloc);
+    push_owner(&mut draft, mode.user)?;
+    push_kept(&mut draft, aces, mode.group)?;
+    push_denials(&mut draft, aces, mode.group)?;
+    push_others(&mut draft, mode.group, mode.other)?;
+    Ok(draft)
+}
+
+impl Acl4 {
+    /// Sets the mode and keeps what the administrator wrote (within RFC 8881, section 6.4.1.1).
+    ///
+    /// The entries that allow or deny lose the bits of the mode that they may not grant; the owner's stand in front, and the
+    /// group's and everyone's behind. Users and groups that an entry names are granted no more than the mode's group. An entry
+    /// that is inherited too is split, so that what is inherited stays as it was. Audit and alarm entries and entries that are
+    /// only inherited stay. The steps are written out in `docs/NFS4.md`.
+    ///
+    /// It is refused with `TooMany` exactly where the list would have more than 128 entries, and else with `Memory`; the
+    /// list is as before then.
+    pub fn chmod4(&mut self, alloc: Global, mode: Mode) -> Result<(), Fault4>
+        ensures ok { OnOk result (self.new ≡ with_mode self.old mode) }
+        ensures too_many { (result ≡ Err Fault4.TooMany) ↔ (128 < length (with_mode self.old mode)) }
+        ensures err { OnErr result (self.new ≡ self.old) }
+
+        // The mode shown is the mode set.
+        ensures shown { OnOk result (mode_of self.new ≡ mode) }
+
+        // Of the mode's bits the owner is granted the user's, and another requester whom no entry names the group's or the
+        // others'; one whom an entry names is granted none that the group lacks.
+        ensures owner_granted { OnOk result (GrantsOwner self.new mode) }
+        ensures group_granted { OnOk result (GrantsGroup self.old self.new mode) }
+        ensures others_granted { OnOk result (GrantsOthers self.old self.new mode) }
+        ensures named_limited { OnOk result (LimitsNamed self.old self.new mode) }
+
+        // What the mode doesn't speak of stays.
+        ensures audits_kept { OnOk result (KeepsAudits self.old self.new) }
+        ensures inherit_only_kept { OnOk result (KeepsInheritOnly self.old self.new) }
+        ensures inherits_alike { OnOk result (InheritsAlike self.old self.new) }
+
+        // To set the mode again changes nothing.
+        ensures again { OnOk result (with_mode self.new mode ≡ self.new) }
+    {
+        let _user = mode.user;
+        match with_mode(alloc, self.aces(), mode) {
+            Ok(draft) => {
+                match draft.finished(alloc) {
+                    Ok(acl) => {
+                        *self = acl;
+                        Ok(())
+                    }
+                    Err(_) => Err(Fault4::Memory),
+                }
+            }
+            Err(_) => Err(Fault4::TooMany),
+        }
+    }
+}

@@ -1,0 +1,131 @@
+//! Printing lists of entries.
+
+ghost use Rattle.std.specs.Prelude.{◌≡◌, ◌++◌, length, take, option_map, OnOk, OnErr};
+ghost use Rattle.acl_names.specs.ListText.{Spells};
+ghost use Rattle.acl_nfs4.specs.AceText.{piece_value};
+ghost use Rattle.acl_nfs4.specs.PrintedText.{ace_text, aces_text, front_text, HaveIds, line_text, named_text, type_text, who_text};
+ghost use Rattle.acl_nfs4.specs.Who.{HasId};
+
+use crate::letters::{push_flags, push_mask};
+use crate::{Ace, AceType, Acl4, Who};
+use acl_names::{Directory, push_id};
+use std::alloc::AllocError;
+
+impl Acl4 {
+    /// Appends the entries in order, one per line: `type:flags:who:letters` and a newline. `who` is the special word,
+    /// `name@domain` where the directory has a name, and else a decimal. An `Err` leaves `out` as it was.
+    pub fn print_aces(&self, directory: &Directory, out: &mut Vec<u8>) -> Result<(), AllocError>
+        ensures text { OnOk result (out.new.items ≡ out.old.items ++ aces_text directory.now self.now) }
+        ensures unchanged { OnErr result (out.new.items ≡ out.old.items) }
+
+        // What is printed is read as these entries.
+        ensures read_again { OnOk result (Spells (piece_value directory.now) 128 (aces_text directory.now self.now) self.now) }
+    {
+        directory.tell_names_apart();
+        let old_len = out.len();
+        let printed = push_lines(self.aces(), directory, out);
+        if printed.is_err() {
+            out.truncate(old_len);
+        }
+        printed
+    }
+}
+
+fn push_lines(aces: &[Ace], directory: &Directory, out: &mut Vec<u8>) -> Result<(), AllocError>
+    ensures text { OnOk result (out.new.items ≡ out.old.items ++ aces_text directory.now aces.now) }
+    ensures have_ids { OnOk result (HaveIds aces.now) }
+    ensures kept { take (length out.old.items) out.new.items ≡ out.old.items }
+{
+    for ace in aces {
+        push_line(ace, directory, out)?;
+    }
+    Ok(())
+}
+
+fn push_line(ace: &Ace, directory: &Directory, out: &mut Vec<u8>) -> Result<(), AllocError>
+    ensures text { OnOk result (out.new.items ≡ out.old.items ++ line_text directory.now ace.now) }
+    ensures has_id { OnOk result (HasId ace.now.who) }
+    ensures kept { take (length out.old.items) out.new.items ≡ out.old.items }
+{
+    push_ace(ace, directory, out)?;
+    out.push(b'\n')?;
+    Ok(())
+}
+
+fn push_ace(ace: &Ace, directory: &Directory, out: &mut Vec<u8>) -> Result<(), AllocError>
+    ensures text { OnOk result (out.new.items ≡ out.old.items ++ ace_text directory.now ace.now) }
+    ensures has_id { OnOk result (HasId ace.now.who) }
+    ensures kept { take (length out.old.items) out.new.items ≡ out.old.items }
+{
+    push_front(ace, out)?;
+    push_who(&ace.who(), directory, out)?;
+    out.push(b':')?;
+    push_mask(ace.mask(), out)
+}
+
+/// Appends `type:flags:`.
+fn push_front(ace: &Ace, out: &mut Vec<u8>) -> Result<(), AllocError>
+    ensures text { OnOk result (out.new.items ≡ out.old.items ++ front_text ace.now) }
+    ensures kept { take (length out.old.items) out.new.items ≡ out.old.items }
+{
+    out.extend_from_slice(type_text(ace.kind()))?;
+    out.push(b':')?;
+    push_flags(ace.flags(), out)?;
+    out.push(b':')?;
+    Ok(())
+}
+
+fn type_text(kind: AceType) -> &'static [u8]
+    ensures { result.now ≡ type_text kind }
+{
+    match kind {
+        AceType::Allow => b"A",
+        AceType::Deny => b"D",
+        AceType::Audit => b"U",
+        AceType::Alarm => b"L",
+    }
+}
+
+fn push_who(who: &Who, directory: &Directory, out: &mut Vec<u8>) -> Result<(), AllocError>
+    ensures text { OnOk result (out.new.items ≡ out.old.items ++ who_text directory.now who.now) }
+    ensures has_id { HasId who.now }
+    ensures kept { take (length out.old.items) out.new.items ≡ out.old.items }
+{
+    match *who {
+        Who::Owner => out.extend_from_slice(b"OWNER@"),
+        Who::Group => out.extend_from_slice(b"GROUP@"),
+        Who::Everyone => out.extend_from_slice(b"EVERYONE@"),
+        Who::User(uid) => push_named(
+            directory.user_name(uid),
+            directory.domain(),
+            uid.value(),
+            out,
+        ),
+        Who::NamedGroup(gid) => push_named(
+            directory.group_name(gid),
+            directory.domain(),
+            gid.value(),
+            out,
+        ),
+    }
+}
+
+/// Appends the name in the domain, or the decimal of an id that has none.
+fn push_named(
+    name: Option<&str>,
+    domain: &str,
+    id: u32,
+    out: &mut Vec<u8>,
+) -> Result<(), AllocError>
+    ensures text { OnOk result (out.new.items ≡ out.old.items ++ named_text (option_map (λ name. name.now) name.entry) domain.now id) }
+    ensures kept { take (length out.old.items) out.new.items ≡ out.old.items }
+{
+    match name {
+        Some(name) => {
+            out.extend_from_slice(name.as_bytes())?;
+            out.push(b'@')?;
+            out.extend_from_slice(domain.as_bytes())
+        }
+        None => push_id(None, id, out),
+    }
+}

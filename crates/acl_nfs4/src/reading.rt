@@ -1,0 +1,223 @@
+//! Reading lists of entries.
+
+ghost use Rattle.std.specs.Prelude.{◌≡◌, ◌↔◌, ℕ, List, Ok, option_map, IfOk, IfErr, MatchResult};
+ghost use Rattle.acl_names.specs.Bits.{has};
+ghost use Rattle.acl_names.specs.Directory.{Known};
+ghost use Rattle.acl_names.specs.ListText.{Spells, IsFaultOf};
+ghost use Rattle.acl_names.specs.Ids.{written_id};
+ghost use Rattle.acl_names.specs.Views.{view_written};
+ghost use Rattle.acl_nfs4.specs.Ace.{Nfsace4};
+ghost use Rattle.acl_nfs4.specs.AceShapes.{HasShape};
+ghost use Rattle.acl_nfs4.specs.AceText.{effective, fields_of, name_at, named, piece_value, resolved_who, special_of, type_of, written_who};
+ghost use Rattle.acl_nfs4.specs.AceViews.{list_fault, view_fields, view_who};
+ghost use Rattle.acl_nfs4.specs.Flags.{flag_bits, identifier_group};
+ghost use Rattle.acl_nfs4.specs.declared.acl.AceFault.TheVariants.{Memory};
+
+use crate::acl::MOST_ACES;
+use crate::letters::{read_flags, read_letters};
+use crate::{Ace, AceFault, AceType, Acl4, Flags, Who};
+use acl_names::{
+    Directory, ListFault, Parts, PieceReader, WrittenId, is_domain, read_list, trim_blanks,
+};
+use std::alloc::Global;
+
+/// What is wrong with one piece of a text.
+#[derive(Clone, Copy, Debug, PartialEq, Eq)]
+enum PieceFault {
+    Syntax,
+    UnknownName,
+    InheritOnly,
+}
+
+/// `type:flags:who:letters`.
+#[derive(Clone, Copy, Debug)]
+struct AceFields<'a> {
+    kind: &'a [u8],
+    flags: &'a [u8],
+    who: &'a [u8],
+    letters: &'a [u8],
+}
+
+/// Whom a text names: a special identifier, an id, or a name in a domain, whether or not anyone has it.
+#[derive(Clone, Copy, Debug)]
+enum WrittenWho<'a> {
+    Owner,
+    Group,
+    Everyone,
+    Id(WrittenId<'a>),
+    At(&'a str, &'a [u8]),
+}
+
+/// Reads entries whose names a directory knows.
+#[derive(Drop)]
+struct AceReader<'a> {
+    directory: &'a Directory,
+}
+
+impl<'a> PieceReader for AceReader<'a> {
+    type Value = Ace;
+
+    type Fault = PieceFault;
+
+    ghost value_of = { λ reader. piece_value reader.directory.now };
+
+    #[tactic(auto, unfolding(crate::specs::AceText::piece_value))]
+    fn read(&self, piece: &[u8]) -> Result<Ace, PieceFault> {
+        let fields = read_fields(piece).ok_or(PieceFault::Syntax)?;
+        let kind = read_type(fields.kind).ok_or(PieceFault::Syntax)?;
+        let flags = read_flags(fields.flags).ok_or(PieceFault::Syntax)?;
+        let written = read_who(fields.who).ok_or(PieceFault::Syntax)?;
+        let mask = read_letters(fields.letters).ok_or(PieceFault::Syntax)?;
+        let who = resolve(self.directory, flags.has_identifier_group(), written).ok_or(
+            PieceFault::UnknownName,
+        )?;
+        effective(Ace::new(kind, flags, who, mask))
+    }
+}
+
+/// The list that the text spells: entries `type:flags:who:letters`, which newlines and commas separate; `#` begins a
+/// comment. `who` is `OWNER@`, `GROUP@`, `EVERYONE@`, a decimal, a name, or a name in the directory's domain; it is a group
+/// where the flag `g` stands.
+///
+/// The first faulty piece decides: `Syntax`, before `UnknownName` (also of a name in another domain), before `InheritOnly`;
+/// a 129th piece is `TooMany` before it is read. Want of memory ends it with `Memory`.
+pub fn read_aces(alloc: Global, text: &[u8], directory: &Directory) -> Result<Acl4, AceFault>
+    ensures read { IfOk result (Spells (piece_value directory.now) 128 text.now) }
+    ensures fault { IfErr result (λ fault. IsFaultOf (piece_value directory.now) 128 text.now (list_fault fault)) }
+
+    // What is spelt is read, unless memory runs out.
+    ensures only { (aces : List Nfsace4) → Spells (piece_value directory.now) 128 text.now aces
+        → MatchResult result (λ acl. acl ≡ aces) (λ fault. fault ≡ Memory) }
+{
+    match read_list(alloc, &AceReader { directory }, MOST_ACES, text) {
+        Ok(aces) => Ok(Acl4::from_items(aces)),
+        Err(ListFault::Piece(PieceFault::Syntax)) => Err(AceFault::Syntax),
+        Err(ListFault::Piece(PieceFault::UnknownName)) => Err(AceFault::UnknownName),
+        Err(ListFault::Piece(PieceFault::InheritOnly)) => Err(AceFault::InheritOnly),
+        Err(ListFault::TooMany) => Err(AceFault::TooMany),
+        Err(ListFault::Memory) => Err(AceFault::Memory),
+    }
+}
+
+fn read_fields(piece: &[u8]) -> Option<AceFields<'_>>
+    ensures { option_map view_fields result ≡ fields_of piece.now }
+{
+    let mut fields = Parts::new(b':', piece);
+    match (
+        fields.next(),
+        fields.next(),
+        fields.next(),
+        fields.next(),
+        fields.next(),
+    ) {
+        (Some(kind), Some(flags), Some(who), Some(letters), None) => Some(AceFields {
+            kind: trim_blanks(kind),
+            flags: trim_blanks(flags),
+            who: trim_blanks(who),
+            letters: trim_blanks(letters),
+        }),
+        _ => None,
+    }
+}
+
+fn read_type(text: &[u8]) -> Option<AceType>
+    ensures { result ≡ type_of text.now }
+{
+    match text {
+        b"A" => Some(AceType::Allow),
+        b"D" => Some(AceType::Deny),
+        b"U" => Some(AceType::Audit),
+        b"L" => Some(AceType::Alarm),
+        _ => None,
+    }
+}
+
+fn read_who(text: &[u8]) -> Option<WrittenWho<'_>>
+    ensures { option_map view_who result ≡ written_who text.now }
+{
+    let mut parts = Parts::new(b'@', text);
+    match (parts.next(), parts.next(), parts.next()) {
+        (Some(id), None, _) => match WrittenId::read(id) {
+            Some(id) => Some(WrittenWho::Id(id)),
+            None => None,
+        },
+        (Some(word), Some([]), None) => read_special(word),
+        (Some(name), Some(domain), None) => read_name_at(name, domain),
+        _ => None,
+    }
+}
+
+fn read_special<'a>(word: &'a [u8]) -> Option<WrittenWho<'a>>
+    ensures { option_map view_who result ≡ special_of word.now }
+{
+    match word {
+        b"OWNER" => Some(WrittenWho::Owner),
+        b"GROUP" => Some(WrittenWho::Group),
+        _ => {
+            if word == b"EVERYONE".as_slice() {
+                Some(WrittenWho::Everyone)
+            } else {
+                None
+            }
+        }
+    }
+}
+
+fn read_name_at<'a>(name: &'a [u8], domain: &'a [u8]) -> Option<WrittenWho<'a>>
+    ensures { option_map view_who result ≡ name_at (written_id name.now) domain.now }
+{
+    match WrittenId::read(name) {
+        Some(WrittenId::Name(name)) => {
+            if is_domain(domain) {
+                Some(WrittenWho::At(name, domain))
+            } else {
+                None
+            }
+        }
+        _ => None,
+    }
+}
+
+fn resolve(directory: &Directory, is_group: bool, written: WrittenWho<'_>) -> Option<Who>
+    ensures { result ≡ resolved_who directory.now is_group (view_who written.entry) }
+{
+    match written {
+        WrittenWho::Owner => Some(Who::Owner),
+        WrittenWho::Group => Some(Who::Group),
+        WrittenWho::Everyone => Some(Who::Everyone),
+        WrittenWho::Id(id) => named(directory, is_group, id),
+        WrittenWho::At(name, domain) => {
+            if domain == directory.domain().as_bytes() {
+                named(directory, is_group, WrittenId::Name(name))
+            } else {
+                None
+            }
+        }
+    }
+}
+
+/// The user or the group that has what is written.
+fn named(directory: &Directory, is_group: bool, written: WrittenId<'_>) -> Option<Who>
+    ensures { result ≡ named directory.now is_group (view_written written.entry) }
+{
+    if is_group {
+        directory.gid(written).map(Who::NamedGroup)
+    } else {
+        directory.uid(written).map(Who::User)
+    }
+}
+
+fn effective(ace: Ace) -> Result<Ace, PieceFault>
+    ensures { result ≡ effective ace }
+{
+    if ace.is_idle() {
+        Err(PieceFault::InheritOnly)
+    } else {
+        Ok(ace)
+    }
+}
+
+/// What a piece says is what the shapes say, both ways. This does nothing: it states the law.
+pub fn pieces_have_shapes()
+    ensures { (known : Known) (piece : List ℕ) (ace : Nfsace4) → (piece_value known piece ≡ Ok ace) ↔ HasShape known piece ace }
+{}

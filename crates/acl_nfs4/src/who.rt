@@ -1,0 +1,69 @@
+ghost use Rattle.std.specs.Prelude.{◌≡◌};
+ghost use Rattle.acl_nfs4.specs.Flags.{flag_bits};
+
+use crate::Flags;
+use acl_names::{Gid, Requester, Uid};
+use bitflags::Flags as FlagSet;
+
+/// Whom an entry is about (RFC 8881, section 6.2.1.5).
+#[derive(Clone, Copy, Debug, PartialEq, Eq)]
+pub enum Who {
+    /// `OWNER@`: the file's owner.
+    Owner,
+    /// `GROUP@`: whoever is in the file's group.
+    Group,
+    /// `EVERYONE@`: all, the owner and the group included.
+    Everyone,
+    User(Uid),
+    NamedGroup(Gid),
+}
+
+impl Who {
+    ghost use Rattle.acl_nfs4.specs.Who.{matches, is_special, is_named_group, same_who, flags_of_who};
+
+    /// Whether this is the requester of a file with this owner and this group.
+    pub(crate) fn matches(&self, owner: Uid, group: Gid, requester: &Requester) -> bool
+        ensures { result ≡ matches owner group requester.now self.now }
+    {
+        match *self {
+            Who::Owner => requester.uid() == owner,
+            Who::Group => requester.is_in_group(group),
+            Who::Everyone => true,
+            Who::User(uid) => requester.uid() == uid,
+            Who::NamedGroup(gid) => requester.is_in_group(gid),
+        }
+    }
+
+    /// Whether this is one of `OWNER@`, `GROUP@` and `EVERYONE@`.
+    pub(crate) fn is_special(&self) -> bool
+        ensures { result ≡ is_special self.now }
+    {
+        match *self {
+            Who::Owner => true,
+            Who::Group => true,
+            Who::Everyone => true,
+            Who::User(_) => false,
+            Who::NamedGroup(_) => false,
+        }
+    }
+
+    /// Whether both are about the same.
+    pub(crate) fn is(&self, other: &Who) -> bool
+        ensures { result ≡ same_who self.now other.now }
+    {
+        *self == *other
+    }
+
+    /// The flags of an entry that has none but what its who asks for.
+    pub(crate) fn flags(&self) -> Flags
+        ensures { flag_bits result ≡ flags_of_who self.now }
+    {
+        match *self {
+            Who::Owner => Flags::empty(),
+            Who::Group => Flags::empty(),
+            Who::Everyone => Flags::empty(),
+            Who::User(_) => Flags::empty(),
+            Who::NamedGroup(_) => Flags::IDENTIFIER_GROUP,
+        }
+    }
+}
