@@ -11,12 +11,11 @@ use Rattle.acl_names.specs.Steps.{◌>>=◌, or_fault}
 use Rattle.acl_posix.proofs.ValidityLemmas.{valid_iff}
 use Rattle.acl_posix.specs.Entry.{Triple}
 use Rattle.acl_posix.specs.EntryText.{entry_of}
-use Rattle.acl_posix.specs.PermsText.{perms_of_text}
 use Rattle.acl_posix.specs.Validity.{IsValid, fault_of}
 use Rattle.acl_posix.specs.declared.acl.Invalid.{Invalid}
 use Rattle.acl_posix.specs.declared.reading.PieceFault.{PieceFault}
 use Rattle.acl_service.specs.AclText.{accepted, acl_of, as_field, entries_of, nobody}
-use Rattle.acl_service.specs.Ask.{Ask, Give, GiveEntries, GiveGids, GiveId, GivePerms, Write}
+use Rattle.acl_service.specs.Ask.{Ask, GiveEntries, GiveGids, GiveId, GivePerms, Write}
 use Rattle.acl_service.specs.Asked.{Asked, acl_in, asked_by, asked_in, gids_in, gids_of, id_in, id_of, perms_in, perms_of}
 use Rattle.acl_service.specs.CommandLine.{TakesWords, decide_line}
 use Rattle.acl_service.specs.Reading.{at_most_read, each_read}

@@ -1,8 +1,8 @@
 -- What words come to that `decide` refuses.
-use Rattle.std.proofs.Common.{◌≡◌, ◌≢◌, ◌∙◌, [], ◌∷◌, ◌++◌, ℕ, List, Option, Some, None, ap, refl, sym, subst, append-nil}
+use Rattle.std.proofs.Common.{◌≡◌, ◌≢◌, ◌∙◌, [], ◌∷◌, ℕ, List, Option, Some, None, ap, refl, sym, subst, append-nil}
 use Rattle.std.specs.Io.KnownBytes.{Appends, Keeps}
 use Rattle.clap.specs.Words.{Kinds, Text, fault_of}
-use Rattle.acl_service.specs.CommandLine.{TakesWords, decide_line}
+use Rattle.acl_service.specs.CommandLine.{decide_line}
 use Rattle.acl_service.specs.Faults.{IsFaultOf, failed_write, status_of}
 use Rattle.acl_service.specs.Outcome.{EndsAs, Outcome, outcome_by, outcome_of}
 use Rattle.acl_service.specs.declared.decide_command.fault.DecideFault.{DecideFault}

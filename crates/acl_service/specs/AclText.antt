@@ -1,5 +1,5 @@
 -- Which access control list a field of `decide` spells.
-use Rattle.std.specs.Prelude.{ℕ, List, [], Result, Ok, Err, codes, is_none, if◌then◌else◌}
+use Rattle.std.specs.Prelude.{List, [], Result, Ok, Err, codes, is_none, if◌then◌else◌}
 use Rattle.clap.specs.Words.{Text}
 use Rattle.acl_names.specs.Directory.{Known}
 use Rattle.acl_names.specs.Pieces.{pieces}

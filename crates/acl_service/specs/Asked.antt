@@ -1,5 +1,5 @@
 -- What the words of `decide` ask, read field by field.
-use Rattle.std.specs.Prelude.{ℕ, List, [], Option, Some, None, Result, Ok, codes, option_and_then}
+use Rattle.std.specs.Prelude.{ℕ, List, [], Option, Some, None, Result, Ok, codes}
 use Rattle.clap.specs.Words.{Text, Row, first_of, matches_of}
 use Rattle.acl_names.specs.Ids.{decimal_value}
 use Rattle.acl_names.specs.Pieces.{parts}

@@ -1,9 +1,8 @@
-use Rattle.std.proofs.Common.{◌≡◌, ◌∙◌, ◌<◌, ◌≤◌, Some, Err, ap, sym, length, lit<, rules, arith}
+use Rattle.std.proofs.Common.{◌≡◌, ◌∙◌, ◌<◌, ◌≤◌, Err, ap, sym, length, lit<, rules, arith}
 use Rattle.std.proofs.lemmas.Iterator.Consumers.{YieldsList-end, YieldsList-so_far, YieldsList-turn}
 use Rattle.std.proofs.lemmas.Iterator.Splits.{YieldsList-from_str_split}
 use Rattle.acl_names.specs.Pieces.{parts}
-use Rattle.acl_service.specs.Asked.{gids_of, id_of}
-use Rattle.acl_service.specs.Faults.{Explains}
+use Rattle.acl_service.specs.Asked.{id_of}
 use Rattle.acl_service.specs.Reading.{at_most_read}
 use Rattle.acl_service.proofs.ReadLemmas.{apart_at, at_most_read-all, at_most_read-fault, at_most_read-many}
 use Rattle.acl_service.specs.declared.decide_command.fault.DecideFault.TheVariants.{Field}
