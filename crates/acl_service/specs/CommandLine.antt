@@ -1,0 +1,24 @@
+-- The command line of `decide`, as the parser of command lines sees it.
+use Rattle.std.specs.Prelude.{◌≡◌, List, [], ◌∷◌, Some, true, codes, fold}
+use Rattle.clap.specs.Words.{App, Rule, Text, fault_of, new_app, new_rule, with_rule}
+
+-- `--name VALUE`, which must be given; and which may be
+abbrev pub required_option : Text → Rule
+required_option name = record (new_rule name) { long = Some name; required = true }
+
+abbrev pub optional_option : Text → Rule
+optional_option name = record (new_rule name) { long = Some name }
+
+-- a word that belongs to no option, which must be given
+abbrev pub required_word : Text → Rule
+required_word name = record (new_rule name) { required = true }
+
+-- `decide --owner N --group N --uid N [--gids N,N..] --perms P TEXT`
+unfoldable pub decide_line : App
+decide_line = fold with_rule (new_app (codes "decide"))
+    (required_option (codes "owner") ∷ required_option (codes "group") ∷ required_option (codes "uid")
+    ∷ optional_option (codes "gids") ∷ required_option (codes "perms") ∷ required_word (codes "text") ∷ [])
+
+-- the parser finds no fault in the words, of which the first is the command's name
+abbrev pub TakesWords : List Text → Type 0
+TakesWords words = fault_of decide_line words ≡ []

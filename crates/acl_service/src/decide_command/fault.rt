@@ -1,0 +1,157 @@
+//! Why `decide` gives no answer.
+ghost use Rattle.std.specs.Prelude.{◌≡◌, Some, IfSome, OnOk};
+ghost use Rattle.std.specs.Io.KnownBytes.{Appends};
+
+use crate::RunFault;
+use acl_posix::{Invalid, TextFault};
+use clap::error::ErrorKind;
+use std::alloc::{AllocError, AllocFailed};
+use std::{fmt, io};
+use thiserror::Error;
+
+/// A field of the words that doesn't read. It is shown by the words that follow `aclctl: ` on the fault line.
+#[derive(Clone, Copy, Debug, PartialEq, Eq, Error)]
+pub(super) enum FieldFault {
+    /// An id is no decimal.
+    BadId,
+    /// There are more than 32 groups, or more than 64 entries.
+    TooMany,
+    BadPerms,
+    BadAcl,
+    /// An entry names someone whom the directory lacks.
+    UnknownName,
+    /// The entries are no access control list.
+    InvalidAcl,
+}
+
+impl fmt::Display for FieldFault {
+    ghost use Rattle.acl_service.specs.Faults.{field_fault_words};
+
+    ghost output = { λ fault. Some (field_fault_words fault) };
+
+    fn fmt<W: fmt::Write>(&self, f: &mut fmt::Formatter<W>) -> fmt::Result {
+        f.write_str(match self {
+            FieldFault::BadId => "bad-id",
+            FieldFault::TooMany => "too-many",
+            FieldFault::BadPerms => "bad-perms",
+            FieldFault::BadAcl => "bad-acl",
+            FieldFault::UnknownName => "unknown-name",
+            FieldFault::InvalidAcl => "invalid-acl",
+        })
+    }
+}
+
+/// Why there is no answer.
+#[derive(Debug, Drop)]
+pub(super) enum DecideFault {
+    /// A field doesn't read.
+    Field(FieldFault),
+    /// The parser of command lines refuses the words, or was asked for help.
+    Usage(clap::Error),
+    Run(RunFault),
+}
+
+impl DecideFault {
+    ghost use Rattle.acl_service.specs.Faults.{fault_line, status_of};
+
+    /// The exit status.
+    fn status(&self) -> u8
+        ensures { result ≡ status_of self.now }
+    {
+        match self {
+            DecideFault::Field(_) => 1,
+            DecideFault::Usage(_) => 2,
+            DecideFault::Run(_) => 3,
+        }
+    }
+
+    /// Writes the line of the fault. The parser's text is the parser's own.
+    fn write_line<E: io::Write>(&self, err: &mut E) -> io::Result<()>
+        ensures { IfSome (fault_line self.now) (λ line. OnOk result (Appends (E.contents err.old) (E.contents err.new) line)) }
+    {
+        match self {
+            DecideFault::Field(fault) => writeln!(err, "aclctl: {fault}"),
+            DecideFault::Usage(error) => write!(err, "{error}"),
+            DecideFault::Run(fault) => writeln!(err, "aclctl: run: {fault}"),
+        }
+    }
+
+    /// Writes the line of the fault, if that can be done, and returns the exit status.
+    pub(super) fn report<E: io::Write>(&self, err: &mut E) -> u8
+        ensures { result ≡ status_of self.now }
+    {
+        let _ = self.write_line(err);
+        self.status()
+    }
+}
+
+impl From<clap::Error> for DecideFault {
+    ghost use Rattle.acl_service.specs.Faults.{BecomesFault};
+
+    ghost from_gives = { BecomesFault };
+
+    fn from(error: clap::Error) -> DecideFault {
+        match error.kind() {
+            ErrorKind::OutOfMemory => DecideFault::Run(RunFault::Memory),
+            _ => DecideFault::Usage(error),
+        }
+    }
+}
+
+impl From<AllocError> for DecideFault {
+    ghost use Rattle.acl_service.specs.Faults.{want_of_memory};
+
+    ghost from_gives = { λ _ becomes. becomes ≡ want_of_memory };
+
+    fn from(_refused: AllocError) -> DecideFault {
+        DecideFault::Run(RunFault::Memory)
+    }
+}
+
+impl<T: Drop> From<AllocFailed<T>> for DecideFault {
+    ghost use Rattle.acl_service.specs.Faults.{want_of_memory};
+
+    ghost from_gives = { λ _ becomes. becomes ≡ want_of_memory };
+
+    fn from(_refused: AllocFailed<T>) -> DecideFault {
+        DecideFault::Run(RunFault::Memory)
+    }
+}
+
+impl From<FieldFault> for DecideFault {
+    ghost use Rattle.acl_service.specs.declared.decide_command.fault.DecideFault.TheVariants as fault;
+
+    ghost from_gives = { λ field becomes. becomes ≡ fault.Field field };
+
+    fn from(fault: FieldFault) -> DecideFault {
+        DecideFault::Field(fault)
+    }
+}
+
+impl From<TextFault> for DecideFault {
+    ghost use Rattle.acl_service.specs.Faults.{fault_of_text};
+
+    ghost from_gives = { λ text becomes. becomes ≡ fault_of_text text };
+
+    fn from(fault: TextFault) -> DecideFault {
+        match fault {
+            TextFault::Syntax => DecideFault::Field(FieldFault::BadAcl),
+            TextFault::UnknownName => DecideFault::Field(FieldFault::UnknownName),
+            TextFault::TooMany => DecideFault::Field(FieldFault::TooMany),
+            TextFault::Memory => DecideFault::Run(RunFault::Memory),
+        }
+    }
+}
+
+impl From<Invalid> for DecideFault {
+    ghost use Rattle.acl_service.specs.Faults.{fault_of_invalid};
+
+    ghost from_gives = { λ invalid becomes. becomes ≡ fault_of_invalid invalid };
+
+    fn from(fault: Invalid) -> DecideFault {
+        match fault {
+            Invalid::Memory => DecideFault::Run(RunFault::Memory),
+            _ => DecideFault::Field(FieldFault::InvalidAcl),
+        }
+    }
+}

@@ -1,0 +1,27 @@
+//! Why a command that was understood came to no end.
+ghost use Rattle.std.specs.Prelude.{Some};
+
+use std::fmt;
+use thiserror::Error;
+
+/// What a run lacked. It is shown by the words that follow `aclctl: run: ` on the fault line.
+#[derive(Clone, Copy, Debug, PartialEq, Eq, Error)]
+pub enum RunFault {
+    /// Memory ran out.
+    Memory,
+    /// The answer couldn't be written.
+    Output,
+}
+
+impl fmt::Display for RunFault {
+    ghost use Rattle.acl_service.specs.Faults.{run_fault_words};
+
+    ghost output = { λ fault. Some (run_fault_words fault) };
+
+    fn fmt<W: fmt::Write>(&self, f: &mut fmt::Formatter<W>) -> fmt::Result {
+        f.write_str(match self {
+            RunFault::Memory => "memory",
+            RunFault::Output => "output",
+        })
+    }
+}

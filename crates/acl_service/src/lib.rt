@@ -1,0 +1,15 @@
+//! What the program does, over any words, readers and writers: bytes and words of its input, and its commands.
+#![tactic(auto)]
+
+mod decide_command;
+mod fault;
+mod input;
+mod words;
+
+pub use decide_command::{decide, words_ask_what_they_give};
+pub use fault::RunFault;
+pub use input::{CapFault, read_capped};
+pub use words::{WordsFault, words_of};
+
+#[cfg(test)]
+mod tests;

@@ -1,0 +1,4 @@
+mod decide;
+mod input;
+mod refused_growths;
+mod words;

@@ -1,0 +1,32 @@
+//! The words of the program: those that it is given, or else those of standard input.
+ghost use Rattle.std.specs.Prelude.{◌≡◌, ◌≢◌, [], map, IfErr, IfOk, IfSome, IsOkAnd};
+ghost use Rattle.std.specs.String.{string_bytes};
+ghost use Rattle.aclctl.specs.Input.{AreWordsOf, IsInputFault};
+
+use crate::fault::ProgramFault;
+use acl_service::{read_capped, words_of};
+use std::alloc::Global;
+use std::io::Read;
+
+/// How many bytes the words on standard input may take.
+const MOST_BYTES: usize = 65_536;
+
+/// The words given, or where there are none those that the reader has, one a line.
+pub fn command_words<R: Read>(
+    alloc: Global,
+    given: Vec<String>,
+    reader: &mut R,
+) -> Result<Vec<String>, ProgramFault>
+    ensures given { given.items ≢ [] → IsOkAnd result (λ words. words.items ≡ given.items) }
+
+    // Of a reader that tells its bytes.
+    ensures read { given.items ≡ [] → IfOk result (λ words. IfSome (R.remaining reader.old)
+        (λ bytes. AreWordsOf bytes (map string_bytes words.items))) }
+    ensures refused { IfErr result (λ fault. IfSome (R.remaining reader.old) (IsInputFault fault)) }
+{
+    if !given.is_empty() {
+        return Ok(given);
+    }
+    let bytes = read_capped(alloc, reader, MOST_BYTES)?;
+    Ok(words_of(alloc, bytes.as_slice())?)
+}
