@@ -34,9 +34,9 @@ fn set_to(group_class: &Tag, mode: Mode, entry: Entry) -> Entry
     ensures { result ≡ set_to group_class.now mode entry }
 {
     match mode_perms(group_class, mode, entry.tag) {
-        Some(perms) => Entry {
+        Some(set) => Entry {
             tag: entry.tag,
-            perms,
+            perms: set,
         },
         None => entry,
     }
