@@ -260,13 +260,19 @@ module _ {X K : Type 0} (R : K → K → Ordering) (total : IsTotalOrder R) (key
       λ ascends. absurd (false≢true (differs (element xs k inside) ∙ ap is_lt (ascends k (k + 1) (element xs k inside) (omega arith) inside))) in
       (to, from)
 
-  -- whether a sorted list, of which each member was tested against the next, has no key twice
-  pub distinct_from_answer : (same : K → K → Bool) → ((a b : K) → same a b ≡ is_eq (R a b)) → (xs : List X) (r : Bool) → IsSortedByKey key R xs
-      → IsAllAdjacentAnswer (λ (x y : X) b. b ≡ is_lt (R (key x) (key y))) xs r → r ≡ not (repeats same key xs)
-  distinct_from_answer same is_same xs r sorted answer = go r (repeats same key xs) refl (ascending_from_answer xs r answer)
+  -- whether a sorted list has no key twice, by whether it ascends
+  pub distinct_from_ascending : (same : K → K → Bool) → ((a b : K) → same a b ≡ is_eq (R a b)) → (xs : List X) (r : Bool) → IsSortedByKey key R xs
+      → (IsTrue r → IsAscending R key xs) × (IsAscending R key xs → IsTrue r) → r ≡ not (repeats same key xs)
+  distinct_from_ascending same is_same xs r sorted ascends = go r (repeats same key xs) refl ascends
     where
       go : (r twice : Bool) → repeats same key xs ≡ twice → (IsTrue r → IsAscending R key xs) × (IsAscending R key xs → IsTrue r) → r ≡ not twice
       go true true is parts = absurd (both_ways _ (repeats-ascending same is_same xs (parts.0 refl)) is)
       go true false is parts = refl
       go false true is parts = refl
       go false false is parts = absurd (false≢true (parts.1 (ascending_from_sorted same is_same xs sorted is)))
+
+  -- the same by what the test of each member and the next answers
+  pub distinct_from_answer : (same : K → K → Bool) → ((a b : K) → same a b ≡ is_eq (R a b)) → (xs : List X) (r : Bool) → IsSortedByKey key R xs
+      → IsAllAdjacentAnswer (λ (x y : X) b. b ≡ is_lt (R (key x) (key y))) xs r → r ≡ not (repeats same key xs)
+  distinct_from_answer same is_same xs r sorted answer =
+      distinct_from_ascending same is_same xs r sorted (ascending_from_answer xs r answer)

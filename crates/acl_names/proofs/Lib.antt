@@ -14,3 +14,5 @@ pub mod IdTexts
 pub mod Fields
 pub mod LettersAgain
 pub mod Prefixes
+pub mod AscendingSets
+pub mod StepLemmas

@@ -67,12 +67,6 @@ module _ (read : List Nfsace4 → List Nfsace4) (read-nil : read [] ≡ []) (rea
 
 -- ---- audits and alarms
 
-filter-append : (test : Nfsace4 → Bool) (xs ys : List Nfsace4) → filter test (xs ++ ys) ≡ filter test xs ++ filter test ys
-filter-append test [] ys = refl
-filter-append test (x ∷ xs) ys =
-    elim (test x) as (λ b. cond b (x ∷ filter test (xs ++ ys)) (filter test (xs ++ ys)) ≡ cond b (x ∷ filter test xs) (filter test xs) ++ filter test ys)
-    [ true ↦ ap (λ zs. x ∷ zs) (filter-append test xs ys) | false ↦ filter-append test xs ys ]
-
 no_audit : (kind : AceType) → (is_allow kind || is_deny kind) ≡ true → is_audit_or_alarm kind ≡ false
 no_audit Allow e = refl
 no_audit Deny e = refl

@@ -20,7 +20,7 @@ use Rattle.acl_names.specs.Pieces.{parts, pieces}
 use Rattle.acl_names.specs.Steps.{◌>>=◌, or_fault}
 use Rattle.acl_names.proofs.BitSets.{has-and, has-or, has-without, has-zero, same_bits}
 use Rattle.acl_names.proofs.Decimals.{digits_model}
-use Rattle.acl_names.proofs.Fields.{is_field_byte, IsField, fields_again, joined_plain}
+use Rattle.acl_names.proofs.Fields.{is_field_byte, IsField, fields_again, joined_plain, tested_field, name_byte_in_field, digit_in_field}
 use Rattle.acl_names.proofs.IdTexts.{and_first, and_second, written_name, written_decimal}
 use Rattle.acl_names.proofs.LettersAgain.{letters_again}
 use Rattle.acl_names.proofs.PlainLines.{IsPlain, IsMark, nothing, Lacks, pieces_of_lines}
@@ -32,6 +32,7 @@ use Rattle.acl_nfs4.specs.Letters.{flag_table, mask_table}
 use Rattle.acl_nfs4.specs.PrintedText.{type_text, named_text, who_text, ace_text, line_text, aces_text, HaveIds}
 use Rattle.acl_nfs4.specs.Who.{HasId, flags_of_who, is_named_group}
 use Rattle.acl_nfs4.specs.Acl.{AreAces}
+use Rattle.acl_nfs4.specs.declared.limits.TheConstants.{MAX_ACES}
 use Rattle.acl_nfs4.specs.declared.ace.AceType.{AceType}
 use Rattle.acl_nfs4.specs.declared.ace.AceType.TheVariants.{Allow, Deny, Audit, Alarm}
 use Rattle.acl_nfs4.specs.declared.reading.PieceFault.TheVariants.{Syntax, UnknownName, InheritOnly}
@@ -44,9 +45,6 @@ use Rattle.acl_nfs4.proofs.OneBit.{contains-one, lacks-one}
 
 -- ---- bytes of fields
 
-tested_field : (text : List ℕ) → list_all is_field_byte text ≡ true → IsField text
-tested_field text passes = AllPass-from_list_all is_field_byte text passes
-
 type_field : (kind : AceType) → IsField (type_text kind)
 type_field Allow = tested_field (codes "A") refl
 type_field Deny = tested_field (codes "D") refl
@@ -55,12 +53,6 @@ type_field Alarm = tested_field (codes "L") refl
 
 domain_byte_in_field : (byte : ℕ) → stands_in_domain byte ≡ true → is_field_byte byte ≡ true
 domain_byte_in_field byte is = grind (arith, nat_tests)
-
-name_byte_in_field : (byte : ℕ) → continues_name byte ≡ true → is_field_byte byte ≡ true
-name_byte_in_field byte is = grind (arith, nat_tests)
-
-digit_in_field : (byte : ℕ) → is_ascii_digit byte ≡ true → is_field_byte byte ≡ true
-digit_in_field byte is = grind (arith, nat_tests)
 
 domain_byte_no_at : (byte : ℕ) → stands_in_domain byte ≡ true → (byte == 64) ≡ false
 domain_byte_no_at byte is = grind (arith, nat_tests)
@@ -289,7 +281,7 @@ module _ (known : Known) (apart : TellsNamesApart known) where
         nothing,
       )
 
-  pub aces_spelt : (aces : List Nfsace4) → AreAces aces → HaveIds aces → Spells (piece_value known) 128 (aces_text known aces) aces
+  pub aces_spelt : (aces : List Nfsace4) → AreAces aces → HaveIds aces → Spells (piece_value known) MAX_ACES (aces_text known aces) aces
   aces_spelt aces are have =
       let printed = are_printed aces are have in
       record {

@@ -1,36 +1,19 @@
 -- The access check, case by case.
-use Rattle.std.proofs.Common.{◌≡◌, ◌∙◌, ℕ, Bool, true, false, ◌&&◌, ◌==◌, cond, List, [], ◌∷◌, Option, refl, ap, arith}
+use Rattle.std.proofs.Common.{◌≡◌, ◌∙◌, ℕ, ◌+◌, ◌≤◌, Bool, true, false, ◌&&◌, ◌||◌, ◌==◌, cond, List, [], ◌∷◌, Option, Some, None, is_some, option_map, find, refl, sym, ap, arith, inl, inr}
 use Rattle.std.specs.List.{list_any, filter}
 use Rattle.std.specs.Option.{option_map_or}
-use Rattle.std.proofs.lemmas.Bool.{false≢true, lt-ltb}
+use Rattle.std.proofs.lemmas.Bool.{cases_Bool, false≢true, le-ltb, lt-ltb}
 use Rattle.acl_names.specs.Requester.{Identity, is_in_group}
 use Rattle.acl_posix.specs.declared.entry.Tag.{Tag}
 use Rattle.acl_posix.specs.declared.entry.Tag.TheVariants.{UserObj, User, GroupObj, Group, Mask, Other}
 use Rattle.acl_posix.specs.Entry.{Triple, same_tag, perms_of}
 use Rattle.acl_names.specs.Bits.{has_all}
+use Rattle.acl_posix.specs.CheckSteps.{has_tag, tag_answer, tag_has, has_group, group_has, mask_allows}
 use Rattle.acl_posix.specs.Validity.{IsValid, count_of}
 use Rattle.acl_posix.specs.Access.{is_for_group_of, first_nonempty, is_under_mask, masked, effective_perms, grants}
-use Rattle.acl_posix.proofs.AnyLemmas.{list_any-agree, list_any-filter, list_any-and, filter-none}
-use Rattle.acl_posix.proofs.CountLemmas.{list_any-count_by}
+use Rattle.acl_names.proofs.AnyLemmas.{list_any-agree, list_any-filter, list_any-and, list_any-none_and, filter-none, or_false}
+use Rattle.acl_names.proofs.Counting.{count_by-cons, list_any-count_by}
 use Rattle.acl_posix.proofs.PermsLemmas.{and_true, has_all-masked}
-
--- whether there is an entry with the tag, and whether one has the whole of the request
-abbrev pub has_tag : Tag → List Triple → Bool
-has_tag tag acl = list_any (λ entry. same_tag entry.tag tag) acl
-
-abbrev pub tag_has : Tag → List Triple → ℕ → Bool
-tag_has tag acl request = list_any (λ entry. same_tag entry.tag tag && has_all entry.perms request) acl
-
--- the same of the entries for the groups of the requester
-abbrev pub has_group : Identity → ℕ → List Triple → Bool
-has_group requester group acl = list_any (λ entry. is_for_group_of requester group entry.tag) acl
-
-abbrev pub group_has : Identity → ℕ → List Triple → ℕ → Bool
-group_has requester group acl request = list_any (λ entry. is_for_group_of requester group entry.tag && has_all entry.perms request) acl
-
--- whether the mask, where there is one, has the whole of the request
-abbrev pub mask_allows : List Triple → ℕ → Bool
-mask_allows acl request = option_map_or (λ mask. has_all mask request) (perms_of Mask acl) true
 
 -- the effective permissions of an entry with the tag, under the mask
 abbrev effective_under : Option ℕ → Tag → ℕ → ℕ
@@ -92,7 +75,7 @@ first_kept : (p : Triple → Bool) (acl : List Triple) (rest : List (List Triple
     → first_nonempty (filter p acl ∷ rest) ≡ filter p acl
 first_kept p acl rest some =
     first (filter p acl) rest
-    (list_any-filter p (λ _. true) acl ∙ list_any-agree (λ e. p e && true) p (λ e. and_true (p e)) acl ∙ some)
+    (sym (list_any-filter p (λ _. true) acl) ∙ list_any-agree (λ e. p e && true) p (λ e. and_true (p e)) acl ∙ some)
 
 first_dropped : (p : Triple → Bool) (acl : List Triple) (rest : List (List Triple)) → list_any p acl ≡ false
     → first_nonempty (filter p acl ∷ rest) ≡ first_nonempty rest
@@ -136,7 +119,7 @@ module _ (acl : List Triple) (owner group : ℕ) (requester : Identity) (request
   grants-owner is_owner some =
       ap (λ b. one_has acl request (first_nonempty (cond b (filter is_for_owner acl) [] ∷ filter is_for_user acl ∷ groups_on))) is_owner
       ∙ ap (one_has acl request) (first_kept is_for_owner acl (filter is_for_user acl ∷ groups_on) some)
-      ∙ list_any-filter is_for_owner has_effective acl
+      ∙ sym (list_any-filter is_for_owner has_effective acl)
       ∙ list_any-agree (λ e. is_for_owner e && has_effective e) (λ e. is_for_owner e && has_own e)
       (λ e. owner_entry (perms_of Mask acl) e.tag e.perms request) acl
 
@@ -157,7 +140,7 @@ module _ (acl : List Triple) (owner group : ℕ) (requester : Identity) (request
   grants-user not_owner some =
       past_owner not_owner
       ∙ ap (one_has acl request) (first_kept is_for_user acl groups_on some)
-      ∙ list_any-filter is_for_user has_effective acl
+      ∙ sym (list_any-filter is_for_user has_effective acl)
       ∙ list_any-agree (λ e. is_for_user e && has_effective e) (λ e. (is_for_user e && has_own e) && mask_allows acl request)
       (λ e. user_entry (perms_of Mask acl) requester.uid e.tag e.perms request) acl
       ∙ list_any-and (λ e. is_for_user e && has_own e) (mask_allows acl request) acl
@@ -168,7 +151,7 @@ module _ (acl : List Triple) (owner group : ℕ) (requester : Identity) (request
   grants-group not_owner no_user some =
       past_user not_owner no_user
       ∙ ap (one_has acl request) (first_kept is_for_group acl (filter is_for_others acl ∷ []) some)
-      ∙ list_any-filter is_for_group has_effective acl
+      ∙ sym (list_any-filter is_for_group has_effective acl)
       ∙ list_any-agree (λ e. is_for_group e && has_effective e) (λ e. (is_for_group e && has_own e) && mask_allows acl request)
       (λ e. group_entry (perms_of Mask acl) requester group e.tag e.perms request) acl
       ∙ list_any-and (λ e. is_for_group e && has_own e) (mask_allows acl request) acl
@@ -179,6 +162,59 @@ module _ (acl : List Triple) (owner group : ℕ) (requester : Identity) (request
   grants-other not_owner no_user no_group =
       past_user not_owner no_user
       ∙ ap (one_has acl request) (first_dropped is_for_group acl (filter is_for_others acl ∷ []) no_group ∙ only (filter is_for_others acl))
-      ∙ list_any-filter is_for_others has_effective acl
+      ∙ sym (list_any-filter is_for_others has_effective acl)
       ∙ list_any-agree (λ e. is_for_others e && has_effective e) (λ e. is_for_others e && has_own e)
       (λ e. other_entry (perms_of Mask acl) e.tag e.perms request) acl
+
+-- whether there is an entry, by what is found
+pub has_tag-perms_of : (tag : Tag) (acl : List Triple) → has_tag tag acl ≡ is_some (perms_of tag acl)
+has_tag-perms_of tag [] = refl
+has_tag-perms_of tag (x ∷ xs) =
+    elim (same_tag x.tag tag) as (λ b. (b || has_tag tag xs) ≡ is_some (option_map (λ (e : Triple). e.perms) (cond b (Some x) (find (λ (e : Triple). same_tag e.tag tag) xs)))) [
+      | true ↦ refl
+      | false ↦ has_tag-perms_of tag xs
+    ]
+
+-- where a tag stands once at most, its entry has the request if what is found has it
+pub tag_has-perms_of : (tag : Tag) (acl : List Triple) (request : ℕ) → count_of tag acl ≤ 1
+    → tag_has tag acl request ≡ option_map_or (λ perms. has_all perms request) (perms_of tag acl) false
+tag_has-perms_of tag [] request once = refl
+tag_has-perms_of tag (x ∷ xs) request once =
+    let has : Triple → Bool = λ entry. same_tag entry.tag tag in
+    let counts : count_of tag (x ∷ xs) ≡ cond (has x) 1 0 + count_of tag xs = count_by-cons has x xs in
+    elim (cases_Bool (has x)) [
+      | inl passes ↦
+          let one : cond {A = ℕ} (has x) 1 0 ≡ 1 = ap (λ b. cond {A = ℕ} b 1 0) passes in
+          let none : has_tag tag xs ≡ false = list_any-count_by has xs ∙ le-ltb 0 (count_of tag xs) (omega arith) in
+          rw (passes, list_any-none_and has (λ (e : Triple). has_all e.perms request) xs none) (or_false (has_all x.perms request))
+      | inr fails ↦
+          let zero_more : cond {A = ℕ} (has x) 1 0 ≡ 0 = ap (λ b. cond {A = ℕ} b 1 0) fails in
+          rw fails (tag_has-perms_of tag xs request (omega arith))
+    ]
+
+-- what a step answers, and that it applies
+pub answered : (applies answer given : Bool) → Some given ≡ cond applies (Some answer) None → (applies ≡ true) × (given ≡ answer)
+answered true answer given is = (refl, cc)
+answered false answer given is = absurd (cc)
+
+pub unanswered : (applies answer : Bool) → None ≡ cond applies (Some answer) None → applies ≡ false
+unanswered true answer is = absurd (cc)
+unanswered false answer is = refl
+
+-- what an entry that is found answers
+pub tag_answer-found : (tag : Tag) (acl : List Triple) (request : ℕ) → count_of tag acl ≤ 1 → (perms : ℕ) → Some perms ≡ perms_of tag acl
+    → Some (has_all perms request) ≡ tag_answer tag acl request
+tag_answer-found tag acl request once perms found =
+    let there : has_tag tag acl ≡ true = has_tag-perms_of tag acl ∙ ap is_some (sym found) in
+    let has : tag_has tag acl request ≡ has_all perms request =
+    tag_has-perms_of tag acl request once ∙ ap (λ o. option_map_or (λ p. has_all p request) o false) (sym found) in
+    ap Some (sym has) ∙ sym (ap (λ b. cond b (Some (tag_has tag acl request)) None) there)
+
+pub tag_answer-none : (tag : Tag) (acl : List Triple) (request : ℕ) → None ≡ perms_of tag acl → None ≡ tag_answer tag acl request
+tag_answer-none tag acl request found =
+    let absent : has_tag tag acl ≡ false = has_tag-perms_of tag acl ∙ ap is_some (sym found) in
+    sym (ap (λ b. cond b (Some (tag_has tag acl request)) None) absent)
+
+-- where there is no entry, none has the request
+pub tag_has-none : (tag : Tag) (acl : List Triple) (request : ℕ) → has_tag tag acl ≡ false → tag_has tag acl request ≡ false
+tag_has-none tag acl request none = list_any-none_and (λ entry. same_tag entry.tag tag) (λ entry. has_all entry.perms request) acl none

@@ -3,12 +3,14 @@ pub mod CountLemmas
 pub mod ValidityLemmas
 pub mod CanonicalLemmas
 pub mod PermsLemmas
-pub mod AnyLemmas
 pub mod AccessLemmas
 pub mod OrderLemmas
 pub mod PartLemmas
-pub mod SetLemmas
 pub mod FoundLemmas
-pub mod SortLemmas
+pub mod FaultLemmas
 pub mod KindLemmas
 pub mod ModeLemmas
+pub mod RoundTrip
+pub mod ShapeLemmas
+pub mod ReadLemmas
+pub mod CanonicalRules

@@ -12,10 +12,11 @@ use Rattle.acl_posix.specs.Entry.{Triple, same_tag}
 use Rattle.acl_names.specs.Bits.{has_all}
 use Rattle.acl_posix.specs.Validity.{IsValid}
 use Rattle.acl_posix.specs.Access.{is_for_group_of, grants}
-use Rattle.acl_posix.proofs.AnyLemmas.{list_any-none_and}
-use Rattle.acl_posix.proofs.CountLemmas.{count_by-cons, list_any-count_by}
+use Rattle.acl_names.proofs.AnyLemmas.{list_any-none_and}
+use Rattle.acl_names.proofs.Counting.{count_by-cons, list_any-count_by}
 use Rattle.acl_posix.proofs.ValidityLemmas.{IsValid-permutation}
-use Rattle.acl_posix.proofs.AccessLemmas.{has_tag, tag_has, has_group, group_has, mask_allows, has_tag-valid, grants-owner, grants-user, grants-group, grants-other}
+use Rattle.acl_posix.specs.CheckSteps.{has_tag, tag_has, has_group, group_has, mask_allows}
+use Rattle.acl_posix.proofs.AccessLemmas.{has_tag-valid, grants-owner, grants-user, grants-group, grants-other}
 
 -- an only element that passes, and a default where there is none
 only_one : {X : Type 0} (p : X → Bool) (f : X → Bool) (xs : List X) → count_by p xs ≤ 1

@@ -6,3 +6,10 @@ pub mod Canonical
 pub mod Access
 pub mod Kinds
 pub mod Mode
+pub mod PermsText
+pub mod EntryText
+pub mod Shapes
+pub mod PrintedText
+pub mod Views
+pub mod ReadFault
+pub mod CheckSteps

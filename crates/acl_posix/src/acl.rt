@@ -87,9 +87,13 @@ impl Acl {
         ensures acl { IsAcl self.now }
         ensures value { option_map bits_of result ≡ perms_of tag self.now }
     {
-        self.sorted
-            .iter()
-            .find(|entry| entry.tag.is(tag))
-            .map(|entry| entry.perms)
+        let entries = self.sorted.as_slice();
+        match entries.binary_search_by_key(&tag, |entry| entry.tag) {
+            Ok(place) => {
+                let found = &entries[place];
+                Some(found.perms)
+            }
+            Err(_) => None,
+        }
     }
 }

@@ -5,11 +5,16 @@
 mod acl;
 mod entries;
 mod entry;
+mod limits;
 mod mode;
 mod perms;
+mod printing;
+mod reading;
 
 pub use acl::{Acl, Invalid};
 pub use entries::{Entries, TextFault};
 pub use entry::{Entry, Tag};
+pub use limits::MAX_ENTRIES;
 pub use mode::Mode;
-pub use perms::Perms;
+pub use perms::{Perms, read_perms};
+pub use reading::{EntryReader, PieceFault, pieces_have_shapes, read_entries};

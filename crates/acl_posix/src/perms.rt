@@ -1,6 +1,12 @@
-ghost use Rattle.std.specs.Prelude.{⊤, ◌≡◌, ◌==◌, [], ◌∷◌, codes};
-ghost use Rattle.std.specs.Int.RustNames.{bit_and, bit_or};
+//! Sets of permissions.
 
+ghost use Rattle.std.specs.Prelude.{⊤, ◌≡◌, ◌==◌, [], ◌∷◌, IfSome, codes, if◌then◌else◌, option_map};
+ghost use Rattle.std.specs.Int.RustNames.{bit_and, bit_or};
+ghost use Rattle.std.specs.List.{list_all};
+ghost use Rattle.acl_posix.specs.Perms.{bits_of, IsPermissions};
+ghost use Rattle.acl_posix.specs.PermsText.{is_perms_byte, perms_of_text, perms_with, three_letters};
+
+use acl_names::{occurs, repeats};
 use bitflags::{Flag, Flags};
 use std::ops::{BitAnd, BitOr};
 
@@ -32,7 +38,7 @@ impl Perms {
 }
 
 impl Flags for Perms {
-    ghost use Rattle.acl_posix.specs.Perms.{bits_of};
+    ghost use Rattle.acl_posix.specs.Perms.{bits_of, IsPermissions};
 
     type Bits = u8;
 
@@ -58,7 +64,7 @@ impl Flags for Perms {
 impl BitAnd for Perms {
     ghost use Rattle.std.specs.Prelude.{◌≡◌};
     ghost use Rattle.acl_names.specs.Bits.{◌∩◌};
-    ghost use Rattle.acl_posix.specs.Perms.{bits_of};
+    ghost use Rattle.acl_posix.specs.Perms.{bits_of, IsPermissions};
 
     type Output = Perms;
 
@@ -72,7 +78,7 @@ impl BitAnd for Perms {
 impl BitOr for Perms {
     ghost use Rattle.std.specs.Prelude.{◌≡◌};
     ghost use Rattle.acl_names.specs.Bits.{◌∪◌};
-    ghost use Rattle.acl_posix.specs.Perms.{bits_of};
+    ghost use Rattle.acl_posix.specs.Perms.{bits_of, IsPermissions};
 
     type Output = Perms;
 
@@ -81,4 +87,90 @@ impl BitOr for Perms {
     fn bitor(self, other: Perms) -> Perms {
         Perms(self.0 | other.0)
     }
+}
+
+/// The most characters of permissions.
+const MAX_PERMS_LEN: usize = 3;
+
+/// Which of the three permissions a printed text has.
+#[derive(Clone, Copy)]
+struct Printed {
+    read: bool,
+    write: bool,
+    execute: bool,
+}
+
+/// What 1 to 3 characters out of `r`, `w`, `x` and `-` say, of which no letter stands twice. It says no other permissions.
+pub fn read_perms(text: &[u8]) -> Option<Perms>
+    ensures value { option_map bits_of result ≡ perms_of_text text.now }
+    ensures permissions { IfSome result (λ perms. IsPermissions (bits_of perms)) }
+{
+    match read_printed(text) {
+        Some(printed) => Some(perms_with(printed.read, printed.write, printed.execute)),
+        None => read_letters(text),
+    }
+}
+
+/// The permissions whose printed text this is: most texts are printed ones.
+fn read_printed(text: &[u8]) -> Option<Printed>
+    ensures { IfSome result (λ printed. text.now ≡ three_letters printed.read printed.write printed.execute) }
+{
+    if text.len() != MAX_PERMS_LEN {
+        return None;
+    }
+    let read = letter_or_dash(text[0], b'r')?;
+    let write = letter_or_dash(text[1], b'w')?;
+    let execute = letter_or_dash(text[2], b'x')?;
+    Some(Printed {
+        read,
+        write,
+        execute,
+    })
+}
+
+#[tactic(auto, unfolding(crate::specs::PermsText::perms_of_text))]
+fn read_letters(text: &[u8]) -> Option<Perms>
+    ensures value { option_map bits_of result ≡ perms_of_text text.now }
+    ensures permissions { IfSome result (λ perms. IsPermissions (bits_of perms)) }
+{
+    if text.is_empty() || text.len() > MAX_PERMS_LEN || !are_perms_bytes(text) {
+        return None;
+    }
+    if repeats(text, b'r') || repeats(text, b'w') || repeats(text, b'x') {
+        return None;
+    }
+    Some(perms_with(occurs(text, b'r'), occurs(text, b'w'), occurs(text, b'x')))
+}
+
+/// The permissions to read, to write and to execute, of which there are these.
+fn perms_with(read: bool, write: bool, execute: bool) -> Perms
+    ensures value { bits_of result ≡ perms_with read write execute }
+    ensures permissions { IsPermissions (bits_of result) }
+{
+    perms_if(read, Perms::READ) | perms_if(write, Perms::WRITE) | perms_if(execute, Perms::EXECUTE)
+}
+
+fn perms_if(there: bool, perms: Perms) -> Perms
+    ensures { bits_of result ≡ (if there then bits_of perms else 0) }
+{
+    if there { perms } else { Perms::empty() }
+}
+
+fn letter_or_dash(byte: u8, letter: u8) -> Option<bool>
+    ensures { IfSome result (λ stands. byte ≡ (if stands then letter else 45)) }
+{
+    if byte == letter {
+        Some(true)
+    } else if byte == b'-' {
+        Some(false)
+    } else {
+        None
+    }
+}
+
+fn are_perms_bytes(text: &[u8]) -> bool
+    ensures { result ≡ list_all is_perms_byte text.now }
+{
+    text.iter()
+        .all(|byte| matches!(*byte, b'r' | b'w' | b'x' | b'-'))
 }

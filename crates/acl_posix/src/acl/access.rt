@@ -1,30 +1,24 @@
-ghost use Rattle.std.specs.Prelude.{◌≡◌, ◌&&◌, true, List};
+//! The access check.
+
+ghost use Rattle.std.specs.Prelude.{◌≡◌, ◌&&◌, List};
 ghost use Rattle.std.specs.List.{list_any};
 ghost use Rattle.std.specs.List.Sorted.{IsPermutation};
-ghost use Rattle.std.specs.Option.{option_map_or};
-ghost use Rattle.acl_posix.specs.Entry.{Triple, same_tag, perms_of};
-ghost use Rattle.acl_posix.specs.Access.{grants, is_for_group_of};
-ghost use Rattle.acl_posix.specs.Validity.{IsValid};
 ghost use Rattle.acl_names.specs.Bits.{has_all};
+ghost use Rattle.acl_posix.specs.Access.{grants, is_for_group_of};
+ghost use Rattle.acl_posix.specs.CheckSteps.{group_answer, groups_answer, mask_allows, tag_answer, tag_has, user_answer};
+ghost use Rattle.acl_posix.specs.Entry.{Triple};
 ghost use Rattle.acl_posix.specs.Perms.{bits_of};
+ghost use Rattle.acl_posix.specs.Validity.{IsValid};
 
-use crate::{Acl, Perms, Tag};
+use crate::{Acl, Entry, Perms, Tag};
 use acl_names::{Gid, Requester, Uid};
 use bitflags::Flags;
 
-/// Whether it is the tag of a group that the requester is in: the file's group, or one by its id.
-fn is_for_group_of(requester: &Requester, group: Gid, tag: Tag) -> bool
-    ensures { result ≡ is_for_group_of requester.now group tag }
-{
-    match tag {
-        Tag::GroupObj => requester.is_in_group(group),
-        Tag::Group(gid) => requester.is_in_group(gid),
-        _ => false,
-    }
-}
-
 impl Acl {
-    /// Whether the requester may do all of what is requested with a file of this owner and this group.
+    /// Whether the requester may do all of what is requested with a file of this owner and this group: the access check of
+    /// 1003.1e draft 17, section 23.1.5. The owner's entry decides for the owner, else the user's own entry, else the entries
+    /// for the file's group and for groups by their ids of which the requester is in some: one of them must have all of the
+    /// request. Else the others' entry decides. It takes no memory.
     pub fn grants(&self, owner: Uid, group: Gid, requester: &Requester, request: Perms) -> bool
         ensures value { result ≡ grants self.now owner group requester.now (bits_of request) }
 
@@ -34,77 +28,101 @@ impl Acl {
     {
         let uid = requester.uid();
         if uid == owner {
-            self.tag_has(Tag::UserObj, request)
-        } else if self.has_tag(Tag::User(uid)) {
-            self.user_has(uid, request)
-        } else if self.has_group_of(requester, group) {
-            self.group_has(requester, group, request)
-        } else {
-            self.tag_has(Tag::Other, request)
+            return self.tag_has(Tag::UserObj, request);
+        }
+        match self.user_answer(uid, request) {
+            Some(answer) => answer,
+            None => match self.group_answer(requester, group, request) {
+                Some(answer) => answer,
+                None => self.tag_has(Tag::Other, request),
+            },
         }
     }
 
-    /// Whether there is an entry with the tag.
-    fn has_tag(&self, tag: Tag) -> bool
-        ensures valid { IsValid self.now }
-        ensures value { result ≡ list_any (λ entry. same_tag entry.tag tag) self.now }
-    {
-        self.sorted.iter().any(|entry| entry.tag.is(tag))
-    }
-
-    /// Whether an entry with the tag has all of the request.
+    /// Whether the entry with the tag has all of the request; none has where there is no such entry.
     fn tag_has(&self, tag: Tag, request: Perms) -> bool
         ensures valid { IsValid self.now }
-        ensures value { result ≡ list_any (λ entry. same_tag entry.tag tag && has_all entry.perms (bits_of request)) self.now }
+        ensures value { result ≡ tag_has tag self.now (bits_of request) }
     {
-        self.sorted
-            .iter()
-            .any(|entry| entry.tag.is(tag) && entry.perms.contains(request))
+        match self.tag_answer(tag, request) {
+            Some(has) => has,
+            None => false,
+        }
     }
 
-    /// Whether there is an entry for a group of the requester.
-    fn has_group_of(&self, requester: &Requester, group: Gid) -> bool
-        ensures { result ≡ list_any (λ entry. is_for_group_of requester.now group entry.tag) self.now }
+    /// Whether the entry of the user and the mask have all of the request, where there is such an entry.
+    fn user_answer(&self, uid: Uid, request: Perms) -> Option<bool>
+        ensures valid { IsValid self.now }
+        ensures value { result ≡ user_answer self.now uid (bits_of request) }
     {
-        self.sorted
-            .iter()
-            .any(|entry| is_for_group_of(requester, group, entry.tag))
+        match self.tag_answer(Tag::User(uid), request) {
+            Some(has) => Some(has && self.mask_allows(request)),
+            None => None,
+        }
     }
 
-    /// Whether the user's entry and the mask have all of the request.
-    fn user_has(&self, uid: Uid, request: Perms) -> bool
-        ensures { result
-            ≡ (list_any (λ entry. same_tag entry.tag (Tag.User uid) && has_all entry.perms (bits_of request)) self.now
-            && option_map_or (λ mask. has_all mask (bits_of request)) (perms_of Tag.Mask self.now) true) }
+    /// Whether the entry with the tag has all of the request, where there is such an entry.
+    fn tag_answer(&self, tag: Tag, request: Perms) -> Option<bool>
+        ensures valid { IsValid self.now }
+        ensures value { result ≡ tag_answer tag self.now (bits_of request) }
     {
-        self.tag_has(Tag::User(uid), request) && self.mask_allows(request)
+        match self.perms_of(tag) {
+            Some(perms) => Some(perms.contains(request)),
+            None => None,
+        }
     }
 
-    /// Whether an entry for a group of the requester, and the mask, have all of the request.
-    fn group_has(&self, requester: &Requester, group: Gid, request: Perms) -> bool
-        ensures { result
-            ≡ (list_any (λ entry. is_for_group_of requester.now group entry.tag && has_all entry.perms (bits_of request)) self.now
-            && option_map_or (λ mask. has_all mask (bits_of request)) (perms_of Tag.Mask self.now) true) }
+    /// Whether an entry for a group of the requester, and the mask, have all of the request, where there is such an entry.
+    fn group_answer(&self, requester: &Requester, group: Gid, request: Perms) -> Option<bool>
+        ensures valid { IsValid self.now }
+        ensures value { result ≡ group_answer self.now group requester.now (bits_of request) }
     {
-        self.group_entry_has(requester, group, request) && self.mask_allows(request)
-    }
-
-    /// Whether an entry for a group of the requester has all of the request.
-    fn group_entry_has(&self, requester: &Requester, group: Gid, request: Perms) -> bool
-        ensures { result
-            ≡ list_any (λ entry. is_for_group_of requester.now group entry.tag && has_all entry.perms (bits_of request)) self.now }
-    {
-        self.sorted.iter().any(|entry| is_for_group_of(requester, group, entry.tag)
-            && entry.perms.contains(request))
+        match groups_answer(self.entries(), requester, group, request) {
+            Some(has) => Some(has && self.mask_allows(request)),
+            None => None,
+        }
     }
 
     /// Whether the mask, where there is one, has all of the request.
     fn mask_allows(&self, request: Perms) -> bool
-        ensures { result ≡ option_map_or (λ mask. has_all mask (bits_of request)) (perms_of Tag.Mask self.now) true }
+        ensures { result ≡ mask_allows self.now (bits_of request) }
     {
         match self.mask() {
             Some(mask) => mask.contains(request),
             None => true,
         }
+    }
+}
+
+/// Whether one of the entries for a group of the requester has all of the request, where there are such entries. It looks at
+/// each entry once, and no further than the first that has it.
+fn groups_answer(
+    entries: &[Entry],
+    requester: &Requester,
+    group: Gid,
+    request: Perms,
+) -> Option<bool>
+    ensures { result ≡ groups_answer entries.now group requester.now (bits_of request) }
+{
+    let mut answer = None;
+    for entry in entries {
+        if is_for_group_of(requester, group, &entry.tag) {
+            if entry.perms.contains(request) {
+                return Some(true);
+            }
+            answer = Some(false);
+        }
+    }
+    answer
+}
+
+/// Whether it is the tag of a group that the requester is in: the file's group, or one by its id.
+fn is_for_group_of(requester: &Requester, group: Gid, tag: &Tag) -> bool
+    ensures { result ≡ is_for_group_of requester.now group tag.now }
+{
+    match tag {
+        Tag::GroupObj => requester.is_in_group(group),
+        Tag::Group(gid) => requester.is_in_group(*gid),
+        _ => false,
     }
 }

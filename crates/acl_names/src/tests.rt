@@ -1,0 +1,5 @@
+//! Worked examples.
+mod directory;
+mod fixture;
+mod refused_growths;
+mod text;

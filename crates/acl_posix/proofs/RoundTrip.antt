@@ -1,0 +1,188 @@
+-- The printed text of entries spells them.
+use Rattle.std.proofs.Common.{◌≡◌, ℕ, ◌≤◌, ◌<◌, Bool, true, false, not, zero, suc, List, [], ◌∷◌, ◌++◌, length, map, Option, Some, None, option_and_then, Ok, refl, ap, ◌∙◌, arith, codes, length-append, ◌&&◌, if◌then◌else◌}
+use Rattle.std.specs.List.{All, AllByRecursion, join_with_byte, list_all}
+use Rattle.std.proofs.lemmas.List.Elements.{All-nil, All-head, All-tail, All-weaker}
+use Rattle.std.proofs.lemmas.List.Sums.{AllPass-from_list_all}
+use Rattle.acl_names.specs.Ids.{ReadBack, Written, written_id, max_id, id_text, resolved}
+use Rattle.acl_names.specs.Directory.{Known, TellsNamesApart, uid_of, gid_of, user_name, group_name}
+use Rattle.acl_names.specs.Pieces.{pieces}
+use Rattle.acl_names.specs.ListText.{Say, Spells}
+use Rattle.acl_names.proofs.IdTexts.{id_again}
+use Rattle.acl_names.proofs.Fields.{is_field_byte, IsField, id_field, fields_again, joined_plain, tested_field}
+use Rattle.acl_names.proofs.PlainLines.{IsPlain, IsMark, nothing, comment, plain_lacks_newline, is_plain, pieces_of_lines}
+use Rattle.acl_posix.specs.Entry.{Triple, HavePermissions}
+use Rattle.acl_posix.specs.declared.limits.TheConstants.{MAX_ENTRIES}
+use Rattle.acl_posix.specs.declared.entry.Tag.{Tag}
+use Rattle.acl_posix.specs.declared.entry.Tag.TheVariants.{UserObj, User, GroupObj, Group, Mask, Other}
+use Rattle.acl_posix.specs.declared.reading.PieceFault.TheVariants.{Syntax, UnknownName}
+use Rattle.acl_posix.specs.declared.reading.TagWord.{TagWord}
+use Rattle.acl_posix.specs.declared.reading.TagWord.TheVariants as word
+use Rattle.acl_posix.specs.PermsText.{perms_of_text, perms_text, three_letters}
+use Rattle.acl_posix.specs.Access.{is_under_mask}
+use Rattle.acl_posix.specs.Perms.{IsPermissions}
+use Rattle.acl_names.specs.Bits.{◌∩◌, has_all}
+use Rattle.acl_posix.specs.EntryText.{Fields, as_fields, fields_of, tag_word, tag_of, qualified, entry_of}
+use Rattle.acl_names.specs.Steps.{or_fault, ◌>>=◌}
+use Rattle.acl_posix.specs.PrintedText.{word_text, qualifier_text, entry_text, effective_mark, effective_text, HasId, HaveIds}
+
+-- permissions are read again
+perms_again : (perms : ℕ) → IsPermissions perms → perms_of_text (perms_text perms) ≡ Some perms
+unfolding perms_of_text
+perms_again zero known = refl
+perms_again (suc zero) known = refl
+perms_again (suc (suc zero)) known = refl
+perms_again (suc (suc (suc zero))) known = refl
+perms_again (suc (suc (suc (suc zero)))) known = refl
+perms_again (suc (suc (suc (suc (suc zero))))) known = refl
+perms_again (suc (suc (suc (suc (suc (suc zero)))))) known = refl
+perms_again (suc (suc (suc (suc (suc (suc (suc zero))))))) known = refl
+perms_again (suc (suc (suc (suc (suc (suc (suc (suc perms)))))))) known = absurd (omega arith)
+
+three_pass : (read write execute : Bool) → list_all is_field_byte (three_letters read write execute) ≡ true
+three_pass true true true = refl
+three_pass true true false = refl
+three_pass true false true = refl
+three_pass true false false = refl
+three_pass false true true = refl
+three_pass false true false = refl
+three_pass false false true = refl
+three_pass false false false = refl
+
+perms_field : (perms : ℕ) → IsField (perms_text perms)
+perms_field perms = tested_field (perms_text perms) (three_pass (has_all perms 4) (has_all perms 2) (has_all perms 1))
+
+word_field : (tag : Tag) → IsField (word_text tag)
+word_field UserObj = tested_field (codes "user") refl
+word_field (User uid) = tested_field (codes "user") refl
+word_field GroupObj = tested_field (codes "group") refl
+word_field (Group gid) = tested_field (codes "group") refl
+word_field Mask = tested_field (codes "mask") refl
+word_field Other = tested_field (codes "other") refl
+
+qualifier_field : (known : Known) (tag : Tag) → TellsNamesApart known → HasId tag → IsField (qualifier_text known tag)
+qualifier_field known (User uid) is has = (id_field (uid_of known) (user_name known) uid is.users has).0
+qualifier_field known (Group gid) is has = (id_field (gid_of known) (group_name known) gid is.groups has).0
+qualifier_field known UserObj is has = All-nil (λ byte. is_field_byte byte ≡ true)
+qualifier_field known GroupObj is has = All-nil (λ byte. is_field_byte byte ≡ true)
+qualifier_field known Mask is has = All-nil (λ byte. is_field_byte byte ≡ true)
+qualifier_field known Other is has = All-nil (λ byte. is_field_byte byte ≡ true)
+
+fields_are : (known : Known) (entry : Triple) → TellsNamesApart known → HasId entry.tag
+    → AllByRecursion IsField (word_text entry.tag ∷ qualifier_text known entry.tag ∷ perms_text entry.perms ∷ [])
+fields_are known entry is has = (word_field entry.tag, (qualifier_field known entry.tag is has, (perms_field entry.perms, tt)))
+
+-- the word of each tag
+word_of : Tag → TagWord
+word_of UserObj = word.User
+word_of (User uid) = word.User
+word_of GroupObj = word.Group
+word_of (Group gid) = word.Group
+word_of Mask = word.Mask
+word_of Other = word.Other
+
+word_again : (tag : Tag) → tag_word (word_text tag) ≡ Some (word_of tag)
+unfolding word_of
+word_again UserObj = refl
+word_again (User uid) = refl
+word_again GroupObj = refl
+word_again (Group gid) = refl
+word_again Mask = refl
+word_again Other = refl
+
+-- an id that is written and resolved gives its tag
+pub qualified_by : (tag : ℕ → Tag) (id_of : List ℕ → Option ℕ) (id : ℕ) (written : Option Written) → option_and_then (resolved id_of) written ≡ Some id
+    → (or_fault Syntax written >>= (λ w. or_fault UnknownName (resolved id_of w) >>= (λ n. Ok (tag n)))) ≡ Ok (tag id)
+qualified_by tag id_of id None e = cc
+qualified_by tag id_of id (Some w) e = ap (λ found. or_fault UnknownName found >>= (λ n. Ok (tag n))) e
+
+qualified_again : (tag : ℕ → Tag) (id_of : List ℕ → Option ℕ) (name_of : ℕ → Option (List ℕ)) (id : ℕ) → ReadBack id_of name_of → id ≤ max_id
+    → qualified tag id_of (id_text name_of id) ≡ Ok (tag id)
+qualified_again tag id_of name_of id back small = qualified_by tag id_of id (written_id (id_text name_of id)) (id_again id_of name_of id back small)
+
+pub user_tag : (known : Known) (text : List ℕ) → 0 < length text → tag_of known word.User (Some text) ≡ qualified (λ uid. User uid) (uid_of known) text
+user_tag known [] some = absurd (omega arith)
+user_tag known (byte ∷ bytes) some = refl
+
+pub group_tag : (known : Known) (text : List ℕ) → 0 < length text → tag_of known word.Group (Some text) ≡ qualified (λ gid. Group gid) (gid_of known) text
+group_tag known [] some = absurd (omega arith)
+group_tag known (byte ∷ bytes) some = refl
+
+tag_again : (known : Known) (tag : Tag) → TellsNamesApart known → HasId tag → tag_of known (word_of tag) (Some (qualifier_text known tag)) ≡ Ok tag
+unfolding word_of
+tag_again known UserObj is has = refl
+tag_again known GroupObj is has = refl
+tag_again known Mask is has = refl
+tag_again known Other is has = refl
+tag_again known (User uid) is has =
+    user_tag known (id_text (user_name known) uid) (id_field (uid_of known) (user_name known) uid is.users has).1 ∙ qualified_again (λ uid. User uid) (uid_of known) (user_name known) uid is.users has
+tag_again known (Group gid) is has =
+    group_tag known (id_text (group_name known) gid) (id_field (gid_of known) (group_name known) gid is.groups has).1 ∙ qualified_again (λ gid. Group gid) (gid_of known) (group_name known) gid is.groups has
+
+-- a piece whose parts are read is read
+pub read_parts : (known : Known) (piece : List ℕ) (fields : Fields) (word : TagWord) (perms : ℕ) (tag : Tag)
+    → fields_of piece ≡ Some fields → tag_word fields.tag ≡ Some word → perms_of_text fields.perms ≡ Some perms → tag_of known word fields.qualifier ≡ Ok tag
+    → entry_of known piece ≡ Ok (record { tag = tag; perms = perms })
+unfolding entry_of
+read_parts known piece fields word perms tag cut said allowed tagged = rw (cut, said, allowed, tagged) refl
+
+-- an entry is read again
+pub entry_again : (known : Known) (entry : Triple) → TellsNamesApart known → HasId entry.tag → IsPermissions entry.perms → entry_of known (entry_text known entry) ≡ Ok entry
+entry_again known entry is has allowed =
+    let fields : Fields = record { tag = word_text entry.tag; qualifier = Some (qualifier_text known entry.tag); perms = perms_text entry.perms } in
+    let cut : fields_of (entry_text known entry) ≡ Some fields = ap as_fields (fields_again (word_text entry.tag) (qualifier_text known entry.tag ∷ perms_text entry.perms ∷ []) (fields_are known entry is has)) in
+    read_parts known (entry_text known entry) fields (word_of entry.tag) entry.perms entry.tag cut (word_again entry.tag)
+    (perms_again entry.perms allowed) (tag_again known entry.tag is has)
+
+marked_three_pass : (read write execute : Bool) → list_all is_plain (codes "effective:" ++ three_letters read write execute) ≡ true
+marked_three_pass true true true = refl
+marked_three_pass true true false = refl
+marked_three_pass true false true = refl
+marked_three_pass true false false = refl
+marked_three_pass false true true = refl
+marked_three_pass false true false = refl
+marked_three_pass false false true = refl
+marked_three_pass false false false = refl
+
+-- a mark is a comment
+mark_if : (limits : Bool) (left : ℕ) → IsMark (if limits then 9 ∷ codes "#effective:" ++ perms_text left else [])
+mark_if false left = nothing
+mark_if true left =
+    let text = codes "effective:" ++ perms_text left in
+    comment text (plain_lacks_newline text (AllPass-from_list_all is_plain text (marked_three_pass (has_all left 4) (has_all left 2) (has_all left 1))))
+
+mark_is : (mask : Option ℕ) (entry : Triple) → IsMark (effective_mark mask entry)
+mark_is None entry = nothing
+mark_is (Some mask) entry = mark_if (is_under_mask entry.tag && not (has_all mask entry.perms)) (entry.perms ∩ mask)
+
+-- what a printed line is made of
+abbrev IsLine : Known → Option ℕ → Triple → Type 0
+IsLine known mask entry = (0 < length (entry_text known entry)) × IsPlain (entry_text known entry) × IsMark (effective_mark mask entry)
+
+line_is : (known : Known) (mask : Option ℕ) (entry : Triple) → TellsNamesApart known → HasId entry.tag → IsLine known mask entry
+line_is known mask entry is has =
+    let rest = qualifier_text known entry.tag ∷ perms_text entry.perms ∷ [] in (
+      omega (arith, length-append (word_text entry.tag) (58 ∷ join_with_byte 58 rest)),
+      joined_plain (word_text entry.tag) rest (fields_are known entry is has),
+      mark_is mask entry,
+    )
+
+-- each printed entry says the entry
+each_again : (known : Known) (entries : List Triple) → TellsNamesApart known → HaveIds entries → HavePermissions entries → Say (entry_of known) (map (entry_text known) entries) entries
+each_again known [] is have known_perms = refl
+each_again known (entry ∷ entries) is have known_perms =
+    let has : HasId entry.tag = All-head (λ (e : Triple). HasId e.tag) entry entries have in
+    let allowed : IsPermissions entry.perms = All-head (λ (e : Triple). IsPermissions e.perms) entry entries known_perms in
+    rw (
+      entry_again known entry is has allowed,
+      each_again known entries is (All-tail (λ (e : Triple). HasId e.tag) entry entries have) (All-tail (λ (e : Triple). IsPermissions e.perms) entry entries known_perms),
+    ) refl
+
+pub text_says : (known : Known) (mask : Option ℕ) (entries : List Triple) → TellsNamesApart known → HaveIds entries → HavePermissions entries → Say (entry_of known) (pieces (effective_text known mask entries)) entries
+text_says known mask entries is have known_perms =
+    let lines : All (IsLine known mask) entries = All-weaker (λ (e : Triple). HasId e.tag) (IsLine known mask) (λ e has. line_is known mask e is has) entries have in
+    ap (map (entry_of known)) (pieces_of_lines (entry_text known) (effective_mark mask) entries lines) ∙ each_again known entries is have known_perms
+
+-- the printed text spells the entries
+pub text_spells : (known : Known) (mask : Option ℕ) (entries : List Triple) → TellsNamesApart known → HaveIds entries → HavePermissions entries → length entries ≤ MAX_ENTRIES
+    → Spells (entry_of known) MAX_ENTRIES (effective_text known mask entries) entries
+text_spells known mask entries is have known_perms few = record { said = text_says known mask entries is have known_perms; within = few }

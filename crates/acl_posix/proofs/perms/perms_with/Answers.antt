@@ -1,0 +1,7 @@
+use Rattle.acl_posix.proofs.ReadLemmas.{perms_with-IsPermissions}
+use Rattle.acl_posix.proofs.perms.perms_with.Goals as goal
+
+pub returns-clause-permissions : goal.returns-clause-permissions
+returns-clause-permissions c =
+    rw (c.bitor-2.ensures, c.bitor.ensures, c.perms_if.ensures, c.perms_if-2.ensures, c.perms_if-3.ensures)
+    (perms_with-IsPermissions c.args.read c.args.write c.args.execute)

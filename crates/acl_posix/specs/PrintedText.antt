@@ -1,0 +1,67 @@
+-- How POSIX ACLs are printed: the long text form of 1003.1e draft 17, section 23.3, and its marks of effective permissions.
+use Rattle.std.specs.Prelude.{ℕ, ◌≤◌, ◌&&◌, not, List, [], ◌∷◌, ◌++◌, Option, Some, None, codes, if◌then◌else◌}
+use Rattle.std.specs.List.{flat_map, join_with_byte, All}
+use Rattle.acl_names.specs.Bits.{◌∩◌, has_all}
+use Rattle.acl_names.specs.Directory.{Known, group_name, user_name}
+use Rattle.acl_names.specs.Ids.{max_id, id_text}
+use Rattle.acl_posix.specs.Access.{is_under_mask}
+use Rattle.acl_posix.specs.PermsText.{perms_text}
+use Rattle.acl_posix.specs.Entry.{Triple}
+use Rattle.acl_posix.specs.declared.entry.Tag.{Tag}
+use Rattle.acl_posix.specs.declared.entry.Tag.TheVariants.{UserObj, User, GroupObj, Group, Mask, Other}
+
+-- the full word of a tag
+abbrev pub word_text : Tag → List ℕ
+word_text UserObj = codes "user"
+word_text (User uid) = codes "user"
+word_text GroupObj = codes "group"
+word_text (Group gid) = codes "group"
+word_text Mask = codes "mask"
+word_text Other = codes "other"
+
+abbrev pub qualifier_text : Known → Tag → List ℕ
+qualifier_text known (User uid) = id_text (user_name known) uid
+qualifier_text known (Group gid) = id_text (group_name known) gid
+qualifier_text known UserObj = []
+qualifier_text known GroupObj = []
+qualifier_text known Mask = []
+qualifier_text known Other = []
+
+-- `tag:qualifier:perms`
+abbrev pub entry_text : Known → Triple → List ℕ
+entry_text known entry = join_with_byte 58 (word_text entry.tag ∷ qualifier_text known entry.tag ∷ perms_text entry.perms ∷ [])
+
+-- one entry per line
+abbrev pub long_text : Known → List Triple → List ℕ
+long_text known = flat_map (λ entry. entry_text known entry ++ 10 ∷ [])
+
+-- a tab, `#effective:` and three characters, where permissions are left by a mask that removes some
+abbrev pub mark_of : Option ℕ → List ℕ
+mark_of None = []
+mark_of (Some left) = 9 ∷ codes "#effective:" ++ perms_text left
+
+-- the mark of an entry, where the mask removes something from it
+abbrev pub effective_mark : Option ℕ → Triple → List ℕ
+effective_mark None entry = []
+effective_mark (Some mask) entry = if is_under_mask entry.tag && not (has_all mask entry.perms) then mark_of (Some (entry.perms ∩ mask)) else []
+
+-- a line: the entry, its mark, and a newline
+abbrev pub line_text : Known → Option ℕ → Triple → List ℕ
+line_text known mask entry = entry_text known entry ++ (effective_mark mask entry ++ 10 ∷ [])
+
+-- one entry per line, with its mark
+abbrev pub effective_text : Known → Option ℕ → List Triple → List ℕ
+effective_text known mask = flat_map (line_text known mask)
+
+-- an id within the range of ids; other tags have none
+abbrev pub HasId : Tag → Type 0
+HasId (User uid) = uid ≤ max_id
+HasId (Group gid) = gid ≤ max_id
+HasId UserObj = Unit {0}
+HasId GroupObj = Unit {0}
+HasId Mask = Unit {0}
+HasId Other = Unit {0}
+
+-- the ids of the entries are within their range
+abbrev pub HaveIds : List Triple → Type 0
+HaveIds = All (λ entry. HasId entry.tag)

@@ -1,0 +1,23 @@
+-- Which fault a text of entries is refused for.
+use Rattle.std.specs.Prelude.{ℕ, List}
+use Rattle.acl_names.specs.Directory.{Known}
+use Rattle.acl_names.specs.ListText.{IsFaultOf}
+use Rattle.acl_names.specs.declared.list.ListFault.{ListFault}
+use Rattle.acl_names.specs.declared.list.ListFault.TheVariants as list
+use Rattle.acl_posix.specs.EntryText.{entry_of}
+use Rattle.acl_posix.specs.declared.entries.TextFault.{TextFault}
+use Rattle.acl_posix.specs.declared.entries.TextFault.TheVariants.{Syntax, UnknownName, TooMany, Memory}
+use Rattle.acl_posix.specs.declared.limits.TheConstants.{MAX_ENTRIES}
+use Rattle.acl_posix.specs.declared.reading.PieceFault.{PieceFault}
+use Rattle.acl_posix.specs.declared.reading.PieceFault.TheVariants as piece
+
+-- the fault of a list of pieces that a text's fault is
+abbrev pub list_fault : TextFault → ListFault PieceFault
+list_fault Syntax = list.Piece piece.Syntax
+list_fault UnknownName = list.Piece piece.UnknownName
+list_fault TooMany = list.TooMany
+list_fault Memory = list.Memory
+
+-- the fault of the leftmost piece that is no entry or is one too many
+abbrev pub IsTextFault : Known → List ℕ → TextFault → Type 0
+IsTextFault known text fault = IsFaultOf (entry_of known) MAX_ENTRIES text (list_fault fault)

@@ -1,0 +1,8 @@
+-- What contracts see of the types of this crate.
+use Rattle.std.specs.Prelude.{option_map}
+use Rattle.acl_posix.specs.EntryText as text
+use Rattle.acl_posix.specs.declared.reading.Fields.{Fields}
+
+-- without where the fields lie in memory
+abbrev pub view_fields : Fields → text.Fields
+view_fields fields = record { tag = fields.tag.now; qualifier = option_map (λ bytes. bytes.now) fields.qualifier; perms = fields.perms.now }

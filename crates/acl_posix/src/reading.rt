@@ -1,0 +1,164 @@
+//! Reading entries.
+
+ghost use Rattle.std.specs.Prelude.{◌≡◌, ◌↔◌, ℕ, List, Ok, option_map, IfOk, IfErr, MatchResult};
+ghost use Rattle.acl_names.specs.ListText.{Spells};
+ghost use Rattle.acl_posix.specs.EntryText.{entry_of, fields_of, tag_of, tag_word, qualified};
+ghost use Rattle.acl_names.specs.Directory.{Known, uid_of, gid_of};
+ghost use Rattle.acl_posix.specs.Shapes.{HasShape};
+ghost use Rattle.acl_posix.specs.Views.{view_fields};
+ghost use Rattle.acl_posix.specs.Entry.{Triple};
+ghost use Rattle.acl_posix.specs.ReadFault.{IsTextFault, list_fault};
+
+use crate::limits::MAX_ENTRIES;
+use crate::perms::read_perms;
+use crate::{Entries, Entry, Tag, TextFault};
+use acl_names::{Directory, ListFault, Parts, PieceReader, WrittenId, read_list, trim_blanks};
+use std::alloc::Global;
+
+/// The word that an entry begins with.
+#[derive(Clone, Copy, Debug, PartialEq, Eq)]
+enum TagWord {
+    User,
+    Group,
+    Mask,
+    Other,
+}
+
+/// The fields of an entry, of which the qualifier may be left out.
+#[derive(Clone, Copy, Debug)]
+struct Fields<'a> {
+    tag: &'a [u8],
+    qualifier: Option<&'a [u8]>,
+    perms: &'a [u8],
+}
+
+/// What is wrong with one piece of a text.
+#[derive(Clone, Copy, Debug, PartialEq, Eq)]
+pub enum PieceFault {
+    /// It has none of the shapes of entries.
+    Syntax,
+    /// It has the shape of one, with a well-shaped name that the directory lacks.
+    UnknownName,
+}
+
+/// Reads entries whose names a directory knows.
+#[derive(Drop)]
+pub struct EntryReader<'a> {
+    pub directory: &'a Directory,
+}
+
+impl<'a> PieceReader for EntryReader<'a> {
+    type Value = Entry;
+
+    type Fault = PieceFault;
+
+    ghost value_of = { λ reader. entry_of reader.directory.now };
+
+    #[tactic(auto, unfolding(crate::specs::EntryText::entry_of))]
+    fn read(&self, piece: &[u8]) -> Result<Entry, PieceFault> {
+        let fields = read_fields(piece).ok_or(PieceFault::Syntax)?;
+        let word = read_tag_word(fields.tag).ok_or(PieceFault::Syntax)?;
+        let perms = read_perms(fields.perms).ok_or(PieceFault::Syntax)?;
+        let tag = read_tag(self.directory, word, fields.qualifier)?;
+        Ok(Entry { tag, perms })
+    }
+}
+
+/// The entries that the text spells: lines, of which each is cut at its first `#`, and between commas the entries, each of
+/// one of the shapes of the long text form (1003.1e draft 17, section 23.3), with blanks round the fields.
+///
+/// It refuses a text for its first piece that is no entry, `Syntax` or `UnknownName`, or that is one too many, before that
+/// piece is read; and for want of memory, even where a fault further on isn't yet found. A text of no entries is none.
+pub fn read_entries(alloc: Global, text: &[u8], directory: &Directory) -> Result<Entries, TextFault>
+    ensures read { IfOk result (λ entries. Spells (entry_of directory.now) MAX_ENTRIES text.now entries) }
+    ensures fault { IfErr result (IsTextFault directory.now text.now) }
+    // What is spelt is read, unless memory runs out; so a text spells at most one list.
+    ensures only { (entries : List Triple) → Spells (entry_of directory.now) MAX_ENTRIES text.now entries
+        → MatchResult result (λ read. read ≡ entries) (λ fault. fault ≡ TextFault.Memory) }
+{
+    match read_list(alloc, &EntryReader { directory }, MAX_ENTRIES, text) {
+        Ok(items) => Ok(Entries::of_items(items)),
+        Err(fault) => Err(text_fault(fault)),
+    }
+}
+
+fn text_fault(fault: ListFault<PieceFault>) -> TextFault
+    ensures { list_fault result ≡ fault }
+{
+    match fault {
+        ListFault::Piece(PieceFault::Syntax) => TextFault::Syntax,
+        ListFault::Piece(PieceFault::UnknownName) => TextFault::UnknownName,
+        ListFault::TooMany => TextFault::TooMany,
+        ListFault::Memory => TextFault::Memory,
+    }
+}
+
+/// What a piece says is what the shapes of entries say. This does nothing: it states the law.
+pub fn pieces_have_shapes()
+    ensures { (known : Known) (piece : List ℕ) (entry : Triple) → (entry_of known piece ≡ Ok entry) ↔ HasShape known piece entry }
+{}
+
+fn read_fields(piece: &[u8]) -> Option<Fields<'_>>
+    ensures { option_map view_fields result ≡ fields_of piece.now }
+{
+    let mut fields = Parts::new(b':', piece);
+    match (fields.next(), fields.next(), fields.next(), fields.next()) {
+        (Some(tag), Some(perms), None, _) => Some(Fields {
+            tag: trim_blanks(tag),
+            qualifier: None,
+            perms: trim_blanks(perms),
+        }),
+        (Some(tag), Some(qualifier), Some(perms), None) => Some(Fields {
+            tag: trim_blanks(tag),
+            qualifier: Some(trim_blanks(qualifier)),
+            perms: trim_blanks(perms),
+        }),
+        _ => None,
+    }
+}
+
+fn read_tag_word(text: &[u8]) -> Option<TagWord>
+    ensures { result ≡ tag_word text.now }
+{
+    match text {
+        b"user" | b"u" => Some(TagWord::User),
+        b"group" | b"g" => Some(TagWord::Group),
+        b"mask" | b"m" => Some(TagWord::Mask),
+        b"other" | b"o" => Some(TagWord::Other),
+        _ => None,
+    }
+}
+
+fn read_tag(
+    directory: &Directory,
+    word: TagWord,
+    qualifier: Option<&[u8]>,
+) -> Result<Tag, PieceFault>
+    ensures { result ≡ tag_of directory.now word (option_map (λ text. text.now) qualifier.entry) }
+{
+    match (word, qualifier) {
+        (TagWord::User, Some([])) => Ok(Tag::UserObj),
+        (TagWord::User, Some(name)) => read_user(directory, name),
+        (TagWord::Group, Some([])) => Ok(Tag::GroupObj),
+        (TagWord::Group, Some(name)) => read_group(directory, name),
+        (TagWord::Mask, None | Some([])) => Ok(Tag::Mask),
+        (TagWord::Other, None | Some([])) => Ok(Tag::Other),
+        _ => Err(PieceFault::Syntax),
+    }
+}
+
+fn read_user(directory: &Directory, text: &[u8]) -> Result<Tag, PieceFault>
+    ensures { result ≡ qualified (λ uid. Tag.User uid) (uid_of directory.now) text.now }
+{
+    let written = WrittenId::read(text).ok_or(PieceFault::Syntax)?;
+    let uid = directory.uid(written).ok_or(PieceFault::UnknownName)?;
+    Ok(Tag::User(uid))
+}
+
+fn read_group(directory: &Directory, text: &[u8]) -> Result<Tag, PieceFault>
+    ensures { result ≡ qualified (λ gid. Tag.Group gid) (gid_of directory.now) text.now }
+{
+    let written = WrittenId::read(text).ok_or(PieceFault::Syntax)?;
+    let gid = directory.gid(written).ok_or(PieceFault::UnknownName)?;
+    Ok(Tag::Group(gid))
+}
