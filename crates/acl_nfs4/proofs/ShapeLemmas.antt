@@ -76,14 +76,18 @@ id_says : (known : Known) (is_group : Bool) (text : List ℕ) (written : Written
     → written_id text ≡ Some written → named known is_group written ≡ Some who → IsWho known is_group text who
 id_says known true text written who w e =
     let found = found_says (λ gid. one.NamedGroup gid) (resolved (gid_of known) written) who e in
-    subst (IsWho known true text) found.2
-    (refl, elim (written_by (gid_of known) text (decimal_value text) written found.0 w found.1)
-    [ inl d ↦ inl d | inr name ↦ inr (text, (name.0, inl refl), name.1) ])
+    subst (IsWho known true text) found.2 (
+      refl,
+      elim (written_by (gid_of known) text (decimal_value text) written found.0 w found.1)
+          [ inl d ↦ inl d | inr name ↦ inr (text, (name.0, inl refl), name.1) ],
+    )
 id_says known false text written who w e =
     let found = found_says (λ uid. one.User uid) (resolved (uid_of known) written) who e in
-    subst (IsWho known false text) found.2
-    (refl, elim (written_by (uid_of known) text (decimal_value text) written found.0 w found.1)
-    [ inl d ↦ inl d | inr name ↦ inr (text, (name.0, inl refl), name.1) ])
+    subst (IsWho known false text) found.2 (
+      refl,
+      elim (written_by (uid_of known) text (decimal_value text) written found.0 w found.1)
+          [ inl d ↦ inl d | inr name ↦ inr (text, (name.0, inl refl), name.1) ],
+    )
 
 -- a name in the domain
 at_says : (known : Known) (is_group : Bool) (name : List ℕ) (who : Who) → has_name_shape name ≡ true → has_domain_shape known.domain ≡ true

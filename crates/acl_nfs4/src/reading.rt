@@ -14,8 +14,8 @@ ghost use Rattle.acl_nfs4.specs.ReadFault.{list_fault, IsTextFault};
 ghost use Rattle.acl_nfs4.specs.Flags.{flag_bits, identifier_group};
 ghost use Rattle.acl_nfs4.specs.declared.acl.AceFault.TheVariants.{Memory};
 
-use crate::limits::MAX_ACES;
 use crate::letters::{read_flags, read_letters};
+use crate::limits::MAX_ACES;
 use crate::{Ace, AceFault, AceType, Acl4, Flags, Who};
 use acl_names::{
     Directory, ListFault, Parts, PieceReader, WrittenId, is_domain, read_list, trim_blanks,
