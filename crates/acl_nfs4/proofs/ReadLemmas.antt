@@ -1,12 +1,12 @@
 -- What a piece says that is read: an entry with an effect.
-use Rattle.std.proofs.Common.{◌≡◌, ℕ, Bool, true, false, cond, List, [], ◌∷◌, Option, Some, None, Result, Ok, Err, map, refl, sym, ap, subst, ◌∙◌}
+use Rattle.std.proofs.Common.{◌≡◌, ℕ, Bool, true, false, cond, List, [], ◌∷◌, Some, Ok, Err, refl, sym, ap, subst, ◌∙◌}
 use Rattle.std.specs.List.{All}
-use Rattle.std.proofs.lemmas.List.Elements.{All-nil, All-cons, All-weaker}
+use Rattle.std.proofs.lemmas.List.Elements.{All-nil, All-cons}
 use Rattle.acl_names.specs.Bits.{has}
 use Rattle.acl_names.specs.Directory.{Known}
 use Rattle.acl_names.specs.Letters.{letters_of}
 use Rattle.acl_names.specs.ListText.{Say, Spells}
-use Rattle.acl_names.specs.Steps.{◌>>=◌, or_fault}
+use Rattle.acl_names.specs.Steps.{or_fault}
 use Rattle.acl_names.proofs.StepLemmas.{bind_ok, given}
 use Rattle.acl_nfs4.specs.Ace.{Nfsace4, IsAce, ace_of, is_idle}
 use Rattle.acl_nfs4.specs.AceText.{AceFields, WrittenWho, fields_of, type_of, written_who, resolved_who, effective, piece_value}
@@ -15,7 +15,6 @@ use Rattle.acl_nfs4.specs.Flags.{identifier_group}
 use Rattle.acl_nfs4.specs.Letters.{flag_table, mask_table}
 use Rattle.acl_nfs4.specs.declared.limits.TheConstants.{MAX_ACES}
 use Rattle.acl_nfs4.specs.declared.ace.AceType.{AceType}
-use Rattle.acl_nfs4.specs.declared.reading.PieceFault.{PieceFault}
 use Rattle.acl_nfs4.specs.declared.reading.PieceFault.TheVariants.{Syntax, UnknownName, InheritOnly}
 use Rattle.acl_nfs4.specs.declared.who.Who.{Who}
 use Rattle.acl_nfs4.proofs.AceLemmas.{IsAce-ace_of}

@@ -1,6 +1,6 @@
 -- What a change of mode leaves alone.
 use Rattle.std.proofs.Common.{◌≡◌, ℕ, Bool, true, false, cond, not, ◌&&◌, ◌||◌, refl, sym, ap, ◌∙◌, subst, List, [], ◌∷◌, ◌++◌, append-nil, ap₂, Option, Some, None}
-use Rattle.std.specs.Prelude.{flat_map, filter, filter_map, bit_or, option_map}
+use Rattle.std.specs.Prelude.{flat_map, filter_map, bit_or, option_map}
 use Rattle.std.specs.List.{cons_option}
 use Rattle.std.proofs.lemmas.Bool.{and_parts, or_parts}
 use Rattle.acl_names.specs.Bits.{has}

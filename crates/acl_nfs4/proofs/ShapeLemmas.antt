@@ -1,5 +1,5 @@
 -- What the reader's function answers is what the shapes say.
-use Rattle.std.proofs.Common.{◌≡◌, ◌⊎◌, ℕ, ◌≤◌, Bool, true, false, cond, ◌&&◌, ◌↔◌, List, [], ◌∷◌, ◌++◌, length, nat_le, Option, Some, None, option_map, Ok, refl, sym, ap, ap₂, subst, ◌∙◌, inl, inr, codes}
+use Rattle.std.proofs.Common.{◌≡◌, ℕ, Bool, true, false, cond, ◌&&◌, ◌↔◌, List, [], ◌∷◌, ◌++◌, length, nat_le, Option, Some, None, option_map, Ok, refl, sym, ap, subst, ◌∙◌, inl, inr, codes}
 use Rattle.std.specs.List.{join_with_byte, list_all}
 use Rattle.std.specs.Char.{is_ascii_digit}
 use Rattle.std.specs.Str.{bytes_eq}
@@ -10,22 +10,20 @@ use Rattle.std.proofs.lemmas.Slice.Eq.{bytes_eq-Decides}
 use Rattle.acl_names.specs.Bits.{has}
 use Rattle.acl_names.specs.Directory.{Known, uid_of, gid_of}
 use Rattle.acl_names.specs.Ids.{Written, Number, Name, written_id, number_or_name, decimal_value, is_decimal, has_name_shape, has_domain_shape, resolved, max_id}
-use Rattle.acl_names.specs.Letters.{letters_of}
 use Rattle.acl_names.specs.Pieces.{parts}
 use Rattle.acl_names.proofs.IdTexts.{and_first, and_second, written_name}
 use Rattle.acl_names.proofs.StepLemmas.{some_from_cond, written_by}
-use Rattle.acl_nfs4.specs.Ace.{Nfsace4, ace_of, flags_for, is_idle}
-use Rattle.acl_nfs4.specs.AceShapes.{IsTypeLetter, WritesName, WritesId, IsWho, HasShape}
+use Rattle.acl_nfs4.specs.Ace.{Nfsace4, flags_for}
+use Rattle.acl_nfs4.specs.AceShapes.{IsTypeLetter, WritesId, IsWho, HasShape}
 use Rattle.acl_nfs4.specs.AceText.{WrittenWho, type_of, special_of, name_at, who_of_parts, written_who, named, resolved_who, piece_value}
 use Rattle.acl_nfs4.specs.AceText as form
 use Rattle.acl_nfs4.specs.Flags.{identifier_group}
-use Rattle.acl_nfs4.specs.Letters.{flag_table, mask_table}
 use Rattle.acl_nfs4.specs.declared.ace.AceType.{AceType}
 use Rattle.acl_nfs4.specs.declared.ace.AceType.TheVariants.{Allow, Deny, Audit, Alarm}
 use Rattle.acl_nfs4.specs.declared.who.Who.{Who}
 use Rattle.acl_nfs4.specs.declared.who.Who.TheVariants as one
 use Rattle.acl_nfs4.proofs.LetterLemmas.{flags-known, mask-known}
-use Rattle.acl_nfs4.proofs.ReadLemmas.{Parts, parts_of, value_of_parts}
+use Rattle.acl_nfs4.proofs.ReadLemmas.{parts_of, value_of_parts}
 use Rattle.acl_nfs4.proofs.RoundTrip.{at_again, parts_at, parts_name, parts_digits}
 
 same_bytes : (a b : List ℕ) → bytes_eq a b ≡ true → a ≡ b

@@ -1,4 +1,4 @@
-use Rattle.std.proofs.Common.{◌≡◌, ◌∙◌, ◌+◌, sym, ap, subst, true, false, ◌++◌, List, take, append_assoc}
+use Rattle.std.proofs.Common.{◌∙◌, sym, ap, ◌++◌, List, take, append_assoc}
 use Rattle.std.specs.Prelude.{flat_map}
 use Rattle.std.specs.List.{list_any}
 use Rattle.acl_posix.specs.Perms.{bits_of}

@@ -1,4 +1,4 @@
-use Rattle.std.proofs.Common.{◌≡◌, ◌∙◌, ◌+◌, ◌++◌, sym, ap, take, List, ℕ, append_assoc}
+use Rattle.std.proofs.Common.{◌∙◌, ◌++◌, sym, ap, take, List, ℕ, append_assoc}
 use Rattle.acl_names.proofs.Prefixes.{keeps_front}
 use Rattle.acl_nfs4.specs.Ace.{Nfsace4}
 use Rattle.acl_nfs4.specs.PrintedText.{aces_text, line_text}
