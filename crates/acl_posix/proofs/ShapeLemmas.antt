@@ -1,12 +1,12 @@
 -- What the reader's function answers is what the shapes say.
-use Rattle.std.proofs.Common.{◌≡◌, ◌⊎◌, ◌||◌, ℕ, Bool, true, false, cond, List, [], ◌∷◌, Option, Some, None, option_and_then, Result, Ok, Err, ◌<◌, ◌&&◌, nat_le, length, refl, sym, ap, subst, ◌∙◌, inl, inr, codes, arith}
+use Rattle.std.proofs.Common.{◌≡◌, ◌⊎◌, ◌||◌, ℕ, Bool, true, false, cond, List, [], ◌∷◌, Option, Some, None, option_and_then, Result, Ok, ◌<◌, ◌&&◌, nat_le, length, refl, sym, ap, subst, ◌∙◌, inl, inr, codes, arith}
 use Rattle.std.specs.Char.{is_ascii_digit}
 use Rattle.std.specs.List.{list_all}
 use Rattle.std.specs.Str.{bytes_eq}
 use Rattle.std.specs.Str.Parse.{digits_value}
 use Rattle.std.proofs.lemmas.Slice.Eq.{bytes_eq-Decides}
 use Rattle.acl_names.specs.Directory.{Known, uid_of, gid_of}
-use Rattle.acl_names.specs.Ids.{Written, Number, Name, is_decimal, written_id, number_or_name, decimal_value, has_name_shape, max_id, resolved}
+use Rattle.acl_names.specs.Ids.{is_decimal, written_id, number_or_name, decimal_value, has_name_shape, max_id, resolved}
 use Rattle.acl_names.proofs.IdTexts.{and_second, written_name}
 use Rattle.acl_names.proofs.StepLemmas.{bind_ok, given, some_from_cond, written_by}
 use Rattle.acl_posix.proofs.RoundTrip.{qualified_by, user_tag, group_tag, read_parts}
