@@ -1,6 +1,6 @@
 //! Groups.
 
-use crate::id::Gid;
+use crate::gid::Gid;
 use crate::named::Named;
 use std::marker::Model;
 

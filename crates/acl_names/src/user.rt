@@ -8,8 +8,8 @@ ghost use Rattle.std.specs.Str.{bytes_eq};
 ghost use Rattle.acl_names.specs.Ascending.{repeats, IsAscending};
 
 use crate::group::Group;
-use crate::id::Uid;
 use crate::named::{Named, find_by_name};
+use crate::uid::Uid;
 use std::marker::Model;
 
 /// A user: a name, a uid, and the names of the groups that the user is in, the first group first.

@@ -1,4 +1,4 @@
--- How entries of POSIX ACLs are written: the long text form of 1003.1e draft 17, section 23.3.
+-- How entries of POSIX ACLs are written: the long text form of 1003.1e draft 17, section 23.
 use Rattle.std.specs.Prelude.{ℕ, List, [], ◌∷◌, Bool, ◌||◌, Option, Some, None, Result, Ok, Err, codes, if◌then◌else◌}
 use Rattle.std.specs.Str.{bytes_eq}
 use Rattle.acl_names.specs.Directory.{Known, uid_of, gid_of}

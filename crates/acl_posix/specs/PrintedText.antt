@@ -1,4 +1,4 @@
--- How POSIX ACLs are printed: the long text form of 1003.1e draft 17, section 23.3, and its marks of effective permissions.
+-- How POSIX ACLs are printed: the long text form of 1003.1e draft 17, section 23, and its marks of effective permissions.
 use Rattle.std.specs.Prelude.{ℕ, ◌≤◌, ◌&&◌, not, List, [], ◌∷◌, ◌++◌, Option, Some, None, codes, if◌then◌else◌}
 use Rattle.std.specs.List.{flat_map, join_with_byte, All}
 use Rattle.acl_names.specs.Bits.{◌∩◌, has_all}

@@ -1,3 +1,5 @@
+//! Access control lists.
+
 ghost use Rattle.std.specs.Prelude.{List, ◌≡◌, ◌↔◌, None, OnOk, IfOk, IfErr, IfSome, option_map};
 ghost use Rattle.std.specs.List.{Contains};
 ghost use Rattle.std.specs.List.Sorted.{IsPermutation};
@@ -45,7 +47,10 @@ impl Acl {
     ghost use Rattle.acl_posix.specs.Canonical.{IsAcl, IsCanonical};
     ghost use Rattle.acl_posix.specs.Perms.{bits_of, IsPermissions};
 
-    /// The access control list of these entries. They are dropped on a refusal.
+    /// The access control list of these entries, where they are one (1003.1e draft 17, section 23): one entry each for the
+    /// owner, the file's group and the others, at most one mask, no user and no group twice, and a mask where a user or a
+    /// group is named. Else it is refused for the first of: an entry is missing, an entry stands twice, there is no mask. The
+    /// entries are dropped on a refusal. It takes over their storage, and takes no memory.
     pub fn new(entries: Entries) -> Result<Acl, Invalid>
         ensures valid { OnOk result (IsValid entries) }
         ensures same_entries { IfOk result (IsPermutation entries) }
@@ -75,6 +80,7 @@ impl Acl {
         self.sorted.as_slice()
     }
 
+    /// The permissions of the MASK, which limits what users, the file's group and groups may do; `None` where there is none.
     pub fn mask(&self) -> Option<Perms>
         ensures value { option_map bits_of result ≡ perms_of Tag.Mask self.now }
         ensures permissions { IfSome result (λ perms. IsPermissions (bits_of perms)) }
@@ -87,7 +93,7 @@ impl Acl {
         ensures acl { IsAcl self.now }
         ensures value { option_map bits_of result ≡ perms_of tag self.now }
     {
-        let entries = self.sorted.as_slice();
+        let entries = self.entries();
         match entries.binary_search_by_key(&tag, |entry| entry.tag) {
             Ok(place) => {
                 let found = &entries[place];

@@ -15,10 +15,13 @@ use std::ops::{BitAnd, BitOr};
 pub struct Perms(u8);
 
 impl Perms {
+    /// To read.
     pub const READ: Perms = Perms(4);
 
+    /// To write.
     pub const WRITE: Perms = Perms(2);
 
+    /// To execute, or to search a directory.
     pub const EXECUTE: Perms = Perms(1);
 
     const FLAGS: &'static [Flag<Perms>] = &[

@@ -1,4 +1,4 @@
-//! Printing access control lists: the long text form (1003.1e draft 17, section 23.3).
+//! Printing access control lists: the long text form (1003.1e draft 17, section 23).
 
 ghost use Rattle.std.specs.Prelude.{◌≡◌, ◌≤◌, ◌++◌, ◌∷◌, [], not, length, take, option_map, OnOk, OnErr, None};
 ghost use Rattle.acl_names.specs.Bits.{has_all};

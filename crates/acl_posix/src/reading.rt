@@ -65,7 +65,7 @@ impl<'a> PieceReader for EntryReader<'a> {
 }
 
 /// The entries that the text spells: lines, of which each is cut at its first `#`, and between commas the entries, each of
-/// one of the shapes of the long text form (1003.1e draft 17, section 23.3), with blanks round the fields.
+/// one of the shapes of the long text form (1003.1e draft 17, section 23), with blanks round the fields.
 ///
 /// It refuses a text for its first piece that is no entry, `Syntax` or `UnknownName`, or that is one too many, before that
 /// piece is read; and for want of memory, even where a fault further on isn't yet found. A text of no entries is none.

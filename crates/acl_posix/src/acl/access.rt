@@ -16,7 +16,7 @@ use bitflags::Flags;
 
 impl Acl {
     /// Whether the requester may do all of what is requested with a file of this owner and this group: the access check of
-    /// 1003.1e draft 17, section 23.1.5. The owner's entry decides for the owner, else the user's own entry, else the entries
+    /// 1003.1e draft 17, section 23. The owner's entry decides for the owner, else the user's own entry, else the entries
     /// for the file's group and for groups by their ids of which the requester is in some: one of them must have all of the
     /// request. Else the others' entry decides. It takes no memory.
     pub fn grants(&self, owner: Uid, group: Gid, requester: &Requester, request: Perms) -> bool
@@ -78,7 +78,7 @@ impl Acl {
         ensures value { result ≡ group_answer self.now group requester.now (bits_of request) }
     {
         match groups_answer(self.entries(), requester, group, request) {
-            Some(has) => Some(has && self.mask_allows(request)),
+            Some(granted) => Some(granted && self.mask_allows(request)),
             None => None,
         }
     }

@@ -1,3 +1,5 @@
+//! What modes have to do with access control lists.
+
 ghost use Rattle.std.specs.Prelude.{◌≡◌, map, IfOk, IfSome, option_map};
 ghost use Rattle.acl_posix.specs.Entry.{Triple};
 ghost use Rattle.acl_posix.specs.Mode.{mode_of, mode_perms, perms_at, group_class_tag, set_to, met_with, chmod, at_creation, of_mode, calc_mask};
@@ -70,7 +72,8 @@ fn meet_all(entries: &mut [Entry], group_class: &Tag, mode: Mode)
 }
 
 impl Acl {
-    /// The mode of a file with this access control list.
+    /// The mode of a file with this access control list (1003.1e draft 17, section 23): what the owner's entry, the mask, or
+    /// where there is none the file's group's entry, and the others' entry say.
     pub fn mode(&self) -> Mode
         ensures { result ≡ mode_of self.now }
     {
@@ -90,7 +93,7 @@ impl Acl {
         set_all(self.sorted.as_mut_slice(), &group_class, mode);
     }
 
-    /// The access control list that says what the mode says.
+    /// The access control list that says what the mode says, with three entries. It takes no memory.
     pub fn of_mode(alloc: Global, mode: Mode) -> Result<Acl, AllocError>
         ensures { IfOk result (λ acl. acl ≡ of_mode mode) }
     {
@@ -114,7 +117,8 @@ impl Acl {
         Ok(Acl { sorted })
     }
 
-    /// The access control list of a new file with this mode, under a default access control list.
+    /// The access control list of a new file with this mode, under a default access control list (1003.1e draft 17, section
+    /// 23): the default list, its entries for the owner, the group class and the others met with the mode's bits.
     pub fn at_creation(alloc: Global, default: &Acl, mode: Mode) -> Result<Acl, AllocError>
         ensures { IfOk result (λ acl. acl ≡ at_creation default.now mode) }
     {
@@ -124,7 +128,8 @@ impl Acl {
         Ok(Acl { sorted })
     }
 
-    /// The union of the permissions that a mask would limit.
+    /// The union of the permissions of the users, the file's group and the groups: what a mask would have to be to limit
+    /// none of them.
     pub fn calc_mask(&self) -> Perms
         ensures { bits_of result ≡ calc_mask self.now }
     {
@@ -137,6 +142,7 @@ impl Acl {
         all
     }
 
+    /// The same list. It has no other refusal than want of memory, and takes none for up to 8 entries.
     pub fn try_clone(&self, alloc: Global) -> Result<Acl, AllocError>
         ensures { IfOk result (λ acl. acl ≡ self.now) }
     {

@@ -9,9 +9,9 @@ use Rattle.acl_posix.proofs.acl.Acl.perms_of.Goals as goal
 
 pub returns-in-Ok-clause-value : goal.returns-in-Ok-clause-value
 returns-in-Ok-clause-value c =
-    let entries = c.as_slice-entries.result.now in
-    let same : entries ≡ c.args.self.now = search rules in
-    let ascends = rw (c.self.view_is, ← same) at c.self.invariant.canonical in
+    let entries = c.entries-entries.result.now in
+    let same = c.entries-entries.ensures.value in
+    let ascends = rw (← same) at c.entries-entries.ensures.acl.canonical in
     let derived = c.in-Ok.ensures.position (λ entry. entry.tag) (answers_always _ _ _ (λ f a r g called. search rules)) in
     let here = searched_by_tag entries c.args.tag (Ok c.in-Ok.place) derived in
     let inside : c.in-Ok.place < length entries = search (rules, c.in-Ok.ensures.bound) in
@@ -23,9 +23,9 @@ returns-in-Ok-clause-value c =
 
 pub returns-in-Err-clause-value : goal.returns-in-Err-clause-value
 returns-in-Err-clause-value c =
-    let entries = c.as_slice-entries.result.now in
-    let same : entries ≡ c.args.self.now = search rules in
-    let ascends = rw (c.self.view_is, ← same) at c.self.invariant.canonical in
+    let entries = c.entries-entries.result.now in
+    let same = c.entries-entries.ensures.value in
+    let ascends = rw (← same) at c.entries-entries.ensures.acl.canonical in
     let derived = c.in-Err.ensures.position (λ entry. entry.tag) (answers_always _ _ _ (λ f a r g called. search rules)) in
     let absent = searched_by_tag entries c.args.tag (Err c.in-Err.field-0) derived in
     let none = find-absent tag_cmp tag_cmp_total tag_of same_tag same_tag-tag_cmp entries c.args.tag ascends c.in-Err.field-0 absent in
