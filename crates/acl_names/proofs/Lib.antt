@@ -15,3 +15,4 @@ pub mod Fields
 pub mod LettersAgain
 pub mod Prefixes
 pub mod AscendingSets
+pub mod StepLemmas

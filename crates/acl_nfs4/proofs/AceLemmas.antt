@@ -1,10 +1,10 @@
 -- What keeps an entry an entry: no bit without a name, and the group flag exactly where it names a group.
 use Rattle.std.proofs.Common.{◌≡◌, ℕ, ◌^◌, Bool, true, false, not, ◌&&◌, ◌||◌, refl, sym, ap, subst, ◌∙◌, inl, inr, ◌⊎◌}
-use Rattle.std.proofs.lemmas.Bool.{and_parts, and_from, or_cases, true≢false}
+use Rattle.std.proofs.lemmas.Bool.{and_parts, or_cases}
 use Rattle.acl_names.specs.Bits.{has, without, ◌∩◌, ◌∪◌}
-use Rattle.acl_names.proofs.BitSets.{has-and, has-or, has-without, has-zero, same_bits}
+use Rattle.acl_names.proofs.BitSets.{has-and, has-or, has-without, same_bits}
 use Rattle.acl_names.proofs.AnyLemmas.{and_false}
-use Rattle.acl_nfs4.specs.Ace.{Nfsace4, IsAce, ace_of, flags_for, is_idle}
+use Rattle.acl_nfs4.specs.Ace.{IsAce, ace_of, flags_for, is_idle}
 use Rattle.acl_nfs4.specs.Flags.{all_flags, identifier_group}
 use Rattle.acl_nfs4.specs.Mask.{all_masks}
 use Rattle.acl_nfs4.specs.Who.{flags_of_who, is_named_group}

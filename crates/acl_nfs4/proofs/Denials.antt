@@ -1,7 +1,7 @@
 -- What a list with a mode set denies those whom the old list names.
 use Rattle.std.proofs.Common.{◌≡◌, ℕ, Bool, true, false, cond, not, ◌&&◌, ◌||◌, refl, sym, ap, ◌∙◌, List, [], ◌∷◌, ◌++◌, ap₂}
 use mathlib.Core.Path.{fun_ext}
-use Rattle.std.specs.Prelude.{flat_map, filter, map}
+use Rattle.std.specs.Prelude.{filter, map}
 use Rattle.std.specs.List.{list_any}
 use Rattle.std.proofs.lemmas.Bool.{true≢false, and_parts, and_from, eqb-true, eq-eqb}
 use Rattle.acl_names.specs.Bits.{has, without, union, ◌∪◌}

@@ -4,7 +4,6 @@ use Rattle.std.specs.Prelude.{IfSome}
 use Rattle.acl_names.specs.Bits.{has, without, ◌∩◌, ◌∪◌}
 use Rattle.acl_names.proofs.BitSets.{has-or, has-without}
 use Rattle.acl_names.proofs.AnyLemmas.{and_false, and_true, or_false}
-use Rattle.acl_nfs4.specs.Ace.{Nfsace4, IsAce, is_idle}
 use Rattle.acl_nfs4.specs.Flags.{all_flags, inheritance_flags, identifier_group}
 use Rattle.acl_nfs4.specs.Inheritance.{flags_below}
 use Rattle.acl_nfs4.specs.declared.inheritance.Kind.{Kind}

@@ -10,13 +10,8 @@ use Rattle.acl_nfs4.specs.Ace.{decides, Nfsace4}
 use Rattle.acl_nfs4.specs.Who.{is_special, same_who}
 use Rattle.acl_nfs4.specs.ModeChange.{distinct, named_in, names, names_someone}
 use Rattle.acl_nfs4.specs.declared.who.Who.{Who}
+use Rattle.acl_nfs4.proofs.ListLemmas.{filter-append}
 use Rattle.acl_nfs4.proofs.Denials.{member, same_who-refl, same_who-true, member-distinct, member-named_in}
-
-filter-append : {X : Type 0} (test : X → Bool) (xs ys : List X) → filter test (xs ++ ys) ≡ filter test xs ++ filter test ys
-filter-append test [] ys = refl
-filter-append test (x ∷ xs) ys =
-    elim (test x) as (λ b. cond b (x ∷ filter test (xs ++ ys)) (filter test (xs ++ ys)) ≡ cond b (x ∷ filter test xs) (filter test xs) ++ filter test ys)
-    [ true ↦ ap (λ zs. x ∷ zs) (filter-append test xs ys) | false ↦ filter-append test xs ys ]
 
 map-append : {X Y : Type 0} (f : X → Y) (xs ys : List X) → map f (xs ++ ys) ≡ map f xs ++ map f ys
 map-append f [] ys = refl

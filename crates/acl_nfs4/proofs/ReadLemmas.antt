@@ -1,31 +1,23 @@
 -- What a piece says that is read: an entry with an effect.
-use Rattle.std.proofs.Common.{◌≡◌, ℕ, Bool, true, false, cond, List, [], ◌∷◌, Option, Some, None, Result, Ok, Err, map, refl, sym, ap, subst, ◌∙◌}
+use Rattle.std.proofs.Common.{◌≡◌, ℕ, Bool, true, false, cond, List, [], ◌∷◌, Some, Ok, Err, refl, sym, ap, subst, ◌∙◌}
 use Rattle.std.specs.List.{All}
-use Rattle.std.proofs.lemmas.List.Elements.{All-nil, All-cons, All-weaker}
+use Rattle.std.proofs.lemmas.List.Elements.{All-nil, All-cons}
 use Rattle.acl_names.specs.Bits.{has}
 use Rattle.acl_names.specs.Directory.{Known}
 use Rattle.acl_names.specs.Letters.{letters_of}
 use Rattle.acl_names.specs.ListText.{Say, Spells}
-use Rattle.acl_names.specs.Steps.{◌>>=◌, or_fault}
+use Rattle.acl_names.specs.Steps.{or_fault}
+use Rattle.acl_names.proofs.StepLemmas.{bind_ok, given}
 use Rattle.acl_nfs4.specs.Ace.{Nfsace4, IsAce, ace_of, is_idle}
 use Rattle.acl_nfs4.specs.AceText.{AceFields, WrittenWho, fields_of, type_of, written_who, resolved_who, effective, piece_value}
 use Rattle.acl_nfs4.specs.Acl.{AreAces}
 use Rattle.acl_nfs4.specs.Flags.{identifier_group}
 use Rattle.acl_nfs4.specs.Letters.{flag_table, mask_table}
+use Rattle.acl_nfs4.specs.declared.limits.TheConstants.{MAX_ACES}
 use Rattle.acl_nfs4.specs.declared.ace.AceType.{AceType}
-use Rattle.acl_nfs4.specs.declared.reading.PieceFault.{PieceFault}
 use Rattle.acl_nfs4.specs.declared.reading.PieceFault.TheVariants.{Syntax, UnknownName, InheritOnly}
 use Rattle.acl_nfs4.specs.declared.who.Who.{Who}
 use Rattle.acl_nfs4.proofs.AceLemmas.{IsAce-ace_of}
-
--- a step that succeeded
-bind_ok : {A B F : Type 0} (r : Result A F) (f : A → Result B F) (y : B) → (r >>= f) ≡ Ok y → (x : A) × (r ≡ Ok x) × (f x ≡ Ok y)
-bind_ok (Ok x) f y e = (x, refl, e)
-bind_ok (Err fault) f y e = absurd (cc)
-
-given : {A F : Type 0} (fault : F) (o : Option A) (x : A) → or_fault fault o ≡ Ok x → o ≡ Some x
-given fault (Some y) x e = cc
-given fault None x e = absurd (cc)
 
 effective_ok : (ace made : Nfsace4) → effective made ≡ Ok ace → (made ≡ ace) × (is_idle made ≡ false)
 effective_ok ace made e = go (is_idle made) e
@@ -98,7 +90,7 @@ pub IsAce-read : (known : Known) (piece : List ℕ) (ace : Nfsace4) → piece_va
 IsAce-read known piece ace e =
     let parts = parts_of known piece ace e in subst IsAce parts.made (IsAce-ace_of parts.kind parts.flags parts.who parts.mask)
 
-pub AreAces-read : (known : Known) (text : List ℕ) (aces : List Nfsace4) → Spells (piece_value known) 128 text aces → AreAces aces
+pub AreAces-read : (known : Known) (text : List ℕ) (aces : List Nfsace4) → Spells (piece_value known) MAX_ACES text aces → AreAces aces
 AreAces-read known text aces spells = record {
   within = spells.within;
   each = each_said IsAce known (IsAce-read known) _ aces spells.said;

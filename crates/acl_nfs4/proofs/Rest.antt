@@ -1,6 +1,6 @@
 -- What a change of mode leaves alone.
 use Rattle.std.proofs.Common.{◌≡◌, ℕ, Bool, true, false, cond, not, ◌&&◌, ◌||◌, refl, sym, ap, ◌∙◌, subst, List, [], ◌∷◌, ◌++◌, append-nil, ap₂, Option, Some, None}
-use Rattle.std.specs.Prelude.{flat_map, filter, filter_map, bit_or, option_map}
+use Rattle.std.specs.Prelude.{flat_map, filter_map, bit_or, option_map}
 use Rattle.std.specs.List.{cons_option}
 use Rattle.std.proofs.lemmas.Bool.{and_parts, or_parts}
 use Rattle.acl_names.specs.Bits.{has}
@@ -20,6 +20,7 @@ use Rattle.acl_nfs4.specs.declared.inheritance.Kind.TheVariants.{File, Dir}
 use Rattle.acl_nfs4.specs.declared.who.Who.{Who}
 use Rattle.acl_nfs4.specs.declared.who.Who.TheVariants.{Owner, Group, Everyone, User, NamedGroup}
 use Rattle.acl_names.proofs.BitSets.{has-and, has-or, has-without, same_bits}
+use Rattle.acl_nfs4.proofs.ListLemmas.{filter-append}
 use Rattle.acl_nfs4.proofs.Kept.{kept_of-cases, kept-cons, inherited_part, effective_part, reduced, unless_empty-cases, is_inheritable-effective_part}
 use Rattle.acl_names.proofs.AnyLemmas.{or_false, and_false}
 
@@ -66,12 +67,6 @@ module _ (read : List Nfsace4 → List Nfsace4) (read-nil : read [] ≡ []) (rea
       two xs ys x y = read-append xs ys ∙ ap₂ (λ zs ws. zs ++ ws) x y
 
 -- ---- audits and alarms
-
-filter-append : (test : Nfsace4 → Bool) (xs ys : List Nfsace4) → filter test (xs ++ ys) ≡ filter test xs ++ filter test ys
-filter-append test [] ys = refl
-filter-append test (x ∷ xs) ys =
-    elim (test x) as (λ b. cond b (x ∷ filter test (xs ++ ys)) (filter test (xs ++ ys)) ≡ cond b (x ∷ filter test xs) (filter test xs) ++ filter test ys)
-    [ true ↦ ap (λ zs. x ∷ zs) (filter-append test xs ys) | false ↦ filter-append test xs ys ]
 
 no_audit : (kind : AceType) → (is_allow kind || is_deny kind) ≡ true → is_audit_or_alarm kind ≡ false
 no_audit Allow e = refl

@@ -1,51 +1,46 @@
 -- The printed text of a list spells its entries.
-use Rattle.std.proofs.Common.{◌≡◌, ℕ, ◌≤◌, ◌<◌, ◌^◌, Bool, true, false, cond, not, ◌&&◌, ◌||◌, List, [], ◌∷◌, ◌++◌, length, map, Option, Some, None, option_map, Ok, Err, refl, sym, ap, ap₂, subst, ◌∙◌, arith, codes, decimal, get_or, length-append, nat_le, append-nil}
-use Rattle.std.specs.Prelude.{◌==◌, bit_and}
-use Rattle.std.specs.List.{All, AllByRecursion, join_with_byte, list_all, flat_map}
+use Rattle.std.proofs.Common.{◌≡◌, ℕ, ◌≤◌, ◌<◌, Bool, true, false, cond, not, ◌&&◌, ◌||◌, List, [], ◌∷◌, ◌++◌, length, map, Option, Some, None, option_map, Ok, refl, sym, ap, subst, ◌∙◌, arith, codes, decimal, length-append, nat_le}
+use Rattle.std.specs.Prelude.{◌==◌}
+use Rattle.std.specs.List.{All, AllByRecursion, join_with_byte, list_all}
 use Rattle.std.specs.Char.{is_ascii_digit}
 use Rattle.std.specs.Str.{bytes_eq}
-use Rattle.std.proofs.lemmas.Bool.{eqb-true, and_parts}
+use Rattle.std.proofs.lemmas.Bool.{eqb-true}
 use Rattle.std.proofs.lemmas.Bool.Decides.{nat_tests}
 use Rattle.std.proofs.lemmas.Fmt.{decimal_is_IsNumeral}
-use Rattle.std.proofs.lemmas.List.Elements.{All-nil, All-head, All-tail, All-cons, All-append, All-weaker}
+use Rattle.std.proofs.lemmas.List.Elements.{All-head, All-tail, All-cons, All-append, All-weaker}
 use Rattle.std.proofs.lemmas.List.Splits.{slice_split_at, slice_split_none}
 use Rattle.std.proofs.lemmas.List.Sums.{AllPass-from_list_all}
 use Rattle.std.proofs.lemmas.Slice.Eq.{bytes_eq-Decides}
-use Rattle.acl_names.specs.Bits.{has, without, ◌∩◌, ◌∪◌}
+use Rattle.acl_names.specs.Bits.{has, without, ◌∩◌}
 use Rattle.acl_names.specs.Directory.{Known, TellsNamesApart, uid_of, gid_of, user_name, group_name}
-use Rattle.acl_names.specs.Ids.{Written, Number, Name, written_id, resolved, max_id, ReadBack, has_domain_shape, has_name_shape, stands_in_domain, continues_name, begins_name, is_decimal}
-use Rattle.acl_names.specs.Letters.{letters_of, letters_text}
+use Rattle.acl_names.specs.Ids.{Written, Number, Name, resolved, max_id, ReadBack, has_domain_shape, has_name_shape, stands_in_domain, continues_name, begins_name}
+use Rattle.acl_names.specs.Letters.{letters_text}
 use Rattle.acl_names.specs.ListText.{Say, Spells}
-use Rattle.acl_names.specs.Pieces.{parts, pieces}
-use Rattle.acl_names.specs.Steps.{◌>>=◌, or_fault}
+use Rattle.acl_names.specs.Pieces.{parts}
 use Rattle.acl_names.proofs.BitSets.{has-and, has-or, has-without, has-zero, same_bits}
 use Rattle.acl_names.proofs.Decimals.{digits_model}
-use Rattle.acl_names.proofs.Fields.{is_field_byte, IsField, fields_again, joined_plain}
-use Rattle.acl_names.proofs.IdTexts.{and_first, and_second, written_name, written_decimal}
+use Rattle.acl_names.proofs.Fields.{is_field_byte, IsField, fields_again, joined_plain, tested_field, name_byte_in_field, digit_in_field}
+use Rattle.acl_names.proofs.IdTexts.{and_second, written_name, written_decimal}
 use Rattle.acl_names.proofs.LettersAgain.{letters_again}
-use Rattle.acl_names.proofs.PlainLines.{IsPlain, IsMark, nothing, Lacks, pieces_of_lines}
+use Rattle.acl_names.proofs.PlainLines.{IsPlain, IsMark, nothing, pieces_of_lines}
 use Rattle.acl_nfs4.specs.Ace.{Nfsace4, IsAce, ace_of, flags_for, is_idle}
 use Rattle.acl_nfs4.specs.AceText.{AceFields, WrittenWho, as_fields, fields_of, type_of, written_who, who_of_parts, name_at, named, resolved_who, effective, piece_value}
 use Rattle.acl_nfs4.specs.AceText as form
-use Rattle.acl_nfs4.specs.Flags.{all_flags, identifier_group}
+use Rattle.acl_nfs4.specs.Flags.{identifier_group}
 use Rattle.acl_nfs4.specs.Letters.{flag_table, mask_table}
-use Rattle.acl_nfs4.specs.PrintedText.{type_text, named_text, who_text, ace_text, line_text, aces_text, HaveIds}
+use Rattle.acl_nfs4.specs.PrintedText.{type_text, named_text, who_text, ace_text, aces_text, HaveIds}
 use Rattle.acl_nfs4.specs.Who.{HasId, flags_of_who, is_named_group}
 use Rattle.acl_nfs4.specs.Acl.{AreAces}
+use Rattle.acl_nfs4.specs.declared.limits.TheConstants.{MAX_ACES}
 use Rattle.acl_nfs4.specs.declared.ace.AceType.{AceType}
 use Rattle.acl_nfs4.specs.declared.ace.AceType.TheVariants.{Allow, Deny, Audit, Alarm}
-use Rattle.acl_nfs4.specs.declared.reading.PieceFault.TheVariants.{Syntax, UnknownName, InheritOnly}
 use Rattle.acl_nfs4.specs.declared.who.Who.{Who}
 use Rattle.acl_nfs4.specs.declared.who.Who.TheVariants.{Owner, Group, Everyone, User, NamedGroup}
-use Rattle.acl_nfs4.proofs.AceLemmas.{within-has}
 use Rattle.acl_nfs4.proofs.LetterLemmas.{flag_table_is, mask_table_is, flags-field, mask-field}
 use Rattle.acl_nfs4.proofs.ReadLemmas.{value_of_parts}
 use Rattle.acl_nfs4.proofs.OneBit.{contains-one, lacks-one}
 
 -- ---- bytes of fields
-
-tested_field : (text : List ℕ) → list_all is_field_byte text ≡ true → IsField text
-tested_field text passes = AllPass-from_list_all is_field_byte text passes
 
 type_field : (kind : AceType) → IsField (type_text kind)
 type_field Allow = tested_field (codes "A") refl
@@ -55,12 +50,6 @@ type_field Alarm = tested_field (codes "L") refl
 
 domain_byte_in_field : (byte : ℕ) → stands_in_domain byte ≡ true → is_field_byte byte ≡ true
 domain_byte_in_field byte is = grind (arith, nat_tests)
-
-name_byte_in_field : (byte : ℕ) → continues_name byte ≡ true → is_field_byte byte ≡ true
-name_byte_in_field byte is = grind (arith, nat_tests)
-
-digit_in_field : (byte : ℕ) → is_ascii_digit byte ≡ true → is_field_byte byte ≡ true
-digit_in_field byte is = grind (arith, nat_tests)
 
 domain_byte_no_at : (byte : ℕ) → stands_in_domain byte ≡ true → (byte == 64) ≡ false
 domain_byte_no_at byte is = grind (arith, nat_tests)
@@ -289,7 +278,7 @@ module _ (known : Known) (apart : TellsNamesApart known) where
         nothing,
       )
 
-  pub aces_spelt : (aces : List Nfsace4) → AreAces aces → HaveIds aces → Spells (piece_value known) 128 (aces_text known aces) aces
+  pub aces_spelt : (aces : List Nfsace4) → AreAces aces → HaveIds aces → Spells (piece_value known) MAX_ACES (aces_text known aces) aces
   aces_spelt aces are have =
       let printed = are_printed aces are have in
       record {

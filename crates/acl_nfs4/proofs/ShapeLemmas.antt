@@ -1,5 +1,5 @@
 -- What the reader's function answers is what the shapes say.
-use Rattle.std.proofs.Common.{◌≡◌, ◌⊎◌, ℕ, ◌≤◌, Bool, true, false, cond, ◌&&◌, ◌↔◌, List, [], ◌∷◌, ◌++◌, length, nat_le, Option, Some, None, option_map, Ok, refl, sym, ap, ap₂, subst, ◌∙◌, inl, inr, codes}
+use Rattle.std.proofs.Common.{◌≡◌, ℕ, Bool, true, false, cond, ◌&&◌, ◌↔◌, List, [], ◌∷◌, ◌++◌, length, nat_le, Option, Some, None, option_map, Ok, refl, sym, ap, subst, ◌∙◌, inl, inr, codes}
 use Rattle.std.specs.List.{join_with_byte, list_all}
 use Rattle.std.specs.Char.{is_ascii_digit}
 use Rattle.std.specs.Str.{bytes_eq}
@@ -10,29 +10,24 @@ use Rattle.std.proofs.lemmas.Slice.Eq.{bytes_eq-Decides}
 use Rattle.acl_names.specs.Bits.{has}
 use Rattle.acl_names.specs.Directory.{Known, uid_of, gid_of}
 use Rattle.acl_names.specs.Ids.{Written, Number, Name, written_id, number_or_name, decimal_value, is_decimal, has_name_shape, has_domain_shape, resolved, max_id}
-use Rattle.acl_names.specs.Letters.{letters_of}
 use Rattle.acl_names.specs.Pieces.{parts}
 use Rattle.acl_names.proofs.IdTexts.{and_first, and_second, written_name}
-use Rattle.acl_nfs4.specs.Ace.{Nfsace4, ace_of, flags_for, is_idle}
-use Rattle.acl_nfs4.specs.AceShapes.{IsTypeLetter, WritesName, WritesId, IsWho, HasShape}
+use Rattle.acl_names.proofs.StepLemmas.{some_from_cond, written_by}
+use Rattle.acl_nfs4.specs.Ace.{Nfsace4, flags_for}
+use Rattle.acl_nfs4.specs.AceShapes.{IsTypeLetter, WritesId, IsWho, HasShape}
 use Rattle.acl_nfs4.specs.AceText.{WrittenWho, type_of, special_of, name_at, who_of_parts, written_who, named, resolved_who, piece_value}
 use Rattle.acl_nfs4.specs.AceText as form
 use Rattle.acl_nfs4.specs.Flags.{identifier_group}
-use Rattle.acl_nfs4.specs.Letters.{flag_table, mask_table}
 use Rattle.acl_nfs4.specs.declared.ace.AceType.{AceType}
 use Rattle.acl_nfs4.specs.declared.ace.AceType.TheVariants.{Allow, Deny, Audit, Alarm}
 use Rattle.acl_nfs4.specs.declared.who.Who.{Who}
 use Rattle.acl_nfs4.specs.declared.who.Who.TheVariants as one
 use Rattle.acl_nfs4.proofs.LetterLemmas.{flags-known, mask-known}
-use Rattle.acl_nfs4.proofs.ReadLemmas.{Parts, parts_of, value_of_parts}
+use Rattle.acl_nfs4.proofs.ReadLemmas.{parts_of, value_of_parts}
 use Rattle.acl_nfs4.proofs.RoundTrip.{at_again, parts_at, parts_name, parts_digits}
 
 same_bytes : (a b : List ℕ) → bytes_eq a b ≡ true → a ≡ b
 same_bytes a b e = (bytes_eq-Decides a b).0 e
-
-some_from_cond : {A : Type 0} (t : Bool) (x y : A) → cond t (Some x) None ≡ Some y → (t ≡ true) × (x ≡ y)
-some_from_cond true x y e = (refl, cc)
-some_from_cond false x y e = absurd (cc)
 
 -- what holds of a thing holds of the same thing
 of_same : {A : Type 0} (P : A → Type 0) (x y : A) → x ≡ y → P x → P y
@@ -61,65 +56,46 @@ type_read text Alarm e = ap type_of e
 
 -- ---- ids
 
--- what a text writes as an id
-abbrev Writes : List ℕ → Written → Type 0
-Writes text (Number number) = decimal_value text ≡ Some number
-Writes text (Name name) = (has_name_shape text ≡ true) × (text ≡ name)
-
-written_says : (text : List ℕ) (written : Written) → written_id text ≡ Some written → Writes text written
-written_says text written e = go (decimal_value text) refl e
+-- a text that writes a name is that name
+name_says : (text name : List ℕ) → written_id text ≡ Some (Name name) → (has_name_shape text ≡ true) × (text ≡ name)
+name_says text name e = go (decimal_value text) e
   where
-    go : (number : Option ℕ) → decimal_value text ≡ number → number_or_name number text ≡ Some written → Writes text written
-    go (Some n) d e = of_same (Writes text) (Number n) written (cc) d
-    go None d e =
-        let choice = some_from_cond (has_name_shape text) (Name text) written e in subst (Writes text) choice.1 (choice.0, refl)
+    go : (number : Option ℕ) → number_or_name number text ≡ Some (Name name) → (has_name_shape text ≡ true) × (text ≡ name)
+    go (Some n) e = absurd (cc)
+    go None e = let choice = some_from_cond (has_name_shape text) (Name text) (Name name) e in (choice.0, cc)
 
--- who is named by what is written, by the look-up
-named_says : (known : Known) (id_of : List ℕ → Option ℕ) (tag : ℕ → Who) (text : List ℕ) (written : Written) (named_one : Who)
-    → Writes text written → option_map tag (resolved id_of written) ≡ Some named_one
-    → (id : ℕ) × (named_one ≡ tag id) × ((decimal_value text ≡ Some id) ⊎ ((has_name_shape text ≡ true) × (id_of text ≡ Some id)))
-named_says known id_of tag text written named_one writes e = go (resolved id_of written) refl e
-  where
-    from_number : (n id : ℕ) → decimal_value text ≡ Some n → cond (nat_le n max_id) (Some n) None ≡ Some id → decimal_value text ≡ Some id
-    from_number n id d r = d ∙ ap Some (some_from_cond (nat_le n max_id) n id r).1
-
-    says : (w : Written) → Writes text w → (id : ℕ) → resolved id_of w ≡ Some id
-        → (decimal_value text ≡ Some id) ⊎ ((has_name_shape text ≡ true) × (id_of text ≡ Some id))
-    says (Number n) d id r = inl (from_number n id d r)
-    says (Name name) d id r = inr (d.0, ap id_of d.1 ∙ r)
-
-    go : (found : Option ℕ) → resolved id_of written ≡ found → option_map tag found ≡ Some named_one
-        → (id : ℕ) × (named_one ≡ tag id) × ((decimal_value text ≡ Some id) ⊎ ((has_name_shape text ≡ true) × (id_of text ≡ Some id)))
-    go None f e = absurd (cc)
-    go (Some id) f e = (id, cc, says written writes id f)
+-- who is named by a look-up: the one with the id that is found
+found_says : (tag : ℕ → Who) (found : Option ℕ) (who : Who) → option_map tag found ≡ Some who → (id : ℕ) × (found ≡ Some id) × (tag id ≡ who)
+found_says tag None who e = absurd (cc)
+found_says tag (Some id) who e = (id, refl, cc)
 
 -- a name or a decimal, alone
 id_says : (known : Known) (is_group : Bool) (text : List ℕ) (written : Written) (who : Who)
-    → Writes text written → named known is_group written ≡ Some who → IsWho known is_group text who
-id_says known true text written who writes e =
-    let says = named_says known (gid_of known) (λ gid. one.NamedGroup gid) text written who writes e in
-    subst (IsWho known true text) (sym says.1)
-    (refl, elim says.2 [ inl d ↦ inl d | inr name ↦ inr (text, (name.0, inl refl), name.1) ])
-id_says known false text written who writes e =
-    let says = named_says known (uid_of known) (λ uid. one.User uid) text written who writes e in
-    subst (IsWho known false text) (sym says.1)
-    (refl, elim says.2 [ inl d ↦ inl d | inr name ↦ inr (text, (name.0, inl refl), name.1) ])
+    → written_id text ≡ Some written → named known is_group written ≡ Some who → IsWho known is_group text who
+id_says known true text written who w e =
+    let found = found_says (λ gid. one.NamedGroup gid) (resolved (gid_of known) written) who e in
+    subst (IsWho known true text) found.2 (
+      refl,
+      elim (written_by (gid_of known) text (decimal_value text) written found.0 w found.1)
+          [ inl d ↦ inl d | inr name ↦ inr (text, (name.0, inl refl), name.1) ],
+    )
+id_says known false text written who w e =
+    let found = found_says (λ uid. one.User uid) (resolved (uid_of known) written) who e in
+    subst (IsWho known false text) found.2 (
+      refl,
+      elim (written_by (uid_of known) text (decimal_value text) written found.0 w found.1)
+          [ inl d ↦ inl d | inr name ↦ inr (text, (name.0, inl refl), name.1) ],
+    )
 
 -- a name in the domain
 at_says : (known : Known) (is_group : Bool) (name : List ℕ) (who : Who) → has_name_shape name ≡ true → has_domain_shape known.domain ≡ true
     → named known is_group (Name name) ≡ Some who → IsWho known is_group (name ++ 64 ∷ known.domain) who
-at_says known true name who shaped domain_shaped e = go (gid_of known name) refl e
-  where
-    go : (found : Option ℕ) → gid_of known name ≡ found → option_map (λ gid. one.NamedGroup gid) found ≡ Some who
-        → IsWho known true (name ++ 64 ∷ known.domain) who
-    go None f e = absurd (cc)
-    go (Some gid) f e = of_same (IsWho known true (name ++ 64 ∷ known.domain)) (one.NamedGroup gid) who (cc) (refl, inr (name, (shaped, inr (refl, domain_shaped)), f))
-at_says known false name who shaped domain_shaped e = go (uid_of known name) refl e
-  where
-    go : (found : Option ℕ) → uid_of known name ≡ found → option_map (λ uid. one.User uid) found ≡ Some who
-        → IsWho known false (name ++ 64 ∷ known.domain) who
-    go None f e = absurd (cc)
-    go (Some uid) f e = of_same (IsWho known false (name ++ 64 ∷ known.domain)) (one.User uid) who (cc) (refl, inr (name, (shaped, inr (refl, domain_shaped)), f))
+at_says known true name who shaped domain_shaped e =
+    let found = found_says (λ gid. one.NamedGroup gid) (gid_of known name) who e in
+    subst (IsWho known true (name ++ 64 ∷ known.domain)) found.2 (refl, inr (name, (shaped, inr (refl, domain_shaped)), found.1))
+at_says known false name who shaped domain_shaped e =
+    let found = found_says (λ uid. one.User uid) (uid_of known name) who e in
+    subst (IsWho known false (name ++ 64 ∷ known.domain)) found.2 (refl, inr (name, (shaped, inr (refl, domain_shaped)), found.1))
 
 -- ---- the who
 
@@ -172,7 +148,7 @@ name_at_says known is_group name domain written who e r = go (written_id name) r
     go (Some (Number n)) is e = absurd (cc)
     go (Some (Name n)) is e =
         let choice = some_from_cond (has_domain_shape domain) (form.At n domain) written e in
-        let writes = written_says name (Name n) is in
+        let writes = name_says name n is in
         let inside = in_domain n (bytes_eq domain known.domain) refl (resolves n choice.1) in
         subst (λ (d : List ℕ). IsWho known is_group (name ++ 64 ∷ d) who) (sym inside.0)
         (at_says known is_group name who writes.0 (ap has_domain_shape (sym inside.0) ∙ choice.0)
@@ -188,7 +164,7 @@ parts_say known is_group written who r (id ∷ []) e = go (written_id id) refl e
     go None is e = absurd (cc)
     go (Some w) is e =
         let same : form.Id w ≡ written = cc in
-        id_says known is_group id w who (written_says id w is) (ap (resolved_who known is_group) same ∙ r)
+        id_says known is_group id w who is (ap (resolved_who known is_group) same ∙ r)
 parts_say known is_group written who r (word ∷ [] ∷ []) e = special_says known is_group word written who e r
 parts_say known is_group written who r (name ∷ (byte ∷ bytes) ∷ []) e = name_at_says known is_group name (byte ∷ bytes) written who e r
 parts_say known is_group written who r (name ∷ [] ∷ more ∷ rest) e = absurd (cc)

@@ -3,7 +3,7 @@ use Rattle.std.specs.Prelude.{ℕ, List, [], ◌∷◌, Bool, true, false, Optio
 use Rattle.std.specs.Str.{bytes_eq}
 use Rattle.acl_names.specs.Bits.{has}
 use Rattle.acl_names.specs.Directory.{Known, uid_of, gid_of}
-use Rattle.acl_names.specs.Ids.{Written, Number, Name, written_id, resolved, has_domain_shape}
+use Rattle.acl_names.specs.Ids.{Written, Name, written_id, resolved, has_domain_shape}
 use Rattle.acl_names.specs.Letters.{letters_of}
 use Rattle.acl_names.specs.Pieces.{parts, trimmed_parts}
 use Rattle.acl_names.specs.Steps.{◌>>=◌, or_fault}

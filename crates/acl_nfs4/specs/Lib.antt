@@ -12,3 +12,4 @@ pub mod AceText
 pub mod AceViews
 pub mod PrintedText
 pub mod AceShapes
+pub mod ReadFault

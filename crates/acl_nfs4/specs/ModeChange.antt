@@ -1,5 +1,5 @@
 -- A list with a mode set (within RFC 8881, section 6.4.1.1).
-use Rattle.std.specs.Prelude.{ℕ, ◌^◌, Bool, not, ◌&&◌, ◌==◌, if◌then◌else◌, List, [], ◌∷◌, ◌++◌, map, filter, flat_map}
+use Rattle.std.specs.Prelude.{ℕ, ◌^◌, Bool, not, ◌&&◌, if◌then◌else◌, List, [], ◌∷◌, ◌++◌, map, filter, flat_map}
 use Rattle.acl_names.specs.Bits.{◌∪◌, without, union}
 use Rattle.acl_nfs4.specs.Ace.{decides, is_allow, is_deny, plain, unless_empty, is_inheritable, Nfsace4}
 use Rattle.acl_nfs4.specs.Who.{is_special, same_who}

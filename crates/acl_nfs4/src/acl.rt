@@ -1,12 +1,10 @@
 ghost use Rattle.std.specs.Prelude.{◌≡◌, ◌<◌, ◌↔◌, true, [], ◌∷◌, ◌++◌, length, OnOk, OnErr, IfOk, IfErr, Err};
 
 use crate::Ace;
+use crate::limits::MAX_ACES;
 use smallvec::SmallVec;
 use std::alloc::{AllocError, Global};
 use std::marker::Model;
-
-/// How many entries a list may have.
-pub const MOST_ACES: usize = 128;
 
 /// Why a text, or an entry, was refused.
 #[derive(Clone, Copy, Debug, PartialEq, Eq)]
@@ -19,6 +17,7 @@ pub enum AceFault {
     TooMany,
     /// `INHERIT_ONLY` without `FILE_INHERIT` or `DIRECTORY_INHERIT`.
     InheritOnly,
+    /// A growth was refused.
     Memory,
 }
 
@@ -66,13 +65,14 @@ impl Acl4 {
     /// with `Memory`; the list is as before then.
     pub fn push(&mut self, ace: Ace) -> Result<(), AceFault>
         ensures ok { OnOk result (self.new ≡ self.old ++ ace ∷ []) }
-        ensures too_many { (result ≡ Err AceFault.TooMany) ↔ (length self.old ≡ 128) }
-        ensures inherit_only { (result ≡ Err AceFault.InheritOnly) ↔ ((length self.old < 128) × (is_idle ace ≡ true)) }
+        ensures too_many { (result ≡ Err AceFault.TooMany) ↔ (length self.old ≡ MAX_ACES) }
+        ensures inherit_only { (result ≡ Err AceFault.InheritOnly) ↔ ((length self.old < MAX_ACES) × (is_idle ace ≡ true)) }
         ensures only { IfErr result IsPushFault }
         ensures err { OnErr result (self.new ≡ self.old) }
     {
+        // An entry tells that its bits have names where it is looked at.
         let _mask = ace.mask();
-        if self.aces.len() >= MOST_ACES {
+        if self.aces.len() >= MAX_ACES {
             return Err(AceFault::TooMany);
         }
         if ace.is_idle() {

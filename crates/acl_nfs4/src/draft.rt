@@ -1,6 +1,6 @@
 ghost use Rattle.std.specs.Prelude.{◌≡◌, ◌<◌, false, [], ◌∷◌, ◌++◌, length, OnOk, OnErr, IfOk};
 
-use crate::acl::MOST_ACES;
+use crate::limits::MAX_ACES;
 use crate::{Ace, AceType, Acl4, Mask, Who};
 use bitflags::Flags as FlagSet;
 use smallvec::SmallVec;
@@ -15,7 +15,7 @@ pub(crate) struct Full;
 /// finished list does so once.
 #[derive(Drop)]
 pub(crate) struct Draft {
-    aces: SmallVec<Ace, 128>,
+    aces: SmallVec<Ace, MAX_ACES>,
 }
 
 impl Model for Draft {
@@ -46,10 +46,11 @@ impl Draft {
 
     /// Puts the entry behind the others.
     pub(crate) fn push_within(&mut self, ace: Ace)
-        requires room { length self.old < 128 }
+        requires room { length self.old < MAX_ACES }
         requires effective { is_idle ace ≡ false }
         ensures { self.new ≡ self.old ++ ace ∷ [] }
     {
+        // An entry tells that its bits have names where it is looked at.
         let _mask = ace.mask();
         self.aces.push_reserved(ace);
     }
@@ -60,7 +61,7 @@ impl Draft {
         ensures ok { OnOk result (self.new ≡ self.old ++ ace ∷ []) }
         ensures full { OnErr result (IsTooLong (self.old ++ ace ∷ [])) }
     {
-        if self.aces.len() >= MOST_ACES {
+        if self.aces.len() >= MAX_ACES {
             return Err(Full);
         }
         self.push_within(ace);

@@ -4,11 +4,13 @@
 
 mod ace;
 mod acl;
+mod bits;
 mod draft;
 mod evaluation;
 mod flags;
 mod inheritance;
 mod letters;
+mod limits;
 mod mask;
 mod mode;
 mod mode_change;
@@ -23,6 +25,7 @@ pub use acl::{AceFault, Acl4};
 pub use flags::Flags;
 pub use inheritance::Kind;
 pub use letters::{letters_are_told_apart, read_letters};
+pub use limits::MAX_ACES;
 pub use mask::{Mask, mask_of};
 pub use mode_change::Fault4;
 pub use reading::{pieces_have_shapes, read_aces};

@@ -3,7 +3,7 @@ ghost use Rattle.acl_names.specs.Bits.{without, ◌∩◌};
 ghost use Rattle.acl_posix.specs.Perms.{bits_of};
 ghost use Rattle.acl_nfs4.specs.Mask.{mask_bits, all_masks, mask_of, rest_of};
 
-use crate::mode::given;
+use crate::bits::given;
 use acl_posix::Perms;
 use bitflags::{Flag, Flags as FlagSet, bitflag_items};
 

@@ -1,20 +1,14 @@
-ghost use Rattle.std.specs.Prelude.{◌≡◌, ◌↔◌, ◌&&◌, ◌||◌, IsTrue, ℕ, if◌then◌else◌};
-ghost use Rattle.acl_names.specs.Bits.{has, ◌∪◌};
+ghost use Rattle.std.specs.Prelude.{◌≡◌, ◌&&◌, ◌||◌, IsTrue, ℕ};
+ghost use Rattle.acl_names.specs.Bits.{has};
 ghost use Rattle.acl_posix.specs.Perms.{bits_of};
 ghost use Rattle.acl_nfs4.specs.Ace.{decides};
 ghost use Rattle.acl_nfs4.specs.Mask.{mask_bits, mode_bits, write_data, append_data};
 ghost use Rattle.acl_nfs4.specs.Evaluation.{allows, mode_of, of_class, shown_to};
 
+use crate::bits::given;
 use crate::{Ace, Acl4, Mask, Who};
 use acl_posix::{Mode, Perms};
 use bitflags::Flags as FlagSet;
-
-/// The flags on a condition, and else none.
-pub(crate) fn given<F: FlagSet>(flags: F, condition: bool) -> F
-    ensures { F.exact → F.set_of result ≡ (if condition then F.set_of flags else 0) }
-{
-    if condition { flags } else { F::empty() }
-}
 
 impl Who {
     /// Whether its entries tell the mode of one of `OWNER@`, `GROUP@` and `EVERYONE@`.

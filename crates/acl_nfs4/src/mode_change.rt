@@ -10,6 +10,7 @@ ghost use Rattle.acl_nfs4.specs.ModeChange.{kept_mask, kept_of, kept, names_some
 ghost use Rattle.acl_nfs4.specs.ModeChangeLaws.{GrantsOwner, GrantsGroup, GrantsOthers, LimitsNamed, KeepsAudits, KeepsInheritOnly, InheritsAlike};
 
 use crate::draft::{Draft, Full};
+use crate::limits::MAX_ACES;
 use crate::mask::{mask_of, rest_of};
 use crate::{Ace, AceType, Acl4, Flags, Mask, Who};
 use acl_posix::{Mode, Perms};
@@ -21,6 +22,7 @@ use std::alloc::Global;
 pub enum Fault4 {
     /// The list would have more than 128 entries.
     TooMany,
+    /// A growth was refused.
     Memory,
 }
 
@@ -142,7 +144,7 @@ fn push_kept(draft: &mut Draft, aces: &[Ace], group: Perms) -> Result<(), Full>
 }
 
 /// Whether an entry decides about this who by name.
-fn are_naming(aces: &[Ace], who: &Who) -> bool
+fn any_names(aces: &[Ace], who: &Who) -> bool
     ensures { result ≡ list_any (names who.now) aces.now }
 {
     aces.iter().any(|ace| ace.names(who))
@@ -180,7 +182,7 @@ fn push_denials(draft: &mut Draft, aces: &[Ace], group: Perms) -> Result<(), Ful
 {
     for place in 0..aces.len() {
         let ace = &aces[place];
-        if ace.names_someone() && !are_naming(&aces[..place], &ace.who()) {
+        if ace.names_someone() && !any_names(&aces[..place], &ace.who()) {
             push_denial(draft, aces, group, ace.who())?;
         }
     }
@@ -213,7 +215,7 @@ impl Acl4 {
     /// list is as before then.
     pub fn chmod4(&mut self, alloc: Global, mode: Mode) -> Result<(), Fault4>
         ensures ok { OnOk result (self.new ≡ with_mode self.old mode) }
-        ensures too_many { (result ≡ Err Fault4.TooMany) ↔ (128 < length (with_mode self.old mode)) }
+        ensures too_many { (result ≡ Err Fault4.TooMany) ↔ (MAX_ACES < length (with_mode self.old mode)) }
         ensures err { OnErr result (self.new ≡ self.old) }
 
         // The mode shown is the mode set.

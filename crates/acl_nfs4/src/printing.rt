@@ -7,9 +7,13 @@ ghost use Rattle.acl_nfs4.specs.PrintedText.{ace_text, aces_text, front_text, Ha
 ghost use Rattle.acl_nfs4.specs.Who.{HasId};
 
 use crate::letters::{push_flags, push_mask};
+use crate::limits::MAX_ACES;
 use crate::{Ace, AceType, Acl4, Who};
 use acl_names::{Directory, push_id};
 use std::alloc::AllocError;
+
+/// How many bytes a line mostly has at the most.
+const USUAL_LINE: usize = 32;
 
 impl Acl4 {
     /// Appends the entries in order, one per line: `type:flags:who:letters` and a newline. `who` is the special word,
@@ -19,7 +23,7 @@ impl Acl4 {
         ensures unchanged { OnErr result (out.new.items ≡ out.old.items) }
 
         // What is printed is read as these entries.
-        ensures read_again { OnOk result (Spells (piece_value directory.now) 128 (aces_text directory.now self.now) self.now) }
+        ensures read_again { OnOk result (Spells (piece_value directory.now) MAX_ACES (aces_text directory.now self.now) self.now) }
     {
         directory.tell_names_apart();
         let old_len = out.len();
@@ -36,6 +40,7 @@ fn push_lines(aces: &[Ace], directory: &Directory, out: &mut Vec<u8>) -> Result<
     ensures have_ids { OnOk result (HaveIds aces.now) }
     ensures kept { take (length out.old.items) out.new.items ≡ out.old.items }
 {
+    out.reserve(aces.len().min(MAX_ACES) * USUAL_LINE)?;
     for ace in aces {
         push_line(ace, directory, out)?;
     }

@@ -3,18 +3,19 @@
 ghost use Rattle.std.specs.Prelude.{◌≡◌, ◌↔◌, ℕ, List, Ok, option_map, IfOk, IfErr, MatchResult};
 ghost use Rattle.acl_names.specs.Bits.{has};
 ghost use Rattle.acl_names.specs.Directory.{Known};
-ghost use Rattle.acl_names.specs.ListText.{Spells, IsFaultOf};
+ghost use Rattle.acl_names.specs.ListText.{Spells};
 ghost use Rattle.acl_names.specs.Ids.{written_id};
 ghost use Rattle.acl_names.specs.Views.{view_written};
 ghost use Rattle.acl_nfs4.specs.Ace.{Nfsace4};
 ghost use Rattle.acl_nfs4.specs.AceShapes.{HasShape};
 ghost use Rattle.acl_nfs4.specs.AceText.{effective, fields_of, name_at, named, piece_value, resolved_who, special_of, type_of, written_who};
-ghost use Rattle.acl_nfs4.specs.AceViews.{list_fault, view_fields, view_who};
+ghost use Rattle.acl_nfs4.specs.AceViews.{view_fields, view_who};
+ghost use Rattle.acl_nfs4.specs.ReadFault.{list_fault, IsTextFault};
 ghost use Rattle.acl_nfs4.specs.Flags.{flag_bits, identifier_group};
 ghost use Rattle.acl_nfs4.specs.declared.acl.AceFault.TheVariants.{Memory};
 
-use crate::acl::MOST_ACES;
 use crate::letters::{read_flags, read_letters};
+use crate::limits::MAX_ACES;
 use crate::{Ace, AceFault, AceType, Acl4, Flags, Who};
 use acl_names::{
     Directory, ListFault, Parts, PieceReader, WrittenId, is_domain, read_list, trim_blanks,
@@ -82,20 +83,28 @@ impl<'a> PieceReader for AceReader<'a> {
 /// The first faulty piece decides: `Syntax`, before `UnknownName` (also of a name in another domain), before `InheritOnly`;
 /// a 129th piece is `TooMany` before it is read. Want of memory ends it with `Memory`.
 pub fn read_aces(alloc: Global, text: &[u8], directory: &Directory) -> Result<Acl4, AceFault>
-    ensures read { IfOk result (Spells (piece_value directory.now) 128 text.now) }
-    ensures fault { IfErr result (λ fault. IsFaultOf (piece_value directory.now) 128 text.now (list_fault fault)) }
+    ensures read { IfOk result (Spells (piece_value directory.now) MAX_ACES text.now) }
+    ensures fault { IfErr result (IsTextFault directory.now text.now) }
 
     // What is spelt is read, unless memory runs out.
-    ensures only { (aces : List Nfsace4) → Spells (piece_value directory.now) 128 text.now aces
+    ensures only { (aces : List Nfsace4) → Spells (piece_value directory.now) MAX_ACES text.now aces
         → MatchResult result (λ acl. acl ≡ aces) (λ fault. fault ≡ Memory) }
 {
-    match read_list(alloc, &AceReader { directory }, MOST_ACES, text) {
+    match read_list(alloc, &AceReader { directory }, MAX_ACES, text) {
         Ok(aces) => Ok(Acl4::from_items(aces)),
-        Err(ListFault::Piece(PieceFault::Syntax)) => Err(AceFault::Syntax),
-        Err(ListFault::Piece(PieceFault::UnknownName)) => Err(AceFault::UnknownName),
-        Err(ListFault::Piece(PieceFault::InheritOnly)) => Err(AceFault::InheritOnly),
-        Err(ListFault::TooMany) => Err(AceFault::TooMany),
-        Err(ListFault::Memory) => Err(AceFault::Memory),
+        Err(fault) => Err(text_fault(fault)),
+    }
+}
+
+fn text_fault(fault: ListFault<PieceFault>) -> AceFault
+    ensures { list_fault result ≡ fault }
+{
+    match fault {
+        ListFault::Piece(PieceFault::Syntax) => AceFault::Syntax,
+        ListFault::Piece(PieceFault::UnknownName) => AceFault::UnknownName,
+        ListFault::Piece(PieceFault::InheritOnly) => AceFault::InheritOnly,
+        ListFault::TooMany => AceFault::TooMany,
+        ListFault::Memory => AceFault::Memory,
     }
 }
 

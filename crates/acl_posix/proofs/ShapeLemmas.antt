@@ -1,13 +1,14 @@
 -- What the reader's function answers is what the shapes say.
-use Rattle.std.proofs.Common.{◌≡◌, ◌⊎◌, ◌||◌, ℕ, Bool, true, false, cond, List, [], ◌∷◌, Option, Some, None, option_and_then, Result, Ok, Err, ◌<◌, ◌&&◌, nat_le, length, refl, sym, ap, subst, ◌∙◌, inl, inr, codes, arith}
+use Rattle.std.proofs.Common.{◌≡◌, ◌⊎◌, ◌||◌, ℕ, Bool, true, false, cond, List, [], ◌∷◌, Option, Some, None, option_and_then, Result, Ok, ◌<◌, ◌&&◌, nat_le, length, refl, sym, ap, subst, ◌∙◌, inl, inr, codes, arith}
 use Rattle.std.specs.Char.{is_ascii_digit}
 use Rattle.std.specs.List.{list_all}
 use Rattle.std.specs.Str.{bytes_eq}
 use Rattle.std.specs.Str.Parse.{digits_value}
 use Rattle.std.proofs.lemmas.Slice.Eq.{bytes_eq-Decides}
 use Rattle.acl_names.specs.Directory.{Known, uid_of, gid_of}
-use Rattle.acl_names.specs.Ids.{Written, Number, Name, is_decimal, written_id, number_or_name, decimal_value, has_name_shape, max_id, resolved}
+use Rattle.acl_names.specs.Ids.{is_decimal, written_id, number_or_name, decimal_value, has_name_shape, max_id, resolved}
 use Rattle.acl_names.proofs.IdTexts.{and_second, written_name}
+use Rattle.acl_names.proofs.StepLemmas.{bind_ok, given, some_from_cond, written_by}
 use Rattle.acl_posix.proofs.RoundTrip.{qualified_by, user_tag, group_tag, read_parts}
 use Rattle.acl_names.specs.Steps.{◌>>=◌, or_fault}
 use Rattle.acl_posix.specs.PermsText.{perms_of_text}
@@ -21,15 +22,6 @@ use Rattle.acl_posix.specs.declared.reading.PieceFault.TheVariants.{Syntax, Unkn
 use Rattle.acl_posix.specs.declared.reading.TagWord.{TagWord}
 use Rattle.acl_posix.specs.declared.reading.TagWord.TheVariants as word
 
--- a step that succeeded
-bind_ok : {A B F : Type 0} (r : Result A F) (f : A → Result B F) (y : B) → (r >>= f) ≡ Ok y → (x : A) × (r ≡ Ok x) × (f x ≡ Ok y)
-bind_ok (Ok x) f y e = (x, refl, e)
-bind_ok (Err fault) f y e = cc
-
-given : {A F : Type 0} (fault : F) (o : Option A) (x : A) → or_fault fault o ≡ Ok x → o ≡ Some x
-given fault (Some y) x e = cc
-given fault None x e = cc
-
 abbrev ok_tag : Tag → Result Tag PieceFault
 ok_tag tag = Ok tag
 
@@ -42,24 +34,9 @@ ok_entry entry = Ok entry
 same_entries : (x y : Triple) → ok_entry x ≡ ok_entry y → x ≡ y
 same_entries x y e = cc
 
-some_from_cond : {A : Type 0} (t : Bool) (x y : A) → cond t (Some x) None ≡ Some y → (t ≡ true) × (x ≡ y)
-some_from_cond true x y e = (refl, cc)
-some_from_cond false x y e = cc
-
 or_cases : (a b : Bool) → (a || b) ≡ true → (a ≡ true) ⊎ (b ≡ true)
 or_cases true b e = inl refl
 or_cases false b e = inr e
-
--- an id that is written and known
-written_by : (id_of : List ℕ → Option ℕ) (text : List ℕ) (number : Option ℕ) (w : Written) (id : ℕ)
-    → number_or_name number text ≡ Some w → resolved id_of w ≡ Some id → (number ≡ Some id) ⊎ ((has_name_shape text ≡ true) × (id_of text ≡ Some id))
-written_by id_of text (Some n) w id e f =
-    let is : Number n ≡ w = cc in
-    let that = some_from_cond (nat_le n max_id) n id (ap (resolved id_of) is ∙ f) in
-    inl (ap Some that.1)
-written_by id_of text None w id e f =
-    let choice = some_from_cond (has_name_shape text) (Name text) w e in
-    inr (choice.0, ap (resolved id_of) choice.1 ∙ f)
 
 qualified_says : (tag : ℕ → Tag) (id_of : List ℕ → Option ℕ) (text : List ℕ) (t : Tag) → qualified tag id_of text ≡ Ok t → (id : ℕ) × WritesId id_of text id × (tag id ≡ t)
 qualified_says tag id_of text t e =

@@ -1,4 +1,4 @@
-use Rattle.std.proofs.Common.{◌≡◌, ◌≤◌, arith, Some}
+use Rattle.std.proofs.Common.{arith}
 use Rattle.acl_nfs4.proofs.LetterLemmas.{flags-small}
 use Rattle.acl_nfs4.proofs.letters.read_flags.Goals as goal
 

@@ -1,11 +1,10 @@
-use Rattle.std.proofs.Common.{◌≡◌, ◌∙◌, ◌+◌, sym, ap, ap₂, subst, drop, List, ℕ}
+use Rattle.std.proofs.Common.{◌≡◌, ◌∙◌, ◌+◌, sym, ap, subst, drop, List, ℕ}
 use Rattle.std.proofs.lemmas.Bool.{eqb-true}
-use Rattle.std.proofs.lemmas.List.{drop_all}
 use Rattle.acl_names.specs.Bits.{without, ◌∩◌, ◌∪◌}
 use Rattle.acl_nfs4.specs.Ace.{Nfsace4, is_allow}
 use Rattle.acl_nfs4.specs.Evaluation.{of_class}
 use Rattle.acl_nfs4.specs.Mask.{mask_bits, mode_bits}
-use Rattle.acl_nfs4.proofs.Evaluated.{IsFound, IsFound-all, IsFound-skip, IsFound-allow, IsFound-deny, IsFound-none, IsFound-end, IsFound-step}
+use Rattle.acl_nfs4.proofs.Evaluated.{IsFound, IsFound-all, IsFound-skip, IsFound-allow, IsFound-deny, IsFound-none, IsFound-step}
 use Rattle.acl_nfs4.proofs.mode.allowed_to.Goals as goal
 use Rattle.acl_nfs4.proofs.mode.allowed_to.Goals.{then-tells_mode_of, then-is_allow, else-is_allow, else-tells_mode_of}
 

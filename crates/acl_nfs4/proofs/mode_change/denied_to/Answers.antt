@@ -1,4 +1,4 @@
-use Rattle.std.proofs.Common.{◌≡◌, ◌∙◌, ◌+◌, sym, ap, subst, drop, ◌∷◌, true, false, List, ℕ}
+use Rattle.std.proofs.Common.{◌≡◌, ◌∙◌, ◌+◌, sym, ap, drop, ◌∷◌, true, false, List, ℕ}
 use Rattle.std.proofs.lemmas.List.{drop_all}
 use Rattle.acl_names.specs.Bits.{◌∪◌}
 use Rattle.acl_nfs4.specs.Ace.{Nfsace4}

@@ -1,4 +1,4 @@
-use Rattle.std.proofs.Common.{◌≡◌, ◌∙◌, sym, ap, subst, ◌&&◌, ◌||◌, not, false, ℕ}
+use Rattle.std.proofs.Common.{◌≡◌, ◌∙◌, sym, ap, subst, ◌&&◌, ◌||◌, not, ℕ}
 use Rattle.acl_names.specs.Bits.{has, without, ◌∩◌, ◌∪◌}
 use Rattle.acl_nfs4.specs.Ace.{is_idle}
 use Rattle.acl_nfs4.specs.Flags.{all_flags, inheritance_flags, identifier_group, flag_bits}

@@ -1,4 +1,4 @@
-use Rattle.std.proofs.Common.{◌≡◌, ◌≤◌, ◌∙◌, ◌+◌, ◌++◌, sym, ap, drop, List, length, arith}
+use Rattle.std.proofs.Common.{◌≤◌, ◌∙◌, ◌+◌, ◌++◌, sym, ap, drop, List, length, arith}
 use Rattle.std.specs.List.{cons_option}
 use Rattle.acl_nfs4.specs.Ace.{Nfsace4}
 use Rattle.acl_nfs4.specs.Inheritance.{inherited_entry, inherited_list}

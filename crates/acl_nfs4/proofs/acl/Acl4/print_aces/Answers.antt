@@ -1,7 +1,5 @@
-use Rattle.std.proofs.Common.{subst, List}
+use Rattle.std.proofs.Common.{subst}
 use Rattle.std.proofs.lemmas.Result.{on_ok_weaker}
-use Rattle.acl_nfs4.specs.Ace.{Nfsace4}
-use Rattle.acl_nfs4.specs.Acl.{AreAces}
 use Rattle.acl_nfs4.specs.PrintedText.{HaveIds}
 use Rattle.acl_nfs4.proofs.RoundTrip.{aces_spelt}
 use Rattle.acl_nfs4.proofs.acl.Acl4.print_aces.Goals as goal

@@ -1,0 +1,28 @@
+-- Reading step by step: what a value that is read says of each step.
+use Rattle.std.proofs.Common.{◌≡◌, ◌⊎◌, ℕ, Bool, true, false, cond, nat_le, List, Option, Some, None, Result, Ok, Err, refl, ap, ◌∙◌, inl, inr}
+use Rattle.acl_names.specs.Ids.{Written, Number, Name, number_or_name, has_name_shape, resolved, max_id}
+use Rattle.acl_names.specs.Steps.{◌>>=◌, or_fault}
+
+-- a step that succeeded
+pub bind_ok : {A B F : Type 0} (r : Result A F) (f : A → Result B F) (y : B) → (r >>= f) ≡ Ok y → (x : A) × (r ≡ Ok x) × (f x ≡ Ok y)
+bind_ok (Ok x) f y e = (x, refl, e)
+bind_ok (Err fault) f y e = cc
+
+pub given : {A F : Type 0} (fault : F) (o : Option A) (x : A) → or_fault fault o ≡ Ok x → o ≡ Some x
+given fault (Some y) x e = cc
+given fault None x e = cc
+
+pub some_from_cond : {A : Type 0} (t : Bool) (x y : A) → cond t (Some x) None ≡ Some y → (t ≡ true) × (x ≡ y)
+some_from_cond true x y e = (refl, cc)
+some_from_cond false x y e = cc
+
+-- an id that is written and known
+pub written_by : (id_of : List ℕ → Option ℕ) (text : List ℕ) (number : Option ℕ) (w : Written) (id : ℕ)
+    → number_or_name number text ≡ Some w → resolved id_of w ≡ Some id → (number ≡ Some id) ⊎ ((has_name_shape text ≡ true) × (id_of text ≡ Some id))
+written_by id_of text (Some n) w id e f =
+    let is : Number n ≡ w = cc in
+    let that = some_from_cond (nat_le n max_id) n id (ap (resolved id_of) is ∙ f) in
+    inl (ap Some that.1)
+written_by id_of text None w id e f =
+    let choice = some_from_cond (has_name_shape text) (Name text) w e in
+    inr (choice.0, ap (resolved id_of) choice.1 ∙ f)
