@@ -5,7 +5,8 @@ ghost use Rattle.acl_posix.specs.Perms.{bits_of};
 ghost use Rattle.acl_nfs4.specs.Ace.{is_idle, plain};
 ghost use Rattle.acl_nfs4.specs.Acl.{most_aces};
 ghost use Rattle.acl_nfs4.specs.Flags.{flag_bits};
-ghost use Rattle.acl_nfs4.specs.Mask.{mask_bits, all_masks, rest_of};
+ghost use Rattle.acl_nfs4.specs.Mask.{mask_bits, all_masks, mask_of, rest_of};
+ghost use Rattle.acl_nfs4.specs.declared.ace.AceType.TheVariants.{Allow, Deny};
 ghost use Rattle.acl_bridge.specs.Passes.{is_in, effective_under, made_by, made_of, flags_of, with_effect};
 ghost use Rattle.acl_bridge.specs.Translation.{who_of};
 
@@ -140,6 +141,22 @@ fn push_made(
     push(aces, Ace::new(kind, effect.flags(), who, mask))
 }
 
+/// Puts what an entry with this tag and these permissions allows behind the others.
+fn push_allowed(aces: &mut Acl4, tag: Tag, perms: Perms, effect: Effect) -> Result<(), AllocError>
+    requires room { length (aces.old ++ with_effect effect (plain Allow (who_of tag) (mask_of (bits_of perms)))) ≤ most_aces }
+    ensures { OnOk result (aces.new ≡ aces.old ++ with_effect effect (plain Allow (who_of tag) (mask_of (bits_of perms)))) }
+{
+    push_made(aces, AceType::Allow, who_of(tag), mask_of(perms), effect)
+}
+
+/// Puts the rest, which it denies, behind the others.
+fn push_denied(aces: &mut Acl4, tag: Tag, perms: Perms, effect: Effect) -> Result<(), AllocError>
+    requires room { length (aces.old ++ with_effect effect (plain Deny (who_of tag) (rest_of (bits_of perms)))) ≤ most_aces }
+    ensures { OnOk result (aces.new ≡ aces.old ++ with_effect effect (plain Deny (who_of tag) (rest_of (bits_of perms)))) }
+{
+    push_made(aces, AceType::Deny, who_of(tag), rest_of(perms), effect)
+}
+
 /// Appends what an entry makes.
 fn append_entry(
     aces: &mut Acl4,
@@ -153,35 +170,11 @@ fn append_entry(
 {
     let perms = effective_perms(entry, mask);
     match part {
-        Part::Allowed => push_made(
-            aces,
-            AceType::Allow,
-            who_of(entry.tag),
-            mask_of(perms),
-            effect,
-        ),
-        Part::Denied => push_made(
-            aces,
-            AceType::Deny,
-            who_of(entry.tag),
-            rest_of(perms),
-            effect,
-        ),
+        Part::Allowed => push_allowed(aces, entry.tag, perms, effect),
+        Part::Denied => push_denied(aces, entry.tag, perms, effect),
         Part::Settled => {
-            push_made(
-                aces,
-                AceType::Allow,
-                who_of(entry.tag),
-                mask_of(perms),
-                effect,
-            )?;
-            push_made(
-                aces,
-                AceType::Deny,
-                who_of(entry.tag),
-                rest_of(perms),
-                effect,
-            )
+            push_allowed(aces, entry.tag, perms, effect)?;
+            push_denied(aces, entry.tag, perms, effect)
         }
     }
 }

@@ -22,9 +22,12 @@ impl Told {
     }
 }
 
-/// Puts the entry behind the others, at the second attempt if the first is refused.
-fn push(entries: &mut Entries, tag: Tag, perms: Perms, told: &mut Told) -> Result<(), Fail> {
-    let entry = Entry { tag, perms };
+/// Puts an entry with this tag behind the others, at the second attempt if the first is refused.
+fn push(entries: &mut Entries, tag: Tag, told: &mut Told) -> Result<(), Fail> {
+    let entry = Entry {
+        tag,
+        perms: Perms::READ,
+    };
     if entries.push(entry) == Err(TextFault::Memory) {
         told.one_more();
         entries.push(entry)?;
@@ -35,14 +38,14 @@ fn push(entries: &mut Entries, tag: Tag, perms: Perms, told: &mut Told) -> Resul
 /// The longest translation: 60 users, the owner, the file's group, the mask and the others.
 fn longest(alloc: Global, told: &mut Told) -> Result<Acl, Fail> {
     let mut entries = Entries::new(alloc);
-    push(&mut entries, Tag::UserObj, Perms::READ, told)?;
+    push(&mut entries, Tag::UserObj, told)?;
     for number in 0..60 {
         let uid = Uid::new(number).ok_or("uid")?;
-        push(&mut entries, Tag::User(uid), Perms::READ, told)?;
+        push(&mut entries, Tag::User(uid), told)?;
     }
-    push(&mut entries, Tag::GroupObj, Perms::READ, told)?;
-    push(&mut entries, Tag::Mask, Perms::READ, told)?;
-    push(&mut entries, Tag::Other, Perms::READ, told)?;
+    push(&mut entries, Tag::GroupObj, told)?;
+    push(&mut entries, Tag::Mask, told)?;
+    push(&mut entries, Tag::Other, told)?;
     Ok(Acl::new(entries).ok().ok_or("a valid list")?)
 }
 
