@@ -1,5 +1,5 @@
 -- Lists as a loop goes through them.
-use Rattle.std.proofs.Common.{◌≡◌, ℕ, Bool, true, false, cond, suc, ◌+◌, ◌<◌, ◌≤◌, ap, sym, ◌∙◌, List, [], ◌∷◌, ◌++◌, Option, Some, None, length, get_or, drop, take, append_assoc, append-nil, length-append, add-one, arith, refl, subst}
+use Rattle.std.proofs.Common.{◌≡◌, ℕ, Bool, true, false, cond, suc, ◌+◌, ◌<◌, ◌≤◌, ap, sym, ◌∙◌, List, [], ◌∷◌, ◌++◌, Option, Some, None, length, get_or, drop, take, append-nil, length-append, add-one, arith, refl, subst}
 use Rattle.acl_names.proofs.AnyLemmas.{flat_map-append}
 use Rattle.std.proofs.Math.Seq.{drop-cons, take-suc}
 use Rattle.std.specs.Prelude.{filter, filter_map, flat_map, Result, Ok, Err, OnErr}
@@ -14,10 +14,6 @@ module _ {X : Type 0} where
   -- a list in the making that has a further element to come is shorter than the whole
   pub shorter : (made : List X) (x : X) (rest whole : List X) → made ++ x ∷ rest ≡ whole → length made < length whole
   shorter made x rest whole e = omega (arith, ap length e, length-append made (x ∷ rest))
-
-  -- one more element is made
-  pub made-next : (made : List X) (x : X) (rest whole : List X) → made ++ x ∷ rest ≡ whole → (made ++ x ∷ []) ++ rest ≡ whole
-  made-next made x rest whole e = append_assoc made (x ∷ []) rest ∙ e
 
 pub length-filter_map : {X Y : Type 0} (f : X → Option Y) (xs : List X) → length (filter_map f xs) ≤ length xs
 length-filter_map f [] = omega arith

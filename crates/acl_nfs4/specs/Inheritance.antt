@@ -1,6 +1,7 @@
 -- What a new file or directory inherits (RFC 8881, section 6.4.3).
-use Rattle.std.specs.Prelude.{ℕ, ◌+◌, ◌^◌, Bool, true, false, List, Option, Some, None, option_map, filter_map}
-use Rattle.acl_names.specs.Bits.{has, without, ◌∪◌}
+use Rattle.std.specs.Prelude.{ℕ, ◌+◌, ◌^◌, ◌==◌, Bool, true, false, not, List, Option, Some, None, option_map, filter_map}
+use Rattle.std.specs.List.{list_any}
+use Rattle.acl_names.specs.Bits.{has, without, ◌∩◌, ◌∪◌}
 use Rattle.acl_nfs4.specs.Flags.{file_inherit, directory_inherit, no_propagate_inherit, inherit_only, inheritance_flags}
 use Rattle.acl_nfs4.specs.Ace.{Nfsace4}
 use Rattle.acl_nfs4.specs.declared.inheritance.Kind.{Kind}
@@ -32,3 +33,7 @@ inherited_entry kind ace =
 -- the list of what is made below
 abbrev pub inherited_list : Kind → List Nfsace4 → List Nfsace4
 inherited_list kind aces = filter_map (inherited_entry kind) aces
+
+-- whether any entry has a flag that speaks of inheritance
+abbrev pub has_inheritance : List Nfsace4 → Bool
+has_inheritance aces = list_any (λ ace. not (ace.flags ∩ inheritance_flags == 0)) aces

@@ -54,9 +54,13 @@ named_in aces = distinct (map (λ ace. ace.who) (filter names_someone aces))
 abbrev pub names : Who → Nfsace4 → Bool
 names who ace = names_someone ace && same_who ace.who who
 
+-- whether an entry denies this who something by name
+abbrev pub denies_by_name : Who → Nfsace4 → Bool
+denies_by_name who ace = decides ace && (is_deny ace.kind && same_who ace.who who)
+
 -- the bits that the list denies this who by name
 abbrev pub denied_to : Who → List Nfsace4 → ℕ
-denied_to who aces = union (map (λ ace. ace.mask) (filter (λ ace. decides ace && (is_deny ace.kind && same_who ace.who who)) aces))
+denied_to who aces = union (map (λ ace. ace.mask) (filter (denies_by_name who) aces))
 
 -- the bits that the mode's group lacks, denied to this who as far as the list does not deny them
 abbrev pub denial_of : ℕ → List Nfsace4 → Who → List Nfsace4

@@ -9,7 +9,9 @@ use std::marker::Model;
 /// What an entry does with the bits of its mask (RFC 8881, section 6.2.1.1).
 #[derive(Clone, Copy, Debug, PartialEq, Eq)]
 pub enum AceType {
+    /// Allows the bits of its mask.
     Allow,
+    /// Denies the bits of its mask.
     Deny,
     /// Logs an access; it decides nothing.
     Audit,
@@ -97,12 +99,14 @@ impl Ace {
         }
     }
 
+    /// What the entry does with the bits of its mask.
     pub fn kind(&self) -> AceType
         ensures { result ≡ self.now.kind }
     {
         self.kind
     }
 
+    /// The flags, with `IDENTIFIER_GROUP` exactly where the entry names a group.
     pub fn flags(&self) -> Flags
         ensures value { flag_bits result ≡ self.now.flags }
         ensures ace { IsAce self.now }
@@ -110,12 +114,14 @@ impl Ace {
         self.flags
     }
 
+    /// Whom the entry is about.
     pub fn who(&self) -> Who
         ensures { result ≡ self.now.who }
     {
         self.who
     }
 
+    /// What the entry allows, denies or watches.
     pub fn mask(&self) -> Mask
         ensures value { mask_bits result ≡ self.now.mask }
         ensures ace { IsAce self.now }

@@ -31,7 +31,7 @@ impl Model for Draft {
 }
 
 impl Draft {
-    ghost use Rattle.acl_nfs4.specs.Acl.{AreAces, IsTooLong};
+    ghost use Rattle.acl_nfs4.specs.Acl.{IsTooLong};
     ghost use Rattle.acl_nfs4.specs.Ace.{is_idle, unless_empty, plain};
     ghost use Rattle.acl_nfs4.specs.Mask.{mask_bits, all_masks};
     ghost use Rattle.acl_names.specs.Bits.{◌∩◌};

@@ -1,4 +1,4 @@
-ghost use Rattle.std.specs.Prelude.{◌≡◌, ◌↔◌, ◌&&◌, IsTrue, ℕ};
+ghost use Rattle.std.specs.Prelude.{◌≡◌, ◌↔◌, ◌&&◌, IsTrue};
 ghost use Rattle.acl_nfs4.specs.Ace.{decides};
 ghost use Rattle.acl_nfs4.specs.Who.{matches};
 ghost use Rattle.acl_nfs4.specs.Mask.{mask_bits};

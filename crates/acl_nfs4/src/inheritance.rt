@@ -1,8 +1,7 @@
-ghost use Rattle.std.specs.Prelude.{◌≡◌, ◌==◌, not, option_map, IfOk, IfSome};
-ghost use Rattle.std.specs.List.{list_any};
-ghost use Rattle.acl_names.specs.Bits.{has, ◌∩◌};
-ghost use Rattle.acl_nfs4.specs.Flags.{flag_bits, file_inherit, directory_inherit, no_propagate_inherit, inheritance_flags};
-ghost use Rattle.acl_nfs4.specs.Inheritance.{flags_below, inherited_entry, inherited_list};
+ghost use Rattle.std.specs.Prelude.{◌≡◌, option_map, IfOk, IfSome};
+ghost use Rattle.acl_names.specs.Bits.{has};
+ghost use Rattle.acl_nfs4.specs.Flags.{flag_bits, file_inherit, directory_inherit, no_propagate_inherit};
+ghost use Rattle.acl_nfs4.specs.Inheritance.{flags_below, has_inheritance, inherited_entry, inherited_list};
 
 use crate::draft::Draft;
 use crate::{Ace, Acl4, Flags};
@@ -12,7 +11,9 @@ use std::alloc::{AllocError, Global};
 /// What is made in a directory.
 #[derive(Clone, Copy, Debug, PartialEq, Eq)]
 pub enum Kind {
+    /// A file, which takes entries over and passes none on.
     File,
+    /// A directory.
     Dir,
 }
 
@@ -76,7 +77,7 @@ impl Acl4 {
     /// Whether any entry has one of the flags `FILE_INHERIT`, `DIRECTORY_INHERIT`, `NO_PROPAGATE_INHERIT` and
     /// `INHERIT_ONLY`.
     pub fn has_inheritance(&self) -> bool
-        ensures { result ≡ list_any (λ ace. not (ace.flags ∩ inheritance_flags == 0)) self.now }
+        ensures { result ≡ has_inheritance self.now }
     {
         self.aces().iter().any(|ace| ace.flags().has_inheritance())
     }

@@ -13,19 +13,46 @@ pub struct Mask(u32);
 
 bitflag_items! {
     impl Mask: u32 {
+        /// To read a file, or to list a directory.
         const READ_DATA = 0x1;
+
+        /// To write within a file, or to add a file to a directory.
         const WRITE_DATA = 0x2;
+
+        /// To write behind the end of a file, or to add a directory to a directory.
         const APPEND_DATA = 0x4;
+
+        /// To read named attributes.
         const READ_NAMED_ATTRS = 0x8;
+
+        /// To write named attributes.
         const WRITE_NAMED_ATTRS = 0x10;
+
+        /// To execute a file, or to go through a directory.
         const EXECUTE = 0x20;
+
+        /// To delete what is in a directory.
         const DELETE_CHILD = 0x40;
+
+        /// To read basic attributes.
         const READ_ATTRIBUTES = 0x80;
+
+        /// To change times.
         const WRITE_ATTRIBUTES = 0x100;
+
+        /// To delete the file or directory.
         const DELETE = 0x10000;
+
+        /// To read the access control list.
         const READ_ACL = 0x20000;
+
+        /// To change the access control list and the mode.
         const WRITE_ACL = 0x40000;
+
+        /// To change the owner and the group.
         const WRITE_OWNER = 0x80000;
+
+        /// To wait on the file.
         const SYNCHRONIZE = 0x100000;
     }
 }

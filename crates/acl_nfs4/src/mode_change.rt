@@ -1,12 +1,11 @@
-ghost use Rattle.std.specs.Prelude.{◌≡◌, ◌<◌, ◌↔◌, ◌++◌, false, length, flat_map, Err, OnOk, OnErr, IfOk};
+ghost use Rattle.std.specs.Prelude.{◌≡◌, ◌<◌, ◌↔◌, ◌++◌, false, length, Err, OnOk, OnErr, IfOk};
 ghost use Rattle.std.specs.List.{list_any};
 ghost use Rattle.acl_posix.specs.Perms.{bits_of};
-ghost use Rattle.acl_posix.specs.Mode.{AreClasses};
-ghost use Rattle.acl_nfs4.specs.Ace.{is_idle, is_deny};
+ghost use Rattle.acl_nfs4.specs.Ace.{is_idle};
 ghost use Rattle.acl_nfs4.specs.Acl.{HaveEffect, IsTooLong};
 ghost use Rattle.acl_nfs4.specs.Mask.{mask_bits};
 ghost use Rattle.acl_nfs4.specs.Evaluation.{mode_of};
-ghost use Rattle.acl_nfs4.specs.ModeChange.{kept_mask, kept_of, kept, names_someone, names, named_in, denied_to, denial_of, denials, for_owner, for_others, with_mode};
+ghost use Rattle.acl_nfs4.specs.ModeChange.{kept_mask, kept_of, kept, names_someone, names, denies_by_name, denied_to, denial_of, denials, for_owner, for_others, with_mode};
 ghost use Rattle.acl_nfs4.specs.ModeChangeLaws.{GrantsOwner, GrantsGroup, GrantsOthers, LimitsNamed, KeepsAudits, KeepsInheritOnly, InheritsAlike};
 
 use crate::draft::{Draft, Full};
@@ -28,10 +27,9 @@ pub enum Fault4 {
 
 impl Ace {
     ghost use Rattle.acl_names.specs.Bits.{without, ◌∪◌};
-    ghost use Rattle.acl_nfs4.specs.Ace.{IsAce, decides, is_inheritable};
-    ghost use Rattle.acl_nfs4.specs.Flags.{inheritance_flags};
-    ghost use Rattle.acl_nfs4.specs.Who.{same_who};
-    ghost use Rattle.std.specs.Prelude.{true, ◌&&◌};
+    ghost use Rattle.acl_nfs4.specs.Ace.{IsAce, is_inheritable};
+    ghost use Rattle.acl_nfs4.specs.Flags.{inherit_only, inheritance_flags};
+    ghost use Rattle.std.specs.Prelude.{true, ◌^◌};
 
     /// What an entry that decides keeps of its mask beside a mode with this group.
     #[tactic(auto, unfolding(crate::specs::ModeChange::kept_mask))]
@@ -58,7 +56,7 @@ impl Ace {
     /// The part of the entry that is only inherited.
     fn inherited_part(&self) -> Ace
         requires { is_inheritable self.now ≡ true }
-        ensures value { result ≡ record self.now { flags = self.now.flags ∪ 8 } }
+        ensures value { result ≡ record self.now { flags = self.now.flags ∪ 2 ^ inherit_only } }
         ensures effective { is_idle result ≡ false }
     {
         self.with_flags(self.flags().union(Flags::INHERIT_ONLY))
@@ -87,9 +85,9 @@ impl Ace {
         self.names_someone() && self.who().is(who)
     }
 
-    /// Whether the entry denies this who something.
+    /// Whether the entry denies this who something by name.
     fn denies(&self, who: &Who) -> bool
-        ensures { result ≡ (decides self.now && (is_deny self.now.kind && same_who self.now.who who.now)) }
+        ensures { result ≡ denies_by_name who.now self.now }
     {
         self.decides() && self.kind().is_deny() && self.who().is(who)
     }
@@ -236,6 +234,7 @@ impl Acl4 {
         // To set the mode again changes nothing.
         ensures again { OnOk result (with_mode self.new mode ≡ self.new) }
     {
+        // A mode tells that it has permissions alone where it is looked at.
         let _user = mode.user;
         match with_mode(alloc, self.aces(), mode) {
             Ok(draft) => {

@@ -1,7 +1,6 @@
 //! Reading lists of entries.
 
 ghost use Rattle.std.specs.Prelude.{◌≡◌, ◌↔◌, ℕ, List, Ok, option_map, IfOk, IfErr, MatchResult};
-ghost use Rattle.acl_names.specs.Bits.{has};
 ghost use Rattle.acl_names.specs.Directory.{Known};
 ghost use Rattle.acl_names.specs.ListText.{Spells};
 ghost use Rattle.acl_names.specs.Ids.{written_id};
@@ -11,12 +10,11 @@ ghost use Rattle.acl_nfs4.specs.AceShapes.{HasShape};
 ghost use Rattle.acl_nfs4.specs.AceText.{effective, fields_of, name_at, named, piece_value, resolved_who, special_of, type_of, written_who};
 ghost use Rattle.acl_nfs4.specs.AceViews.{view_fields, view_who};
 ghost use Rattle.acl_nfs4.specs.ReadFault.{list_fault, IsTextFault};
-ghost use Rattle.acl_nfs4.specs.Flags.{flag_bits, identifier_group};
 ghost use Rattle.acl_nfs4.specs.declared.acl.AceFault.TheVariants.{Memory};
 
 use crate::letters::{read_flags, read_letters};
 use crate::limits::MAX_ACES;
-use crate::{Ace, AceFault, AceType, Acl4, Flags, Who};
+use crate::{Ace, AceFault, AceType, Acl4, Who};
 use acl_names::{
     Directory, ListFault, Parts, PieceReader, WrittenId, is_domain, read_list, trim_blanks,
 };

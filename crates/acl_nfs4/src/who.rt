@@ -14,12 +14,14 @@ pub enum Who {
     Group,
     /// `EVERYONE@`: all, the owner and the group included.
     Everyone,
+    /// The user with the id.
     User(Uid),
+    /// Whoever is in the group with the id.
     NamedGroup(Gid),
 }
 
 impl Who {
-    ghost use Rattle.acl_nfs4.specs.Who.{matches, is_special, is_named_group, same_who, flags_of_who};
+    ghost use Rattle.acl_nfs4.specs.Who.{matches, is_special, same_who, flags_of_who};
 
     /// Whether this is the requester of a file with this owner and this group.
     pub(crate) fn matches(&self, owner: Uid, group: Gid, requester: &Requester) -> bool
