@@ -9,7 +9,7 @@ use Rattle.acl_posix.specs.Canonical.{IsAcl}
 use Rattle.acl_posix.specs.Entry.{Triple, perms_of}
 use Rattle.acl_posix.specs.declared.entry.Tag.TheVariants.{Mask}
 use Rattle.acl_nfs4.specs.Ace.{Nfsace4, ace_of, flags_for, is_idle, plain, unless_empty}
-use Rattle.acl_nfs4.specs.Acl.{most_aces}
+use Rattle.acl_nfs4.specs.declared.limits.TheConstants.{MAX_ACES}
 use Rattle.acl_nfs4.specs.Flags.{all_flags}
 use Rattle.acl_nfs4.specs.Mask.{all_masks}
 use Rattle.acl_nfs4.specs.Who.{flags_of_who}
@@ -107,7 +107,7 @@ made-full effect old kind who mask ace full is =
     ∙ sym (ap (λ (xs : List Nfsace4). old ++ with_effect effect xs) (plain-full kind who mask full))
 
 pub room-full : (effect : Effect) (old : List Nfsace4) (kind : AceType) (who : Who) (mask : ℕ) → (mask == 0) ≡ false
-    → length (old ++ with_effect effect (plain kind who mask)) ≤ most_aces → length old < most_aces
+    → length (old ++ with_effect effect (plain kind who mask)) ≤ MAX_ACES → length old < MAX_ACES
 room-full effect old kind who mask full room =
     let one : length (plain kind who mask) ≡ 1 = ap (λ (xs : List Nfsace4). length xs) (plain-full kind who mask full) in
     let same = length-with_effect effect (plain kind who mask) in
@@ -152,8 +152,8 @@ module _ (class : Class) (part : Part) (effect : Effect) (mask : Option ℕ) whe
 
   -- there is room for what an entry makes where there is for the rest of the pass
   pub pass-room : (old : List Nfsace4) (entries : List Triple) (i : ℕ) (entry : Triple) → i < length entries → entry ≡ get_or entries i entry
-      → is_in class entry.tag ≡ true → length (old ++ made_from class part effect mask (drop i entries)) ≤ most_aces
-      → length (old ++ by entry) ≤ most_aces
+      → is_in class entry.tag ≡ true → length (old ++ made_from class part effect mask (drop i entries)) ≤ MAX_ACES
+      → length (old ++ by entry) ≤ MAX_ACES
   pass-room old entries i entry inside here taken room =
       let same = pass-taken old (old ++ by entry) entries i entry inside here taken refl in
       let both = length-append (old ++ by entry) (made_from class part effect mask (drop (i + 1) entries)) in
@@ -214,7 +214,7 @@ module _ (effect : Effect) (acl : List Triple) (is : IsAcl acl) where
   abbrev others : List Nfsace4
   others = made_of class.Others Allowed effect acl
 
-  pub lengths-made : length owner + length users + length allowed + length denied + length others ≤ most_aces
+  pub lengths-made : length owner + length users + length allowed + length denied + length others ≤ MAX_ACES
   lengths-made =
       let whole = ap (λ (xs : List Nfsace4). length xs) (made-translation effect acl) in
       let same = length-with_effect effect (translation acl) in

@@ -3,7 +3,7 @@ ghost use Rattle.std.specs.Prelude.{◌≡◌, ◌<◌, ◌≤◌, false, [], �
 ghost use Rattle.acl_names.specs.Bits.{◌∩◌};
 ghost use Rattle.acl_posix.specs.Perms.{bits_of};
 ghost use Rattle.acl_nfs4.specs.Ace.{is_idle, plain};
-ghost use Rattle.acl_nfs4.specs.Acl.{most_aces};
+ghost use Rattle.acl_nfs4.specs.declared.limits.TheConstants.{MAX_ACES};
 ghost use Rattle.acl_nfs4.specs.Flags.{flag_bits};
 ghost use Rattle.acl_nfs4.specs.Mask.{mask_bits, all_masks, mask_of, rest_of};
 ghost use Rattle.acl_nfs4.specs.declared.ace.AceType.TheVariants.{Allow, Deny};
@@ -112,7 +112,7 @@ fn rest_of(perms: Perms) -> Mask
 
 /// Puts an entry behind the others. There is room for it, so that it is refused only for want of memory.
 fn push(aces: &mut Acl4, ace: Ace) -> Result<(), AllocError>
-    requires room { length aces.old < most_aces }
+    requires room { length aces.old < MAX_ACES }
     requires effective { is_idle ace ≡ false }
     ensures { OnOk result (aces.new ≡ aces.old ++ ace ∷ []) }
 {
@@ -132,7 +132,7 @@ fn push_made(
     effect: Effect,
 ) -> Result<(), AllocError>
     requires known { mask_bits mask ∩ all_masks ≡ mask_bits mask }
-    requires room { length (aces.old ++ with_effect effect (plain kind who (mask_bits mask))) ≤ most_aces }
+    requires room { length (aces.old ++ with_effect effect (plain kind who (mask_bits mask))) ≤ MAX_ACES }
     ensures { OnOk result (aces.new ≡ aces.old ++ with_effect effect (plain kind who (mask_bits mask))) }
 {
     if mask.is_empty() {
@@ -143,7 +143,7 @@ fn push_made(
 
 /// Puts what an entry with this tag and these permissions allows behind the others.
 fn push_allowed(aces: &mut Acl4, tag: Tag, perms: Perms, effect: Effect) -> Result<(), AllocError>
-    requires room { length (aces.old ++ with_effect effect (plain Allow (who_of tag) (mask_of (bits_of perms)))) ≤ most_aces }
+    requires room { length (aces.old ++ with_effect effect (plain Allow (who_of tag) (mask_of (bits_of perms)))) ≤ MAX_ACES }
     ensures { OnOk result (aces.new ≡ aces.old ++ with_effect effect (plain Allow (who_of tag) (mask_of (bits_of perms)))) }
 {
     push_made(aces, AceType::Allow, who_of(tag), mask_of(perms), effect)
@@ -151,7 +151,7 @@ fn push_allowed(aces: &mut Acl4, tag: Tag, perms: Perms, effect: Effect) -> Resu
 
 /// Puts the rest, which it denies, behind the others.
 fn push_denied(aces: &mut Acl4, tag: Tag, perms: Perms, effect: Effect) -> Result<(), AllocError>
-    requires room { length (aces.old ++ with_effect effect (plain Deny (who_of tag) (rest_of (bits_of perms)))) ≤ most_aces }
+    requires room { length (aces.old ++ with_effect effect (plain Deny (who_of tag) (rest_of (bits_of perms)))) ≤ MAX_ACES }
     ensures { OnOk result (aces.new ≡ aces.old ++ with_effect effect (plain Deny (who_of tag) (rest_of (bits_of perms)))) }
 {
     push_made(aces, AceType::Deny, who_of(tag), rest_of(perms), effect)
@@ -165,7 +165,7 @@ fn append_entry(
     part: Part,
     effect: Effect,
 ) -> Result<(), AllocError>
-    requires room { length (aces.old ++ with_effect effect (made_by part (option_map bits_of mask) entry.now)) ≤ most_aces }
+    requires room { length (aces.old ++ with_effect effect (made_by part (option_map bits_of mask) entry.now)) ≤ MAX_ACES }
     ensures { OnOk result (aces.new ≡ aces.old ++ with_effect effect (made_by part (option_map bits_of mask) entry.now)) }
 {
     let perms = effective_perms(entry, mask);
@@ -187,7 +187,7 @@ pub(crate) fn append_class(
     part: Part,
     effect: Effect,
 ) -> Result<(), AllocError>
-    requires room { length (aces.old ++ made_of class part effect acl.now) ≤ most_aces }
+    requires room { length (aces.old ++ made_of class part effect acl.now) ≤ MAX_ACES }
     ensures { OnOk result (aces.new ≡ aces.old ++ made_of class part effect acl.now) }
 {
     let mask = acl.mask();
