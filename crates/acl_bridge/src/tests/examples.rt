@@ -15,37 +15,56 @@ fn gid(number: u32) -> Result<Gid, Fail> {
     Ok(Gid::new(number).ok_or("a gid")?)
 }
 
-/// Whether the POSIX list and the NFSv4 list let bob do all of this with a file of alice and staff.
-fn bob_may(
-    alloc: Global,
-    names: &Directory,
-    acl: &Acl,
-    aces: &Acl4,
-    perms: &str,
-) -> Result<(bool, bool), Fail> {
+/// Whether the POSIX list lets bob do all of this with a file of alice and staff.
+fn posix_grants(alloc: Global, names: &Directory, acl: &Acl, perms: &str) -> Result<bool, Fail> {
     let bob = names.requester(alloc, uid(1001)?)?;
     let request = read_perms(perms.as_bytes()).ok_or("permissions")?;
-    let posix = acl.grants(uid(1000)?, gid(50)?, &bob, request);
-    let nfs4 = aces.grants4(uid(1000)?, gid(50)?, &bob, mask_of(request));
-    Ok((posix, nfs4))
+    Ok(acl.grants(uid(1000)?, gid(50)?, &bob, request))
 }
 
+/// Whether the NFSv4 list does.
+fn nfs4_grants(alloc: Global, names: &Directory, aces: &Acl4, perms: &str) -> Result<bool, Fail> {
+    let bob = names.requester(alloc, uid(1001)?)?;
+    let request = read_perms(perms.as_bytes()).ok_or("permissions")?;
+    Ok(aces.grants4(uid(1000)?, gid(50)?, &bob, mask_of(request)))
+}
+
+/// Bob's one group may read and his other may write: the list denies both at once.
 #[test]
 fn groups_do_not_add_up(rt: HostRuntime) -> Result<(), Fail> {
     let alloc = rt.alloc();
     let names = directory(alloc)?;
     let divided = acl(alloc, &names, "u::-,g::r,g:ops:w,m::rw,o::-")?;
-    let translated = translate(alloc, &divided)?;
+    let reads = posix_grants(alloc, &names, &divided, "r")?;
+    let writes = posix_grants(alloc, &names, &divided, "w")?;
+    let both = posix_grants(alloc, &names, &divided, "rw")?;
+    assert!(rt; reads && writes && !both);
+    Ok(())
+}
+
+#[test]
+fn groups_translated(rt: HostRuntime) -> Result<(), Fail> {
+    let alloc = rt.alloc();
+    let names = directory(alloc)?;
+    let divided = acl(alloc, &names, "u::-,g::r,g:ops:w,m::rw,o::-")?;
     let written =
         "D::OWNER@:rwax,A::GROUP@:r,A:g:ops@example.org:wa,D::GROUP@:wax,D:g:ops@example.org:rx";
     let listed = aces(alloc, &names, written)?;
+    let translated = translate(alloc, &divided)?;
     assert!(rt; translated.aces() == listed.aces());
-    assert!(rt; bob_may(alloc, &names, &divided, &translated, "r")? == (true, true));
-    assert!(rt; bob_may(alloc, &names, &divided, &translated, "w")? == (true, true));
-    assert!(rt; bob_may(alloc, &names, &divided, &translated, "x")? == (false, false));
-    // The POSIX list denies both at once, and the translation grants them.
-    assert!(rt; bob_may(alloc, &names, &divided, &translated, "rw")? == (false, true));
-    assert_eq!(rt; translated.mode4().bits(), 0o040);
+    Ok(())
+}
+
+/// The translated list grants both at once.
+#[test]
+fn groups_add_up_in_the_translation(rt: HostRuntime) -> Result<(), Fail> {
+    let alloc = rt.alloc();
+    let names = directory(alloc)?;
+    let divided = acl(alloc, &names, "u::-,g::r,g:ops:w,m::rw,o::-")?;
+    let translated = translate(alloc, &divided)?;
+    let both = nfs4_grants(alloc, &names, &translated, "rw")?;
+    let all = nfs4_grants(alloc, &names, &translated, "rwx")?;
+    assert!(rt; both && !all);
     Ok(())
 }
 
@@ -59,7 +78,18 @@ fn a_translation_with_a_mask(rt: HostRuntime) -> Result<(), Fail> {
     let listed = aces(alloc, &names, written)?;
     let translated = translate(alloc, &masked)?;
     assert!(rt; translated.aces() == listed.aces());
-    assert_eq!(rt; translated.mode4().bits(), 0o644);
+    Ok(())
+}
+
+#[test]
+fn a_directory_with_a_default_list(rt: HostRuntime) -> Result<(), Fail> {
+    let alloc = rt.alloc();
+    let names = directory(alloc)?;
+    let access = acl(alloc, &names, "u::rwx,g::rx,o::rx")?;
+    let written = "A::OWNER@:rwax,A::GROUP@:rx,D::GROUP@:wa,A::EVERYONE@:rx";
+    let listed = aces(alloc, &names, written)?;
+    let translated = translate(alloc, &access)?;
+    assert!(rt; translated.aces() == listed.aces());
     Ok(())
 }
 
@@ -67,29 +97,11 @@ fn a_translation_with_a_mask(rt: HostRuntime) -> Result<(), Fail> {
 fn a_default_list_translated(rt: HostRuntime) -> Result<(), Fail> {
     let alloc = rt.alloc();
     let names = directory(alloc)?;
-    let access = acl(alloc, &names, "u::rwx,g::rx,o::rx")?;
-    let own = aces(
-        alloc,
-        &names,
-        "A::OWNER@:rwax,A::GROUP@:rx,D::GROUP@:wa,A::EVERYONE@:rx",
-    )?;
-    assert!(rt; translate(alloc, &access)?.aces() == own.aces());
     let default = acl(alloc, &names, "u::rwx,u:bob:rwx,g::r-x,m::rwx,o::-")?;
-    let handed_down = aces(
-        alloc,
-        &names,
-        "A:fdi:OWNER@:rwax,A:fdi:bob@example.org:rwax,A:fdi:GROUP@:rx,D:fdi:GROUP@:wa",
-    )?;
+    let written = "A:fdi:OWNER@:rwax,A:fdi:bob@example.org:rwax,A:fdi:GROUP@:rx,D:fdi:GROUP@:wa";
+    let listed = aces(alloc, &names, written)?;
     let translated = translate_default(alloc, &default)?;
-    assert!(rt; translated.aces() == handed_down.aces());
-    let below = translated.inherited(alloc, Kind::File)?;
-    assert!(rt; below.aces() == translate(alloc, &default)?.aces());
-    let handed_on = aces(
-        alloc,
-        &names,
-        "A:fd:OWNER@:rwax,A:fd:bob@example.org:rwax,A:fd:GROUP@:rx,D:fd:GROUP@:wa",
-    )?;
-    assert!(rt; translated.inherited(alloc, Kind::Dir)?.aces() == handed_on.aces());
+    assert!(rt; translated.aces() == listed.aces());
     Ok(())
 }
 

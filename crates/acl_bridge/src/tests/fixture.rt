@@ -5,35 +5,32 @@ use acl_posix::{Acl, read_entries};
 use std::alloc::Global;
 use std::test::Fail;
 
-fn user(alloc: Global, name: &str, uid: u32, groups: &[&str]) -> Result<User, Fail> {
-    let mut own = Vec::new(alloc);
-    for group in groups {
-        own.push(String::from_str(alloc, group)?)?;
-    }
+fn user(alloc: Global, name: &str, number: u32, group: &str) -> Result<User, Fail> {
+    let mut groups = Vec::new(alloc);
+    groups.push(String::from_str(alloc, group)?)?;
     Ok(User {
         name: String::from_str(alloc, name)?,
-        uid: Uid::new(uid).ok_or("a uid")?,
-        groups: own,
+        uid: Uid::new(number).ok_or("a uid")?,
+        groups,
     })
 }
 
-fn group(alloc: Global, name: &str, gid: u32) -> Result<Group, Fail> {
+fn group(alloc: Global, name: &str, number: u32) -> Result<Group, Fail> {
     Ok(Group {
         name: String::from_str(alloc, name)?,
-        gid: Gid::new(gid).ok_or("a gid")?,
+        gid: Gid::new(number).ok_or("a gid")?,
     })
 }
 
-/// Alice owns, and is in staff; bob is in staff and ops, carol in guest.
+/// Bob is in staff and ops.
 pub fn directory(alloc: Global) -> Result<Directory, Fail> {
     let mut users = Vec::new(alloc);
-    users.push(user(alloc, "alice", 1000, &["staff"])?)?;
-    users.push(user(alloc, "bob", 1001, &["staff", "ops"])?)?;
-    users.push(user(alloc, "carol", 1002, &["guest"])?)?;
+    let mut bob = user(alloc, "bob", 1001, "staff")?;
+    bob.groups.push(String::from_str(alloc, "ops")?)?;
+    users.push(bob)?;
     let mut groups = Vec::new(alloc);
     groups.push(group(alloc, "staff", 50)?)?;
     groups.push(group(alloc, "ops", 60)?)?;
-    groups.push(group(alloc, "guest", 70)?)?;
     let domain = String::from_str(alloc, "example.org")?;
     Ok(
         Directory::from_parts(alloc, domain, users, groups)
