@@ -1,5 +1,5 @@
 -- Lists that are filtered.
-use Rattle.std.proofs.Common.{◌≡◌, ℕ, ◌+◌, ◌≤◌, Bool, true, false, cond, ◌&&◌, refl, sym, ap, ◌∙◌, List, [], ◌∷◌, length, arith, ap₂, Option, Some, None}
+use Rattle.std.proofs.Common.{◌≡◌, ◌+◌, ◌≤◌, Bool, true, false, cond, ◌&&◌, refl, sym, ap, ◌∙◌, List, [], ◌∷◌, length, arith, ap₂, Some}
 use Rattle.std.specs.Prelude.{find}
 use Rattle.std.specs.List.{All, filter, count_by}
 use Rattle.std.proofs.lemmas.Bool.{true≢false}

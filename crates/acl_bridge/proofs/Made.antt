@@ -1,7 +1,6 @@
 -- What the passes make.
 use Rattle.std.proofs.Common.{◌≡◌, ℕ, ◌≤◌, Bool, true, false, cond, ◌||◌, ◌<◌, refl, sym, ap, ◌∙◌, ap₂, subst, List, [], ◌∷◌, ◌++◌, length, get_or, drop, ◌+◌, Option, append-nil, append_assoc, length-append, arith}
-use Rattle.std.specs.Prelude.{map, flat_map, ◌==◌, Result, Ok, Err, IfOk}
-use Rattle.std.proofs.lemmas.Bool.{eqb-true}
+use Rattle.std.specs.Prelude.{flat_map, ◌==◌, Result, Ok, Err, IfOk}
 use Rattle.acl_names.specs.Bits.{has, without, ◌∩◌, ◌∪◌}
 use Rattle.acl_names.proofs.AnyLemmas.{or_false}
 use Rattle.acl_names.proofs.BitSets.{has-or, has-zero, same_bits}

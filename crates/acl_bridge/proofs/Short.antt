@@ -1,13 +1,12 @@
 -- How many entries a translation has.
-use Rattle.std.proofs.Common.{◌≡◌, ℕ, ◌+◌, ◌*◌, ◌≤◌, Bool, true, false, cond, ◌==◌, ◌||◌, refl, sym, ap, ◌∙◌, List, [], ◌∷◌, ◌++◌, length, length-append, arith, inl, inr}
+use Rattle.std.proofs.Common.{◌≡◌, ℕ, ◌+◌, ◌*◌, ◌≤◌, Bool, true, false, cond, ◌==◌, refl, List, [], ◌∷◌, ◌++◌, length, length-append, arith, inl, inr}
 use Rattle.std.specs.Prelude.{flat_map}
-use Rattle.std.specs.List.{list_any, filter, count_by}
 use Rattle.std.proofs.lemmas.Bool.{cases_Bool, or_parts}
 use Rattle.acl_names.proofs.Counting.{count_by-cons}
 use Rattle.acl_posix.specs.Access.{effective_perms}
 use Rattle.acl_posix.specs.Canonical.{IsAcl}
 use Rattle.acl_posix.specs.Entry.{Triple, same_tag, is_named}
-use Rattle.acl_posix.specs.Validity.{IsValid, count_of, names_someone}
+use Rattle.acl_posix.specs.Validity.{count_of, names_someone}
 use Rattle.acl_posix.specs.declared.entry.Tag.{Tag}
 use Rattle.acl_posix.specs.declared.entry.Tag.TheVariants.{UserObj, User, GroupObj, Group, Mask, Other}
 use Rattle.acl_nfs4.specs.Ace.{Nfsace4, plain, unless_empty}

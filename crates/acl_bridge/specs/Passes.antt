@@ -7,7 +7,7 @@ use Rattle.acl_posix.specs.declared.entry.Tag.TheVariants.{Mask}
 use Rattle.acl_nfs4.specs.Ace.{Nfsace4, plain}
 use Rattle.acl_nfs4.specs.Mask.{mask_of, rest_of}
 use Rattle.acl_nfs4.specs.declared.ace.AceType.TheVariants.{Allow, Deny}
-use Rattle.acl_bridge.specs.Translation.{who_of, is_for_owner, is_for_user, is_for_group, is_for_others, in_class, translation, with_flags, handed_down}
+use Rattle.acl_bridge.specs.Translation.{who_of, is_for_owner, is_for_user, is_for_group, is_for_others, in_class, with_flags, handed_down}
 use Rattle.acl_bridge.specs.declared.passes.Class.{Class}
 use Rattle.acl_bridge.specs.declared.passes.Class.TheVariants.{Owner, Users, Groups, Others}
 use Rattle.acl_bridge.specs.declared.passes.Part.{Part}

@@ -1,4 +1,4 @@
-use Rattle.std.proofs.Common.{◌≡◌, ◌≤◌, ◌∙◌, ap, ap₂, sym, subst, ◌++◌, List, length, Option, ℕ, option_map}
+use Rattle.std.proofs.Common.{◌≤◌, ◌∙◌, ap, ap₂, sym, subst, ◌++◌, List, length, Option, ℕ, option_map}
 use Rattle.acl_posix.specs.Entry.{Triple}
 use Rattle.acl_posix.specs.Perms.{bits_of}
 use Rattle.acl_nfs4.specs.Ace.{Nfsace4}

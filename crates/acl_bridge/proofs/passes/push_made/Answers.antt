@@ -1,8 +1,6 @@
-use Rattle.std.proofs.Common.{◌≡◌, ◌∙◌, ◌==◌, sym, subst, ◌++◌, ◌∷◌, [], List, false, true, ap}
+use Rattle.std.proofs.Common.{◌≡◌, ◌∙◌, sym, subst, List, ap}
 use Rattle.std.specs.Prelude.{OnOk}
-use Rattle.acl_nfs4.specs.Ace.{Nfsace4, is_idle, plain}
-use Rattle.acl_nfs4.specs.Mask.{mask_bits}
-use Rattle.acl_bridge.specs.Passes.{flags_of, with_effect}
+use Rattle.acl_nfs4.specs.Ace.{Nfsace4, is_idle}
 use Rattle.acl_bridge.proofs.Made.{ace_of-effect, is_idle-effect, made-empty, made-full, room-full}
 use Rattle.acl_bridge.proofs.passes.push_made.Goals as goal
 

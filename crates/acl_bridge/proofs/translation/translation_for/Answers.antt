@@ -1,4 +1,4 @@
-use Rattle.std.proofs.Common.{◌≡◌, ◌+◌, ◌≤◌, ◌++◌, [], List, length, length-append, ap, arith}
+use Rattle.std.proofs.Common.{List, length, length-append, ap, arith}
 use Rattle.acl_nfs4.specs.Ace.{Nfsace4}
 use Rattle.acl_bridge.specs.Passes.{made_of}
 use Rattle.acl_bridge.specs.declared.passes.Class.TheVariants.{Owner, Users, Groups, Others}
