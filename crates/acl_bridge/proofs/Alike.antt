@@ -1,0 +1,190 @@
+-- A valid list and its translation decide alike.
+use Rattle.std.proofs.Common.{◌≡◌, ℕ, ◌^◌, ◌≤◌, Bool, true, false, cond, ◌&&◌, refl, sym, ap, ◌∙◌, List, [], ◌∷◌, length, arith, ap₂, inl, inr}
+use Rattle.std.specs.Prelude.{◌==◌, IsTrue}
+use Rattle.std.specs.List.{filter, list_any}
+use Rattle.std.proofs.lemmas.Bool.{true≢false, eqb-true, eq-eqb, and_parts, cases_Bool}
+use Rattle.acl_names.specs.Bits.{has, has_all, ◌∩◌}
+use Rattle.acl_names.specs.Requester.{Identity}
+use Rattle.acl_names.proofs.AnyLemmas.{list_any-weaken, list_any-agree}
+use Rattle.acl_names.proofs.BitSets.{has-and}
+use Rattle.acl_posix.specs.Access.{effective_perms, deciding_set, first_nonempty, is_for_group_of, grants}
+use Rattle.acl_posix.specs.Entry.{Triple, same_tag, entries_of}
+use Rattle.acl_posix.specs.Validity.{IsValid, count_of}
+use Rattle.acl_posix.specs.declared.entry.Tag.{Tag}
+use Rattle.acl_posix.specs.declared.entry.Tag.TheVariants.{UserObj, User, GroupObj, Group, Mask, Other}
+use Rattle.acl_posix.proofs.ValidityLemmas.{IsValid-count_of}
+use Rattle.acl_nfs4.specs.Evaluation.{allows, Grants}
+use Rattle.acl_nfs4.specs.Mask.{mode_bits, mask_of}
+use Rattle.acl_nfs4.specs.Who.{matches}
+use Rattle.acl_nfs4.specs.declared.who.Who.{Who}
+use Rattle.acl_nfs4.proofs.ModeBits.{permission_of, has-mask_of, mask_of-within}
+use Rattle.acl_nfs4.proofs.OneBit.{contains-one}
+use Rattle.acl_bridge.specs.Translation.{who_of, is_for_owner, is_for_user, is_for_group, is_for_others, translation}
+use Rattle.acl_bridge.specs.TranslationLaws.{AgreeOn, DecideAlike, GrantsAsMuch}
+use Rattle.acl_bridge.proofs.Deciding.{allows-translation, matching, deciding, FewFor}
+use Rattle.acl_bridge.proofs.Lists.{length-filter, filter_twice, filter_twice-none, length-filter_twice}
+
+-- ---- a valid list has one entry at most for the owner, and for a user
+
+-- where all entries of a class to which the translation's apply have one tag, there is one at most
+pub few : (acl : List Triple) → IsValid acl → (applies : Who → Bool) (class : Tag → Bool) (of : Tag)
+    → ((tag : Tag) → class tag ≡ true → applies (who_of tag) ≡ true → same_tag tag of ≡ true) → FewFor acl applies class
+few acl valid applies class of only =
+    let below : length (matching applies acl class) ≤ length (entries_of of acl) =
+    length-filter_twice (λ (entry : Triple). class entry.tag) (λ (entry : Triple). applies (who_of entry.tag))
+    (λ (entry : Triple). same_tag entry.tag of) (λ entry. only entry.tag) acl in
+    let counted = length-filter (λ (entry : Triple). same_tag entry.tag of) acl in
+    let once : count_of of acl ≤ 1 = IsValid-count_of acl valid of in
+    omega arith
+
+pub owners_alone : (applies : Who → Bool) (tag : Tag) → is_for_owner tag ≡ true → applies (who_of tag) ≡ true → same_tag tag UserObj ≡ true
+owners_alone applies UserObj is matches = refl
+owners_alone applies (User uid) is matches = absurd (true≢false (sym is))
+owners_alone applies GroupObj is matches = absurd (true≢false (sym is))
+owners_alone applies (Group gid) is matches = absurd (true≢false (sym is))
+owners_alone applies Mask is matches = absurd (true≢false (sym is))
+owners_alone applies Other is matches = absurd (true≢false (sym is))
+
+-- ---- what one entry has
+
+has_all-has : (set part k : ℕ) → has_all set part ≡ true → has part k ≡ true → has set k ≡ true
+has_all-has set part k whole e =
+    (and_parts (has set k) (has part k) (sym (has-and set part k) ∙ ap (λ m. has m k) (eqb-true (set ∩ part) part whole) ∙ e)).0
+
+eqb_swap : (a b : ℕ) → (a == b) ≡ (b == a)
+eqb_swap a b =
+    elim (cases_Bool (a == b)) [
+      | inl same ↦ same ∙ sym (eq-eqb b a (sym (eqb-true a b same)))
+      | inr apart ↦ elim (cases_Bool (b == a)) [
+        | inl same ↦ absurd (true≢false (sym (eq-eqb a b (sym (eqb-true b a same))) ∙ apart))
+        | inr also ↦ apart ∙ sym also
+      ]
+    ]
+
+-- ---- the theorem
+
+module _ (acl : List Triple) (valid : IsValid acl) (owner group : ℕ) (requester : Identity) where
+  abbrev applies : Who → Bool
+  applies = matches owner group requester
+
+  users_alone : (tag : Tag) → is_for_user tag ≡ true → applies (who_of tag) ≡ true → same_tag tag (User requester.uid) ≡ true
+  users_alone UserObj is matches = absurd (true≢false (sym is))
+  users_alone (User named) is matches = eqb_swap named requester.uid ∙ matches
+  users_alone GroupObj is matches = absurd (true≢false (sym is))
+  users_alone (Group gid) is matches = absurd (true≢false (sym is))
+  users_alone Mask is matches = absurd (true≢false (sym is))
+  users_alone Other is matches = absurd (true≢false (sym is))
+
+  -- both lists ask the same entries
+  the_owner : (requester.uid == owner) ≡ true → (tag : Tag) → (is_for_owner tag && applies (who_of tag)) ≡ same_tag tag UserObj
+  the_owner is UserObj = is
+  the_owner is (User uid) = refl
+  the_owner is GroupObj = refl
+  the_owner is (Group gid) = refl
+  the_owner is Mask = refl
+  the_owner is Other = refl
+
+  no_owner : (requester.uid == owner) ≡ false → (tag : Tag) → (is_for_owner tag && applies (who_of tag)) ≡ false
+  no_owner not UserObj = not
+  no_owner not (User uid) = refl
+  no_owner not GroupObj = refl
+  no_owner not (Group gid) = refl
+  no_owner not Mask = refl
+  no_owner not Other = refl
+
+  the_user : (tag : Tag) → (is_for_user tag && applies (who_of tag)) ≡ same_tag tag (User requester.uid)
+  the_user UserObj = refl
+  the_user (User named) = eqb_swap requester.uid named
+  the_user GroupObj = refl
+  the_user (Group gid) = refl
+  the_user Mask = refl
+  the_user Other = refl
+
+  the_groups : (tag : Tag) → (is_for_group tag && applies (who_of tag)) ≡ is_for_group_of requester group tag
+  the_groups UserObj = refl
+  the_groups (User uid) = refl
+  the_groups GroupObj = refl
+  the_groups (Group gid) = refl
+  the_groups Mask = refl
+  the_groups Other = refl
+
+  the_others : (tag : Tag) → (is_for_others tag && applies (who_of tag)) ≡ same_tag tag Other
+  the_others UserObj = refl
+  the_others (User uid) = refl
+  the_others GroupObj = refl
+  the_others (Group gid) = refl
+  the_others Mask = refl
+  the_others Other = refl
+
+  -- the entries of a class that apply are those of a test
+  matching-is : (class test : Tag → Bool) → ((tag : Tag) → (class tag && applies (who_of tag)) ≡ test tag)
+      → matching applies acl class ≡ filter (λ entry. test entry.tag) acl
+  matching-is class test same =
+      filter_twice (λ (entry : Triple). class entry.tag) (λ (entry : Triple). applies (who_of entry.tag)) (λ (entry : Triple). test entry.tag)
+      (λ entry. same entry.tag) acl
+
+  for_owner : (b : Bool) → (requester.uid == owner) ≡ b → matching applies acl is_for_owner ≡ cond b (entries_of UserObj acl) []
+  for_owner true is = matching-is is_for_owner (λ tag. same_tag tag UserObj) (the_owner is)
+  for_owner false not =
+      filter_twice-none (λ (entry : Triple). is_for_owner entry.tag) (λ (entry : Triple). applies (who_of entry.tag))
+      (λ entry. no_owner not entry.tag) acl
+
+  same_deciding : deciding applies acl ≡ deciding_set acl owner group requester
+  same_deciding =
+      ap first_nonempty
+      (ap₂ (λ (entries : List Triple) (rest : List (List Triple)). entries ∷ rest) (for_owner (requester.uid == owner) refl)
+      (ap₂ (λ (entries : List Triple) (rest : List (List Triple)). entries ∷ rest)
+      (matching-is is_for_user (λ tag. same_tag tag (User requester.uid)) the_user)
+      (ap₂ (λ (entries : List Triple) (rest : List (List Triple)). entries ∷ rest)
+      (matching-is is_for_group (is_for_group_of requester group) the_groups)
+      (ap (λ (entries : List Triple). entries ∷ []) (matching-is is_for_others (λ tag. same_tag tag Other) the_others)))))
+
+  -- of a mode's bit the translation tells what a deciding entry has
+  bit_allowed : (bit : ℕ) → has mode_bits bit ≡ true
+      → allows applies bit (translation acl)
+      ≡ list_any (λ entry. has (effective_perms acl entry) (permission_of bit)) (deciding_set acl owner group requester)
+  bit_allowed bit of_mode =
+      allows-translation acl applies bit of_mode
+      (few acl valid applies is_for_owner UserObj (owners_alone applies))
+      (few acl valid applies is_for_user (User requester.uid) users_alone)
+      ∙ ap (list_any (λ (entry : Triple). has (effective_perms acl entry) (permission_of bit))) same_deciding
+
+  grants_as_much : (perms : ℕ) → IsTrue (grants acl owner group requester perms) → Grants applies (translation acl) (mask_of perms)
+  grants_as_much perms granted bit asked =
+      let of_mode : has mode_bits bit ≡ true = mask_of-within perms bit asked in
+      let has_it : has perms (permission_of bit) ≡ true = sym (has-mask_of perms bit of_mode) ∙ asked in
+      bit_allowed bit of_mode
+      ∙ list_any-weaken (λ (entry : Triple). has_all (effective_perms acl entry) perms)
+      (λ (entry : Triple). has (effective_perms acl entry) (permission_of bit))
+      (λ entry whole. has_all-has (effective_perms acl entry) perms (permission_of bit) whole has_it)
+      (deciding_set acl owner group requester) granted
+
+  -- a bit of the mode that is allowed shows that its permission alone is granted
+  granted_alone : (bit : ℕ) → has mode_bits bit ≡ true → IsTrue (allows applies bit (translation acl))
+      → IsTrue (grants acl owner group requester (2 ^ permission_of bit))
+  granted_alone bit of_mode allowed =
+      list_any-agree (λ (entry : Triple). has_all (effective_perms acl entry) (2 ^ permission_of bit))
+      (λ (entry : Triple). has (effective_perms acl entry) (permission_of bit))
+      (λ entry. contains-one (effective_perms acl entry) (permission_of bit)) (deciding_set acl owner group requester)
+      ∙ sym (bit_allowed bit of_mode)
+      ∙ allowed
+
+-- a valid list's translation grants whatever the list grants
+pub translation_grants_as_much : (acl : List Triple) → IsValid acl → GrantsAsMuch acl (translation acl)
+translation_grants_as_much acl valid owner group requester perms = grants_as_much acl valid owner group requester perms
+
+-- a valid list and its translation decide alike of the permission of a bit that stands for it
+agree_on : (acl : List Triple) → IsValid acl → (bit : ℕ) → has mode_bits bit ≡ true → has (mask_of (2 ^ permission_of bit)) bit ≡ true
+    → AgreeOn acl (translation acl) (2 ^ permission_of bit)
+agree_on acl valid bit of_mode asked owner group requester = (
+  grants_as_much acl valid owner group requester (2 ^ permission_of bit),
+  λ granted. granted_alone acl valid owner group requester bit of_mode (granted bit asked),
+)
+
+pub translation_decides_alike : (acl : List Triple) → IsValid acl → DecideAlike acl (translation acl)
+unfolding has mask_of
+translation_decides_alike acl valid = record {
+  to_read = agree_on acl valid 0 refl refl;
+  to_write = agree_on acl valid 1 refl refl;
+  to_execute = agree_on acl valid 5 refl refl;
+}

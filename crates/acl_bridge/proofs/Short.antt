@@ -1,0 +1,148 @@
+-- How many entries a translation has.
+use Rattle.std.proofs.Common.{◌≡◌, ℕ, ◌+◌, ◌*◌, ◌≤◌, Bool, true, false, cond, ◌==◌, ◌||◌, refl, sym, ap, ◌∙◌, List, [], ◌∷◌, ◌++◌, length, length-append, arith, inl, inr}
+use Rattle.std.specs.Prelude.{flat_map}
+use Rattle.std.specs.List.{list_any, filter, count_by}
+use Rattle.std.proofs.lemmas.Bool.{cases_Bool, or_parts}
+use Rattle.acl_names.proofs.Counting.{count_by-cons}
+use Rattle.acl_posix.specs.Access.{effective_perms}
+use Rattle.acl_posix.specs.Canonical.{IsAcl}
+use Rattle.acl_posix.specs.Entry.{Triple, same_tag, is_named}
+use Rattle.acl_posix.specs.Validity.{IsValid, count_of, names_someone}
+use Rattle.acl_posix.specs.declared.entry.Tag.{Tag}
+use Rattle.acl_posix.specs.declared.entry.Tag.TheVariants.{UserObj, User, GroupObj, Group, Mask, Other}
+use Rattle.acl_nfs4.specs.Ace.{Nfsace4, plain, unless_empty}
+use Rattle.acl_nfs4.specs.Mask.{mask_of, rest_of}
+use Rattle.acl_nfs4.specs.declared.ace.AceType.{AceType}
+use Rattle.acl_nfs4.specs.declared.ace.AceType.TheVariants.{Allow, Deny}
+use Rattle.acl_nfs4.specs.declared.who.Who.{Who}
+use Rattle.acl_bridge.specs.Translation.{who_of, is_for_owner, is_for_user, is_for_group, is_for_others, in_class, allowed_by, denied_by, settled_by, translation}
+use Rattle.acl_bridge.specs.TranslationLaws.{most_translated}
+
+-- ---- how many entries are made of how many
+
+length-unless_empty : (ace : Nfsace4) → length (unless_empty ace) ≤ 1
+unfolding unless_empty
+length-unless_empty ace = elim (ace.mask == 0) as (λ b. length (cond b [] (ace ∷ [])) ≤ 1) [ true ↦ omega arith | false ↦ omega arith ]
+
+length-plain : (kind : AceType) (who : Who) (mask : ℕ) → length (plain kind who mask) ≤ 1
+length-plain kind who mask = length-unless_empty _
+
+length-flat_map : {X Y : Type 0} (most : ℕ) (f : X → List Y) → ((x : X) → length (f x) ≤ most) → (xs : List X)
+    → length (flat_map f xs) ≤ most * length xs
+length-flat_map most f each [] = omega arith
+length-flat_map most f each (x ∷ xs) =
+    omega (arith, length-append (f x) (flat_map f xs), each x, length-flat_map most f each xs)
+
+module _ (acl : List Triple) where
+  length-allowed_by : (entry : Triple) → length (allowed_by acl entry) ≤ 1
+  length-allowed_by entry = length-plain Allow (who_of entry.tag) (mask_of (effective_perms acl entry))
+
+  length-denied_by : (entry : Triple) → length (denied_by acl entry) ≤ 1
+  length-denied_by entry = length-plain Deny (who_of entry.tag) (rest_of (effective_perms acl entry))
+
+  length-settled_by : (entry : Triple) → length (settled_by acl entry) ≤ 2
+  length-settled_by entry =
+      omega (arith, length-append (allowed_by acl entry) (denied_by acl entry), length-allowed_by entry, length-denied_by entry)
+
+  -- two of each entry at most but of the mask and the others'
+  length-translation : length (translation acl)
+      ≤ 2 * length (in_class is_for_owner acl) + 2 * length (in_class is_for_user acl) + 2 * length (in_class is_for_group acl)
+      + length (in_class is_for_others acl)
+  length-translation =
+      let owners = flat_map (settled_by acl) (in_class is_for_owner acl) in
+      let users = flat_map (settled_by acl) (in_class is_for_user acl) in
+      let allowed = flat_map (allowed_by acl) (in_class is_for_group acl) in
+      let denied = flat_map (denied_by acl) (in_class is_for_group acl) in
+      let others = flat_map (allowed_by acl) (in_class is_for_others acl) in
+      let n1 = length-append owners users in
+      let n2 = length-append (owners ++ users) allowed in
+      let n3 = length-append ((owners ++ users) ++ allowed) denied in
+      let n4 = length-append (((owners ++ users) ++ allowed) ++ denied) others in
+      let m1 = length-flat_map 2 (settled_by acl) length-settled_by (in_class is_for_owner acl) in
+      let m2 = length-flat_map 2 (settled_by acl) length-settled_by (in_class is_for_user acl) in
+      let m3 = length-flat_map 1 (allowed_by acl) length-allowed_by (in_class is_for_group acl) in
+      let m4 = length-flat_map 1 (denied_by acl) length-denied_by (in_class is_for_group acl) in
+      let m5 = length-flat_map 1 (allowed_by acl) length-allowed_by (in_class is_for_others acl) in
+      omega arith
+
+-- ---- how many entries a list has of each class
+
+-- how many entries of each class an entry with this tag is
+abbrev one_if : Bool → ℕ
+one_if b = cond b 1 0
+
+length-in_class : (class : Tag → Bool) (entry : Triple) (acl : List Triple)
+    → length (in_class class (entry ∷ acl)) ≡ one_if (class entry.tag) + length (in_class class acl)
+length-in_class class entry acl =
+    elim (class entry.tag)
+    as (λ b. length (cond b (entry ∷ in_class class acl) (in_class class acl)) ≡ one_if b + length (in_class class acl))
+    [ true ↦ omega arith | false ↦ omega arith ]
+
+-- how many there are of each kind
+record Kinds (acl : List Triple) : Type 0 where
+  pub all : length (in_class is_for_owner acl) + length (in_class is_for_user acl) + length (in_class is_for_group acl)
+      + count_of Mask acl + length (in_class is_for_others acl) ≡ length acl
+  pub owners : length (in_class is_for_owner acl) ≡ count_of UserObj acl
+  pub others : length (in_class is_for_others acl) ≡ count_of Other acl
+  pub unnamed : names_someone acl ≡ false
+      → length (in_class is_for_user acl) + length (in_class is_for_group acl) ≡ count_of GroupObj acl
+
+record OneKind (tag : Tag) : Type 0 where
+  pub all : one_if (is_for_owner tag) + one_if (is_for_user tag) + one_if (is_for_group tag) + one_if (same_tag tag Mask)
+      + one_if (is_for_others tag) ≡ 1
+  pub owners : one_if (is_for_owner tag) ≡ one_if (same_tag tag UserObj)
+  pub others : one_if (is_for_others tag) ≡ one_if (same_tag tag Other)
+  pub unnamed : is_named tag ≡ false → one_if (is_for_user tag) + one_if (is_for_group tag) ≡ one_if (same_tag tag GroupObj)
+
+one_kind : (tag : Tag) → OneKind tag
+one_kind UserObj = record { all = refl; owners = refl; others = refl; unnamed = λ no. refl }
+one_kind (User uid) = record { all = refl; owners = refl; others = refl; unnamed = λ no. absurd (cc) }
+one_kind GroupObj = record { all = refl; owners = refl; others = refl; unnamed = λ no. refl }
+one_kind (Group gid) = record { all = refl; owners = refl; others = refl; unnamed = λ no. absurd (cc) }
+one_kind Mask = record { all = refl; owners = refl; others = refl; unnamed = λ no. refl }
+one_kind Other = record { all = refl; owners = refl; others = refl; unnamed = λ no. refl }
+
+kinds : (acl : List Triple) → Kinds acl
+kinds [] = record { all = refl; owners = refl; others = refl; unnamed = λ no. refl }
+kinds (entry ∷ acl) =
+    let rest = kinds acl in
+    let one = one_kind entry.tag in
+    let owners = length-in_class is_for_owner entry acl in
+    let users = length-in_class is_for_user entry acl in
+    let groups = length-in_class is_for_group entry acl in
+    let others = length-in_class is_for_others entry acl in
+    let masks : count_of Mask (entry ∷ acl) ≡ one_if (same_tag entry.tag Mask) + count_of Mask acl =
+    count_by-cons (λ (e : Triple). same_tag e.tag Mask) entry acl in
+    let user_obj : count_of UserObj (entry ∷ acl) ≡ one_if (same_tag entry.tag UserObj) + count_of UserObj acl =
+    count_by-cons (λ (e : Triple). same_tag e.tag UserObj) entry acl in
+    let group_obj : count_of GroupObj (entry ∷ acl) ≡ one_if (same_tag entry.tag GroupObj) + count_of GroupObj acl =
+    count_by-cons (λ (e : Triple). same_tag e.tag GroupObj) entry acl in
+    let other : count_of Other (entry ∷ acl) ≡ one_if (same_tag entry.tag Other) + count_of Other acl =
+    count_by-cons (λ (e : Triple). same_tag e.tag Other) entry acl in
+    record {
+      all = let now = one.all in let before = rest.all in omega arith;
+      owners = let now = one.owners in let before = rest.owners in omega arith;
+      others = let now = one.others in let before = rest.others in omega arith;
+      unnamed = λ none.
+          let neither = or_parts (is_named entry.tag) (names_someone acl) none in
+          let now = one.unnamed neither.0 in
+          let before = rest.unnamed neither.1 in
+          omega arith;
+    }
+
+-- a list has at most 62 entries beside the mask and the others', or there is no mask, and it has three
+pub short_translation : (acl : List Triple) → IsAcl acl → length (translation acl) ≤ most_translated
+short_translation acl is =
+    let made = length-translation acl in
+    let has = kinds acl in
+    let all = has.all in
+    let owners = has.owners in
+    let others = has.others in
+    let within = is.within in
+    let one_owner = is.valid.user_obj in
+    let one_group = is.valid.group_obj in
+    let one_other = is.valid.other in
+    elim (cases_Bool (names_someone acl)) [
+      | inl named ↦ let mask = is.valid.masked named in omega arith
+      | inr none ↦ let unnamed = has.unnamed none in omega arith
+    ]

@@ -1,0 +1,195 @@
+-- The mode that a translation shows.
+use Rattle.std.proofs.Common.{◌≡◌, ℕ, ◌<◌, ◌≤◌, Bool, true, false, cond, ◌&&◌, refl, sym, ap, ◌∙◌, List, [], ◌∷◌, length, arith, Option, Some, None, option_map, unwrap_or}
+use Rattle.std.specs.Prelude.{find}
+use Rattle.std.specs.List.{filter, list_any}
+use Rattle.std.proofs.lemmas.Bool.{true≢false}
+use Rattle.std.proofs.lemmas.Nat.{and_le_l}
+use Rattle.acl_names.specs.Bits.{has}
+use Rattle.acl_names.proofs.AnyLemmas.{or_false}
+use Rattle.acl_posix.specs.Access.{effective_perms, first_nonempty, is_under_mask, masked}
+use Rattle.acl_posix.specs.Entry.{Triple, same_tag, entries_of, perms_of, HavePermissions}
+use Rattle.acl_posix.specs.Mode.{perms_at}
+use Rattle.acl_posix.specs.Perms.{IsPermissions}
+use Rattle.acl_posix.specs.Validity.{IsValid, count_of}
+use Rattle.acl_posix.specs.declared.entry.Tag.{Tag}
+use Rattle.acl_posix.specs.declared.entry.Tag.TheVariants.{UserObj, User, GroupObj, Group, Mask, Other}
+use Rattle.acl_nfs4.specs.Evaluation.{shown_to, of_class, mode_of}
+use Rattle.acl_nfs4.specs.declared.who.Who.{Who}
+use Rattle.acl_nfs4.specs.declared.who.Who.TheVariants as whos
+use Rattle.acl_nfs4.proofs.ModeBits.{permission_of}
+use Rattle.acl_nfs4.proofs.Shown.{shown_to-allows}
+use Rattle.acl_bridge.specs.Translation.{who_of, is_for_owner, is_for_user, is_for_group, is_for_others, translation}
+use Rattle.acl_bridge.specs.TranslationLaws.{translated_mode}
+use Rattle.acl_bridge.proofs.Alike.{few, owners_alone}
+use Rattle.acl_bridge.proofs.Deciding.{allows-translation, matching, deciding}
+use Rattle.acl_bridge.proofs.Lists.{length-filter, filter_twice, filter_twice-none, the_one, find-passes}
+
+masked-small : (mask : Option ℕ) (perms : ℕ) → perms < 8 → masked mask perms < 8
+masked-small None perms small = small
+masked-small (Some mask) perms small = let below = and_le_l perms mask in omega arith
+
+effective-small : (limited : Bool) (mask : Option ℕ) (perms : ℕ) → perms < 8 → cond limited (masked mask perms) perms < 8
+effective-small true mask perms small = masked-small mask perms small
+effective-small false mask perms small = small
+
+module _ (acl : List Triple) (valid : IsValid acl) (small : HavePermissions acl) where
+  -- what is shown to those for whom one entry alone decides is what it has, as far as that is limited
+  shown_by_one : (class : Who) (tag : Tag) (limit : ℕ → ℕ) → count_of tag acl ≡ 1
+      → ((entry : Triple) → same_tag entry.tag tag ≡ true → effective_perms acl entry ≡ limit entry.perms)
+      → ((other : Tag) → is_for_user other ≡ true → of_class class (who_of other) ≡ true → same_tag other UserObj ≡ true)
+      → ((entry : Triple) → entries_of tag acl ≡ entry ∷ [] → deciding (of_class class) acl ≡ entry ∷ [])
+      → shown_to (of_class class) (translation acl) ≡ limit (perms_at tag acl)
+  shown_by_one class tag limit one limited no_user alone = go (the_one has_tag acl (length-filter has_tag acl ∙ one))
+    where
+      has_tag : Triple → Bool
+      has_tag entry = same_tag entry.tag tag
+
+      go : (e : Triple) × (filter has_tag acl ≡ e ∷ []) × (find has_tag acl ≡ Some e)
+          → shown_to (of_class class) (translation acl) ≡ limit (perms_at tag acl)
+      go (e, is_alone, is_found) =
+          let known = find-passes (λ (entry : Triple). IsPermissions entry.perms) has_tag acl e small is_found in
+          shown_to-allows (of_class class) (translation acl) (effective_perms acl e)
+          (effective-small (is_under_mask e.tag) (perms_of Mask acl) e.perms known.1)
+          (λ bit of_mode.
+          allows-translation acl (of_class class) bit of_mode
+          (few acl valid (of_class class) is_for_owner UserObj (owners_alone (of_class class)))
+          (few acl valid (of_class class) is_for_user UserObj no_user)
+          ∙ ap (list_any (λ (entry : Triple). has (effective_perms acl entry) (permission_of bit))) (alone e is_alone)
+          ∙ or_false (has (effective_perms acl e) (permission_of bit)))
+          ∙ limited e known.0
+          ∙ sym (ap (λ (o : Option Triple). limit (unwrap_or (option_map (λ (entry : Triple). entry.perms) o) 0)) is_found)
+
+  -- the entries of a class to which these of a mode's apply, as those of one tag
+  all_of : (who : Who) (class test : Tag → Bool) → ((tag : Tag) → (class tag && of_class who (who_of tag)) ≡ test tag)
+      → matching (of_class who) acl class ≡ filter (λ entry. test entry.tag) acl
+  all_of who class test same =
+      filter_twice (λ (entry : Triple). class entry.tag) (λ (entry : Triple). of_class who (who_of entry.tag))
+      (λ (entry : Triple). test entry.tag) (λ entry. same entry.tag) acl
+
+  none_of : (who : Who) (class : Tag → Bool) → ((tag : Tag) → (class tag && of_class who (who_of tag)) ≡ false)
+      → matching (of_class who) acl class ≡ []
+  none_of who class none =
+      filter_twice-none (λ (entry : Triple). class entry.tag) (λ (entry : Triple). of_class who (who_of entry.tag)) (λ entry. none entry.tag) acl
+
+  stop_at : (entries : List Triple) (rest : List (List Triple)) (entry : Triple) → entries ≡ entry ∷ []
+      → first_nonempty (entries ∷ rest) ≡ entry ∷ []
+  stop_at entries rest entry one = ap (λ (xs : List Triple). first_nonempty (xs ∷ rest)) one
+
+  pass_over : (entries : List Triple) (rest : List (List Triple)) → entries ≡ [] → first_nonempty (entries ∷ rest) ≡ first_nonempty rest
+  pass_over entries rest none = ap (λ (xs : List Triple). first_nonempty (xs ∷ rest)) none
+
+  shown_to_owner : shown_to (of_class whos.Owner) (translation acl) ≡ perms_at UserObj acl
+  shown_to_owner =
+      shown_by_one whos.Owner UserObj (λ perms. perms) valid.user_obj own no_named
+      (λ entry one. stop_at _ _ entry (all_of whos.Owner is_for_owner (λ tag. same_tag tag UserObj) the_owner ∙ one))
+    where
+      own : (entry : Triple) → same_tag entry.tag UserObj ≡ true → effective_perms acl entry ≡ entry.perms
+      own entry is = go entry.tag is
+        where
+          go : (tag : Tag) → same_tag tag UserObj ≡ true → cond (is_under_mask tag) (masked (perms_of Mask acl) entry.perms) entry.perms ≡ entry.perms
+          go UserObj is = refl
+          go Mask is = refl
+          go Other is = refl
+          go (User uid) is = absurd (true≢false (sym is))
+          go GroupObj is = absurd (true≢false (sym is))
+          go (Group gid) is = absurd (true≢false (sym is))
+
+      no_named : (tag : Tag) → is_for_user tag ≡ true → of_class whos.Owner (who_of tag) ≡ true → same_tag tag UserObj ≡ true
+      no_named UserObj is applies = refl
+      no_named (User uid) is applies = absurd (true≢false (sym applies))
+      no_named _ is applies = absurd (true≢false (sym is))
+
+      the_owner : (tag : Tag) → (is_for_owner tag && of_class whos.Owner (who_of tag)) ≡ same_tag tag UserObj
+      the_owner UserObj = refl
+      the_owner (User uid) = refl
+      the_owner _ = refl
+
+  shown_to_group : shown_to (of_class whos.Group) (translation acl) ≡ masked (perms_of Mask acl) (perms_at GroupObj acl)
+  shown_to_group =
+      shown_by_one whos.Group GroupObj (masked (perms_of Mask acl)) valid.group_obj limited no_named
+      (λ entry one.
+      pass_over _ _ (none_of whos.Group is_for_owner no_owner)
+      ∙ pass_over _ _ (none_of whos.Group is_for_user none_named)
+      ∙ stop_at _ _ entry (all_of whos.Group is_for_group (λ tag. same_tag tag GroupObj) the_group ∙ one))
+    where
+      limited : (entry : Triple) → same_tag entry.tag GroupObj ≡ true → effective_perms acl entry ≡ masked (perms_of Mask acl) entry.perms
+      limited entry is = go entry.tag is
+        where
+          go : (tag : Tag) → same_tag tag GroupObj ≡ true
+              → cond (is_under_mask tag) (masked (perms_of Mask acl) entry.perms) entry.perms ≡ masked (perms_of Mask acl) entry.perms
+          go GroupObj is = refl
+          go (User uid) is = refl
+          go (Group gid) is = refl
+          go UserObj is = absurd (true≢false (sym is))
+          go Mask is = absurd (true≢false (sym is))
+          go Other is = absurd (true≢false (sym is))
+
+      no_named : (tag : Tag) → is_for_user tag ≡ true → of_class whos.Group (who_of tag) ≡ true → same_tag tag UserObj ≡ true
+      no_named UserObj is applies = refl
+      no_named (User uid) is applies = absurd (true≢false (sym applies))
+      no_named _ is applies = absurd (true≢false (sym is))
+
+      no_owner : (tag : Tag) → (is_for_owner tag && of_class whos.Group (who_of tag)) ≡ false
+      no_owner UserObj = refl
+      no_owner _ = refl
+
+      none_named : (tag : Tag) → (is_for_user tag && of_class whos.Group (who_of tag)) ≡ false
+      none_named (User uid) = refl
+      none_named UserObj = refl
+      none_named _ = refl
+
+      the_group : (tag : Tag) → (is_for_group tag && of_class whos.Group (who_of tag)) ≡ same_tag tag GroupObj
+      the_group GroupObj = refl
+      the_group (Group gid) = refl
+      the_group _ = refl
+
+  shown_to_everyone : shown_to (of_class whos.Everyone) (translation acl) ≡ perms_at Other acl
+  shown_to_everyone =
+      shown_by_one whos.Everyone Other (λ perms. perms) valid.other own no_named
+      (λ entry one.
+      pass_over _ _ (none_of whos.Everyone is_for_owner no_owner)
+      ∙ pass_over _ _ (none_of whos.Everyone is_for_user none_named)
+      ∙ pass_over _ _ (none_of whos.Everyone is_for_group no_group)
+      ∙ stop_at _ _ entry (all_of whos.Everyone is_for_others (λ tag. same_tag tag Other) the_other ∙ one))
+    where
+      own : (entry : Triple) → same_tag entry.tag Other ≡ true → effective_perms acl entry ≡ entry.perms
+      own entry is = go entry.tag is
+        where
+          go : (tag : Tag) → same_tag tag Other ≡ true → cond (is_under_mask tag) (masked (perms_of Mask acl) entry.perms) entry.perms ≡ entry.perms
+          go UserObj is = refl
+          go Mask is = refl
+          go Other is = refl
+          go (User uid) is = absurd (true≢false (sym is))
+          go GroupObj is = absurd (true≢false (sym is))
+          go (Group gid) is = absurd (true≢false (sym is))
+
+      no_named : (tag : Tag) → is_for_user tag ≡ true → of_class whos.Everyone (who_of tag) ≡ true → same_tag tag UserObj ≡ true
+      no_named UserObj is applies = refl
+      no_named (User uid) is applies = absurd (true≢false (sym applies))
+      no_named _ is applies = absurd (true≢false (sym is))
+
+      no_owner : (tag : Tag) → (is_for_owner tag && of_class whos.Everyone (who_of tag)) ≡ false
+      no_owner UserObj = refl
+      no_owner _ = refl
+
+      none_named : (tag : Tag) → (is_for_user tag && of_class whos.Everyone (who_of tag)) ≡ false
+      none_named (User uid) = refl
+      none_named UserObj = refl
+      none_named _ = refl
+
+      no_group : (tag : Tag) → (is_for_group tag && of_class whos.Everyone (who_of tag)) ≡ false
+      no_group GroupObj = refl
+      no_group (Group gid) = refl
+      no_group _ = refl
+
+      the_other : (tag : Tag) → (is_for_others tag && of_class whos.Everyone (who_of tag)) ≡ same_tag tag Other
+      the_other Other = refl
+      the_other _ = refl
+
+-- the mode that a valid list shows through its translation
+pub mode_of-translation : (acl : List Triple) → IsValid acl → HavePermissions acl → mode_of (translation acl) ≡ translated_mode acl
+mode_of-translation acl valid small =
+    let owner = shown_to_owner acl valid small in
+    let group = shown_to_group acl valid small in
+    let everyone = shown_to_everyone acl valid small in
+    cc

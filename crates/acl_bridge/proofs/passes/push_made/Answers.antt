@@ -1,0 +1,28 @@
+use Rattle.std.proofs.Common.{◌≡◌, ◌∙◌, ◌==◌, sym, subst, ◌++◌, ◌∷◌, [], List, false, true, ap}
+use Rattle.std.specs.Prelude.{OnOk}
+use Rattle.acl_nfs4.specs.Ace.{Nfsace4, is_idle, plain}
+use Rattle.acl_nfs4.specs.Mask.{mask_bits}
+use Rattle.acl_bridge.specs.Passes.{flags_of, with_effect}
+use Rattle.acl_bridge.proofs.Made.{ace_of-effect, is_idle-effect, made-empty, made-full, room-full}
+use Rattle.acl_bridge.proofs.passes.push_made.Goals as goal
+
+pub returns-then-is_empty : goal.returns-then-is_empty
+returns-then-is_empty c =
+    made-empty c.args.effect c.args.aces.now c.args.kind c.args.who c.args.mask.0 (sym (c.is_empty.ensures tt) ∙ c.if-is_empty.true)
+
+pub push-requires-clause-room : goal.push-requires-clause-room
+push-requires-clause-room c =
+    room-full c.args.effect c.args.aces.now c.args.kind c.args.who c.args.mask.0 (sym (c.is_empty.ensures tt) ∙ c.if-is_empty.false) c.requires.room
+
+pub push-requires-clause-effective : goal.push-requires-clause-effective
+push-requires-clause-effective c =
+    ap is_idle
+    (c.new.ensures ∙ ace_of-effect c.args.kind c.args.effect c.args.who c.args.mask.0 c.flags.result.0 c.flags.ensures c.requires.known)
+    ∙ is_idle-effect c.args.kind c.args.effect c.args.who c.args.mask.0
+
+pub returns : goal.returns
+returns c =
+    subst (λ (aces : List Nfsace4). OnOk c.push.result (c.push.new.aces ≡ aces))
+    (made-full c.args.effect c.args.aces.now c.args.kind c.args.who c.args.mask.0 c.new.result (sym (c.is_empty.ensures tt) ∙ c.if-is_empty.false)
+    (c.new.ensures ∙ ace_of-effect c.args.kind c.args.effect c.args.who c.args.mask.0 c.flags.result.0 c.flags.ensures c.requires.known))
+    c.push.ensures

@@ -1,0 +1,69 @@
+-- What a translation keeps of a POSIX access control list.
+use Rattle.std.specs.Prelude.{◌≡◌, ℕ, ◌^◌, ◌≤◌, ◌↔◌, IsTrue, List, length, map}
+use Rattle.acl_names.specs.Requester.{Identity}
+use Rattle.acl_posix.specs.Access.{grants, masked}
+use Rattle.acl_posix.specs.Canonical.{IsAcl}
+use Rattle.acl_posix.specs.Entry.{Triple, HavePermissions, perms_of}
+use Rattle.acl_posix.specs.Mode.{Classes, perms_at}
+use Rattle.acl_posix.specs.Validity.{IsValid}
+use Rattle.acl_posix.specs.declared.entry.Tag.TheVariants.{UserObj, GroupObj, Mask, Other}
+use Rattle.acl_nfs4.specs.Ace.{Nfsace4}
+use Rattle.acl_nfs4.specs.Evaluation.{Grants, mode_of}
+use Rattle.acl_nfs4.specs.Inheritance.{inherited_list}
+use Rattle.acl_nfs4.specs.Mask.{mask_of, read, write, run}
+use Rattle.acl_nfs4.specs.Who.{matches}
+use Rattle.acl_nfs4.specs.declared.inheritance.Kind.TheVariants.{File, Dir}
+use Rattle.acl_bridge.specs.Translation.{translation, default_translation, with_flags, handed_on}
+
+-- for every owner, group and requester the one grants the permissions where the other does
+abbrev pub AgreeOn : List Triple → List Nfsace4 → ℕ → Type 0
+AgreeOn acl aces perms =
+    (owner group : ℕ) (requester : Identity)
+    → IsTrue (grants acl owner group requester perms) ↔ Grants (matches owner group requester) aces (mask_of perms)
+
+-- they decide alike of each single permission
+pub record DecideAlike (acl : List Triple) (aces : List Nfsace4) : Type 0 where
+  pub to_read : AgreeOn acl aces (2 ^ read)
+  pub to_write : AgreeOn acl aces (2 ^ write)
+  pub to_execute : AgreeOn acl aces (2 ^ run)
+
+-- for every owner, group and requester the second grants whatever permissions the first does
+abbrev pub GrantsAsMuch : List Triple → List Nfsace4 → Type 0
+GrantsAsMuch acl aces =
+    (owner group : ℕ) (requester : Identity) (perms : ℕ)
+    → IsTrue (grants acl owner group requester perms) → Grants (matches owner group requester) aces (mask_of perms)
+
+-- what the owner, the file's group under the mask, and the others have
+abbrev pub translated_mode : List Triple → Classes
+translated_mode acl = record {
+  user = perms_at UserObj acl;
+  group = masked (perms_of Mask acl) (perms_at GroupObj acl);
+  other = perms_at Other acl;
+}
+
+-- how many entries a translation can have: of 64 entries one is the mask, of which none is made, and one the others', of
+-- which one is made at most
+abbrev pub most_translated : ℕ
+most_translated = 125
+
+-- the laws of a translation
+abbrev pub TranslationDecidesAlike : Type 0
+TranslationDecidesAlike = (acl : List Triple) → IsValid acl → DecideAlike acl (translation acl)
+
+abbrev pub TranslationGrantsAsMuch : Type 0
+TranslationGrantsAsMuch = (acl : List Triple) → IsValid acl → GrantsAsMuch acl (translation acl)
+
+abbrev pub TranslationShowsTheClasses : Type 0
+TranslationShowsTheClasses =
+    (acl : List Triple) → IsValid acl → HavePermissions acl → mode_of (translation acl) ≡ translated_mode acl
+
+abbrev pub TranslationIsShort : Type 0
+TranslationIsShort = (acl : List Triple) → IsAcl acl → length (translation acl) ≤ most_translated
+
+-- what is inherited from the translation of a default list
+abbrev pub FileInheritsTheTranslation : Type 0
+FileInheritsTheTranslation = (acl : List Triple) → inherited_list File (default_translation acl) ≡ translation acl
+
+abbrev pub DirectoryHandsItOn : Type 0
+DirectoryHandsItOn =
+    (acl : List Triple) → inherited_list Dir (default_translation acl) ≡ map (with_flags handed_on) (translation acl)

@@ -1,0 +1,22 @@
+//! The laws of a translation, over the definitions alone.
+ghost use Rattle.acl_bridge.specs.TranslationLaws.{TranslationDecidesAlike, TranslationGrantsAsMuch, TranslationShowsTheClasses, TranslationIsShort, FileInheritsTheTranslation, DirectoryHandsItOn};
+
+/// A POSIX access control list and its translation decide alike every requester's each single read, write or execute
+/// permission.
+///
+/// The translation also grants whatever set of permissions the list grants, shows as its mode what the owner, the file's
+/// group under the mask and the others have, and has at most 125 entries (1003.1e draft 17, section 23; RFC 8881, sections
+/// 6.2.1 and 6.3.2).
+pub fn translation_laws()
+    ensures alike { TranslationDecidesAlike }
+    ensures as_much { TranslationGrantsAsMuch }
+    ensures mode { TranslationShowsTheClasses }
+    ensures short { TranslationIsShort }
+{}
+
+/// What a new file inherits from the translation of a default list is the list's translation, and what a new directory
+/// inherits is the same to hand on to all below (RFC 8881, section 6.4.3).
+pub fn default_translation_laws()
+    ensures file { FileInheritsTheTranslation }
+    ensures directory { DirectoryHandsItOn }
+{}

@@ -1,0 +1,3 @@
+mod examples;
+mod fixture;
+mod refused_growths;

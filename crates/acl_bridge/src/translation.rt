@@ -1,0 +1,55 @@
+//! POSIX access control lists as NFSv4 lists.
+ghost use Rattle.std.specs.Prelude.{◌≡◌, ◌≤◌, length, map, IfOk};
+ghost use Rattle.acl_posix.specs.Canonical.{IsAcl};
+ghost use Rattle.acl_nfs4.specs.Evaluation.{mode_of};
+ghost use Rattle.acl_nfs4.specs.Inheritance.{inherited_list};
+ghost use Rattle.acl_bridge.specs.Passes.{with_effect};
+ghost use Rattle.acl_bridge.specs.Translation.{translation, default_translation, with_flags, handed_on};
+ghost use Rattle.acl_bridge.specs.TranslationLaws.{DecideAlike, GrantsAsMuch, translated_mode, most_translated};
+
+use crate::passes::{Class, Effect, Part, append_class};
+use acl_nfs4::{Acl4, Kind};
+use acl_posix::Acl;
+use std::alloc::{AllocError, Global};
+
+/// The list's translation, to take effect here or below.
+fn translation_for(alloc: Global, acl: &Acl, effect: Effect) -> Result<Acl4, AllocError>
+    ensures list { IfOk result (λ aces. aces ≡ with_effect effect (translation acl.now)) }
+    ensures acl { IsAcl acl.now }
+{
+    let _entries = acl.entries();
+    let mut aces = Acl4::empty(alloc);
+    append_class(&mut aces, acl, Class::Owner, Part::Settled, effect)?;
+    append_class(&mut aces, acl, Class::Users, Part::Settled, effect)?;
+    append_class(&mut aces, acl, Class::Groups, Part::Allowed, effect)?;
+    append_class(&mut aces, acl, Class::Groups, Part::Denied, effect)?;
+    append_class(&mut aces, acl, Class::Others, Part::Allowed, effect)?;
+    Ok(aces)
+}
+
+/// The list as an NFSv4 list: for every owner, group and requester both decide alike of each single permission to read,
+/// write or execute, where to write is `WRITE_DATA` with `APPEND_DATA`. Each entry allows what it has under the mask and
+/// denies the rest, with flags none but the group's own: the owner's, the users' by id, the file's group's with the groups'
+/// by id, which deny only once all of them have allowed, and the others', which only allow. Empty entries are left out. It
+/// is refused only for want of memory.
+pub fn translate(alloc: Global, acl: &Acl) -> Result<Acl4, AllocError>
+    ensures list { IfOk result (λ aces. aces ≡ translation acl.now) }
+    ensures alike { IfOk result (DecideAlike acl.now) }
+    ensures as_much { IfOk result (GrantsAsMuch acl.now) }
+    ensures mode { IfOk result (λ aces. mode_of aces ≡ translated_mode acl.now) }
+    ensures short { IfOk result (λ aces. length aces ≤ most_translated) }
+{
+    translation_for(alloc, acl, Effect::Here)
+}
+
+/// A default list as an NFSv4 list: its translation, with `FILE_INHERIT`, `DIRECTORY_INHERIT` and `INHERIT_ONLY` on each
+/// entry. It takes no effect on the directory itself; what is made there inherits the translation. It is refused only for
+/// want of memory.
+pub fn translate_default(alloc: Global, acl: &Acl) -> Result<Acl4, AllocError>
+    ensures list { IfOk result (λ aces. aces ≡ default_translation acl.now) }
+    ensures file { IfOk result (λ aces. inherited_list Kind.File aces ≡ translation acl.now) }
+    ensures directory { IfOk result (λ aces. inherited_list Kind.Dir aces ≡ map (with_flags handed_on) (translation acl.now)) }
+    ensures short { IfOk result (λ aces. length aces ≤ most_translated) }
+{
+    translation_for(alloc, acl, Effect::Below)
+}
