@@ -2,7 +2,8 @@
 use Rattle.std.proofs.Common.{◌≡◌, ◌∙◌, ◌≤◌, [], ◌∷◌, ℕ, List, Option, Some, None, Ok, Err, Bool, true, false, ap, ap₂, codes, inl, inr, length, ltb, map, refl, subst, sym, take, arith}
 use Rattle.std.proofs.lemmas.List.{take_all}
 use Rattle.std.proofs.lemmas.Bool.Decides.{nat_tests}
-use Rattle.std.specs.Prelude.{Result, is_none, if◌then◌else◌}
+use Rattle.std.proofs.lemmas.Slice.Eq.{bytes_eq-Decides}
+use Rattle.std.specs.Prelude.{Result, ◌↔◌, is_none, if◌then◌else◌}
 use Rattle.clap.specs.Words.{Row, Text, first_of, matches_of}
 use Rattle.acl_names.specs.Ids.{decimal_value}
 use Rattle.acl_names.specs.ListText.{Say, Spells}
@@ -15,8 +16,8 @@ use Rattle.acl_posix.specs.Validity.{IsValid, fault_of}
 use Rattle.acl_posix.specs.declared.acl.Invalid.{Invalid}
 use Rattle.acl_posix.specs.declared.reading.PieceFault.{PieceFault}
 use Rattle.acl_service.specs.AclText.{accepted, acl_of, as_field, entries_of, nobody}
-use Rattle.acl_service.specs.Ask.{Ask, GiveEntries, GiveGids, GiveId, GivePerms, Write}
-use Rattle.acl_service.specs.Asked.{Asked, acl_in, asked_by, asked_in, gids_in, gids_of, id_in, id_of, perms_in, perms_of}
+use Rattle.acl_service.specs.Ask.{Ask, GiveEntries, GiveFlag, GiveGids, GiveId, GivePerms, Write}
+use Rattle.acl_service.specs.Asked.{Asked, acl_in, asked_by, asked_in, flag_in, flag_of, gids_in, gids_of, id_in, id_of, perms_in, perms_of}
 use Rattle.acl_service.specs.CommandLine.{TakesWords, decide_line}
 use Rattle.acl_service.specs.Reading.{at_most_read, each_read}
 use Rattle.acl_service.specs.declared.decide_command.fault.FieldFault.{FieldFault}
@@ -164,6 +165,24 @@ module _ (words : List Text) where
       let spelt = acl_of-ok text.0 entries text.2 in
       ((text.0, or_fault-ok BadAcl _ _ text.1, spelt.0), spelt.1)
 
+  -- a flag is set exactly where it is given
+  flag_of-given : (value : Option Text) → (flag_of value ≡ true) ↔ (value ≡ Some (codes "true"))
+  flag_of-given None = (λ set. cc, λ given. cc)
+  flag_of-given (Some text) =
+      let decides = bytes_eq-Decides text (codes "true") in
+      (λ set. ap Some (decides.0 set), λ given. decides.1 (same_text given))
+    where
+      same_text : Some text ≡ Some (codes "true") → text ≡ codes "true"
+      same_text given = cc
+
+  same_test : (s t : Bool) → (s ≡ true → t ≡ true) → (t ≡ true → s ≡ true) → s ≡ t
+  same_test true t to from = sym (to refl)
+  same_test false true to from = from refl
+  same_test false false to from = refl
+
+  flag_in-given : (name : Text) (given : Bool) → GiveFlag words name given → flag_in name rows ≡ given
+  flag_in-given name given gives = same_test _ _ (λ set. gives.1 ((flag_of-given _).0 set)) (λ is. (flag_of-given _).1 (gives.0 is))
+
 -- Words.
 
 pub asked_by-Ask : (words : List Text) (asked : Asked) → Ask words asked → TakesWords words × (asked_by words ≡ Ok asked)
@@ -177,6 +196,7 @@ asked_by-Ask words asked ask = (
     gids_in-given words _ ask.gids,
     perms_in-given words _ ask.request,
     acl_in-given words _ ask.entries ask.valid,
+    flag_in-given words _ _ ask.nfs4,
   ) refl,
 )
 
@@ -190,7 +210,8 @@ Ask-asked_by words asked taken is =
     let perms = first_step _ asked (perms_in (rows words)) gids.2 in
     let entries = first_step _ asked (acl_in (rows words)) perms.2 in
     let given = GiveEntries-read words entries.0 entries.1 in
-    let all : record { owner = owner.0; group = group.0; requester = record { uid = uid.0; gids = gids.0 }; request = perms.0; entries = entries.0 } ≡ asked = cc in
+    let nfs4 = flag_in (codes "nfs4") (rows words) in
+    let all : record { owner = owner.0; group = group.0; requester = record { uid = uid.0; gids = gids.0 }; request = perms.0; entries = entries.0; nfs4 = nfs4 } ≡ asked = cc in
     subst (Ask words) all (record {
       taken = taken;
       owner = GiveId-read words _ _ owner.1;
@@ -200,4 +221,5 @@ Ask-asked_by words asked taken is =
       request = GivePerms-read words _ perms.1;
       entries = given.0;
       valid = given.1;
+      nfs4 = flag_of-given words (first_of (codes "nfs4") (rows words));
     })

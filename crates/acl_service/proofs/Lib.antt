@@ -3,4 +3,5 @@ pub mod CommandLemmas
 pub mod ReadLemmas
 pub mod AclLemmas
 pub mod OutcomeLemmas
+pub mod OrderLemmas
 pub mod AskLemmas

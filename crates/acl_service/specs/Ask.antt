@@ -1,5 +1,5 @@
 -- Which question words ask, field by field.
-use Rattle.std.specs.Prelude.{◌≡◌, ◌≤◌, ◌⊎◌, ℕ, List, [], length, map, Some, None, codes}
+use Rattle.std.specs.Prelude.{◌≡◌, ◌≤◌, ◌↔◌, ◌⊎◌, ℕ, Bool, true, List, [], length, map, Some, None, codes}
 use Rattle.clap.specs.Words.{Text, first_of, matches_of}
 use Rattle.acl_names.specs.Ids.{decimal_value}
 use Rattle.acl_names.specs.ListText.{Spells}
@@ -39,6 +39,10 @@ GivePerms words perms = (text : Text) × Give words (codes "perms") text × (per
 abbrev pub GiveEntries : List Text → List Triple → Type 0
 GiveEntries words entries = (text : Text) × Give words (codes "text") text × Spells (entry_of nobody) MAX_ENTRIES text entries
 
+-- the words set the flag exactly where this is true; the parser gives it a value then, `true`
+abbrev pub GiveFlag : List Text → Text → Bool → Type 0
+GiveFlag words name given = (given ≡ true) ↔ Give words name (codes "true")
+
 -- the words ask this: the parser takes them, they give each field, and the entries are an access control list
 pub record Ask (words : List Text) (asked : Asked) : Type 0 where
   pub taken : TakesWords words
@@ -49,3 +53,4 @@ pub record Ask (words : List Text) (asked : Asked) : Type 0 where
   pub request : GivePerms words asked.request
   pub entries : GiveEntries words asked.entries
   pub valid : IsValid asked.entries
+  pub nfs4 : GiveFlag words (codes "nfs4") asked.nfs4

@@ -1,5 +1,6 @@
 -- What the words of `decide` ask, read field by field.
-use Rattle.std.specs.Prelude.{ℕ, List, [], Option, Some, None, Result, Ok, codes}
+use Rattle.std.specs.Prelude.{ℕ, Bool, false, List, [], Option, Some, None, Result, Ok, codes}
+use Rattle.std.specs.Str.{bytes_eq}
 use Rattle.clap.specs.Words.{Text, Row, first_of, matches_of}
 use Rattle.acl_names.specs.Ids.{decimal_value}
 use Rattle.acl_names.specs.Pieces.{parts}
@@ -14,13 +15,15 @@ use Rattle.acl_service.specs.Reading.{at_most_read}
 use Rattle.acl_service.specs.declared.decide_command.fault.FieldFault.{FieldFault}
 use Rattle.acl_service.specs.declared.decide_command.fault.FieldFault.TheVariants.{BadId, BadPerms, BadAcl}
 
--- whether the requester may do all of what is requested with a file of this owner, this group and these entries
+-- whether the requester may do all of what is requested with a file of this owner, this group and these entries; and, with
+-- nfs4, which NFSv4 list the entries translate to
 pub record Asked : Type 0 where
   pub owner : ℕ
   pub group : ℕ
   pub requester : Identity
   pub request : ℕ
   pub entries : List Triple
+  pub nfs4 : Bool
 
 -- the id that a text writes in decimal
 abbrev pub id_of : Text → Result ℕ FieldFault
@@ -34,6 +37,11 @@ gids_of (Some text) = at_most_read MAX_GROUPS_OF_USER id_of (parts 44 text)
 -- the permissions that a text writes
 abbrev pub perms_of : Text → Result ℕ FieldFault
 perms_of text = or_fault BadPerms (perms_of_text text)
+
+-- whether a flag is set, by the value that the parser gives it
+abbrev pub flag_of : Option Text → Bool
+flag_of None = false
+flag_of (Some text) = bytes_eq text (codes "true")
 
 -- The fields by name, among what the parser found.
 
@@ -49,6 +57,9 @@ perms_in rows = or_fault BadPerms (first_of (codes "perms") rows) >>= perms_of
 abbrev pub acl_in : List Row → Result (List Triple) FieldFault
 acl_in rows = or_fault BadAcl (first_of (codes "text") rows) >>= acl_of
 
+abbrev pub flag_in : Text → List Row → Bool
+flag_in name rows = flag_of (first_of name rows)
+
 -- what is asked, or the fault of the first field that doesn't read, in this order
 unfoldable pub asked_in : List Row → Result Asked FieldFault
 asked_in rows = do
@@ -58,7 +69,14 @@ asked_in rows = do
   gids ← gids_in rows
   perms ← perms_in rows
   entries ← acl_in rows
-  Ok (record { owner = owner; group = group; requester = record { uid = uid; gids = gids }; request = perms; entries = entries })
+  Ok (record {
+    owner = owner;
+    group = group;
+    requester = record { uid = uid; gids = gids };
+    request = perms;
+    entries = entries;
+    nfs4 = flag_in (codes "nfs4") rows;
+  })
 
 -- what the words ask, where the parser finds no fault in them
 abbrev pub asked_by : List Text → Result Asked FieldFault

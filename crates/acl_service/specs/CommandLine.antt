@@ -1,6 +1,7 @@
 -- The command line of `decide`, as the parser of command lines sees it.
 use Rattle.std.specs.Prelude.{◌≡◌, List, [], ◌∷◌, Some, true, codes, fold}
 use Rattle.clap.specs.Words.{App, Rule, Text, fault_of, new_app, new_rule, with_rule}
+use Rattle.clap.specs.declared.builder.action.ArgAction.TheVariants.{SetTrue}
 
 -- `--name VALUE`, which must be given; and which may be
 abbrev pub required_option : Text → Rule
@@ -9,15 +10,20 @@ required_option name = record (new_rule name) { long = Some name; required = tru
 abbrev pub optional_option : Text → Rule
 optional_option name = record (new_rule name) { long = Some name }
 
+-- `--name` alone, which may be given
+abbrev pub flag : Text → Rule
+flag name = record (new_rule name) { long = Some name; action = Some SetTrue }
+
 -- a word that belongs to no option, which must be given
 abbrev pub required_word : Text → Rule
 required_word name = record (new_rule name) { required = true }
 
--- `decide --owner N --group N --uid N [--gids N,N..] --perms P TEXT`
+-- `decide [--nfs4] --owner N --group N --uid N [--gids N,N..] --perms P TEXT`
 unfoldable pub decide_line : App
 decide_line = fold with_rule (new_app (codes "decide"))
-    (required_option (codes "owner") ∷ required_option (codes "group") ∷ required_option (codes "uid")
-    ∷ optional_option (codes "gids") ∷ required_option (codes "perms") ∷ required_word (codes "text") ∷ [])
+    (flag (codes "nfs4") ∷ required_option (codes "owner") ∷ required_option (codes "group")
+    ∷ required_option (codes "uid") ∷ optional_option (codes "gids") ∷ required_option (codes "perms")
+    ∷ required_word (codes "text") ∷ [])
 
 -- the parser finds no fault in the words, of which the first is the command's name
 abbrev pub TakesWords : List Text → Type 0

@@ -3,8 +3,13 @@ use Rattle.std.specs.Prelude.{◌≡◌, ℕ, Bool, ◌++◌, ◌∷◌, [], Lis
 use Rattle.std.specs.Io.KnownBytes.{Appends}
 use Rattle.clap.specs.Words.{Kinds, Text, fault_of}
 use Rattle.acl_posix.specs.Access.{grants}
+use Rattle.acl_nfs4.specs.PrintedText.{aces_text}
+use Rattle.acl_bridge.specs.Translation.{translation}
+use Rattle.acl_service.specs.AclText.{nobody}
+use Rattle.acl_posix.specs.Entry.{Triple}
 use Rattle.acl_service.specs.Asked.{Asked, asked_by}
 use Rattle.acl_service.specs.CommandLine.{decide_line}
+use Rattle.acl_service.specs.InOrder.{in_order}
 use Rattle.acl_service.specs.declared.decide_command.fault.FieldFault.{FieldFault}
 
 -- an exit status, and what goes to the output
@@ -22,12 +27,20 @@ abbrev pub is_granted : Asked → Bool
 is_granted asked = grants asked.entries asked.owner asked.group asked.requester asked.request
 
 -- the line that answers
-abbrev pub answer_text : Bool → List ℕ
-answer_text granted = if granted then codes "granted" ++ 10 ∷ [] else codes "denied" ++ 10 ∷ []
+abbrev pub answer_line : Bool → List ℕ
+answer_line granted = if granted then codes "granted" ++ 10 ∷ [] else codes "denied" ++ 10 ∷ []
+
+-- the entries of the NFSv4 list that these entries translate to, one a line
+abbrev pub translation_text : List Triple → List ℕ
+translation_text entries = aces_text nobody (translation (in_order entries))
+
+-- the line, and behind it the translation where it is asked for
+abbrev pub answer_text : Asked → List ℕ
+answer_text asked = answer_line (is_granted asked) ++ (if asked.nfs4 then translation_text asked.entries else [])
 
 -- an answer, or the fault of a field
 abbrev pub outcome_of_reading : Result Asked FieldFault → Outcome
-outcome_of_reading (Ok asked) = record { status = 0; text = answer_text (is_granted asked) }
+outcome_of_reading (Ok asked) = record { status = 0; text = answer_text asked }
 outcome_of_reading (Err fault) = record { status = 1; text = [] }
 
 -- by the faults that the parser finds in the words: none, or wrong usage

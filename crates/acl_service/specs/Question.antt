@@ -12,3 +12,4 @@ pub record Asks (question : Question) (asked : Asked) : Type 0 where
   pub requester : question.requester ≡ asked.requester
   pub request : bits_of question.request ≡ asked.request
   pub entries : IsPermutation asked.entries question.acl
+  pub nfs4 : question.nfs4 ≡ asked.nfs4

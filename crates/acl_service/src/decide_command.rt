@@ -1,46 +1,66 @@
 //! The command `decide`.
-ghost use Rattle.std.specs.Prelude.{◌≡◌, ◌≢◌, ◌≤◌, ◌↔◌, ℕ, List, Ok, map, IfErr, IsOkAnd, OnOk};
+ghost use Rattle.std.specs.Prelude.{◌≡◌, ◌≢◌, ◌≤◌, ◌↔◌, ℕ, List, Ok, map, IfErr, IfOk, IsOkAnd, OnOk};
 ghost use Rattle.std.specs.Io.KnownBytes.{Appends, Keeps};
 ghost use Rattle.acl_service.specs.Ask.{Ask};
 ghost use Rattle.acl_service.specs.Asked.{Asked, asked_by};
 ghost use Rattle.acl_service.specs.CommandLine.{TakesWords};
 ghost use Rattle.acl_service.specs.Faults.{IsFaultOf, failed_write};
-ghost use Rattle.acl_service.specs.Outcome.{EndsAs, answer_text, is_granted, outcome_of};
+ghost use Rattle.acl_service.specs.Outcome.{EndsAs, answer_text, outcome_of};
+ghost use Rattle.acl_service.specs.Question.{Asks};
 
 mod acl;
 mod command_line;
 mod fault;
 mod ids;
 mod question;
+mod translation;
 
 use crate::RunFault;
 use fault::DecideFault;
-use std::alloc::Global;
+use question::Question;
+use std::alloc::{AllocError, Global};
 use std::convert::AsStr;
 use std::io::Write;
+pub use translation::entries_in_order_are_their_list;
+use translation::print_translation;
 
-/// Writes the answer to what the words ask.
-fn answer<S: AsStr, W: Write>(alloc: Global, words: &[S], out: &mut W) -> Result<(), DecideFault>
-    ensures taken { OnOk result (TakesWords (map S.text words.now)) }
-    ensures answered { OnOk result (IsOkAnd (asked_by (map S.text words.now))
-        (λ asked. Appends (W.contents out.old) (W.contents out.new) (answer_text (is_granted asked)))) }
-    ensures refused { IfErr result (IsFaultOf (map S.text words.now)) }
-    ensures silent { IfErr result (λ fault. fault ≢ failed_write → Keeps (W.contents out.old) (W.contents out.new)) }
+/// The text that answers: the line, and behind it the translation where it is asked for.
+fn text_for(alloc: Global, question: &Question) -> Result<Vec<u8>, AllocError>
+    ensures { IfOk result (λ text. (asked : Asked) → Asks question.now asked → text.items ≡ answer_text asked) }
 {
-    let matches = command_line::parse(alloc, words)?;
-    let question = question::read_question(alloc, &matches)?;
     let line = if question.is_granted() {
         "granted\n"
     } else {
         "denied\n"
     };
-    out.write_all(line.as_bytes())
+    let mut text = Vec::new(alloc);
+    text.extend_from_slice(line.as_bytes())?;
+    if question.nfs4 {
+        print_translation(alloc, &question.acl, &mut text)?;
+    }
+    Ok(text)
+}
+
+/// Writes the answer to what the words ask.
+fn answer<S: AsStr, W: Write>(alloc: Global, words: &[S], out: &mut W) -> Result<(), DecideFault>
+    ensures taken { OnOk result (TakesWords (map S.text words.now)) }
+    ensures answered { OnOk result (IsOkAnd (asked_by (map S.text words.now))
+        (λ asked. Appends (W.contents out.old) (W.contents out.new) (answer_text asked))) }
+    ensures refused { IfErr result (IsFaultOf (map S.text words.now)) }
+    ensures silent { IfErr result (λ fault. fault ≢ failed_write → Keeps (W.contents out.old) (W.contents out.new)) }
+{
+    let matches = command_line::parse(alloc, words)?;
+    let question = question::read_question(alloc, &matches)?;
+    let text = text_for(alloc, &question)?;
+    out.write_all(text.as_slice())
         .map_err(|_| DecideFault::Run(RunFault::Output))
 }
 
 /// Tells whether an access control list grants a request. The words are those of the command, its name first: `decide
-/// --owner N --group N --uid N [--gids N,N..] --perms P TEXT`. The answer, `granted` or `denied` and a newline, goes to
-/// `out`. What is wrong with the words goes to `err`, and so does help; a fault while writing there changes nothing.
+/// [--nfs4] --owner N --group N --uid N [--gids N,N..] --perms P TEXT`. The answer, `granted` or `denied` and a newline, goes
+/// to `out`, and with `--nfs4` so do, behind it, the entries of the NFSv4 list that decides alike, one a line. All of it is
+/// made first and then written at once. What is wrong with the words goes to `err`, and so does help; a fault while writing
+/// there changes nothing.
 ///
 /// It returns the exit status: 0 with the answer, 1 where a field doesn't read, 2 where the parser of command lines refuses
 /// the words, and 3 where memory runs out or the answer can't be written.

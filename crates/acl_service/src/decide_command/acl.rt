@@ -10,7 +10,7 @@ use acl_posix::{Acl, Entries, read_entries};
 use std::alloc::{AllocError, Global};
 
 /// A directory that knows no user and no group.
-fn empty_directory(alloc: Global) -> Result<Directory, AllocError>
+pub(super) fn empty_directory(alloc: Global) -> Result<Directory, AllocError>
     ensures { IfOk result (λ directory. directory ≡ nobody) }
 {
     let domain = String::from_str(alloc, "local")?;

@@ -1,10 +1,10 @@
 //! The words of `decide`, as the parser of command lines takes them.
 ghost use Rattle.std.specs.Prelude.{◌≡◌, IfErr, IfOk, OnOk, map, false};
 ghost use Rattle.clap.specs.Words.{app_of, found_of, kind_of, matches_of, rows_of, rule_of};
-ghost use Rattle.acl_service.specs.CommandLine.{TakesWords, decide_line, optional_option, required_option, required_word};
+ghost use Rattle.acl_service.specs.CommandLine.{TakesWords, decide_line, flag, optional_option, required_option, required_word};
 
 use clap::error::ErrorKind;
-use clap::{Arg, ArgMatches, Command, Error};
+use clap::{Arg, ArgAction, ArgMatches, Command, Error};
 use std::alloc::{AllocError, Global};
 use std::convert::AsStr;
 
@@ -15,6 +15,11 @@ fn decide_command<'a>(alloc: Global) -> Result<Command<'a>, AllocError>
     Command::new(alloc, "decide")
         .bin_name("aclctl decide")?
         .about("Tells whether an access control list grants a request: `granted` or `denied`.")
+        .arg(flag(
+            alloc,
+            "nfs4",
+            "Prints the translation too: the NFSv4 entries that decide alike, one a line",
+        ))?
         .arg(required_option(alloc, "owner", "The uid of the file's owner"))?
         .arg(required_option(alloc, "group", "The gid of the file's group"))?
         .arg(required_option(alloc, "uid", "The uid of who asks"))?
@@ -47,6 +52,16 @@ fn optional_option<'a>(alloc: Global, name: &'a str, help: &'a str) -> Arg<'a>
     ensures local { result.global ≡ false }
 {
     Arg::new(alloc, name).long(name).help(help)
+}
+
+fn flag<'a>(alloc: Global, name: &'a str, help: &'a str) -> Arg<'a>
+    ensures rule { rule_of result ≡ flag name.entry.now }
+    ensures local { result.global ≡ false }
+{
+    Arg::new(alloc, name)
+        .long(name)
+        .action(ArgAction::SetTrue)
+        .help(help)
 }
 
 fn required_word<'a>(alloc: Global, name: &'a str, help: &'a str) -> Arg<'a>

@@ -3,7 +3,7 @@ ghost use Rattle.std.specs.Prelude.{◌≡◌, codes, option_map, Ok, Err, IfErr
 ghost use Rattle.std.specs.List.Sorted.{IsPermutation};
 ghost use Rattle.clap.specs.Words.{first_of, found_of, rows_of};
 ghost use Rattle.acl_posix.specs.Perms.{bits_of};
-ghost use Rattle.acl_service.specs.Asked.{acl_in, asked_in, gids_in, id_in, perms_in};
+ghost use Rattle.acl_service.specs.Asked.{acl_in, asked_in, flag_in, gids_in, id_in, perms_in};
 ghost use Rattle.acl_service.specs.Faults.{Explains};
 ghost use Rattle.acl_service.specs.Question.{Asks};
 
@@ -15,7 +15,7 @@ use acl_posix::{Acl, Perms, read_perms};
 use clap::ArgMatches;
 use std::alloc::Global;
 
-/// Whether who asks may do what is requested with a file.
+/// Whether who asks may do what is requested with a file; and, with `nfs4`, what its access control list translates to.
 #[derive(Drop)]
 pub(super) struct Question {
     pub owner: Uid,
@@ -23,6 +23,7 @@ pub(super) struct Question {
     pub requester: Requester,
     pub request: Perms,
     pub acl: Acl,
+    pub nfs4: bool,
 }
 
 impl Question {
@@ -90,6 +91,16 @@ fn acl_field(alloc: Global, matches: &ArgMatches<'_>) -> Result<Acl, DecideFault
     )
 }
 
+/// Whether a flag is set.
+fn flag_field(matches: &ArgMatches<'_>, name: &str) -> bool
+    ensures { result ≡ flag_in name.now (rows_of (found_of matches.now)) }
+{
+    match text_field(matches, name) {
+        Some(text) => text == "true",
+        None => false,
+    }
+}
+
 /// What the words ask, their fields read in order.
 #[tactic(auto, unfolding(crate::specs::Asked::asked_in))]
 pub(super) fn read_question(
@@ -111,5 +122,6 @@ pub(super) fn read_question(
         requester: Requester::new(uid, gids),
         request,
         acl,
+        nfs4: flag_field(matches, "nfs4"),
     })
 }

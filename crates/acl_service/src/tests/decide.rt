@@ -132,6 +132,49 @@ fn without_gids(rt: HostRuntime) {
     assert!(rt; err.is_empty());
 }
 
+#[test]
+fn with_the_translation(rt: HostRuntime) -> Result<(), Fail> {
+    for (perms, list, text) in [
+        (
+            "rw",
+            "u::-,g::r,g:60:w,m::rw,o::-",
+            "denied\nD::OWNER@:rwax\nA::GROUP@:r\nA:g:60:wa\nD::GROUP@:wax\nD:g:60:rx\n",
+        ),
+        // The same entries in another order.
+        (
+            "rw",
+            "o::-,g:60:w,m::rw,g::r,u::-",
+            "denied\nD::OWNER@:rwax\nA::GROUP@:r\nA:g:60:wa\nD::GROUP@:wax\nD:g:60:rx\n",
+        ),
+        // The users stand by their ids, and the mask takes from what they have.
+        (
+            "r",
+            "u::-,u:8:rw,u:7:x,g::r,m::rx,o::r",
+            "granted\nD::OWNER@:rwax\nA::7:x\nD::7:rwa\nA::8:r\nD::8:wax\nA::GROUP@:r\nD::GROUP@:wax\nA::EVERYONE@:r\n",
+        ),
+        (
+            "w",
+            "u::rwx,g::rwx,o::-",
+            "granted\nA::OWNER@:rwax\nA::GROUP@:rwax\n",
+        ),
+    ] {
+        let words = [
+            "decide", "--nfs4", "--owner", "1000", "--group", "50", "--uid", "1001", "--gids",
+            "50,60", "--perms", perms, list,
+        ];
+        let mut out = Vec::new(rt.alloc());
+        let mut err = Vec::new(rt.alloc());
+        assert_eq!(rt;
+            decide(rt.alloc(), words.as_slice(), &mut out, &mut err),
+            0,
+            "at {list:?}"
+        );
+        assert_eq!(rt; out.as_slice(), text.as_bytes(), "at {list:?}");
+        assert!(rt; err.is_empty());
+    }
+    Ok(())
+}
+
 const GIDS_32: &str =
     "1,2,3,4,5,6,7,8,9,10,11,12,13,14,15,16,17,18,19,20,21,22,23,24,25,26,27,28,29,30,31,50";
 
@@ -283,8 +326,25 @@ fn parser_refuses_words(rt: HostRuntime) {
             "u::rw,g::r,o::-",
         ]
         .as_slice(),
+        // A flag has no value of its own,
         [
             "decide",
+            "--nfs4=true",
+            "--owner",
+            "1000",
+            "--group",
+            "50",
+            "--uid",
+            "1001",
+            "--perms",
+            "r",
+            "u::rw,g::r,o::-",
+        ]
+        .as_slice(),
+        // and stands once.
+        [
+            "decide",
+            "--nfs4",
             "--nfs4",
             "--owner",
             "1000",
@@ -333,6 +393,28 @@ fn failed_writes(rt: HostRuntime) {
         3
     );
     assert_eq!(rt; err.as_slice(), b"aclctl: run: output\n".as_slice());
+    assert_eq!(rt;
+        decide(
+            rt.alloc(),
+            [
+                "decide",
+                "u::rw,g::r,o::-",
+                "--owner",
+                "1000",
+                "--group",
+                "50",
+                "--uid",
+                "1001",
+                "--perms",
+                "r",
+                "--nfs4",
+            ]
+            .as_slice(),
+            &mut Broken,
+            &mut Broken
+        ),
+        3
+    );
     // A fault while writing to the other writer changes no status.
     assert_eq!(rt;
         decide(rt.alloc(), ["decide"].as_slice(), &mut Broken, &mut Broken),

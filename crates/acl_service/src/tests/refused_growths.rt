@@ -8,26 +8,28 @@ use std::alloc::Global;
 use std::io::{self, Read};
 use std::test::Fail;
 
+const LIST: &str = "u::rw,u:7:r,u:8:r,u:9:r,u:10:r,g::r,g:60:r,g:70:r,g:80:r,m::r,o::-";
+
 const ASKED: [&str; 12] = [
-    "decide",
-    "--owner",
-    "1000",
-    "--group",
-    "50",
-    "--uid",
-    "1001",
-    "--gids",
-    "50,60",
-    "--perms",
-    "r",
-    "u::rw,u:7:r,u:8:r,u:9:r,g::r,g:60:r,g:70:r,m::r,o::-",
+    "decide", "--owner", "1000", "--group", "50", "--uid", "1001", "--gids", "50,60", "--perms",
+    "r", LIST,
 ];
+
+const ASKED_NFS4: [&str; 13] = [
+    "decide", "--nfs4", "--owner", "1000", "--group", "50", "--uid", "1001", "--gids", "50,60",
+    "--perms", "r", LIST,
+];
+
+const GRANTED: &str = "granted\n";
+
+const GRANTED_NFS4: &str =
+    "granted\nA::OWNER@:rwa\nD::OWNER@:x\nA::7:r\nD::7:wax\nA::8:r\nD::8:wax\nA::9:r\nD::9:wax\nA::10:r\nD::10:wax\nA::GROUP@:r\nA:g:60:r\nA:g:70:r\nA:g:80:r\nD::GROUP@:wax\nD:g:60:wax\nD:g:70:wax\nD:g:80:wax\n";
 
 /// How `decide` ended.
 #[derive(Clone, Copy, Debug, PartialEq, Eq)]
 enum Ending {
     /// With its answer, and nothing else.
-    Granted,
+    Answered,
     /// With the line that tells of want of memory, and nothing else.
     Memory,
     /// In any other way.
@@ -35,33 +37,45 @@ enum Ending {
 }
 
 /// Asks where both writers have room enough without any memory of their own.
-fn ask(alloc: Global) -> Ending {
-    let mut lines = [0; 32];
+fn ask(alloc: Global, words: &[&str], answer: &str) -> Ending {
+    let mut lines = [0; 512];
     let mut faults = [0; 32];
     let mut out = lines.as_mut_slice();
     let mut err = faults.as_mut_slice();
-    let status = decide(alloc, ASKED.as_slice(), &mut out, &mut err);
+    let status = decide(alloc, words, &mut out, &mut err);
     let (room, fault_room) = (out.len(), err.len());
-    let granted = lines.starts_with(b"granted\n".as_slice());
+    let written = room.checked_add(answer.len()) == Some(512);
+    let answered = lines.starts_with(answer.as_bytes());
     let memory = faults.starts_with(b"aclctl: run: memory\n".as_slice());
-    if (status, room, fault_room, granted) == (0, 24, 32, true) {
-        Ending::Granted
-    } else if (status, room, fault_room, memory) == (3, 32, 12, true) {
+    if (status, written, fault_room, answered) == (0, true, 32, true) {
+        Ending::Answered
+    } else if (status, room, fault_room, memory) == (3, 512, 12, true) {
         Ending::Memory
     } else {
         Ending::Other
     }
 }
 
+/// Asks again where the first is told of want of memory. Returns how the last ended, and how many were told of it.
+fn ask_again(alloc: Global, words: &[&str], answer: &str) -> (Ending, u32) {
+    match ask(alloc, words, answer) {
+        Ending::Memory => (ask(alloc, words, answer), 1),
+        ended => (ended, 0),
+    }
+}
+
 #[test]
 fn decide_under_a_refused_growth(rt: HostRuntime) -> Result<(), Fail> {
-    let mut refusals = 0;
-    let mut ended = ask(rt.alloc());
-    if ended == Ending::Memory {
-        refusals = 1;
-        ended = ask(rt.alloc());
-    }
-    assert_eq!(rt; ended, Ending::Granted);
+    let (ended, refusals) = ask_again(rt.alloc(), ASKED.as_slice(), GRANTED);
+    assert_eq!(rt; ended, Ending::Answered);
+    println!(rt; "refusals: {refusals}")?;
+    Ok(())
+}
+
+#[test]
+fn decide_with_the_translation_under_a_refused_growth(rt: HostRuntime) -> Result<(), Fail> {
+    let (ended, refusals) = ask_again(rt.alloc(), ASKED_NFS4.as_slice(), GRANTED_NFS4);
+    assert_eq!(rt; ended, Ending::Answered);
     println!(rt; "refusals: {refusals}")?;
     Ok(())
 }
