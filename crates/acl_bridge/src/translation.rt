@@ -17,8 +17,9 @@ fn translation_for(alloc: Global, acl: &Acl, effect: Effect) -> Result<Acl4, All
     ensures list { IfOk result (λ aces. aces ≡ with_effect effect (translation acl.now)) }
     ensures acl { IsAcl acl.now }
 {
-    let _entries = acl.entries();
-    let mut aces = Acl4::empty(alloc);
+    // No entry makes more than two.
+    let entries = acl.entries();
+    let mut aces = Acl4::with_capacity(alloc, 2 * entries.len())?;
     append_class(&mut aces, acl, Class::Owner, Part::Settled, effect)?;
     append_class(&mut aces, acl, Class::Users, Part::Settled, effect)?;
     append_class(&mut aces, acl, Class::Groups, Part::Allowed, effect)?;

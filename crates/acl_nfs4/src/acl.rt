@@ -53,6 +53,15 @@ impl Acl4 {
         }
     }
 
+    /// The list with no entries and room for this many, so that it grows once at most.
+    pub fn with_capacity(alloc: Global, capacity: usize) -> Result<Acl4, AllocError>
+        ensures { IfOk result (λ acl. acl ≡ []) }
+    {
+        let mut aces = SmallVec::new(alloc);
+        aces.reserve(capacity)?;
+        Ok(Acl4 { aces })
+    }
+
     /// The list of these entries.
     pub(crate) fn from_items(aces: SmallVec<Ace, 16>) -> Acl4
         requires { AreAces aces.items }

@@ -9,23 +9,23 @@ use Rattle.acl_bridge.proofs.translation.translation_for.Goals as goal
 pub append_class-requires : goal.append_class-requires
 append_class-requires c =
     let all = lengths-made c.args.effect c.args.acl.now c.entries-entries.ensures.acl in
-    let none = ap (λ (xs : List Nfsace4). length xs) c.empty-aces.ensures in
-    let next = length-append c.empty-aces.result (made_of Owner Settled c.args.effect c.args.acl.now) in
+    let none = ap (λ (xs : List Nfsace4). length xs) c.in_ok-aces.ensures in
+    let next = length-append c.in_ok-aces.aces (made_of Owner Settled c.args.effect c.args.acl.now) in
     record { room = omega arith }
 
 pub append_class-requires-2 : goal.append_class-requires-2
 append_class-requires-2 c =
     let all = lengths-made c.args.effect c.args.acl.now c.entries-entries.ensures.acl in
-    let none = ap (λ (xs : List Nfsace4). length xs) c.empty-aces.ensures in
-    let n1 = room-left c.append_class.new.aces c.empty-aces.result (made_of Owner Settled c.args.effect c.args.acl.now) c.in_ok-append_class.ensures in
+    let none = ap (λ (xs : List Nfsace4). length xs) c.in_ok-aces.ensures in
+    let n1 = room-left c.append_class.new.aces c.in_ok-aces.aces (made_of Owner Settled c.args.effect c.args.acl.now) c.in_ok-append_class.ensures in
     let next = length-append c.append_class.new.aces (made_of Users Settled c.args.effect c.args.acl.now) in
     record { room = omega arith }
 
 pub append_class-requires-3 : goal.append_class-requires-3
 append_class-requires-3 c =
     let all = lengths-made c.args.effect c.args.acl.now c.entries-entries.ensures.acl in
-    let none = ap (λ (xs : List Nfsace4). length xs) c.empty-aces.ensures in
-    let n1 = room-left c.append_class.new.aces c.empty-aces.result (made_of Owner Settled c.args.effect c.args.acl.now) c.in_ok-append_class.ensures in
+    let none = ap (λ (xs : List Nfsace4). length xs) c.in_ok-aces.ensures in
+    let n1 = room-left c.append_class.new.aces c.in_ok-aces.aces (made_of Owner Settled c.args.effect c.args.acl.now) c.in_ok-append_class.ensures in
     let n2 = room-left c.append_class-2.new.aces c.append_class.new.aces (made_of Users Settled c.args.effect c.args.acl.now) c.in_ok-append_class-2.ensures in
     let next = length-append c.append_class-2.new.aces (made_of Groups Allowed c.args.effect c.args.acl.now) in
     record { room = omega arith }
@@ -33,8 +33,8 @@ append_class-requires-3 c =
 pub append_class-requires-4 : goal.append_class-requires-4
 append_class-requires-4 c =
     let all = lengths-made c.args.effect c.args.acl.now c.entries-entries.ensures.acl in
-    let none = ap (λ (xs : List Nfsace4). length xs) c.empty-aces.ensures in
-    let n1 = room-left c.append_class.new.aces c.empty-aces.result (made_of Owner Settled c.args.effect c.args.acl.now) c.in_ok-append_class.ensures in
+    let none = ap (λ (xs : List Nfsace4). length xs) c.in_ok-aces.ensures in
+    let n1 = room-left c.append_class.new.aces c.in_ok-aces.aces (made_of Owner Settled c.args.effect c.args.acl.now) c.in_ok-append_class.ensures in
     let n2 = room-left c.append_class-2.new.aces c.append_class.new.aces (made_of Users Settled c.args.effect c.args.acl.now) c.in_ok-append_class-2.ensures in
     let n3 = room-left c.append_class-3.new.aces c.append_class-2.new.aces (made_of Groups Allowed c.args.effect c.args.acl.now) c.in_ok-append_class-3.ensures in
     let next = length-append c.append_class-3.new.aces (made_of Groups Denied c.args.effect c.args.acl.now) in
@@ -43,8 +43,8 @@ append_class-requires-4 c =
 pub append_class-requires-5 : goal.append_class-requires-5
 append_class-requires-5 c =
     let all = lengths-made c.args.effect c.args.acl.now c.entries-entries.ensures.acl in
-    let none = ap (λ (xs : List Nfsace4). length xs) c.empty-aces.ensures in
-    let n1 = room-left c.append_class.new.aces c.empty-aces.result (made_of Owner Settled c.args.effect c.args.acl.now) c.in_ok-append_class.ensures in
+    let none = ap (λ (xs : List Nfsace4). length xs) c.in_ok-aces.ensures in
+    let n1 = room-left c.append_class.new.aces c.in_ok-aces.aces (made_of Owner Settled c.args.effect c.args.acl.now) c.in_ok-append_class.ensures in
     let n2 = room-left c.append_class-2.new.aces c.append_class.new.aces (made_of Users Settled c.args.effect c.args.acl.now) c.in_ok-append_class-2.ensures in
     let n3 = room-left c.append_class-3.new.aces c.append_class-2.new.aces (made_of Groups Allowed c.args.effect c.args.acl.now) c.in_ok-append_class-3.ensures in
     let n4 = room-left c.append_class-4.new.aces c.append_class-3.new.aces (made_of Groups Denied c.args.effect c.args.acl.now) c.in_ok-append_class-4.ensures in
