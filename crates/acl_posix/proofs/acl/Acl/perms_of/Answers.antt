@@ -1,5 +1,4 @@
-use Rattle.std.proofs.Common.{◌≡◌, ◌∙◌, ◌<◌, length, sym, ap, Some, None, Ok, Err, option_map, find, List, rules}
-use Rattle.std.specs.List.{slice_get}
+use Rattle.std.proofs.Common.{◌∙◌, ◌<◌, length, sym, ap, Some, Ok, Err, option_map, find, List, rules}
 use Rattle.std.proofs.lemmas.List.Sorted.{answers_always}
 use Rattle.acl_names.proofs.AscendingLemmas.{find-searched, find-absent, slice_get-within}
 use Rattle.acl_posix.specs.Canonical.{tag_cmp, tag_of}
