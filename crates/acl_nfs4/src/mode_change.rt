@@ -207,7 +207,7 @@ impl Acl4 {
     /// The entries that allow or deny lose the bits of the mode that they may not grant; the owner's stand in front, and the
     /// group's and everyone's behind. Users and groups that an entry names are granted no more than the mode's group. An entry
     /// that is inherited too is split, so that what is inherited stays as it was. Audit and alarm entries and entries that are
-    /// only inherited stay. The steps are written out in `docs/NFS4.md`.
+    /// only inherited stay. The steps are written out in `docs/PROFILE.md`.
     ///
     /// It is refused with `TooMany` exactly where the list would have more than 128 entries, and else with `Memory`; the
     /// list is as before then.
