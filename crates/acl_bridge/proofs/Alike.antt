@@ -169,6 +169,15 @@ module _ (acl : List Triple) (valid : IsValid acl) (owner group : ℕ) (requeste
       ∙ sym (bit_allowed bit of_mode)
       ∙ allowed
 
+  -- and its verdict is the list's on the permission alone
+  pub bit_granted : (bit : ℕ) → has mode_bits bit ≡ true
+      → grants acl owner group requester (2 ^ permission_of bit) ≡ allows applies bit (translation acl)
+  bit_granted bit of_mode =
+      list_any-agree (λ (entry : Triple). has_all (effective_perms acl entry) (2 ^ permission_of bit))
+      (λ (entry : Triple). has (effective_perms acl entry) (permission_of bit))
+      (λ entry. contains-one (effective_perms acl entry) (permission_of bit)) (deciding_set acl owner group requester)
+      ∙ sym (bit_allowed bit of_mode)
+
 -- a valid list's translation grants whatever the list grants
 pub translation_grants_as_much : (acl : List Triple) → IsValid acl → GrantsAsMuch acl (translation acl)
 translation_grants_as_much acl valid owner group requester perms = grants_as_much acl valid owner group requester perms

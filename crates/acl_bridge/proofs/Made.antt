@@ -1,5 +1,5 @@
 -- What the passes make.
-use Rattle.std.proofs.Common.{◌≡◌, ℕ, ◌≤◌, Bool, true, false, cond, ◌||◌, ◌<◌, refl, sym, ap, ◌∙◌, ap₂, subst, List, [], ◌∷◌, ◌++◌, length, get_or, drop, ◌+◌, Option, append-nil, append_assoc, length-append, arith}
+use Rattle.std.proofs.Common.{◌≡◌, ℕ, ◌≤◌, Bool, true, false, cond, ◌||◌, ◌<◌, refl, sym, ap, ◌∙◌, ap₂, subst, List, [], ◌∷◌, ◌++◌, length, get_or, drop, ◌+◌, ◌*◌, Option, append-nil, append_assoc, length-append, arith}
 use Rattle.std.specs.Prelude.{flat_map, ◌==◌, Result, Ok, Err, IfOk}
 use Rattle.acl_names.specs.Bits.{has, without, ◌∩◌, ◌∪◌}
 use Rattle.acl_names.proofs.AnyLemmas.{or_false}
@@ -18,7 +18,7 @@ use Rattle.acl_nfs4.specs.declared.who.Who.{Who}
 use Rattle.acl_nfs4.specs.declared.who.Who.TheVariants.{Owner, Group, Everyone, User, NamedGroup}
 use Rattle.acl_bridge.specs.Passes.{is_in, made_by, made_from, made_of, flags_of, with_effect}
 use Rattle.acl_bridge.specs.Translation.{in_class, translation, with_flags}
-use Rattle.acl_bridge.proofs.Short.{short_translation}
+use Rattle.acl_bridge.proofs.Short.{doubled-translation, short_translation}
 use Rattle.acl_bridge.specs.declared.passes.Class.{Class}
 use Rattle.acl_bridge.specs.declared.passes.Class.TheVariants as class
 use Rattle.acl_bridge.specs.declared.passes.Part.{Part}
@@ -105,9 +105,9 @@ made-full effect old kind who mask ace full is =
     ap (λ (made : Nfsace4). old ++ made ∷ []) is
     ∙ sym (ap (λ (xs : List Nfsace4). old ++ with_effect effect xs) (plain-full kind who mask full))
 
-pub room-full : (effect : Effect) (old : List Nfsace4) (kind : AceType) (who : Who) (mask : ℕ) → (mask == 0) ≡ false
-    → length (old ++ with_effect effect (plain kind who mask)) ≤ MAX_ACES → length old < MAX_ACES
-room-full effect old kind who mask full room =
+pub room-full : {most : ℕ} (effect : Effect) (old : List Nfsace4) (kind : AceType) (who : Who) (mask : ℕ) → (mask == 0) ≡ false
+    → length (old ++ with_effect effect (plain kind who mask)) ≤ most → length old < most
+room-full {most} effect old kind who mask full room =
     let one : length (plain kind who mask) ≡ 1 = ap (λ (xs : List Nfsace4). length xs) (plain-full kind who mask full) in
     let same = length-with_effect effect (plain kind who mask) in
     let both = length-append old (with_effect effect (plain kind who mask)) in
@@ -150,10 +150,10 @@ module _ (class : Class) (part : Part) (effect : Effect) (mask : Option ℕ) whe
       (sym (ap (made_from class part effect mask) (drop-here entries i entry inside here) ∙ made_from-skipped entry (drop (i + 1) entries) skipped))
 
   -- there is room for what an entry makes where there is for the rest of the pass
-  pub pass-room : (old : List Nfsace4) (entries : List Triple) (i : ℕ) (entry : Triple) → i < length entries → entry ≡ get_or entries i entry
-      → is_in class entry.tag ≡ true → length (old ++ made_from class part effect mask (drop i entries)) ≤ MAX_ACES
-      → length (old ++ by entry) ≤ MAX_ACES
-  pass-room old entries i entry inside here taken room =
+  pub pass-room : {most : ℕ} (old : List Nfsace4) (entries : List Triple) (i : ℕ) (entry : Triple) → i < length entries → entry ≡ get_or entries i entry
+      → is_in class entry.tag ≡ true → length (old ++ made_from class part effect mask (drop i entries)) ≤ most
+      → length (old ++ by entry) ≤ most
+  pass-room {most} old entries i entry inside here taken room =
       let same = pass-taken old (old ++ by entry) entries i entry inside here taken refl in
       let both = length-append (old ++ by entry) (made_from class part effect mask (drop (i + 1) entries)) in
       let lengths = ap (λ (xs : List Nfsace4). length xs) same in
@@ -218,6 +218,17 @@ module _ (effect : Effect) (acl : List Triple) (is : IsAcl acl) where
       let whole = ap (λ (xs : List Nfsace4). length xs) (made-translation effect acl) in
       let same = length-with_effect effect (translation acl) in
       let short : length (translation acl) ≤ 125 = short_translation acl is in
+      let n1 = length-append owner users in
+      let n2 = length-append (owner ++ users) allowed in
+      let n3 = length-append ((owner ++ users) ++ allowed) denied in
+      let n4 = length-append (((owner ++ users) ++ allowed) ++ denied) others in
+      omega arith
+
+  pub lengths-doubled : length owner + length users + length allowed + length denied + length others ≤ 2 * length acl
+  lengths-doubled =
+      let whole = ap (λ (xs : List Nfsace4). length xs) (made-translation effect acl) in
+      let same = length-with_effect effect (translation acl) in
+      let short : length (translation acl) ≤ 2 * length acl = doubled-translation acl in
       let n1 = length-append owner users in
       let n2 = length-append (owner ++ users) allowed in
       let n3 = length-append ((owner ++ users) ++ allowed) denied in

@@ -145,3 +145,10 @@ short_translation acl is =
       | inl named ↦ let mask = is.valid.masked named in omega arith
       | inr none ↦ let unnamed = has.unnamed none in omega arith
     ]
+
+-- two of each entry at most
+pub doubled-translation : (acl : List Triple) → length (translation acl) ≤ 2 * length acl
+doubled-translation acl =
+    let made = length-translation acl in
+    let all = (kinds acl).all in
+    omega arith

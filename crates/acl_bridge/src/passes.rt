@@ -1,5 +1,5 @@
 //! The passes over a list that make its translation.
-ghost use Rattle.std.specs.Prelude.{◌≡◌, ◌<◌, ◌≤◌, false, [], ◌∷◌, ◌++◌, length, option_map, OnOk};
+ghost use Rattle.std.specs.Prelude.{◌≡◌, ◌<◌, ◌≤◌, false, [], ◌∷◌, ◌++◌, length, option_map, IsOk, OnOk};
 ghost use Rattle.acl_names.specs.Bits.{◌∩◌};
 ghost use Rattle.acl_posix.specs.Perms.{bits_of};
 ghost use Rattle.acl_nfs4.specs.Ace.{is_idle, plain};
@@ -76,7 +76,7 @@ impl Effect {
 }
 
 /// Whom the entries made of one with this tag are about.
-fn who_of(tag: Tag) -> Who
+pub(crate) fn who_of(tag: Tag) -> Who
     ensures { result ≡ who_of tag }
 {
     match tag {
@@ -114,7 +114,8 @@ fn rest_of(perms: Perms) -> Mask
 fn push(aces: &mut Acl4, ace: Ace) -> Result<(), AllocError>
     requires room { length aces.old < MAX_ACES }
     requires effective { is_idle ace ≡ false }
-    ensures { OnOk result (aces.new ≡ aces.old ++ ace ∷ []) }
+    ensures ok { OnOk result (aces.new ≡ aces.old ++ ace ∷ []) }
+    ensures short { length aces.old < 16 → IsOk result }
 {
     match aces.push(ace) {
         Ok(()) => Ok(()),
@@ -133,7 +134,8 @@ fn push_made(
 ) -> Result<(), AllocError>
     requires known { mask_bits mask ∩ all_masks ≡ mask_bits mask }
     requires room { length (aces.old ++ with_effect effect (plain kind who (mask_bits mask))) ≤ MAX_ACES }
-    ensures { OnOk result (aces.new ≡ aces.old ++ with_effect effect (plain kind who (mask_bits mask))) }
+    ensures ok { OnOk result (aces.new ≡ aces.old ++ with_effect effect (plain kind who (mask_bits mask))) }
+    ensures short { length (aces.old ++ with_effect effect (plain kind who (mask_bits mask))) ≤ 16 → IsOk result }
 {
     if mask.is_empty() {
         return Ok(());
@@ -144,7 +146,8 @@ fn push_made(
 /// Puts what an entry with this tag and these permissions allows behind the others.
 fn push_allowed(aces: &mut Acl4, tag: Tag, perms: Perms, effect: Effect) -> Result<(), AllocError>
     requires room { length (aces.old ++ with_effect effect (plain Allow (who_of tag) (mask_of (bits_of perms)))) ≤ MAX_ACES }
-    ensures { OnOk result (aces.new ≡ aces.old ++ with_effect effect (plain Allow (who_of tag) (mask_of (bits_of perms)))) }
+    ensures ok { OnOk result (aces.new ≡ aces.old ++ with_effect effect (plain Allow (who_of tag) (mask_of (bits_of perms)))) }
+    ensures short { length (aces.old ++ with_effect effect (plain Allow (who_of tag) (mask_of (bits_of perms)))) ≤ 16 → IsOk result }
 {
     push_made(aces, AceType::Allow, who_of(tag), mask_of(perms), effect)
 }
@@ -152,7 +155,8 @@ fn push_allowed(aces: &mut Acl4, tag: Tag, perms: Perms, effect: Effect) -> Resu
 /// Puts the rest, which it denies, behind the others.
 fn push_denied(aces: &mut Acl4, tag: Tag, perms: Perms, effect: Effect) -> Result<(), AllocError>
     requires room { length (aces.old ++ with_effect effect (plain Deny (who_of tag) (rest_of (bits_of perms)))) ≤ MAX_ACES }
-    ensures { OnOk result (aces.new ≡ aces.old ++ with_effect effect (plain Deny (who_of tag) (rest_of (bits_of perms)))) }
+    ensures ok { OnOk result (aces.new ≡ aces.old ++ with_effect effect (plain Deny (who_of tag) (rest_of (bits_of perms)))) }
+    ensures short { length (aces.old ++ with_effect effect (plain Deny (who_of tag) (rest_of (bits_of perms)))) ≤ 16 → IsOk result }
 {
     push_made(aces, AceType::Deny, who_of(tag), rest_of(perms), effect)
 }
@@ -166,7 +170,8 @@ fn append_entry(
     effect: Effect,
 ) -> Result<(), AllocError>
     requires room { length (aces.old ++ with_effect effect (made_by part (option_map bits_of mask) entry.now)) ≤ MAX_ACES }
-    ensures { OnOk result (aces.new ≡ aces.old ++ with_effect effect (made_by part (option_map bits_of mask) entry.now)) }
+    ensures ok { OnOk result (aces.new ≡ aces.old ++ with_effect effect (made_by part (option_map bits_of mask) entry.now)) }
+    ensures short { length (aces.old ++ with_effect effect (made_by part (option_map bits_of mask) entry.now)) ≤ 16 → IsOk result }
 {
     let perms = effective_perms(entry, mask);
     match part {
@@ -188,7 +193,8 @@ pub(crate) fn append_class(
     effect: Effect,
 ) -> Result<(), AllocError>
     requires room { length (aces.old ++ made_of class part effect acl.now) ≤ MAX_ACES }
-    ensures { OnOk result (aces.new ≡ aces.old ++ made_of class part effect acl.now) }
+    ensures ok { OnOk result (aces.new ≡ aces.old ++ made_of class part effect acl.now) }
+    ensures short { length (aces.old ++ made_of class part effect acl.now) ≤ 16 → IsOk result }
 {
     let mask = acl.mask();
     for entry in acl.entries() {

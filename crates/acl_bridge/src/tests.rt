@@ -1,3 +1,4 @@
+mod comparison;
 mod examples;
 mod fixture;
 mod refused_growths;

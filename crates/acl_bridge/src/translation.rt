@@ -1,5 +1,5 @@
 //! POSIX access control lists as NFSv4 lists.
-ghost use Rattle.std.specs.Prelude.{◌≡◌, ◌≤◌, length, map, IfOk};
+ghost use Rattle.std.specs.Prelude.{◌≡◌, ◌≤◌, length, map, IfOk, IsOk};
 ghost use Rattle.acl_posix.specs.Canonical.{IsAcl};
 ghost use Rattle.acl_nfs4.specs.Evaluation.{mode_of};
 ghost use Rattle.acl_nfs4.specs.Inheritance.{inherited_list};
@@ -16,6 +16,7 @@ use std::alloc::{AllocError, Global};
 fn translation_for(alloc: Global, acl: &Acl, effect: Effect) -> Result<Acl4, AllocError>
     ensures list { IfOk result (λ aces. aces ≡ with_effect effect (translation acl.now)) }
     ensures acl { IsAcl acl.now }
+    ensures short { length acl.now ≤ 8 → IsOk result }
 {
     // No entry makes more than two.
     let entries = acl.entries();
@@ -35,6 +36,7 @@ fn translation_for(alloc: Global, acl: &Acl, effect: Effect) -> Result<Acl4, All
 /// is refused only for want of memory.
 pub fn translate(alloc: Global, acl: &Acl) -> Result<Acl4, AllocError>
     ensures list { IfOk result (λ aces. aces ≡ translation acl.now) }
+    ensures no_memory { length acl.now ≤ 8 → IsOk result }
     ensures alike { IfOk result (DecideAlike acl.now) }
     ensures as_much { IfOk result (GrantsAsMuch acl.now) }
     ensures mode { IfOk result (λ aces. mode_of aces ≡ translated_mode acl.now) }
@@ -48,6 +50,7 @@ pub fn translate(alloc: Global, acl: &Acl) -> Result<Acl4, AllocError>
 /// want of memory.
 pub fn translate_default(alloc: Global, acl: &Acl) -> Result<Acl4, AllocError>
     ensures list { IfOk result (λ aces. aces ≡ default_translation acl.now) }
+    ensures no_memory { length acl.now ≤ 8 → IsOk result }
     ensures file { IfOk result (λ aces. inherited_list Kind.File aces ≡ translation acl.now) }
     ensures directory { IfOk result (λ aces. inherited_list Kind.Dir aces ≡ map (with_flags handed_on) (translation acl.now)) }
     ensures short { IfOk result (λ aces. length aces ≤ most_translated) }

@@ -30,6 +30,12 @@ module _ {I R : Type 0} where
   pub first_ends_all : (ends : List (End I R)) (sides : List (TakerSide I R)) → length ends ≡ length sides → AreFirstEndsOf ends sides → AreEndsOf ends sides
   first_ends_all ends sides count first = (count, λ session end side below. first session end side (omega arith))
 
+  -- one end is all
+  pub one_end_stays : (end end' : End I R) (sides : List (TakerSide I R)) → AreEndsOf (end ∷ []) sides → StaysEndOf end end' → AreEndsOf (end' ∷ []) sides
+  one_end_stays end end' sides are stays =
+      first_ends_all (end' ∷ []) sides are.0
+      (first_ends_push [] end' sides (first_ends_none sides) (λ side. stays 0 (get_or sides 0 side) (are.1 0 end side (omega (arith, are.0)))))
+
   -- two ends are all
   pub two_ends_stay : (first second first' second' : End I R) (sides : List (TakerSide I R)) → AreEndsOf (first ∷ second ∷ []) sides → StaysEndOf first first' → StaysEndOf second second' → AreEndsOf (first' ∷ second' ∷ []) sides
   two_ends_stay first second first' second' sides are stays stays' =

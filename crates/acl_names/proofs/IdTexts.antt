@@ -1,5 +1,5 @@
 -- What is printed of an id is read as that id.
-use Rattle.std.proofs.Common.{◌≡◌, ℕ, ◌≤◌, ◌<◌, Bool, true, false, ◌&&◌, cond, nat_le, List, [], ◌∷◌, length, Option, option_and_then, Some, None, unwrap_or, get_or, lit<, inl, inr, refl, ap, ◌∙◌, arith, decimal}
+use Rattle.std.proofs.Common.{Bor, sym, option_map, IfSome, ◌≡◌, ℕ, ◌≤◌, ◌<◌, Bool, true, false, ◌&&◌, cond, nat_le, List, [], ◌∷◌, length, Option, option_and_then, Some, None, unwrap_or, get_or, lit<, inl, inr, refl, ap, ◌∙◌, arith, decimal}
 use Rattle.std.specs.List.{All, list_all}
 use Rattle.std.specs.Char.{is_ascii_digit}
 use Rattle.std.specs.Str.{IsUtf8}
@@ -72,3 +72,27 @@ id_again id_of name_of id back small = by_name (name_of id) refl
     by_name : (name : Option (List ℕ)) → name_of id ≡ name → option_and_then (resolved id_of) (written_id (unwrap_or name (decimal id))) ≡ Some id
     by_name None e = ap (option_and_then (resolved id_of)) (written_decimal id small) ∙ ap (λ t. cond t (Some id) None) (at_most id max_id small)
     by_name (Some name) e = ap (option_and_then (resolved id_of)) (written_name name (back id name e).0) ∙ (back id name e).1
+
+-- a name has 32 bytes at most
+pub name_is_short : (name : List ℕ) → has_name_shape name ≡ true → length name ≤ 32
+name_is_short name shaped =
+    let len = nat_le 1 (length name) && nat_le (length name) 32 in
+    let both : len ≡ true = and_first len (begins_name (get_or name 0 0)) (and_first (len && begins_name (get_or name 0 0)) (list_all continues_name name) shaped) in
+    let few : nat_le (length name) 32 ≡ true = and_second (nat_le 1 (length name)) (nat_le (length name) 32) both in
+    grind (arith, nat_tests)
+
+-- so has the name that is found for an id
+pub found_name_is_short : (id_of : List ℕ → Option ℕ) (name_of : ℕ → Option (List ℕ)) (id : ℕ) → ReadBack id_of name_of
+    → (name : Option (Bor (List ℕ))) → option_map (λ (found : Bor (List ℕ)). found.now) name ≡ name_of id → IfSome name (λ found. length found.now ≤ 32)
+found_name_is_short id_of name_of id back None is = tt
+found_name_is_short id_of name_of id back (Some name) is = name_is_short name.now (back id name.now (sym is)).0
+
+-- digits write their value, where there are 1 to 10 and it is an id
+pub decimal_is : (text : List ℕ) → list_all is_ascii_digit text ≡ true → 1 ≤ length text → length text ≤ 10 → digits_value 10 text ≤ max_id
+    → decimal_value text ≡ Some (digits_value 10 text)
+decimal_is text digits some few small =
+    let one : nat_le 1 (length text) ≡ true = at_most 1 (length text) some in
+    let ten : nat_le (length text) 10 ≡ true = at_most (length text) 10 few in
+    let low : nat_le (digits_value 10 text) max_id ≡ true = at_most (digits_value 10 text) max_id small in
+    let is : is_decimal text ≡ true = rw (digits, one, ten, low) refl in
+    ap (λ t. cond t (Some (digits_value 10 text)) None) is

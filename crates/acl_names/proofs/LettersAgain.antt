@@ -28,7 +28,7 @@ bit_dropped : (bit of rest kept all : ℕ) → kept ≡ min bit rest → all ≡
 bit_dropped bit of rest kept all f g h = omega arith
 
 -- ---- the bits of rows
-bits_from : (a i : ℕ) (rows : List Letter) → bit_at (fold (λ bits (row : Letter). bit_or bits row.bit) a rows) i ≡ max (bit_at a i) (bit_at (bits_of_rows rows) i)
+pub bits_from : (a i : ℕ) (rows : List Letter) → bit_at (fold (λ bits (row : Letter). bit_or bits row.bit) a rows) i ≡ max (bit_at a i) (bit_at (bits_of_rows rows) i)
 bits_from a i [] = max_zero (bit_at a i) (bit_at 0 i) (bit_at-zero i)
 bits_from a i (row ∷ rows) =
     max_steps _ (bit_at a i) (bit_at row.bit i) (bit_at (bit_or a row.bit) i) (bit_at (bits_of_rows rows) i) _
@@ -68,7 +68,7 @@ bits_again table bits one within = same_from_bits _ bits (λ i. bits_set table b
 
 -- ---- the letters of rows
 -- as often as in both parts
-occurrences-append : (letter : ℕ) (a b : List ℕ) → occurrences letter (a ++ b) ≡ occurrences letter a + occurrences letter b
+pub occurrences-append : (letter : ℕ) (a b : List ℕ) → occurrences letter (a ++ b) ≡ occurrences letter a + occurrences letter b
 occurrences-append letter a b = sum_by-append (λ x. cond (x == letter) 1 0) a b
 
 or_parts : (a b : Bool) → (a || b) ≡ false → (a ≡ false) × (b ≡ false)
@@ -79,7 +79,7 @@ other_way : (a b : ℕ) → (a == b) ≡ false → (b == a) ≡ false
 other_way a b e = grind (arith, nat_tests)
 
 -- a letter in front of others
-occurrences-cons : (letter x : ℕ) (xs : List ℕ) → occurrences letter (x ∷ xs) ≡ cond (x == letter) 1 0 + occurrences letter xs
+pub occurrences-cons : (letter x : ℕ) (xs : List ℕ) → occurrences letter (x ∷ xs) ≡ cond (x == letter) 1 0 + occurrences letter xs
 occurrences-cons letter x xs = sum_by-cons (λ y. cond (y == letter) 1 0) x xs
 
 not_in_front : (letter x : ℕ) (xs : List ℕ) → (x == letter) ≡ false → occurrences letter xs ≡ 0 → occurrences letter (x ∷ xs) ≡ 0

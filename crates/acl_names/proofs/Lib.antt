@@ -16,3 +16,7 @@ pub mod LettersAgain
 pub mod Prefixes
 pub mod AscendingSets
 pub mod StepLemmas
+mod DigitLemmas
+pub mod PlainLists
+mod PlainCounts
+pub mod LettersInTurn

@@ -9,3 +9,5 @@ pub mod Named
 pub mod Directory
 pub mod Letters
 pub mod Steps
+pub mod Digits
+pub mod Plain

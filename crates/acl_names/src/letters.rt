@@ -1,8 +1,8 @@
 //! Texts that are sets of letters, by a table of letters and bits.
 
-ghost use Rattle.std.specs.Prelude.{◌≡◌, ◌==◌, ◌++◌, ◌∷◌, [], not, take, length, bit_and, OnOk, OnErr};
-ghost use Rattle.std.specs.List.{list_all, list_any};
-ghost use Rattle.acl_names.specs.Letters.{occurs, repeats, is_letter_of, is_letters_text, letters_of, letters_text, bits_of_rows, rows_in, IsTable, HasBitsOf};
+ghost use Rattle.std.specs.Prelude.{◌≡◌, ◌==◌, ◌++◌, ◌∷◌, [], not, filter, take, length, bit_and, OnOk, OnErr};
+ghost use Rattle.std.specs.List.{list_any};
+ghost use Rattle.acl_names.specs.Letters.{occurs, repeats, is_letter_of, letters_of, letters_text, bits_of_rows, IsTable, HasBitsOf};
 
 use std::alloc::AllocError;
 
@@ -14,33 +14,20 @@ pub struct Letter {
 }
 
 /// The bits whose letters make up the text: letters of the table alone, in any order, each at most once, or none.
-#[tactic(auto, unfolding(crate::specs::Letters::letters_of))]
 pub fn read_letters(table: &[Letter], text: &[u8]) -> Option<u32>
     ensures { result ≡ letters_of table.now text.now }
 {
-    if is_letters_text(table, text) {
-        Some(bits_in(table, text))
-    } else {
-        None
+    let mut bits = 0;
+    for (at, byte) in text.iter().enumerate() {
+        if !is_letter_of(table, *byte) {
+            return None;
+        }
+        if stands_in(*byte, &text[..at]) {
+            return None;
+        }
+        bits |= bits_of_letter(table, *byte);
     }
-}
-
-fn is_letters_text(table: &[Letter], text: &[u8]) -> bool
-    ensures { result ≡ is_letters_text table.now text.now }
-{
-    are_letters_of(table, text) && !some_letter_repeats(table, text)
-}
-
-fn are_letters_of(table: &[Letter], text: &[u8]) -> bool
-    ensures { result ≡ list_all (is_letter_of table.now) text.now }
-{
-    text.iter().all(|byte| is_letter_of(table, *byte))
-}
-
-fn some_letter_repeats(table: &[Letter], text: &[u8]) -> bool
-    ensures { result ≡ list_any (λ row. repeats row.letter text.now) table.now }
-{
-    table.iter().any(|row| repeats(text, row.letter))
+    Some(bits)
 }
 
 fn is_letter_of(table: &[Letter], byte: u8) -> bool
@@ -49,12 +36,19 @@ fn is_letter_of(table: &[Letter], byte: u8) -> bool
     table.iter().any(|row| row.letter == byte)
 }
 
-fn bits_in(table: &[Letter], text: &[u8]) -> u32
-    ensures { result ≡ bits_of_rows (rows_in table.now text.now) }
+fn stands_in(byte: u8, text: &[u8]) -> bool
+    ensures { result ≡ list_any (λ x. x == byte) text.now }
+{
+    text.iter().any(|own| *own == byte)
+}
+
+/// The bits for which the letter stands.
+fn bits_of_letter(table: &[Letter], letter: u8) -> u32
+    ensures { result ≡ bits_of_rows (filter (λ row. row.letter == letter) table.now) }
 {
     let mut bits = 0;
     for row in table {
-        if occurs(text, row.letter) {
+        if row.letter == letter {
             bits |= row.bit;
         }
     }

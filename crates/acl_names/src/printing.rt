@@ -1,7 +1,11 @@
 //! Printing ids.
 
-ghost use Rattle.std.specs.Prelude.{◌≡◌, ◌++◌, length, take, option_map, unwrap_or, decimal, OnOk};
+ghost use Rattle.std.specs.Prelude.{◌≡◌, ◌≤◌, ◌<◌, ◌+◌, ◌/◌, ◌%◌, [], ◌∷◌, ◌++◌, length, take, option_map, unwrap_or, decimal, vec_len, vec_capacity, OnOk, IfSome};
+ghost use Rattle.acl_names.specs.Digits.{pair};
 
+use crate::directory::Directory;
+use crate::gid::Gid;
+use crate::uid::Uid;
 use itoa::Buffer;
 use std::alloc::AllocError;
 
@@ -13,5 +17,143 @@ pub fn push_id(name: Option<&str>, id: u32, out: &mut Vec<u8>) -> Result<(), All
     match name {
         Some(name) => out.extend_from_slice(name.as_bytes()),
         None => out.extend_from_slice(Buffer::new().format(id).as_bytes()),
+    }
+}
+
+/// Appends the name, or the decimal of an id that has none, where `out` has room for it.
+#[inline(always)]
+pub fn put_id(name: Option<&str>, id: u32, out: &mut Vec<u8>)
+    requires room { vec_len out.old + 32 ≤ vec_capacity out.old }
+    requires short { IfSome name (λ bytes. length bytes.now ≤ 32) }
+    ensures text { out.new.items ≡ out.old.items ++ unwrap_or (option_map (λ bytes. bytes.now) name.entry) (decimal id) }
+    ensures len { vec_len out.new ≤ vec_len out.old + 32 }
+    ensures capacity { vec_capacity out.new ≡ vec_capacity out.old }
+{
+    match name {
+        Some(name) => put_bytes(name.as_bytes(), out),
+        None => put_decimal(id, out),
+    }
+}
+
+/// Appends the bytes, where `out` has room for them.
+#[inline(always)]
+pub fn put_bytes(bytes: &[u8], out: &mut Vec<u8>)
+    requires { vec_len out.old + length bytes.now ≤ vec_capacity out.old }
+    ensures text { out.new.items ≡ out.old.items ++ bytes.now }
+    ensures len { vec_len out.new ≡ vec_len out.old + length bytes.now }
+    ensures capacity { vec_capacity out.new ≡ vec_capacity out.old }
+{
+    for byte in bytes {
+        out.push_reserved(*byte);
+    }
+}
+
+/// Appends the decimal, where `out` has room for it.
+#[inline(always)]
+pub fn put_decimal(number: u32, out: &mut Vec<u8>)
+    requires { vec_len out.old + 10 ≤ vec_capacity out.old }
+    ensures text { out.new.items ≡ out.old.items ++ decimal number }
+    ensures len { vec_len out.new ≤ vec_len out.old + 10 }
+    ensures capacity { vec_capacity out.new ≡ vec_capacity out.old }
+{
+    if number < 10_000 {
+        put_first_four(number, out);
+    } else if number < 100_000_000 {
+        put_first_four(number / 10_000, out);
+        put_four(number % 10_000, out);
+    } else {
+        put_first_two(number / 100_000_000, out);
+        put_four(number / 10_000 % 10_000, out);
+        put_four(number % 10_000, out);
+    }
+}
+
+/// The decimal of a number of at most four digits.
+#[inline(always)]
+fn put_first_four(number: u32, out: &mut Vec<u8>)
+    requires small { number < 10000 }
+    requires room { vec_len out.old + 4 ≤ vec_capacity out.old }
+    ensures text { out.new.items ≡ out.old.items ++ decimal number }
+    ensures len { vec_len out.new ≤ vec_len out.old + 4 }
+    ensures capacity { vec_capacity out.new ≡ vec_capacity out.old }
+{
+    if number < 100 {
+        put_first_two(number, out);
+    } else {
+        put_first_two(number / 100, out);
+        put_two(number % 100, out);
+    }
+}
+
+/// The decimal of a number of at most two digits.
+#[inline(always)]
+fn put_first_two(number: u32, out: &mut Vec<u8>)
+    requires small { number < 100 }
+    requires room { vec_len out.old + 2 ≤ vec_capacity out.old }
+    ensures text { out.new.items ≡ out.old.items ++ decimal number }
+    ensures len { vec_len out.new ≤ vec_len out.old + 2 }
+    ensures capacity { vec_capacity out.new ≡ vec_capacity out.old }
+{
+    if number < 10 {
+        out.push_reserved(b'0' + number as u8);
+    } else {
+        put_two(number, out);
+    }
+}
+
+/// Four digits.
+#[inline(always)]
+fn put_four(number: u32, out: &mut Vec<u8>)
+    requires small { number < 10000 }
+    requires room { vec_len out.old + 4 ≤ vec_capacity out.old }
+    ensures text { out.new.items ≡ out.old.items ++ (pair (number / 100) ++ pair (number % 100)) }
+    ensures len { vec_len out.new ≡ vec_len out.old + 4 }
+    ensures capacity { vec_capacity out.new ≡ vec_capacity out.old }
+{
+    put_two(number / 100, out);
+    put_two(number % 100, out);
+}
+
+/// Two digits.
+#[inline(always)]
+fn put_two(number: u32, out: &mut Vec<u8>)
+    requires small { number < 100 }
+    requires room { vec_len out.old + 2 ≤ vec_capacity out.old }
+    ensures text { out.new.items ≡ out.old.items ++ pair number }
+    ensures len { vec_len out.new ≡ vec_len out.old + 2 }
+    ensures capacity { vec_capacity out.new ≡ vec_capacity out.old }
+{
+    out.push_reserved(b'0' + (number / 10) as u8);
+    out.push_reserved(b'0' + (number % 10) as u8);
+}
+
+impl Directory {
+    ghost use Rattle.acl_names.specs.Directory.{group_name, user_name};
+    ghost use Rattle.acl_names.specs.Ids.{max_id, id_text};
+
+    /// Appends the name of the user with this uid, or the decimal where none has one, where `out` has room for 32 bytes.
+    #[inline(always)]
+    pub fn put_user(&self, uid: Uid, out: &mut Vec<u8>)
+        requires { vec_len out.old + 32 ≤ vec_capacity out.old }
+        ensures text { out.new.items ≡ out.old.items ++ id_text (user_name self.now) uid }
+        ensures in_range { uid ≤ max_id }
+        ensures len { vec_len out.new ≤ vec_len out.old + 32 }
+        ensures capacity { vec_capacity out.new ≡ vec_capacity out.old }
+    {
+        self.tell_names_apart();
+        put_id(self.user_name(uid), uid.value(), out);
+    }
+
+    /// Appends the name of the group with this gid, or the decimal where none has one, where `out` has room for 32 bytes.
+    #[inline(always)]
+    pub fn put_group(&self, gid: Gid, out: &mut Vec<u8>)
+        requires { vec_len out.old + 32 ≤ vec_capacity out.old }
+        ensures text { out.new.items ≡ out.old.items ++ id_text (group_name self.now) gid }
+        ensures in_range { gid ≤ max_id }
+        ensures len { vec_len out.new ≤ vec_len out.old + 32 }
+        ensures capacity { vec_capacity out.new ≡ vec_capacity out.old }
+    {
+        self.tell_names_apart();
+        put_id(self.group_name(gid), gid.value(), out);
     }
 }

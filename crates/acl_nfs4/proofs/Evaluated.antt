@@ -12,7 +12,7 @@ use Rattle.acl_nfs4.specs.declared.who.Who.{Who}
 use Rattle.acl_names.proofs.BitSets.{has-and, has-or, has-without, has-zero, no_bits}
 
 module _ (applies : Who → Bool) where
-  allows-cons : (bit : ℕ) (ace : Nfsace4) (rest : List Nfsace4)
+  pub allows-cons : (bit : ℕ) (ace : Nfsace4) (rest : List Nfsace4)
       → allows applies bit (ace ∷ rest) ≡ cond (speaks applies bit ace) (is_allow ace.kind) (allows applies bit rest)
   allows-cons bit ace rest =
       elim (speaks applies bit ace)
@@ -21,7 +21,7 @@ module _ (applies : Who → Bool) where
       [ true ↦ refl | false ↦ refl ]
 
   -- an entry that applies to nobody concerned, or does not decide, changes nothing
-  allows-skip : (ace : Nfsace4) (rest : List Nfsace4) → (decides ace && applies ace.who) ≡ false
+  pub allows-skip : (ace : Nfsace4) (rest : List Nfsace4) → (decides ace && applies ace.who) ≡ false
       → (bit : ℕ) → allows applies bit (ace ∷ rest) ≡ allows applies bit rest
   unfolding speaks
   allows-skip ace rest idle bit =
@@ -39,7 +39,7 @@ module _ (applies : Who → Bool) where
       (λ g bit h. sym (allows-skip ace rest idle bit) ∙ g bit h, λ g bit h. allows-skip ace rest idle bit ∙ g bit h)
 
   -- an entry that decides settles the bits of its mask, as its kind says
-  settles : (ace : Nfsace4) (rest : List Nfsace4) (bit : ℕ) → decides ace ≡ true → applies ace.who ≡ true
+  pub settles : (ace : Nfsace4) (rest : List Nfsace4) (bit : ℕ) → decides ace ≡ true → applies ace.who ≡ true
       → allows applies bit (ace ∷ rest) ≡ cond (has ace.mask bit) (is_allow ace.kind) (allows applies bit rest)
   unfolding speaks
   settles ace rest bit d a =

@@ -1,6 +1,9 @@
 pub mod AceLemmas
 pub mod Denials
 pub mod Evaluated
+pub mod AllowedBits
+pub mod Compared
+pub mod Strangers
 pub mod Granted
 pub mod Idempotent
 pub mod InheritanceLemmas
@@ -18,3 +21,4 @@ pub mod Rows
 pub mod ShapeLemmas
 pub mod Shown
 pub mod Verdicts
+pub mod FrontLemmas

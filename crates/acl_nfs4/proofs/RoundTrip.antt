@@ -19,10 +19,12 @@ use Rattle.acl_names.specs.ListText.{Say, Spells}
 use Rattle.acl_names.specs.Pieces.{parts}
 use Rattle.acl_names.proofs.BitSets.{has-and, has-or, has-without, has-zero, same_bits}
 use Rattle.acl_names.proofs.Decimals.{digits_model}
-use Rattle.acl_names.proofs.Fields.{is_field_byte, IsField, fields_again, joined_plain, tested_field, name_byte_in_field, digit_in_field}
+use Rattle.acl_names.specs.Plain.{is_field_byte, IsField}
+use Rattle.acl_names.proofs.Fields.{fields_again, joined_plain, tested_field, name_byte_in_field, digit_in_field}
 use Rattle.acl_names.proofs.IdTexts.{and_second, written_name, written_decimal}
 use Rattle.acl_names.proofs.LettersAgain.{letters_again}
-use Rattle.acl_names.proofs.PlainLines.{IsPlain, IsMark, nothing, pieces_of_lines}
+use Rattle.acl_names.specs.Plain.{IsPlain}
+use Rattle.acl_names.proofs.PlainLines.{IsMark, nothing, pieces_of_lines}
 use Rattle.acl_nfs4.specs.Ace.{Nfsace4, IsAce, ace_of, flags_for, is_idle}
 use Rattle.acl_nfs4.specs.AceText.{AceFields, WrittenWho, as_fields, fields_of, type_of, written_who, who_of_parts, name_at, named, resolved_who, effective, piece_value}
 use Rattle.acl_nfs4.specs.AceText as form

@@ -4,6 +4,7 @@ pub mod Who
 pub mod Ace
 pub mod Acl
 pub mod Evaluation
+pub mod Comparison
 pub mod Inheritance
 pub mod ModeChange
 pub mod ModeChangeLaws
@@ -13,3 +14,4 @@ pub mod AceViews
 pub mod PrintedText
 pub mod AceShapes
 pub mod ReadFault
+pub mod Front

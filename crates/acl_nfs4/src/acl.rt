@@ -1,4 +1,4 @@
-ghost use Rattle.std.specs.Prelude.{◌≡◌, ◌<◌, ◌↔◌, true, [], ◌∷◌, ◌++◌, length, OnOk, OnErr, IfOk, IfErr, Err};
+ghost use Rattle.std.specs.Prelude.{◌≡◌, ◌≢◌, ◌<◌, ◌≤◌, IsOk, ◌↔◌, true, [], ◌∷◌, ◌++◌, length, OnOk, OnErr, IfOk, IfErr, Err};
 
 use crate::Ace;
 use crate::limits::MAX_ACES;
@@ -29,7 +29,7 @@ pub struct Acl4 {
 }
 
 impl Model for Acl4 {
-    ghost use Rattle.std.specs.Prelude.{List};
+    ghost use Rattle.std.specs.Prelude.{List, length, ◌≤◌};
     ghost use Rattle.acl_nfs4.specs.Ace.{Nfsace4};
     ghost use Rattle.acl_nfs4.specs.Acl.{AreAces};
 
@@ -37,7 +37,7 @@ impl Model for Acl4 {
 
     ghost view = { λ acl. acl.aces.items };
 
-    ghost invariant = { λ acl. AreAces acl.aces.items };
+    ghost invariant = { λ acl. AreAces acl.aces.items × (length acl.aces.items ≤ 16 → 16 ≤ acl.aces.capacity) };
 }
 
 impl Acl4 {
@@ -55,7 +55,8 @@ impl Acl4 {
 
     /// The list with no entries and room for this many, so that it grows once at most.
     pub fn with_capacity(alloc: Global, capacity: usize) -> Result<Acl4, AllocError>
-        ensures { IfOk result (λ acl. acl ≡ []) }
+        ensures value { IfOk result (λ acl. acl ≡ []) }
+        ensures short { capacity ≤ 16 → IsOk result }
     {
         let mut aces = SmallVec::new(alloc);
         aces.reserve(capacity)?;
@@ -64,7 +65,8 @@ impl Acl4 {
 
     /// The list of these entries.
     pub(crate) fn from_items(aces: SmallVec<Ace, 16>) -> Acl4
-        requires { AreAces aces.items }
+        requires are_aces { AreAces aces.items }
+        requires room { length aces.items ≤ 16 → 16 ≤ aces.capacity }
         ensures { result ≡ aces.items }
     {
         Acl4 { aces }
@@ -78,6 +80,7 @@ impl Acl4 {
         ensures inherit_only { (result ≡ Err AceFault.InheritOnly) ↔ ((length self.old < MAX_ACES) × (is_idle ace ≡ true)) }
         ensures only { IfErr result IsPushFault }
         ensures err { OnErr result (self.new ≡ self.old) }
+        ensures short { length self.old < 16 → result ≢ Err AceFault.Memory }
     {
         // An entry tells that its bits have names where it is looked at.
         let _mask = ace.mask();
@@ -103,7 +106,8 @@ impl Acl4 {
 
     /// A list of the same entries.
     pub fn try_clone(&self, alloc: Global) -> Result<Acl4, AllocError>
-        ensures { IfOk result (λ acl. acl ≡ self.now) }
+        ensures value { IfOk result (λ acl. acl ≡ self.now) }
+        ensures short { length self.now ≤ 16 → IsOk result }
     {
         let aces = SmallVec::from_slice(alloc, self.aces.as_slice())?;
         Ok(Acl4 { aces })

@@ -1,4 +1,4 @@
-ghost use Rattle.std.specs.Prelude.{◌≡◌, ◌<◌, false, [], ◌∷◌, ◌++◌, length, OnOk, OnErr, IfOk};
+ghost use Rattle.std.specs.Prelude.{◌≡◌, ◌<◌, ◌≤◌, IsOk, false, [], ◌∷◌, ◌++◌, length, OnOk, OnErr, IfOk};
 
 use crate::limits::MAX_ACES;
 use crate::{Ace, AceType, Acl4, Mask, Who};
@@ -92,7 +92,8 @@ impl Draft {
 
     /// The finished list.
     pub(crate) fn finished(&self, alloc: Global) -> Result<Acl4, AllocError>
-        ensures { IfOk result (λ acl. acl ≡ self.now) }
+        ensures value { IfOk result (λ acl. acl ≡ self.now) }
+        ensures short { length self.now ≤ 16 → IsOk result }
     {
         let aces = SmallVec::from_slice(alloc, self.aces.as_slice())?;
         Ok(Acl4::from_items(aces))

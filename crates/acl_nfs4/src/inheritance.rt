@@ -1,4 +1,4 @@
-ghost use Rattle.std.specs.Prelude.{◌≡◌, option_map, IfOk, IfSome};
+ghost use Rattle.std.specs.Prelude.{◌≡◌, ◌≤◌, length, option_map, IfOk, IsOk, IfSome};
 ghost use Rattle.acl_names.specs.Bits.{has};
 ghost use Rattle.acl_nfs4.specs.Flags.{flag_bits, file_inherit, directory_inherit, no_propagate_inherit};
 ghost use Rattle.acl_nfs4.specs.Inheritance.{flags_below, has_inheritance, inherited_entry, inherited_list};
@@ -63,7 +63,8 @@ impl Acl4 {
     /// directories those with `DIRECTORY_INHERIT`, and those with `FILE_INHERIT` alone only to pass them on. With
     /// `NO_PROPAGATE_INHERIT` nothing is passed on.
     pub fn inherited(&self, alloc: Global, kind: Kind) -> Result<Acl4, AllocError>
-        ensures { IfOk result (λ acl. acl ≡ inherited_list kind self.now) }
+        ensures value { IfOk result (λ acl. acl ≡ inherited_list kind self.now) }
+        ensures short { length (inherited_list kind self.now) ≤ 16 → IsOk result }
     {
         let mut draft = Draft::new(alloc);
         for ace in self.aces() {

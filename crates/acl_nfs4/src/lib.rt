@@ -5,6 +5,7 @@
 mod ace;
 mod acl;
 mod bits;
+mod comparison;
 mod draft;
 mod evaluation;
 mod flags;
@@ -22,11 +23,12 @@ mod who;
 
 pub use ace::{Ace, AceType};
 pub use acl::{AceFault, Acl4};
+pub use comparison::{Asker, Difference, comparison_laws};
 pub use flags::Flags;
 pub use inheritance::Kind;
 pub use letters::{letters_are_told_apart, read_letters};
 pub use limits::MAX_ACES;
 pub use mask::{Mask, mask_of};
 pub use mode_change::Fault4;
-pub use reading::{pieces_have_shapes, read_aces};
+pub use reading::{PieceFault, pieces_have_shapes, read_aces};
 pub use who::Who;

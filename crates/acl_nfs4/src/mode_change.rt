@@ -1,4 +1,4 @@
-ghost use Rattle.std.specs.Prelude.{◌≡◌, ◌<◌, ◌↔◌, ◌++◌, false, length, Err, OnOk, OnErr, IfOk};
+ghost use Rattle.std.specs.Prelude.{◌≡◌, ◌<◌, ◌≤◌, ◌↔◌, ◌++◌, false, length, Err, OnOk, OnErr, IfOk, IsOk};
 ghost use Rattle.std.specs.List.{list_any};
 ghost use Rattle.acl_posix.specs.Perms.{bits_of};
 ghost use Rattle.acl_nfs4.specs.Ace.{is_idle};
@@ -215,6 +215,7 @@ impl Acl4 {
         ensures ok { OnOk result (self.new ≡ with_mode self.old mode) }
         ensures too_many { (result ≡ Err Fault4.TooMany) ↔ (MAX_ACES < length (with_mode self.old mode)) }
         ensures err { OnErr result (self.new ≡ self.old) }
+        ensures short { length (with_mode self.old mode) ≤ 16 → IsOk result }
 
         // The mode shown is the mode set.
         ensures shown { OnOk result (mode_of self.new ≡ mode) }

@@ -1,6 +1,8 @@
 //! Reading lists of entries.
 
-ghost use Rattle.std.specs.Prelude.{◌≡◌, ◌↔◌, ℕ, List, Ok, option_map, IfOk, IfErr, MatchResult};
+ghost use Rattle.acl_nfs4.specs.Front.{BeginsWithFields};
+ghost use Rattle.acl_names.specs.Pieces.{pieces};
+ghost use Rattle.std.specs.Prelude.{IfSome, Some, ◌≡◌, ◌≢◌, ◌≤◌, ◌↔◌, ℕ, List, length, Ok, option_map, IfOk, IfErr, MatchResult};
 ghost use Rattle.acl_names.specs.Directory.{Known};
 ghost use Rattle.acl_names.specs.ListText.{Spells};
 ghost use Rattle.acl_names.specs.Ids.{written_id};
@@ -16,13 +18,14 @@ use crate::letters::{read_flags, read_letters};
 use crate::limits::MAX_ACES;
 use crate::{Ace, AceFault, AceType, Acl4, Who};
 use acl_names::{
-    Directory, ListFault, Parts, PieceReader, WrittenId, is_domain, read_list, trim_blanks,
+    Directory, ListFault, Parts, PieceReader, WrittenId, is_domain, read_list, split_field,
+    trim_blanks,
 };
 use std::alloc::Global;
 
 /// What is wrong with one piece of a text.
 #[derive(Clone, Copy, Debug, PartialEq, Eq)]
-enum PieceFault {
+pub enum PieceFault {
     Syntax,
     UnknownName,
     InheritOnly,
@@ -62,16 +65,64 @@ impl<'a> PieceReader for AceReader<'a> {
 
     #[tactic(auto, unfolding(crate::specs::AceText::piece_value))]
     fn read(&self, piece: &[u8]) -> Result<Ace, PieceFault> {
-        let fields = read_fields(piece).ok_or(PieceFault::Syntax)?;
-        let kind = read_type(fields.kind).ok_or(PieceFault::Syntax)?;
-        let flags = read_flags(fields.flags).ok_or(PieceFault::Syntax)?;
-        let written = read_who(fields.who).ok_or(PieceFault::Syntax)?;
-        let mask = read_letters(fields.letters).ok_or(PieceFault::Syntax)?;
-        let who = resolve(self.directory, flags.has_identifier_group(), written).ok_or(
-            PieceFault::UnknownName,
-        )?;
-        effective(Ace::new(kind, flags, who, mask))
+        match read_fields(piece) {
+            Some(fields) => value_of_fields(self.directory, fields),
+            None => Err(PieceFault::Syntax),
+        }
     }
+
+    fn read_front<'t>(&self, text: &'t [u8]) -> Option<(Ace, &'t [u8])> {
+        let Some((fields, rest)) = fields_in_front(text) else {
+            return None;
+        };
+        let Ok(ace) = value_of_fields(self.directory, fields) else {
+            return None;
+        };
+        Some((ace, rest))
+    }
+}
+
+/// What a piece of these fields says.
+#[tactic(auto, unfolding(crate::specs::AceText::piece_value))]
+fn value_of_fields(directory: &Directory, fields: AceFields<'_>) -> Result<Ace, PieceFault>
+    ensures { (piece : List ℕ) → fields_of piece ≡ Some (view_fields fields.entry) → result ≡ piece_value directory.now piece }
+{
+    let kind = read_type(fields.kind).ok_or(PieceFault::Syntax)?;
+    let flags = read_flags(fields.flags).ok_or(PieceFault::Syntax)?;
+    let written = read_who(fields.who).ok_or(PieceFault::Syntax)?;
+    let mask = read_letters(fields.letters).ok_or(PieceFault::Syntax)?;
+    let who = resolve(directory, flags.has_identifier_group(), written).ok_or(
+        PieceFault::UnknownName,
+    )?;
+    effective(Ace::new(kind, flags, who, mask))
+}
+
+/// The fields that the text begins with, with no blank round them, and what stands behind them.
+fn fields_in_front(text: &[u8]) -> Option<(AceFields<'_>, &[u8])>
+    ensures { IfSome result (λ front. BeginsWithFields text.now (view_fields front.0) front.1.now) }
+{
+    let (kind, behind) = split_field(text);
+    let [b':', behind_kind @ ..] = behind else {
+        return None;
+    };
+    let (flags, behind) = split_field(behind_kind);
+    let [b':', behind_flags @ ..] = behind else {
+        return None;
+    };
+    let (who, behind) = split_field(behind_flags);
+    let [b':', behind_who @ ..] = behind else {
+        return None;
+    };
+    let (letters, rest) = split_field(behind_who);
+    Some((
+        AceFields {
+            kind,
+            flags,
+            who,
+            letters,
+        },
+        rest,
+    ))
 }
 
 /// The list that the text spells: entries `type:flags:who:letters`, which newlines and commas separate; `#` begins a
@@ -87,6 +138,7 @@ pub fn read_aces(alloc: Global, text: &[u8], directory: &Directory) -> Result<Ac
     // What is spelt is read, unless memory runs out.
     ensures only { (aces : List Nfsace4) → Spells (piece_value directory.now) MAX_ACES text.now aces
         → MatchResult result (λ acl. acl ≡ aces) (λ fault. fault ≡ Memory) }
+    ensures short { length (pieces text.now) ≤ 16 → IfErr result (λ fault. fault ≢ Memory) }
 {
     match read_list(alloc, &AceReader { directory }, MAX_ACES, text) {
         Ok(aces) => Ok(Acl4::from_items(aces)),

@@ -1,5 +1,6 @@
 //! Worked examples.
 mod access;
+mod comparison;
 mod entries;
 mod fixture;
 mod inheritance;

@@ -14,3 +14,6 @@ pub mod RoundTrip
 pub mod ShapeLemmas
 pub mod ReadLemmas
 pub mod CanonicalRules
+pub mod FrontLemmas
+pub mod CopyLemmas
+pub mod TakeLemmas

@@ -8,8 +8,10 @@ use Rattle.acl_names.specs.Directory.{Known, TellsNamesApart, uid_of, gid_of, us
 use Rattle.acl_names.specs.Pieces.{pieces}
 use Rattle.acl_names.specs.ListText.{Say, Spells}
 use Rattle.acl_names.proofs.IdTexts.{id_again}
-use Rattle.acl_names.proofs.Fields.{is_field_byte, IsField, id_field, fields_again, joined_plain, tested_field}
-use Rattle.acl_names.proofs.PlainLines.{IsPlain, IsMark, nothing, comment, plain_lacks_newline, is_plain, pieces_of_lines}
+use Rattle.acl_names.specs.Plain.{is_field_byte, IsField}
+use Rattle.acl_names.proofs.Fields.{id_field, fields_again, joined_plain, tested_field}
+use Rattle.acl_names.specs.Plain.{IsPlain, is_plain}
+use Rattle.acl_names.proofs.PlainLines.{IsMark, nothing, comment, plain_lacks_newline, pieces_of_lines}
 use Rattle.acl_posix.specs.Entry.{Triple, HavePermissions}
 use Rattle.acl_posix.specs.declared.limits.TheConstants.{MAX_ENTRIES}
 use Rattle.acl_posix.specs.declared.entry.Tag.{Tag}
@@ -38,7 +40,7 @@ perms_again (suc (suc (suc (suc (suc (suc zero)))))) known = refl
 perms_again (suc (suc (suc (suc (suc (suc (suc zero))))))) known = refl
 perms_again (suc (suc (suc (suc (suc (suc (suc (suc perms)))))))) known = absurd (omega arith)
 
-three_pass : (read write execute : Bool) → list_all is_field_byte (three_letters read write execute) ≡ true
+pub three_pass : (read write execute : Bool) → list_all is_field_byte (three_letters read write execute) ≡ true
 three_pass true true true = refl
 three_pass true true false = refl
 three_pass true false true = refl

@@ -13,3 +13,4 @@ pub mod PrintedText
 pub mod Views
 pub mod ReadFault
 pub mod CheckSteps
+pub mod Front

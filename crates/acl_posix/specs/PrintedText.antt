@@ -53,6 +53,10 @@ line_text known mask entry = entry_text known entry ++ (effective_mark mask entr
 abbrev pub effective_text : Known → Option ℕ → List Triple → List ℕ
 effective_text known mask = flat_map (line_text known mask)
 
+-- the same of a directory's default list, with `default:` before each line
+abbrev pub default_text : Known → Option ℕ → List Triple → List ℕ
+default_text known mask = flat_map (λ entry. codes "default:" ++ line_text known mask entry)
+
 -- an id within the range of ids; other tags have none
 abbrev pub HasId : Tag → Type 0
 HasId (User uid) = uid ≤ max_id

@@ -1,6 +1,6 @@
 //! Access control lists.
 
-ghost use Rattle.std.specs.Prelude.{List, ◌≡◌, ◌↔◌, None, OnOk, IfOk, IfErr, IfSome, option_map};
+ghost use Rattle.std.specs.Prelude.{List, ◌≡◌, ◌≢◌, ◌↔◌, None, OnOk, IfOk, IfErr, IfSome, option_map};
 ghost use Rattle.std.specs.List.{Contains};
 ghost use Rattle.std.specs.List.Sorted.{IsPermutation};
 
@@ -51,10 +51,12 @@ impl Acl {
     /// owner, the file's group and the others, at most one mask, no user and no group twice, and a mask where a user or a
     /// group is named. Else it is refused for the first of: an entry is missing, an entry stands twice, there is no mask. The
     /// entries are dropped on a refusal. It takes over their storage, and takes no memory.
+    #[inline(always)]
     pub fn new(entries: Entries) -> Result<Acl, Invalid>
         ensures valid { OnOk result (IsValid entries) }
         ensures same_entries { IfOk result (IsPermutation entries) }
         ensures err { IfErr result (IsRefusedFor entries) }
+        ensures no_memory { IfErr result (λ fault. fault ≢ Invalid.Memory) }
         ensures nothing_wrong { IsValid entries ↔ (fault_of entries ≡ None) }
     {
         let mut entries = entries;

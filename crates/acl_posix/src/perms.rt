@@ -3,6 +3,7 @@
 ghost use Rattle.std.specs.Prelude.{⊤, ◌≡◌, ◌==◌, [], ◌∷◌, IfSome, codes, if◌then◌else◌, option_map};
 ghost use Rattle.std.specs.Int.RustNames.{bit_and, bit_or};
 ghost use Rattle.std.specs.List.{list_all};
+ghost use Rattle.acl_posix.specs.Front.{BeginsWithPerms};
 ghost use Rattle.acl_posix.specs.Perms.{bits_of, IsPermissions};
 ghost use Rattle.acl_posix.specs.PermsText.{is_perms_byte, perms_of_text, perms_with, three_letters};
 
@@ -95,40 +96,29 @@ impl BitOr for Perms {
 /// The most characters of permissions.
 const MAX_PERMS_LEN: usize = 3;
 
-/// Which of the three permissions a printed text has.
-#[derive(Clone, Copy)]
-struct Printed {
-    read: bool,
-    write: bool,
-    execute: bool,
-}
-
 /// What 1 to 3 characters out of `r`, `w`, `x` and `-` say, of which no letter stands twice. It says no other permissions.
 pub fn read_perms(text: &[u8]) -> Option<Perms>
     ensures value { option_map bits_of result ≡ perms_of_text text.now }
     ensures permissions { IfSome result (λ perms. IsPermissions (bits_of perms)) }
 {
-    match read_printed(text) {
-        Some(printed) => Some(perms_with(printed.read, printed.write, printed.execute)),
-        None => read_letters(text),
+    match read_perms_front(text) {
+        Some((perms, [])) => Some(perms),
+        _ => read_letters(text),
     }
 }
 
-/// The permissions whose printed text this is: most texts are printed ones.
-fn read_printed(text: &[u8]) -> Option<Printed>
-    ensures { IfSome result (λ printed. text.now ≡ three_letters printed.read printed.write printed.execute) }
+/// The permissions whose printed text the text begins with, and what stands behind it.
+pub(crate) fn read_perms_front(text: &[u8]) -> Option<(Perms, &[u8])>
+    ensures begins { IfSome result (λ front. BeginsWithPerms text.now (bits_of front.0) front.1.now) }
+    ensures permissions { IfSome result (λ front. IsPermissions (bits_of front.0)) }
 {
-    if text.len() != MAX_PERMS_LEN {
+    if text.len() < MAX_PERMS_LEN {
         return None;
     }
     let read = letter_or_dash(text[0], b'r')?;
     let write = letter_or_dash(text[1], b'w')?;
     let execute = letter_or_dash(text[2], b'x')?;
-    Some(Printed {
-        read,
-        write,
-        execute,
-    })
+    Some((perms_with(read, write, execute), &text[MAX_PERMS_LEN..]))
 }
 
 #[tactic(auto, unfolding(crate::specs::PermsText::perms_of_text))]

@@ -1,22 +1,26 @@
 //! Printing access control lists: the long text form (1003.1e draft 17, section 23).
 
-ghost use Rattle.std.specs.Prelude.{◌≡◌, ◌≤◌, ◌++◌, ◌∷◌, [], not, length, take, option_map, OnOk, OnErr, None};
+ghost use Rattle.std.specs.Prelude.{◌≡◌, ◌≤◌, ◌++◌, ◌∷◌, [], not, length, vec_len, vec_capacity, ◌+◌, ◌*◌, option_map, OnOk, OnErr, None, codes};
 ghost use Rattle.acl_names.specs.Bits.{has_all};
 ghost use Rattle.acl_names.specs.ListText.{Spells};
 ghost use Rattle.acl_posix.specs.Entry.{HavePermissions, perms_of};
 ghost use Rattle.acl_posix.specs.EntryText.{entry_of};
 ghost use Rattle.acl_posix.specs.Perms.{bits_of};
 ghost use Rattle.acl_posix.specs.PermsText.{perms_text};
-ghost use Rattle.acl_posix.specs.PrintedText.{effective_mark, effective_text, line_text, long_text, mark_of, qualifier_text, word_text, HaveIds};
+ghost use Rattle.acl_posix.specs.PrintedText.{default_text, effective_mark, effective_text, line_text, long_text, mark_of, qualifier_text, word_text, HasId, HaveIds};
 
 use crate::limits::MAX_ENTRIES;
 use crate::{Acl, Entry, Perms, Tag};
-use acl_names::{Directory, push_id};
+use acl_names::{Directory, put_bytes};
 use bitflags::Flags;
 use std::alloc::AllocError;
+use std::mem;
 
-/// As long as most lines are.
-const USUAL_LINE: usize = 20;
+/// The most bytes of a line: a word and a colon, a name, a colon and permissions, a mark, and a newline.
+const MAX_LINE: usize = 58;
+
+/// The same behind `default:`.
+const MAX_DEFAULT_LINE: usize = 66;
 
 impl Acl {
     /// Appends the entries in canonical order, one per line: `tag:qualifier:perms`, with the full tag word, the name of a
@@ -26,8 +30,7 @@ impl Acl {
         ensures text { OnOk result (out.new.items ≡ out.old.items ++ long_text directory.now self.now) }
         ensures unchanged { OnErr result (out.new.items ≡ out.old.items) }
         // What is printed is read as these entries.
-        ensures read_again { HaveIds self.now
-            → Spells (entry_of directory.now) MAX_ENTRIES (long_text directory.now self.now) self.now }
+        ensures read_again { OnOk result (Spells (entry_of directory.now) MAX_ENTRIES (long_text directory.now self.now) self.now) }
     {
         print_lines(self.entries(), None, directory, out)
     }
@@ -43,10 +46,23 @@ impl Acl {
             ≡ out.old.items ++ effective_text directory.now (perms_of Tag.Mask self.now) self.now) }
         ensures unchanged { OnErr result (out.new.items ≡ out.old.items) }
         // What is printed is read as these entries: a mark is a comment.
-        ensures read_again { HaveIds self.now
-            → Spells (entry_of directory.now) MAX_ENTRIES (effective_text directory.now (perms_of Tag.Mask self.now) self.now) self.now }
+        ensures read_again { OnOk result
+            (Spells (entry_of directory.now) MAX_ENTRIES (effective_text directory.now (perms_of Tag.Mask self.now) self.now) self.now) }
     {
         print_lines(self.entries(), self.mask(), directory, out)
+    }
+
+    /// Appends the text of `print_effective` with `default:` before each line: how a directory's default list is shown. For
+    /// want of memory `out` is as it was.
+    pub fn print_default(&self, directory: &Directory, out: &mut Vec<u8>) -> Result<(), AllocError>
+        ensures text { OnOk result (out.new.items
+            ≡ out.old.items ++ default_text directory.now (perms_of Tag.Mask self.now) self.now) }
+        ensures unchanged { OnErr result (out.new.items ≡ out.old.items) }
+    {
+        let entries = self.entries();
+        out.reserve(entries.len() * MAX_DEFAULT_LINE)?;
+        put_default_lines(entries, self.mask(), directory, out);
+        Ok(())
     }
 }
 
@@ -56,86 +72,121 @@ fn print_lines(
     directory: &Directory,
     out: &mut Vec<u8>,
 ) -> Result<(), AllocError>
+    requires { length entries.now ≤ MAX_ENTRIES }
     ensures text { OnOk result (out.new.items ≡ out.old.items ++ effective_text directory.now (option_map bits_of mask) entries.now) }
     ensures unchanged { OnErr result (out.new.items ≡ out.old.items) }
     // What is printed is read as these entries: a mark is a comment.
-    ensures read_again { HaveIds entries.now → HavePermissions entries.now → length entries.now ≤ MAX_ENTRIES
-        → Spells (entry_of directory.now) MAX_ENTRIES (effective_text directory.now (option_map bits_of mask) entries.now) entries.now }
+    ensures read_again { OnOk result (HavePermissions entries.now → length entries.now ≤ MAX_ENTRIES
+        → Spells (entry_of directory.now) MAX_ENTRIES (effective_text directory.now (option_map bits_of mask) entries.now) entries.now) }
 {
     directory.tell_names_apart();
-    let old_len = out.len();
-    let printed = push_lines(entries, mask, directory, out);
-    if printed.is_err() {
-        out.truncate(old_len);
-    }
-    printed
+    out.reserve(entries.len() * MAX_LINE)?;
+    put_lines(entries, mask, directory, out);
+    Ok(())
 }
 
-fn push_lines(
+/// Appends the lines, where `out` has room for them. The text is in the hand meanwhile, so that where it ends isn't written
+/// to memory byte by byte.
+fn put_lines(entries: &[Entry], mask: Option<Perms>, directory: &Directory, out: &mut Vec<u8>)
+    requires within { length entries.now ≤ MAX_ENTRIES }
+    requires room { vec_len out.old + length entries.now * 58 ≤ vec_capacity out.old }
+    ensures text { out.new.items ≡ out.old.items ++ effective_text directory.now (option_map bits_of mask) entries.now }
+    ensures have_ids { HaveIds entries.now }
+{
+    let none = Vec::new(*out.allocator());
+    let mut text = mem::replace(out, none);
+    for entry in entries {
+        put_line(entry, mask, directory, &mut text);
+    }
+    *out = text;
+}
+
+/// Appends the lines with `default:` before each, where `out` has room for them.
+fn put_default_lines(
     entries: &[Entry],
     mask: Option<Perms>,
     directory: &Directory,
     out: &mut Vec<u8>,
-) -> Result<(), AllocError>
-    ensures text { OnOk result (out.new.items ≡ out.old.items ++ effective_text directory.now (option_map bits_of mask) entries.now) }
-    ensures kept { take (length out.old.items) out.new.items ≡ out.old.items }
+)
+    requires within { length entries.now ≤ MAX_ENTRIES }
+    requires room { vec_len out.old + length entries.now * 66 ≤ vec_capacity out.old }
+    ensures text { out.new.items ≡ out.old.items ++ default_text directory.now (option_map bits_of mask) entries.now }
 {
-    out.reserve(entries.len().min(MAX_ENTRIES) * USUAL_LINE)?;
+    let none = Vec::new(*out.allocator());
+    let mut text = mem::replace(out, none);
     for entry in entries {
-        push_line(entry, mask, directory, out)?;
+        put_default_line(entry, mask, directory, &mut text);
     }
-    Ok(())
+    *out = text;
 }
 
-fn push_line(
-    entry: &Entry,
-    mask: Option<Perms>,
-    directory: &Directory,
-    out: &mut Vec<u8>,
-) -> Result<(), AllocError>
-    ensures text { OnOk result (out.new.items ≡ out.old.items ++ line_text directory.now (option_map bits_of mask) entry.now) }
-    ensures kept { take (length out.old.items) out.new.items ≡ out.old.items }
+#[inline(always)]
+fn put_default_line(entry: &Entry, mask: Option<Perms>, directory: &Directory, out: &mut Vec<u8>)
+    requires { vec_len out.old + 66 ≤ vec_capacity out.old }
+    ensures text { out.new.items
+        ≡ out.old.items ++ (codes "default:" ++ line_text directory.now (option_map bits_of mask) entry.now) }
+    ensures len { vec_len out.new ≤ vec_len out.old + 66 }
+    ensures capacity { vec_capacity out.new ≡ vec_capacity out.old }
 {
-    push_tag(entry.tag, directory, out)?;
-    push_perms(entry, mask, out)
+    put_bytes(b"default:", out);
+    put_line(entry, mask, directory, out);
+}
+
+#[inline(always)]
+fn put_line(entry: &Entry, mask: Option<Perms>, directory: &Directory, out: &mut Vec<u8>)
+    requires { vec_len out.old + 58 ≤ vec_capacity out.old }
+    ensures text { out.new.items ≡ out.old.items ++ line_text directory.now (option_map bits_of mask) entry.now }
+    ensures has_id { HasId entry.now.tag }
+    ensures len { vec_len out.new ≤ vec_len out.old + 58 }
+    ensures capacity { vec_capacity out.new ≡ vec_capacity out.old }
+{
+    put_tag(entry.tag, directory, out);
+    put_perms(entry, mask, out);
 }
 
 /// Appends the word of the tag, a colon and the qualifier.
-fn push_tag(tag: Tag, directory: &Directory, out: &mut Vec<u8>) -> Result<(), AllocError>
-    ensures text { OnOk result (out.new.items ≡ out.old.items ++ (word_text tag ++ 58 ∷ qualifier_text directory.now tag)) }
-    ensures kept { take (length out.old.items) out.new.items ≡ out.old.items }
+#[inline(always)]
+fn put_tag(tag: Tag, directory: &Directory, out: &mut Vec<u8>)
+    requires { vec_len out.old + 38 ≤ vec_capacity out.old }
+    ensures text { out.new.items ≡ out.old.items ++ (word_text tag ++ 58 ∷ qualifier_text directory.now tag) }
+    ensures has_id { HasId tag }
+    ensures len { vec_len out.new ≤ vec_len out.old + 38 }
+    ensures capacity { vec_capacity out.new ≡ vec_capacity out.old }
 {
     match tag {
-        Tag::UserObj => out.extend_from_slice(b"user:"),
+        Tag::UserObj => put_bytes(b"user:", out),
         Tag::User(uid) => {
-            out.extend_from_slice(b"user:")?;
-            push_id(directory.user_name(uid), uid.value(), out)
+            put_bytes(b"user:", out);
+            directory.put_user(uid, out);
         }
-        Tag::GroupObj => out.extend_from_slice(b"group:"),
+        Tag::GroupObj => put_bytes(b"group:", out),
         Tag::Group(gid) => {
-            out.extend_from_slice(b"group:")?;
-            push_id(directory.group_name(gid), gid.value(), out)
+            put_bytes(b"group:", out);
+            directory.put_group(gid, out);
         }
-        Tag::Mask => out.extend_from_slice(b"mask:"),
-        Tag::Other => out.extend_from_slice(b"other:"),
+        Tag::Mask => put_bytes(b"mask:", out),
+        Tag::Other => put_bytes(b"other:", out),
     }
 }
 
 /// Appends a colon, the permissions, the mark where the mask removes some, and a newline.
-fn push_perms(entry: &Entry, mask: Option<Perms>, out: &mut Vec<u8>) -> Result<(), AllocError>
-    ensures text { OnOk result (out.new.items
-        ≡ out.old.items ++ (58 ∷ perms_text entry.now.perms ++ (effective_mark (option_map bits_of mask) entry.now ++ 10 ∷ []))) }
-    ensures kept { take (length out.old.items) out.new.items ≡ out.old.items }
+#[inline(always)]
+fn put_perms(entry: &Entry, mask: Option<Perms>, out: &mut Vec<u8>)
+    requires { vec_len out.old + 20 ≤ vec_capacity out.old }
+    ensures text { out.new.items
+        ≡ out.old.items ++ (58 ∷ perms_text entry.now.perms ++ (effective_mark (option_map bits_of mask) entry.now ++ 10 ∷ [])) }
+    ensures len { vec_len out.new ≤ vec_len out.old + 20 }
+    ensures capacity { vec_capacity out.new ≡ vec_capacity out.old }
 {
     let own = letters(entry.perms);
     match left_by_mask(entry, mask) {
         Some(left) => {
             let left = letters(left);
-            out.extend_from_slice(&[b':', own[0], own[1], own[2]])?;
-            out.extend_from_slice(b"\t#effective:")?;
-            out.extend_from_slice(&[left[0], left[1], left[2], b'\n'])
+            put_bytes(&[b':', own[0], own[1], own[2]], out);
+            put_bytes(b"\t#effective:", out);
+            put_bytes(&[left[0], left[1], left[2], b'\n'], out);
         }
-        None => out.extend_from_slice(&[b':', own[0], own[1], own[2], b'\n']),
+        None => put_bytes(&[b':', own[0], own[1], own[2], b'\n'], out),
     }
 }
 

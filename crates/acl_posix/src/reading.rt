@@ -1,18 +1,24 @@
 //! Reading entries.
 
-ghost use Rattle.std.specs.Prelude.{◌≡◌, ◌↔◌, ℕ, List, Ok, option_map, IfOk, IfErr, MatchResult};
+ghost use Rattle.acl_posix.specs.Front.{BeginsWithTag, BeginsWithWord};
+ghost use Rattle.acl_names.specs.Pieces.{pieces};
+ghost use Rattle.std.specs.Prelude.{IfSome, Some, [], ◌++◌, ◌≡◌, ◌≢◌, ◌≤◌, ◌↔◌, ℕ, List, length, Ok, option_map, IfOk, IfErr, MatchResult};
 ghost use Rattle.acl_names.specs.ListText.{Spells};
 ghost use Rattle.acl_posix.specs.EntryText.{entry_of, fields_of, tag_of, tag_word, qualified};
 ghost use Rattle.acl_names.specs.Directory.{Known, uid_of, gid_of};
+ghost use Rattle.acl_names.specs.Ids.{decimal_value};
 ghost use Rattle.acl_posix.specs.Shapes.{HasShape};
 ghost use Rattle.acl_posix.specs.Views.{view_fields};
 ghost use Rattle.acl_posix.specs.Entry.{Triple};
 ghost use Rattle.acl_posix.specs.ReadFault.{IsTextFault, list_fault};
 
 use crate::limits::MAX_ENTRIES;
-use crate::perms::read_perms;
+use crate::perms::{read_perms, read_perms_front};
 use crate::{Entries, Entry, Tag, TextFault};
-use acl_names::{Directory, ListFault, Parts, PieceReader, WrittenId, read_list, trim_blanks};
+use acl_names::{
+    Directory, Gid, ListFault, Parts, PieceReader, Uid, WrittenId, read_decimal_until, read_list,
+    trim_blanks,
+};
 use std::alloc::Global;
 
 /// The word that an entry begins with.
@@ -62,6 +68,19 @@ impl<'a> PieceReader for EntryReader<'a> {
         let tag = read_tag(self.directory, word, fields.qualifier)?;
         Ok(Entry { tag, perms })
     }
+
+    fn read_front<'t>(&self, text: &'t [u8]) -> Option<(Entry, &'t [u8])> {
+        let Some((word, behind_word)) = read_word_front(text) else {
+            return None;
+        };
+        let Some((tag, behind_tag)) = read_tag_front(word, behind_word) else {
+            return None;
+        };
+        let Some((perms, rest)) = read_perms_front(behind_tag) else {
+            return None;
+        };
+        Some((Entry { tag, perms }, rest))
+    }
 }
 
 /// The entries that the text spells: lines, of which each is cut at its first `#`, and between commas the entries, each of
@@ -75,9 +94,13 @@ pub fn read_entries(alloc: Global, text: &[u8], directory: &Directory) -> Result
     // What is spelt is read, unless memory runs out; so a text spells at most one list.
     ensures only { (entries : List Triple) → Spells (entry_of directory.now) MAX_ENTRIES text.now entries
         → MatchResult result (λ read. read ≡ entries) (λ fault. fault ≡ TextFault.Memory) }
+    ensures short { length (pieces text.now) ≤ 8 → IfErr result (λ fault. fault ≢ TextFault.Memory) }
 {
     match read_list(alloc, &EntryReader { directory }, MAX_ENTRIES, text) {
-        Ok(items) => Ok(Entries::of_items(items)),
+        Ok(items) => match Entries::of_items(items) {
+            Ok(entries) => Ok(entries),
+            Err(_) => Err(TextFault::Memory),
+        },
         Err(fault) => Err(text_fault(fault)),
     }
 }
@@ -161,4 +184,81 @@ fn read_group(directory: &Directory, text: &[u8]) -> Result<Tag, PieceFault>
     let written = WrittenId::read(text).ok_or(PieceFault::Syntax)?;
     let gid = directory.gid(written).ok_or(PieceFault::UnknownName)?;
     Ok(Tag::Group(gid))
+}
+
+/// The word that the text begins with, and what stands behind its colon.
+fn read_word_front(text: &[u8]) -> Option<(TagWord, &[u8])>
+    ensures { IfSome result (λ front. BeginsWithWord text.now front.0 front.1.now) }
+{
+    if let Some(rest) = behind(b"user:", text) {
+        return Some((TagWord::User, rest));
+    }
+    if let Some(rest) = behind(b"group:", text) {
+        return Some((TagWord::Group, rest));
+    }
+    if let Some(rest) = behind(b"mask:", text) {
+        return Some((TagWord::Mask, rest));
+    }
+    if let Some(rest) = behind(b"other:", text) {
+        return Some((TagWord::Other, rest));
+    }
+    if let Some(rest) = behind(b"u:", text) {
+        return Some((TagWord::User, rest));
+    }
+    if let Some(rest) = behind(b"g:", text) {
+        return Some((TagWord::Group, rest));
+    }
+    if let Some(rest) = behind(b"m:", text) {
+        return Some((TagWord::Mask, rest));
+    }
+    if let Some(rest) = behind(b"o:", text) {
+        return Some((TagWord::Other, rest));
+    }
+    None
+}
+
+/// What stands behind these bytes, where the text begins with them.
+#[inline(always)]
+fn behind<'t>(front: &[u8], text: &'t [u8]) -> Option<&'t [u8]>
+    ensures { IfSome result (λ rest. text.now ≡ front.now ++ rest.now) }
+{
+    match text.strip_prefix(front) {
+        Some(rest) => Some(rest),
+        None => None,
+    }
+}
+
+/// The tag that the word and a qualifier say: none, or a decimal; and what stands behind its colon.
+fn read_tag_front(word: TagWord, text: &[u8]) -> Option<(Tag, &[u8])>
+    ensures { IfSome result (λ front. BeginsWithTag text.now word front.0 front.1.now) }
+{
+    if let [b':', rest @ ..] = text {
+        return Some((tag_of_word(word), rest));
+    }
+    let (id, rest) = read_decimal_until(b':', text)?;
+    let tag = named_tag(word, id)?;
+    Some((tag, rest))
+}
+
+/// The tag of an entry that names no one.
+fn tag_of_word(word: TagWord) -> Tag
+    ensures { (known : Known) → tag_of known word (Some []) ≡ Ok result }
+{
+    match word {
+        TagWord::User => Tag::UserObj,
+        TagWord::Group => Tag::GroupObj,
+        TagWord::Mask => Tag::Mask,
+        TagWord::Other => Tag::Other,
+    }
+}
+
+/// The tag of an entry for the user or the group with this id.
+fn named_tag(word: TagWord, id: u32) -> Option<Tag>
+    ensures { IfSome result (λ tag. (known : Known) (text : List ℕ) → decimal_value text ≡ Some id → tag_of known word (Some text) ≡ Ok tag) }
+{
+    match word {
+        TagWord::User => Some(Tag::User(Uid::new(id)?)),
+        TagWord::Group => Some(Tag::Group(Gid::new(id)?)),
+        TagWord::Mask | TagWord::Other => None,
+    }
 }

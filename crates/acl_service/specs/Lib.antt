@@ -9,3 +9,5 @@ pub mod Question
 pub mod InOrder
 pub mod Outcome
 pub mod Ask
+pub mod Runs
+pub mod Served

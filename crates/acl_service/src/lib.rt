@@ -4,11 +4,15 @@
 mod decide_command;
 mod fault;
 mod input;
+mod one;
+mod served;
 mod words;
 
 pub use decide_command::{decide, entries_in_order_are_their_list, words_ask_what_they_give};
 pub use fault::RunFault;
 pub use input::{CapFault, read_capped};
+pub use one::{OneFault, run_one};
+pub use served::Served;
 pub use words::{WordsFault, words_of};
 
 #[cfg(test)]

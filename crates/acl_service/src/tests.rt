@@ -1,4 +1,6 @@
 mod decide;
+mod fixture;
 mod input;
+mod one;
 mod refused_growths;
 mod words;

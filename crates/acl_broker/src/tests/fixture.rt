@@ -122,4 +122,13 @@ impl Halves {
         let Halves { end, taker } = self;
         Ok(taker.rejoin(vec![in alloc; End::Open(end)]?))
     }
+
+    /// The broker of both halves, the end closed.
+    pub(super) fn rejoin_closed(self, alloc: Global) -> Result<Broker<Last>, Fail> {
+        let Halves { end, taker } = self;
+        match end.close() {
+            Ok(closed) => Ok(taker.rejoin(vec![in alloc; End::Closed(closed)]?)),
+            Err(_) => Err("no slot for the end mark".into()),
+        }
+    }
 }

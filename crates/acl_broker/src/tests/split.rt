@@ -161,3 +161,62 @@ fn hand_that_wants_memory_stays_first(rt: HostRuntime) -> Result<(), Fail> {
     assert_eq!(rt; broker.answer(0), None);
     Ok(())
 }
+
+/// An end mark in a rejoined lane is no waiting item.
+#[test]
+fn rejoined_with_a_closed_end(rt: HostRuntime) -> Result<(), Fail> {
+    let mut halves = Halves::split(open_broker(rt.alloc(), 1)?)?;
+    for item in 1..4_u16 {
+        assert_eq!(rt; halves.submit(item), Ok(()));
+    }
+    assert_eq!(rt; halves.take(), Ok(0));
+    let mut broker = halves.rejoin_closed(rt.alloc())?;
+    assert!(rt; !broker.all_open());
+    assert!(rt; broker.submit(0, 9).is_err());
+    assert_eq!(rt; broker.take(0), Ok(1));
+    assert_eq!(rt; broker.take(0), Ok(2));
+    assert_eq!(rt; broker.take(0), Err(TakeRefused::Empty));
+    for item in 1..4_u16 {
+        assert_eq!(rt; broker.answer(0), reply_to(item - 1, item));
+    }
+    assert_eq!(rt; broker.answer(0), None);
+    Ok(())
+}
+
+/// A cancelled session ends too: its items are dropped one with each take, and then its end mark is seen.
+#[test]
+fn cancelled_session_ends(rt: HostRuntime) -> Result<(), Fail> {
+    let Halves { mut end, mut taker } = Halves::split(open_broker(rt.alloc(), 1)?)?;
+    for item in 1..4_u16 {
+        assert_eq!(rt; end.submit(item), Ok(()));
+    }
+    assert!(rt; taker.cancel(0).is_ok());
+    let Ok(_closed) = end.close() else {
+        return Err("no slot for the end mark".into());
+    };
+    for _ in 0..3 {
+        assert_eq!(rt; taker.take(0), Err(TakeRefused::Empty));
+        assert!(rt; !taker.ended(0));
+    }
+    assert_eq!(rt; taker.take(0), Err(TakeRefused::Empty));
+    assert!(rt; taker.ended(0));
+    Ok(())
+}
+
+/// A slot that a poll freed is found again.
+#[test]
+fn delivers_again_after_a_poll(rt: HostRuntime) -> Result<(), Fail> {
+    let mut halves = Halves::split(open_broker(rt.alloc(), 1)?)?;
+    for item in 1..301_u16 {
+        assert_eq!(rt; halves.submit(item), Ok(()));
+        assert_eq!(rt; halves.take(), Ok(item as usize - 1));
+    }
+    for _ in 0..SLOTS {
+        assert!(rt; halves.deliver(0));
+    }
+    assert!(rt; !halves.deliver(0));
+    assert_eq!(rt; halves.poll(), reply_to(0, 1));
+    assert!(rt; halves.deliver(0));
+    assert!(rt; !halves.deliver(0));
+    Ok(())
+}

@@ -1,6 +1,6 @@
 use crate::{
-    Gid, Letter, Uid, WrittenId, is_domain, is_name, occurs, push_id, push_letters, read_decimal,
-    read_letters, repeats, split_word, trim_blanks,
+    Gid, Letter, Uid, WrittenId, is_domain, is_name, occurs, push_id, push_letters, put_decimal,
+    read_decimal, read_decimal_until, read_letters, repeats, split_field, split_word, trim_blanks,
 };
 use std::test::Fail;
 
@@ -111,5 +111,42 @@ fn ids_are_printed_by_name_where_there_is_one(rt: HostRuntime) -> Result<(), Fai
     push_id(Some("bob"), 1001, &mut out)?;
     push_id(None, 4294967294, &mut out)?;
     assert_eq!(rt; out.as_slice(), b"bob4294967294".as_slice());
+    Ok(())
+}
+
+#[test]
+fn decimals_are_put_as_they_are_written(rt: HostRuntime) -> Result<(), Fail> {
+    for (number, text) in [
+        (0, "0"),
+        (9, "9"),
+        (10, "10"),
+        (99, "99"),
+        (100, "100"),
+        (1009, "1009"),
+        (10010, "10010"),
+        (99999999, "99999999"),
+        (100000000, "100000000"),
+        (4294967295, "4294967295"),
+    ] {
+        let mut out = Vec::with_capacity(rt.alloc(), 10)?;
+        put_decimal(number, &mut out);
+        assert!(rt; out.as_slice() == text.as_bytes(), "{text}");
+    }
+    Ok(())
+}
+
+#[test]
+fn a_decimal_ends_at_its_separator(rt: HostRuntime) -> Result<(), Fail> {
+    let (id, rest) = read_decimal_until(b':', b"4294967294:rwx").ok_or("decimal")?;
+    assert_eq!(rt; id, 4294967294);
+    assert!(rt; rest == b"rwx".as_slice());
+    for text in ["", ":", "7", "7x:", "4294967295:", "00000000007:"] {
+        assert!(rt;
+            read_decimal_until(b':', text.as_bytes()).is_none(),
+            "{text}"
+        );
+    }
+    let (field, rest) = split_field(b"alice:r");
+    assert!(rt; field == b"alice".as_slice() && rest == b":r".as_slice());
     Ok(())
 }

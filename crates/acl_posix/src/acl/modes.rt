@@ -1,6 +1,6 @@
 //! What modes have to do with access control lists.
 
-ghost use Rattle.std.specs.Prelude.{◌≡◌, map, IfOk, IfSome, option_map};
+ghost use Rattle.std.specs.Prelude.{◌≡◌, ◌≤◌, length, map, IfOk, IsOk, IfSome, option_map};
 ghost use Rattle.acl_posix.specs.Entry.{Triple};
 ghost use Rattle.acl_posix.specs.Mode.{mode_of, mode_perms, perms_at, group_class_tag, set_to, met_with, chmod, at_creation, of_mode, calc_mask};
 ghost use Rattle.acl_posix.specs.Perms.{bits_of, IsPermissions};
@@ -95,7 +95,8 @@ impl Acl {
 
     /// The access control list that says what the mode says, with three entries. It takes no memory.
     pub fn of_mode(alloc: Global, mode: Mode) -> Result<Acl, AllocError>
-        ensures { IfOk result (λ acl. acl ≡ of_mode mode) }
+        ensures value { IfOk result (λ acl. acl ≡ of_mode mode) }
+        ensures succeeds { IsOk result }
     {
         let sorted = SmallVec::from_array(
             alloc,
@@ -120,7 +121,8 @@ impl Acl {
     /// The access control list of a new file with this mode, under a default access control list (1003.1e draft 17, section
     /// 23): the default list, its entries for the owner, the group class and the others met with the mode's bits.
     pub fn at_creation(alloc: Global, default: &Acl, mode: Mode) -> Result<Acl, AllocError>
-        ensures { IfOk result (λ acl. acl ≡ at_creation default.now mode) }
+        ensures value { IfOk result (λ acl. acl ≡ at_creation default.now mode) }
+        ensures short { length default.now ≤ 8 → IsOk result }
     {
         let group_class = default.group_class_tag();
         let mut sorted = SmallVec::from_slice(alloc, default.sorted.as_slice())?;
@@ -144,7 +146,8 @@ impl Acl {
 
     /// The same list. It has no other refusal than want of memory, and takes none for up to 8 entries.
     pub fn try_clone(&self, alloc: Global) -> Result<Acl, AllocError>
-        ensures { IfOk result (λ acl. acl ≡ self.now) }
+        ensures value { IfOk result (λ acl. acl ≡ self.now) }
+        ensures short { length self.now ≤ 8 → IsOk result }
     {
         let sorted = SmallVec::from_slice(alloc, self.sorted.as_slice())?;
         Ok(Acl { sorted })

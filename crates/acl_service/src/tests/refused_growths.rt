@@ -3,7 +3,9 @@
 //!
 //! `rt try --test --fail-alloc N` refuses the growth N of a test. Each test here passes whichever growth that is, and prints
 //! how many refusals it was told of: one up to the last growth that it asks for, and none from then on.
-use crate::{CapFault, WordsFault, decide, read_capped, words_of};
+use crate::tests::fixture::{directory, tree};
+use crate::{CapFault, OneFault, WordsFault, decide, read_capped, run_one, words_of};
+use acl_names::Directory;
 use std::alloc::Global;
 use std::io::{self, Read};
 use std::test::Fail;
@@ -111,6 +113,47 @@ fn words_of_under_a_refused_growth(rt: HostRuntime) -> Result<(), Fail> {
         outcome = words(rt.alloc());
     }
     assert_eq!(rt; outcome?.len(), 6);
+    println!(rt; "refusals: {refusals}")?;
+    Ok(())
+}
+
+/// Long lists of both kinds, and answers that show them.
+const SESSION: &str =
+    "create dir /d alice 755\nset /d default u::rwx,u:1:r,u:2:r,u:3:r,u:4:r,u:5:r,u:6:r,g::r,m::r,o::-\ncreate file /d/f carol 640\nget /d/f\ntranslate /d/f\nset /d/f nfs4 A::1:r,A::2:r,A::3:r,A::4:r,A::5:r,A::6:r,A::7:r,A::8:r,A::9:r,A::10:r,A::11:r,A::12:r,A::13:r,A::14:r,A::15:r,A::16:r,A::17:r\ncheck /d/f bob r\nx\n";
+
+const LAST_ANSWERS: &str = "6 ok\n7 denied\n8 error 1 syntax\n";
+
+/// A session on a tree of its own, into a writer that takes no memory.
+fn run(alloc: Global, names: &Directory) -> Ending {
+    let Some(tree) = tree(alloc) else {
+        return Ending::Memory;
+    };
+    let mut lines = [0; 1024];
+    let mut out = lines.as_mut_slice();
+    let ran = run_one(alloc, names, tree, SESSION.as_bytes(), &mut out);
+    let room = out.len();
+    match ran {
+        Ok(_) if lines[..1024 - room].ends_with(LAST_ANSWERS.as_bytes()) => Ending::Answered,
+        Err(OneFault::Memory) if room == 1024 => Ending::Memory,
+        _ => Ending::Other,
+    }
+}
+
+#[test]
+fn run_one_under_a_refused_growth(rt: HostRuntime) -> Result<(), Fail> {
+    let mut refusals: u32 = 0;
+    let mut names = directory(rt.alloc());
+    if names.is_none() {
+        refusals = 1;
+        names = directory(rt.alloc());
+    }
+    let names = names.ok_or("refused without cause")?;
+    let mut ended = run(rt.alloc(), &names);
+    if ended == Ending::Memory {
+        refusals = refusals.saturating_add(1);
+        ended = run(rt.alloc(), &names);
+    }
+    assert_eq!(rt; ended, Ending::Answered);
     println!(rt; "refusals: {refusals}")?;
     Ok(())
 }

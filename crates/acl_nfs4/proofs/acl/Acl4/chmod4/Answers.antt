@@ -13,7 +13,7 @@ use Rattle.acl_nfs4.proofs.acl.Acl4.chmod4.Goals.{Joined-draft}
 -- the new list is the old one with the mode set
 set : (c : Joined-draft) → with_mode c.args.self.now c.args.mode ≡ c.in-Ok-finished.acl
 set c =
-    sym (c.in-Ok-finished.ensures ∙ c.in-Ok.ensures.ok ∙ ap (λ (aces : List Nfsace4). with_mode aces c.args.mode) c.aces.ensures.value)
+    sym (c.in-Ok-finished.ensures.value ∙ c.in-Ok.ensures.ok ∙ ap (λ (aces : List Nfsace4). with_mode aces c.args.mode) c.aces.ensures.value)
 
 pub returns-in-Ok-finished-clause-shown : goal.returns-in-Ok-finished-clause-shown
 returns-in-Ok-finished-clause-shown c = subst (λ (new : List Nfsace4). mode_of new ≡ c.args.mode) (set c) (mode_of-with_mode c.args.self.now c.args.mode (subst AreClasses c.mode.view_is c.mode.invariant))

@@ -1,0 +1,8 @@
+#!/bin/sh
+# Builds the benchmark's library and its driver, and runs them. It wants a C compiler.
+set -e
+cd "$(dirname "$0")/../.."
+(cd crates/acl_bench && rt lib)
+kit=$(dirname "$(dirname "$(readlink -f "$(command -v rt)")")")
+${CC:-cc} -O2 -o crates/acl_bench/out/bench-nfs4 bench/nfs4/bench.c crates/acl_bench/out/libacl_bench.a "$kit/c/liblibc_c.a"
+exec crates/acl_bench/out/bench-nfs4 "$@"

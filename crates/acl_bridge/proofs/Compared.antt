@@ -1,0 +1,46 @@
+-- A list may stand for its translation in a comparison.
+use Rattle.std.proofs.Common.{◌≡◌, ◌↔◌, ℕ, Bool, true, false, not, ◌&&◌, refl, sym, ap₂, ◌∙◌, List, Option, None}
+use Rattle.std.specs.Prelude.{Result, Ok, Err, IfOk, IfSome}
+use Rattle.std.proofs.lemmas.Option.{IfSome_then}
+use Rattle.acl_names.specs.Bits.{has}
+use Rattle.acl_posix.specs.Entry.{Triple}
+use Rattle.acl_posix.specs.Validity.{IsValid}
+use Rattle.acl_nfs4.specs.Comparison.{Decider, DecideAlike, IsDifference, identity_of}
+use Rattle.acl_nfs4.specs.declared.comparison.Difference.{Difference}
+use Rattle.acl_bridge.specs.Comparison.{DecidesEachBit}
+use Rattle.acl_bridge.specs.Translation.{translation}
+use Rattle.acl_bridge.proofs.Alike.{bit_granted}
+
+pub translation_decides_each_bit : (acl : List Triple) → IsValid acl → DecidesEachBit acl (translation acl)
+translation_decides_each_bit acl valid owner group requester bit of_mode = bit_granted acl valid owner group requester bit of_mode
+
+-- deciders that decide alike are compared alike
+module _ (before before' after after' : Decider) (bits : ℕ) (same_before : DecideAlike before before' bits) (same_after : DecideAlike after after' bits) where
+  pub alike_through : DecideAlike before' after' bits ↔ DecideAlike before after bits
+  alike_through = (
+    λ alike requester bit asked. same_before requester bit asked ∙ alike requester bit asked ∙ sym (same_after requester bit asked),
+    λ alike requester bit asked. sym (same_before requester bit asked) ∙ alike requester bit asked ∙ same_after requester bit asked,
+  )
+
+  under : (b x y x' y' : Bool) → (b ≡ true → x ≡ x') → (b ≡ true → y ≡ y') → (b && (x' && not y')) ≡ (b && (x && not y))
+  under false x y x' y' ex ey = refl
+  under true x y x' y' ex ey = ap₂ (λ u v. u && not v) (sym (ex refl)) (sym (ey refl))
+
+  pub difference_through : (difference : Difference) → IsDifference before' after' bits difference → IsDifference before after bits difference
+  difference_through difference is = record {
+    lost = λ bit. is.lost bit
+        ∙ under (has bits bit) _ _ _ _ (same_before (identity_of difference.asker) bit) (same_after (identity_of difference.asker) bit);
+    gained = λ bit. is.gained bit
+        ∙ under (has bits bit) _ _ _ _ (same_after (identity_of difference.asker) bit) (same_before (identity_of difference.asker) bit);
+    some = is.some;
+  }
+
+  pub none_through : (found : Option Difference) → (found ≡ None) ↔ DecideAlike before' after' bits → (found ≡ None) ↔ DecideAlike before after bits
+  none_through found is = (λ e. alike_through.0 (is.0 e), λ alike. is.1 (alike_through.1 alike))
+
+  pub some_through : (found : Option Difference) → IfSome found (IsDifference before' after' bits) → IfSome found (IsDifference before after bits)
+  some_through found is = IfSome_then found is difference_through
+
+pub ok_then : {T E : Type 0} (r : Result T E) (P Q : T → Type 0) → IfOk r P → ((x : T) → P x → Q x) → IfOk r Q
+ok_then (Ok x) P Q is then = then x is
+ok_then (Err e) P Q is then = tt

@@ -1,0 +1,161 @@
+-- The askers of all pairs of POSIX entries tell whether two lists grant a request alike to everyone.
+use Rattle.std.proofs.Common.{◌≡◌, ◌≢◌, ◌≤◌, ◌+◌, ◌<◌, ◌==◌, ℕ, zero, suc, Bool, true, false, cond, not, ◌||◌, refl, sym, ap, ap₂, ◌∙◌, List, [], ◌∷◌, ◌++◌, Some, length, get_or, length-append, arith}
+use Rattle.std.specs.Prelude.{flat_map}
+use Rattle.std.specs.List.{All, list_any}
+use Rattle.std.proofs.lemmas.Bool.{true≢false, eq-eqb, or_parts}
+use Rattle.std.proofs.lemmas.List.Elements.{All-nil, All-cons, All-head, All-tail, All-append, All-map}
+use Rattle.acl_names.specs.Bits.{has}
+use Rattle.acl_names.specs.Requester.{Identity}
+use Rattle.acl_names.proofs.AnyLemmas.{list_any-append, list_any-agree}
+use Rattle.acl_names.proofs.BitSets.{has-above}
+use Rattle.acl_posix.specs.Access.{effective_perms}
+use Rattle.acl_posix.specs.Entry.{Triple}
+use Rattle.acl_posix.specs.Validity.{IsValid}
+use Rattle.acl_posix.specs.declared.entry.Tag.{Tag}
+use Rattle.acl_posix.specs.declared.entry.Tag.TheVariants.{UserObj, User, GroupObj, Group, Mask, Other}
+use Rattle.acl_nfs4.specs.Ace.{Nfsace4, plain, unless_empty}
+use Rattle.acl_nfs4.specs.Comparison.{needed_uid, asker_for, decided_by, identity_of}
+use Rattle.acl_nfs4.specs.Mask.{mask_of, rest_of}
+use Rattle.acl_nfs4.specs.declared.ace.AceType.{AceType}
+use Rattle.acl_nfs4.specs.declared.ace.AceType.TheVariants.{Allow, Deny}
+use Rattle.acl_nfs4.specs.declared.who.Who.TheVariants.{Everyone}
+use Rattle.acl_nfs4.specs.Who.{flags_of_who}
+use Rattle.acl_nfs4.specs.declared.who.Who.{Who}
+use Rattle.acl_nfs4.proofs.Compared.{pairs_suffice}
+use Rattle.acl_nfs4.proofs.Strangers.{is_at, enough}
+use Rattle.acl_bridge.specs.Comparison.{OfEachTag, IsStranger, GrantAlike, GrantAlikeAt, IsUnlike, PairsSuffice, asks_for, is_of_user}
+use Rattle.acl_bridge.specs.declared.requests.Unlike.{Unlike}
+use Rattle.acl_bridge.specs.Translation.{who_of, is_for_owner, is_for_user, is_for_group, is_for_others, in_class, allowed_by, denied_by, settled_by, translation}
+use Rattle.acl_bridge.proofs.WholeRequests.{as_reading, with_perms, reading, read_as}
+
+-- ---- what holds of each who that entries stand for holds of each entry of the translation
+
+module _ (P : Who → Type 0) where
+  abbrev Holds : List Nfsace4 → Type 0
+  Holds aces = All (λ ace. P ace.who) aces
+
+  of_plain : (kind : AceType) (who : Who) (mask : ℕ) → P who → Holds (plain kind who mask)
+  unfolding unless_empty
+  of_plain kind who mask holds = go (mask == 0)
+    where
+      go : (b : Bool) → Holds (cond b [] (record { kind = kind; flags = flags_of_who who; who = who; mask = mask } ∷ []))
+      go true = All-nil (λ (ace : Nfsace4). P ace.who)
+      go false = All-cons (λ (ace : Nfsace4). P ace.who) _ [] holds (All-nil (λ (ace : Nfsace4). P ace.who))
+
+  of_class : (makes : Triple → List Nfsace4) → ((entry : Triple) → P (who_of entry.tag) → Holds (makes entry))
+      → (class : Tag → Bool) (entries : List Triple) → All (λ entry. P (who_of entry.tag)) entries → Holds (flat_map makes (in_class class entries))
+  of_class makes each class [] all = All-nil (λ (ace : Nfsace4). P ace.who)
+  of_class makes each class (entry ∷ entries) all =
+      go (class entry.tag) (of_class makes each class entries (All-tail (λ (other : Triple). P (who_of other.tag)) entry entries all))
+    where
+      go : (b : Bool) → Holds (flat_map makes (in_class class entries))
+          → Holds (flat_map makes (cond b (entry ∷ in_class class entries) (in_class class entries)))
+      go true rest =
+          All-append (λ (ace : Nfsace4). P ace.who) (makes entry) (flat_map makes (in_class class entries))
+          (each entry (All-head (λ (other : Triple). P (who_of other.tag)) entry entries all)) rest
+      go false rest = rest
+
+  pub of_translation : (acl : List Triple) → All (λ entry. P (who_of entry.tag)) acl → Holds (translation acl)
+  of_translation acl all =
+      let append = All-append (λ (ace : Nfsace4). P ace.who) in
+      append _ _
+      (append _ _
+      (append _ _
+      (append _ _ (of_class (settled_by acl) settled is_for_owner acl all) (of_class (settled_by acl) settled is_for_user acl all))
+      (of_class (allowed_by acl) allowed is_for_group acl all))
+      (of_class (denied_by acl) denied is_for_group acl all))
+      (of_class (allowed_by acl) allowed is_for_others acl all)
+    where
+      allowed : (entry : Triple) → P (who_of entry.tag) → Holds (allowed_by acl entry)
+      allowed entry holds = of_plain Allow (who_of entry.tag) (mask_of (effective_perms acl entry)) holds
+
+      denied : (entry : Triple) → P (who_of entry.tag) → Holds (denied_by acl entry)
+      denied entry holds = of_plain Deny (who_of entry.tag) (rest_of (effective_perms acl entry)) holds
+
+      settled : (entry : Triple) → P (who_of entry.tag) → Holds (settled_by acl entry)
+      settled entry holds = All-append (λ (ace : Nfsace4). P ace.who) (allowed_by acl entry) (denied_by acl entry) (allowed entry holds) (denied entry holds)
+
+  pub of_reading : (request : ℕ) (acl : List Triple) → All (λ entry. P (who_of entry.tag)) acl → Holds (translation (as_reading request acl))
+  of_reading request acl all =
+      of_translation (as_reading request acl)
+      (All-map (λ (entry : Triple). P (who_of entry.tag)) (with_perms (reading request acl)) acl all)
+
+module _ (first second : List Triple) (valid_first : IsValid first) (valid_second : IsValid second) (owner group request stranger : ℕ) where
+  -- the translations, with the request as the bit to read, decide alike for the asker of these two
+  abbrev pub At : Who → Who → Type 0
+  At who other =
+      (bit : ℕ) → has 1 bit ≡ true
+      → decided_by (translation (as_reading request first)) owner group (asker_for owner group stranger who other) bit
+      ≡ decided_by (translation (as_reading request second)) owner group (asker_for owner group stranger who other) bit
+
+  abbrev pub Across : Who → Type 0
+  Across who = All (λ ace. At who ace.who) (translation (as_reading request second)) × At who Everyone
+
+  at : (who other : Who) → GrantAlikeAt first second owner group request stranger who other → At who other
+  unfolding has
+  at who other same zero asked =
+      read_as first valid_first owner group request _ ∙ same ∙ sym (read_as second valid_second owner group request _)
+  at who other same (suc bit) asked = absurd (true≢false (sym asked ∙ has-above 1 1 (suc bit) (omega arith) (omega arith)))
+
+  across : (who : Who) → OfEachTag second (λ other. GrantAlikeAt first second owner group request stranger who other) → Across who
+  across who holds =
+      (of_reading (λ (other : Who). At who other) request second (λ k d inside. at who (who_of (get_or second k d).tag) (holds.0 k d inside)), at who Everyone holds.1)
+
+  all_alike : IsStranger owner first stranger → IsStranger owner second stranger
+      → OfEachTag first (λ who. OfEachTag second (λ other. GrantAlikeAt first second owner group request stranger who other))
+      → (requester : Identity) → GrantAlike first second owner group request requester
+  unfolding has
+  all_alike unknown_first unknown_second each requester =
+      sym (read_as first valid_first owner group request requester)
+      ∙ pairs_suffice (translation (as_reading request first)) (translation (as_reading request second)) owner group 1 stranger
+      (of_reading (λ (who : Who). needed_uid owner who ≢ Some stranger) request first unknown_first)
+      (of_reading (λ (who : Who). needed_uid owner who ≢ Some stranger) request second unknown_second)
+      (of_reading (λ (who : Who). Across who) request first (λ k d inside. across (who_of (get_or first k d).tag) (each.0 k d inside)), across Everyone each.1)
+      requester 0 refl
+      ∙ read_as second valid_second owner group request requester
+
+pub pairs_suffice_posix : PairsSuffice
+pairs_suffice_posix first second valid_first valid_second owner group request stranger unknown_first unknown_second each =
+    all_alike first second valid_first valid_second owner group request stranger unknown_first unknown_second each
+
+-- ---- strangers
+
+asked_uid : (owner uid : ℕ) (tag : Tag) → is_of_user owner uid tag ≡ is_at uid (needed_uid owner (who_of tag))
+asked_uid owner uid UserObj = refl
+asked_uid owner uid (User named) = refl
+asked_uid owner uid GroupObj = refl
+asked_uid owner uid (Group gid) = refl
+asked_uid owner uid Mask = refl
+asked_uid owner uid Other = refl
+
+asked : (owner uid : ℕ) (acl : List Triple) → list_any (λ entry. is_at uid (needed_uid owner (who_of entry.tag))) acl ≡ asks_for owner uid acl
+asked owner uid acl =
+    list_any-agree (λ (entry : Triple). is_at uid (needed_uid owner (who_of entry.tag))) (λ (entry : Triple). is_of_user owner uid entry.tag)
+    (λ entry. sym (asked_uid owner uid entry.tag)) acl
+
+pub asked_few : (owner n : ℕ) (first second : List Triple)
+    → ((k : ℕ) → k < n → (asks_for owner k first || asks_for owner k second) ≡ true) → n ≤ length first + length second
+asked_few owner n first second each =
+    let both : n ≤ length (first ++ second) =
+    enough (λ (entry : Triple). needed_uid owner (who_of entry.tag)) n (first ++ second)
+    (λ k below. list_any-append (λ (entry : Triple). is_at k (needed_uid owner (who_of entry.tag))) first second
+    ∙ ap₂ (λ a b. a || b) (asked owner k first) (asked owner k second) ∙ each k below) in
+    omega (arith, both, length-append first second)
+
+pub is_stranger : (owner uid : ℕ) (acl : List Triple) → asks_for owner uid acl ≡ false → IsStranger owner acl uid
+is_stranger owner uid [] none = All-nil (λ (entry : Triple). needed_uid owner (who_of entry.tag) ≢ Some uid)
+is_stranger owner uid (entry ∷ rest) none =
+    let parts = or_parts (is_of_user owner uid entry.tag) (asks_for owner uid rest) none in
+    All-cons (λ (other : Triple). needed_uid owner (who_of other.tag) ≢ Some uid) entry rest
+    (λ e. true≢false (sym (asked_uid owner uid entry.tag ∙ ap (is_at uid) e ∙ eq-eqb uid uid refl) ∙ parts.0))
+    (is_stranger owner uid rest parts.1)
+
+-- lists that grant the request differently to someone don't grant it alike to all
+pub unlike_tells : (first second : List Triple) (owner group request : ℕ) (unlike : Unlike) → IsUnlike first second owner group request unlike
+    → ((requester : Identity) → GrantAlike first second owner group request requester) → ⊥
+unlike_tells first second owner group request unlike is alike =
+    differs unlike.before (sym is.before ∙ alike (identity_of unlike.asker) ∙ is.after)
+  where
+    differs : (b : Bool) → b ≡ not b → ⊥
+    differs true e = true≢false e
+    differs false e = true≢false (sym e)

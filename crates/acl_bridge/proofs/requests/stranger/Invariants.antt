@@ -1,0 +1,7 @@
+use Rattle.std.proofs.Common.{◌≡◌, ℕ, ◌<◌, ◌||◌, true}
+use Rattle.acl_bridge.specs.Comparison.{asks_for}
+use Rattle.acl_bridge.proofs.requests.stranger.Given as goal
+
+-- the entries ask for each number so far
+abbrev pub invariant-loop-number : goal.invariant-loop-number
+invariant-loop-number l = (k : ℕ) → k < l.number → (asks_for l.owner k l.first || asks_for l.owner k l.second) ≡ true

@@ -1,0 +1,11 @@
+use Rattle.std.proofs.Common.{take}
+use Rattle.std.specs.List.{All}
+use Rattle.acl_posix.specs.Perms.{bits_of}
+use Rattle.acl_bridge.specs.Comparison.{GrantAlikeAt, OfEachTag}
+use Rattle.acl_bridge.specs.Translation.{who_of}
+use Rattle.acl_bridge.proofs.requests.unlike_of.Given as goal
+
+-- the entries so far tell no one
+abbrev pub invariant-loop-entry : goal.invariant-loop-entry
+invariant-loop-entry l =
+    All (λ entry. OfEachTag l.second (λ other. GrantAlikeAt l.first l.second l.asked.owner l.asked.group (bits_of l.asked.request) l.asked.stranger (who_of entry.tag) other)) (take l.entry-index l.entries)

@@ -1,0 +1,80 @@
+-- What a POSIX list decides, bit by bit, so that it can be compared with a list of either kind.
+use Rattle.std.specs.Prelude.{◌≡◌, ◌≢◌, ◌≤◌, ◌==◌, ℕ, zero, suc, ◌^◌, Bool, false, not, Some, List, length}
+use Rattle.std.specs.List.{All, list_any}
+use Rattle.acl_names.specs.Requester.{Identity}
+use Rattle.acl_posix.specs.Access.{grants}
+use Rattle.acl_posix.specs.Entry.{Triple}
+use Rattle.acl_posix.specs.Validity.{IsValid}
+use Rattle.acl_posix.specs.declared.entry.Tag.{Tag}
+use Rattle.acl_posix.specs.declared.entry.Tag.TheVariants.{UserObj, User}
+use Rattle.acl_nfs4.specs.Ace.{Nfsace4}
+use Rattle.acl_nfs4.specs.Comparison.{Decider, DecideAlike, asker_for, decided_by, identity_of, needed_uid}
+use Rattle.acl_nfs4.specs.Mask.{mode_bits, read, write, run}
+use Rattle.acl_nfs4.specs.declared.who.Who.{Who}
+use Rattle.acl_nfs4.specs.declared.who.Who.TheVariants.{Everyone}
+use Rattle.acl_bridge.specs.Translation.{who_of}
+use Rattle.acl_bridge.specs.declared.requests.Unlike.{Unlike}
+
+-- the place of the permission that a bit of a file mode stands for
+abbrev pub permission_of : ℕ → ℕ
+permission_of zero = read
+permission_of (suc zero) = write
+permission_of (suc (suc zero)) = write
+permission_of _ = run
+
+-- what a list decides about a file of this owner and this group: a bit as the permission alone that it stands for
+abbrev pub granted_by : List Triple → ℕ → ℕ → Decider
+granted_by acl owner group requester bit = grants acl owner group requester (2 ^ permission_of bit)
+
+-- each bit of a file mode is decided as the list decides its permission
+abbrev pub DecidesEachBit : List Triple → List Nfsace4 → Type 0
+DecidesEachBit acl aces = (owner group : ℕ) → DecideAlike (granted_by acl owner group) (decided_by aces owner group) mode_bits
+
+-- Lists that grant a request, of however many permissions, alike to everyone who is in at most two groups grant it alike to
+-- everyone.
+abbrev pub TwoGroupsSuffice : Type 0
+TwoGroupsSuffice =
+    (first second : List Triple) → IsValid first → IsValid second → (owner group request : ℕ)
+    → ((requester : Identity) → length requester.gids ≤ 2
+    → grants first owner group requester request ≡ grants second owner group requester request)
+    → (requester : Identity) → grants first owner group requester request ≡ grants second owner group requester request
+
+-- it holds of each who that entries stand for, and of everyone
+abbrev pub OfEachTag : List Triple → (Who → Type 0) → Type 0
+OfEachTag acl P = All (λ entry. P (who_of entry.tag)) acl × P Everyone
+
+-- whether an entry is this user's
+abbrev pub is_of_user : ℕ → ℕ → Tag → Bool
+is_of_user owner uid UserObj = owner == uid
+is_of_user owner uid (User named) = named == uid
+is_of_user owner uid _ = false
+
+abbrev pub asks_for : ℕ → ℕ → List Triple → Bool
+asks_for owner uid acl = list_any (λ entry. is_of_user owner uid entry.tag) acl
+
+-- no entry is this user's
+abbrev pub IsStranger : ℕ → List Triple → ℕ → Type 0
+IsStranger owner acl uid = All (λ entry. needed_uid owner (who_of entry.tag) ≢ Some uid) acl
+
+-- both lists grant the request alike to the requester
+abbrev pub GrantAlike : List Triple → List Triple → ℕ → ℕ → ℕ → Identity → Type 0
+GrantAlike first second owner group request requester = grants first owner group requester request ≡ grants second owner group requester request
+
+-- and to the asker of these two
+abbrev pub GrantAlikeAt : List Triple → List Triple → ℕ → ℕ → ℕ → ℕ → Who → Who → Type 0
+GrantAlikeAt first second owner group request stranger who other =
+    GrantAlike first second owner group request (asker_for owner group stranger who other)
+
+-- Lists that grant a request, of however many permissions, alike to the asker of each pair of entries grant it alike to
+-- everyone.
+abbrev pub PairsSuffice : Type 0
+PairsSuffice =
+    (first second : List Triple) → IsValid first → IsValid second → (owner group request stranger : ℕ)
+    → IsStranger owner first stranger → IsStranger owner second stranger
+    → OfEachTag first (λ who. OfEachTag second (λ other. GrantAlikeAt first second owner group request stranger who other))
+    → (requester : Identity) → GrantAlike first second owner group request requester
+
+-- one list grants the request to the asker, and the other doesn't
+pub record IsUnlike (first second : List Triple) (owner group request : ℕ) (unlike : Unlike) : Type 0 where
+  pub before : grants first owner group (identity_of unlike.asker) request ≡ unlike.before
+  pub after : grants second owner group (identity_of unlike.asker) request ≡ not unlike.before

@@ -1,0 +1,61 @@
+//! Comparing POSIX lists for everyone, through their translations.
+ghost use Rattle.std.specs.Prelude.{◌≡◌, ◌↔◌, None, IfOk, IfSome};
+ghost use Rattle.acl_nfs4.specs.Comparison.{DecideAlike, IsDifference, decided_by};
+ghost use Rattle.acl_nfs4.specs.Mask.{mask_bits, mode_bits};
+ghost use Rattle.acl_bridge.specs.Comparison.{DecidesEachBit, granted_by};
+
+use crate::translation::translate;
+use acl_names::{Gid, Uid};
+use acl_nfs4::{Acl4, Difference, Mask, mask_of};
+use acl_posix::{Acl, Perms};
+use std::alloc::{AllocError, Global};
+
+/// The bits that stand for permissions.
+fn mode_bits() -> Mask
+    ensures { mask_bits result ≡ mode_bits }
+{
+    mask_of(Perms::READ | Perms::WRITE | Perms::EXECUTE)
+}
+
+/// The list as an NFSv4 list, which decides each of these bits as the list decides its permission.
+fn translated(alloc: Global, acl: &Acl) -> Result<Acl4, AllocError>
+    ensures { IfOk result (DecidesEachBit acl.now) }
+{
+    // A list tells that it is valid where its entries are looked at.
+    let _entries = acl.entries();
+    translate(alloc, acl)
+}
+
+/// What a POSIX list and an NFSv4 list decide differently for a file of this owner and this group, of the bits that stand for
+/// permissions: none exactly where each of them is decided for every requester as its permission alone is; else someone in
+/// at most two groups, with what only the one and what only the other grants. It is refused only for want of memory.
+pub fn difference_from_posix(
+    alloc: Global,
+    acl: &Acl,
+    aces: &Acl4,
+    owner: Uid,
+    group: Gid,
+) -> Result<Option<Difference>, AllocError>
+    ensures none { IfOk result (λ found. (found ≡ None) ↔ DecideAlike (granted_by acl.now owner group) (decided_by aces.now owner group) mode_bits) }
+    ensures some { IfOk result (λ found. IfSome found (IsDifference (granted_by acl.now owner group) (decided_by aces.now owner group) mode_bits)) }
+{
+    let before = translated(alloc, acl)?;
+    Ok(before.difference(aces, owner, group, mode_bits()))
+}
+
+/// What two POSIX lists decide differently for a file of this owner and this group, of the permissions one by one: none
+/// exactly where each is granted to the same requesters, of whatever uid and groups; else someone in at most two groups, with
+/// what only the one and what only the other grants. It is refused only for want of memory.
+pub fn posix_difference(
+    alloc: Global,
+    first: &Acl,
+    second: &Acl,
+    owner: Uid,
+    group: Gid,
+) -> Result<Option<Difference>, AllocError>
+    ensures none { IfOk result (λ found. (found ≡ None) ↔ DecideAlike (granted_by first.now owner group) (granted_by second.now owner group) mode_bits) }
+    ensures some { IfOk result (λ found. IfSome found (IsDifference (granted_by first.now owner group) (granted_by second.now owner group) mode_bits)) }
+{
+    let after = translated(alloc, second)?;
+    difference_from_posix(alloc, first, &after, owner, group)
+}

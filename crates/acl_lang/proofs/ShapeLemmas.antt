@@ -1,0 +1,399 @@
+-- What a line asks for is what its words say, both ways.
+use Rattle.std.proofs.Common.{◌≡◌, ◌≢◌, ◌∙◌, ℕ, ◌≤◌, List, [], ◌∷◌, Option, Some, None, Ok, Err, Bool, true, false, ◌⊎◌, ap, ap₂, codes, inl, inr, length, ltb, map, refl, subst, sym, take, arith}
+use Rattle.std.proofs.lemmas.List.{take_all}
+use Rattle.std.proofs.lemmas.Bool.Decides.{nat_tests}
+use Rattle.std.proofs.lemmas.Slice.Eq.{bytes_eq-Decides}
+use Rattle.std.specs.Prelude.{Result, is_none, if◌then◌else◌}
+use Rattle.std.specs.Str.{bytes_eq}
+use Rattle.acl_names.proofs.StepLemmas.{bind_ok}
+use Rattle.acl_names.specs.Directory.{Known}
+use Rattle.acl_names.specs.ListText.{Say, Spells}
+use Rattle.acl_names.specs.Pieces.{after_word, first_word, pieces}
+use Rattle.acl_names.specs.Steps.{◌>>=◌}
+use Rattle.acl_nfs4.specs.Ace.{Nfsace4}
+use Rattle.acl_nfs4.specs.AceText.{piece_value}
+use Rattle.acl_nfs4.specs.declared.inheritance.Kind.{Kind}
+use Rattle.acl_nfs4.specs.declared.inheritance.Kind.TheVariants.{File, Dir}
+use Rattle.acl_nfs4.specs.declared.reading.PieceFault as aces
+use Rattle.acl_posix.proofs.ValidityLemmas.{valid_iff}
+use Rattle.acl_posix.specs.Entry.{Triple}
+use Rattle.acl_posix.specs.EntryText.{entry_of}
+use Rattle.acl_posix.specs.Validity.{fault_of}
+use Rattle.acl_posix.specs.declared.acl.Invalid.{Invalid}
+use Rattle.acl_posix.specs.declared.reading.PieceFault as entries
+use Rattle.acl_tree.specs.Path.{is_path}
+use Rattle.acl_tree.specs.declared.faults.LineFault.TheVariants.{BadPath, InvalidAcl, Syntax, TooMany}
+use Rattle.acl_tree.specs.declared.request.Request.{Request}
+use Rattle.acl_tree.specs.declared.request.Request.TheVariants.{Get, SetAccess, SetDefault, SetNfs4, Chmod, Create, Check, Check4, Translate, Bad}
+use Rattle.acl_lang.specs.Commands.{asked_by, check, check4, chmod, command, create, get, set, set_access, set_default, set_list, set_nfs4, translate}
+use Rattle.acl_lang.specs.Fields.{accepted, acl_of, aces_of, as_ace, as_entry, default_of, entries_of, kind_of, mask_of, mode_of, path_of, perms_of, user_of}
+use Rattle.acl_lang.specs.InOrder.{in_order}
+use Rattle.acl_lang.specs.Printed.{kind_text}
+use Rattle.acl_lang.specs.ReadList.{at_most_read, each_read}
+use Rattle.acl_lang.specs.Shapes.{Asks, IsPath, Sets, SpellsAcl, SpellsDefault}
+use Rattle.acl_lang.specs.Words.{words}
+use Rattle.acl_lang.proofs.ListLemmas.{aces_of-spelt, entries_of-spelt}
+use Rattle.acl_lang.proofs.ReadLemmas.{length-Say}
+
+-- Tests that gave a value.
+
+module _ {A F : Type 0} where
+  -- which branch did
+  branch : (b : Bool) (x y : Result A F) (value : A) → (if b then x else y) ≡ Ok value → ((b ≡ true) × (x ≡ Ok value)) ⊎ ((b ≡ false) × (y ≡ Ok value))
+  branch true x y value is = inl (refl, is)
+  branch false x y value is = inr (refl, is)
+
+  if_then : (b : Bool) (fault : F) (x y : A) → (if b then Ok x else Err fault) ≡ Ok y → (b ≡ true) × (x ≡ y)
+  if_then true fault x y is = (refl, cc)
+  if_then false fault x y is = cc
+
+  if_else : (b : Bool) (fault : F) (x y : A) → (if b then Err fault else Ok x) ≡ Ok y → (b ≡ false) × (x ≡ y)
+  if_else true fault x y is = cc
+  if_else false fault x y is = (refl, cc)
+
+is_word : (text word : List ℕ) → bytes_eq text word ≡ true → text ≡ word
+is_word text word same = (bytes_eq-Decides text word).0 same
+
+is_other : (text word : List ℕ) → bytes_eq text word ≡ false → text ≢ word
+is_other text word other is = let same = (bytes_eq-Decides text word).1 is in cc
+
+other_is : (b : Bool) (text word : List ℕ) → bytes_eq text word ≡ b → text ≢ word → b ≡ false
+other_is true text word same other = absurd (other (is_word text word same))
+other_is false text word same other = refl
+
+is_none-true : (fault : Option Invalid) → is_none fault ≡ true → fault ≡ None
+is_none-true None is = refl
+is_none-true (Some fault) is = cc
+
+-- Lists that are read.
+
+module _ {A F : Type 0} (read : List ℕ → Result A F) where
+  each_read-Say : (texts : List (List ℕ)) (values : List A) → each_read read texts ≡ Ok values → Say read texts values
+  each_read-Say [] [] is = refl
+  each_read-Say [] (value ∷ values) is = cc
+  each_read-Say (text ∷ texts) values is =
+      let one = bind_ok (read text) (λ first. each_read read texts >>= (λ rest. Ok (first ∷ rest))) values is in
+      let more = bind_ok (each_read read texts) (λ rest. Ok (one.0 ∷ rest)) values one.2 in
+      let said : map read texts ≡ map Ok more.0 = each_read-Say texts more.0 more.1 in
+      let all : one.0 ∷ more.0 ≡ values = cc in
+      subst (Say read (text ∷ texts)) all (ap₂ (λ first rest. first ∷ rest) one.1 said)
+
+  at_most_read-said : (too_many : F) (most : ℕ) (texts : List (List ℕ)) (values : List A) → at_most_read too_many most read texts ≡ Ok values
+      → Say read texts values × (length values ≤ most)
+  unfolding at_most_read
+  at_most_read-said too_many most texts values is =
+      let front = bind_ok (each_read read (take most texts)) (λ read_values. if ltb most (length texts) then Err too_many else Ok read_values) values is in
+      let test = if_else (ltb most (length texts)) too_many front.0 values front.2 in
+      let short : length texts ≤ most = grind (arith, nat_tests, test.0) in
+      let whole : take most texts ≡ texts = take_all most texts short in
+      let said : Say read texts values = subst (Say read texts) test.1 (each_read-Say texts front.0 (ap (each_read read) (sym whole) ∙ front.1)) in
+      let count = length-Say read texts values said in
+      (said, omega arith)
+
+module _ {A F G : Type 0} (value_of : List ℕ → Result A F) (read : List ℕ → Result A G)
+    (from_ok : (piece : List ℕ) (value : A) → read piece ≡ Ok value → value_of piece ≡ Ok value) where
+  Say-from : (texts : List (List ℕ)) (values : List A) → Say read texts values → Say value_of texts values
+  Say-from [] [] said = refl
+  Say-from [] (value ∷ values) said = cc
+  Say-from (text ∷ texts) [] said = cc
+  Say-from (text ∷ texts) (value ∷ values) said =
+      let is : read text ≡ Ok value = cc in
+      let more : map read texts ≡ map Ok values = cc in
+      rw (from_ok text value is, Say-from texts values more) refl
+
+as_entry-ok : (r : Result Triple entries.PieceFault) (entry : Triple) → as_entry r ≡ Ok entry → r ≡ Ok entry
+as_entry-ok (Ok x) entry is = cc
+as_entry-ok (Err fault) entry is = cc
+
+as_ace-ok : (r : Result Nfsace4 aces.PieceFault) (ace : Nfsace4) → as_ace r ≡ Ok ace → r ≡ Ok ace
+as_ace-ok (Ok x) ace is = cc
+as_ace-ok (Err fault) ace is = cc
+
+module _ (known : Known) where
+  entries_of-ok : (text : List ℕ) (list : List Triple) → entries_of known text ≡ Ok list → Spells (entry_of known) 64 text list
+  entries_of-ok text list is =
+      let said = at_most_read-said (λ piece. as_entry (entry_of known piece)) TooMany 64 (pieces text) list is in
+      record {
+        said = Say-from (entry_of known) (λ piece. as_entry (entry_of known piece)) (λ piece entry. as_entry-ok (entry_of known piece) entry) (pieces text) list said.0;
+        within = said.1;
+      }
+
+  aces_of-ok : (text : List ℕ) (list : List Nfsace4) → aces_of known text ≡ Ok list → Spells (piece_value known) 128 text list
+  aces_of-ok text list is =
+      let said = at_most_read-said (λ piece. as_ace (piece_value known piece)) TooMany 128 (pieces text) list is in
+      record {
+        said = Say-from (piece_value known) (λ piece. as_ace (piece_value known piece)) (λ piece ace. as_ace-ok (piece_value known piece) ace) (pieces text) list said.0;
+        within = said.1;
+      }
+
+  acl_of-ok : (text : List ℕ) (acl : List Triple) → acl_of known text ≡ Ok acl → SpellsAcl known text acl
+  acl_of-ok text acl is =
+      let read = bind_ok (entries_of known text) accepted acl is in
+      let test = if_then (is_none (fault_of read.0)) InvalidAcl (in_order read.0) acl read.2 in
+      record {
+        entries = read.0;
+        spelt = entries_of-ok text read.0 read.1;
+        valid = (valid_iff read.0).1 (is_none-true (fault_of read.0) test.0);
+        in_order_is = test.1;
+      }
+
+  acl_of-spelt : (text : List ℕ) (acl : List Triple) → SpellsAcl known text acl → acl_of known text ≡ Ok acl
+  acl_of-spelt text acl spells =
+      rw (entries_of-spelt known text spells.entries spells.spelt, (valid_iff spells.entries).0 spells.valid) (ap Ok spells.in_order_is)
+
+  default_of-ok : (text : List ℕ) (default : Option (List Triple)) → default_of known text ≡ Ok default → SpellsDefault known text default
+  default_of-ok text default is =
+      elim (branch (bytes_eq text (codes "none")) (Ok None) (acl_of known text >>= (λ acl. Ok (Some acl))) default is) [
+        | inl none ↦ subst (SpellsDefault known text) (let same : None ≡ default = cc in same) (is_word text (codes "none") none.0)
+        | inr other ↦
+            let read = bind_ok (acl_of known text) (λ acl. Ok (Some acl)) default other.1 in
+            let same : Some read.0 ≡ default = cc in
+            subst (SpellsDefault known text) same (is_other text (codes "none") other.0, acl_of-ok text read.0 read.1)
+      ]
+
+  default_of-spelt : (text : List ℕ) (default : Option (List Triple)) → SpellsDefault known text default → default_of known text ≡ Ok default
+  default_of-spelt text None none = rw none refl
+  default_of-spelt text (Some acl) (other, spells) =
+      rw (other_is (bytes_eq text (codes "none")) text (codes "none") refl other, acl_of-spelt text acl spells) refl
+
+-- Fields.
+
+path_of-ok : (text path : List ℕ) → path_of text ≡ Ok path → (text ≡ path) × IsPath path
+path_of-ok text path is =
+    let test = if_then (is_path text) BadPath text path is in
+    (test.1, subst IsPath test.1 test.0)
+
+kind_of-ok : (text : List ℕ) (kind : Kind) → kind_of text ≡ Ok kind → text ≡ kind_text kind
+kind_of-ok text kind is =
+    elim (branch (bytes_eq text (codes "file")) (Ok File) (if bytes_eq text (codes "dir") then Ok Dir else Err Syntax) kind is) [
+      | inl file ↦ let same : File ≡ kind = cc in is_word text (codes "file") file.0 ∙ ap kind_text same
+      | inr other ↦
+          let dir = if_then (bytes_eq text (codes "dir")) Syntax Dir kind other.1 in
+          is_word text (codes "dir") dir.0 ∙ ap kind_text dir.1
+    ]
+
+kind_of-text : (kind : Kind) → kind_of (kind_text kind) ≡ Ok kind
+kind_of-text File = refl
+kind_of-text Dir = refl
+
+-- Commands.
+
+module _ (known : Known) (line : List ℕ) where
+  get-asks : first_word line ≡ codes "get" → (fields : List (List ℕ)) → words (after_word line) ≡ fields → (request : Request) → get fields ≡ Ok request → Asks known line request
+  unfolding get
+  get-asks word [] are request read = cc
+  get-asks word (path ∷ []) are request read =
+      let at = bind_ok (path_of path) _ request read in
+      let there = path_of-ok path at.0 at.1 in
+      let same : Get at.0 ≡ request = cc in
+      subst (Asks known line) same (record { command_is = word; fields_are = are ∙ ap (λ p. p ∷ []) there.0 }, there.1)
+  get-asks word (path ∷ (more ∷ rest)) are request read = cc
+
+  translate-asks : first_word line ≡ codes "translate" → (fields : List (List ℕ)) → words (after_word line) ≡ fields → (request : Request) → translate fields ≡ Ok request → Asks known line request
+  unfolding translate
+  translate-asks word [] are request read = cc
+  translate-asks word (path ∷ []) are request read =
+      let at = bind_ok (path_of path) _ request read in
+      let there = path_of-ok path at.0 at.1 in
+      let same : Translate at.0 ≡ request = cc in
+      subst (Asks known line) same (record { command_is = word; fields_are = are ∙ ap (λ p. p ∷ []) there.0 }, there.1)
+  translate-asks word (path ∷ (more ∷ rest)) are request read = cc
+
+  chmod-asks : first_word line ≡ codes "chmod" → (fields : List (List ℕ)) → words (after_word line) ≡ fields → (request : Request) → chmod fields ≡ Ok request → Asks known line request
+  unfolding chmod
+  chmod-asks word [] are request read = cc
+  chmod-asks word (path ∷ []) are request read = cc
+  chmod-asks word (path ∷ (digits ∷ [])) are request read =
+      let at = bind_ok (path_of path) _ request read in
+      let there = path_of-ok path at.0 at.1 in
+      let mode = bind_ok (mode_of digits) _ request at.2 in
+      let same : Chmod at.0 mode.0 ≡ request = cc in
+      subst (Asks known line) same (digits, record { command_is = word; fields_are = are ∙ ap (λ p. p ∷ digits ∷ []) there.0 }, there.1, mode.1)
+  chmod-asks word (path ∷ (digits ∷ (more ∷ rest))) are request read = cc
+
+  create-asks : first_word line ≡ codes "create" → (fields : List (List ℕ)) → words (after_word line) ≡ fields → (request : Request) → create known fields ≡ Ok request → Asks known line request
+  unfolding create
+  create-asks word [] are request read = cc
+  create-asks word (kind ∷ []) are request read = cc
+  create-asks word (kind ∷ (path ∷ [])) are request read = cc
+  create-asks word (kind ∷ (path ∷ (name ∷ []))) are request read = cc
+  create-asks word (kind ∷ (path ∷ (name ∷ (digits ∷ [])))) are request read =
+      let made = bind_ok (kind_of kind) _ request read in
+      let at = bind_ok (path_of path) _ request made.2 in
+      let there = path_of-ok path at.0 at.1 in
+      let user = bind_ok (user_of known name) _ request at.2 in
+      let mode = bind_ok (mode_of digits) _ request user.2 in
+      let same : Create made.0 at.0 user.0 mode.0 ≡ request = cc in
+      subst (Asks known line) same (
+        name,
+        digits,
+        record { command_is = word; fields_are = are ∙ ap₂ (λ k p. k ∷ p ∷ name ∷ digits ∷ []) (kind_of-ok kind made.0 made.1) there.0 },
+        there.1,
+        user.1,
+        mode.1,
+      )
+  create-asks word (kind ∷ (path ∷ (name ∷ (digits ∷ (more ∷ rest))))) are request read = cc
+
+  check-asks : first_word line ≡ codes "check" → (fields : List (List ℕ)) → words (after_word line) ≡ fields → (request : Request) → check known fields ≡ Ok request → Asks known line request
+  unfolding check
+  check-asks word [] are request read = cc
+  check-asks word (path ∷ []) are request read = cc
+  check-asks word (path ∷ (name ∷ [])) are request read = cc
+  check-asks word (path ∷ (name ∷ (letters ∷ []))) are request read =
+      let at = bind_ok (path_of path) _ request read in
+      let there = path_of-ok path at.0 at.1 in
+      let user = bind_ok (user_of known name) _ request at.2 in
+      let perms = bind_ok (perms_of letters) _ request user.2 in
+      let same : Check at.0 user.0 perms.0 ≡ request = cc in
+      subst (Asks known line) same (
+        name,
+        letters,
+        record { command_is = word; fields_are = are ∙ ap (λ p. p ∷ name ∷ letters ∷ []) there.0 },
+        there.1,
+        user.1,
+        perms.1,
+      )
+  check-asks word (path ∷ (name ∷ (letters ∷ (more ∷ rest)))) are request read = cc
+
+  check4-asks : first_word line ≡ codes "check4" → (fields : List (List ℕ)) → words (after_word line) ≡ fields → (request : Request) → check4 known fields ≡ Ok request → Asks known line request
+  unfolding check4
+  check4-asks word [] are request read = cc
+  check4-asks word (path ∷ []) are request read = cc
+  check4-asks word (path ∷ (name ∷ [])) are request read = cc
+  check4-asks word (path ∷ (name ∷ (letters ∷ []))) are request read =
+      let at = bind_ok (path_of path) _ request read in
+      let there = path_of-ok path at.0 at.1 in
+      let user = bind_ok (user_of known name) _ request at.2 in
+      let mask = bind_ok (mask_of letters) _ request user.2 in
+      let same : Check4 at.0 user.0 mask.0 ≡ request = cc in
+      subst (Asks known line) same (
+        name,
+        letters,
+        record { command_is = word; fields_are = are ∙ ap (λ p. p ∷ name ∷ letters ∷ []) there.0 },
+        there.1,
+        user.1,
+        mask.1,
+      )
+  check4-asks word (path ∷ (name ∷ (letters ∷ (more ∷ rest)))) are request read = cc
+
+  -- `set`, whose words are cut one by one
+  module _ (word : first_word line ≡ codes "set") (path text : List ℕ) (path_is : first_word (after_word line) ≡ path)
+      (text_is : after_word (after_word (after_word line)) ≡ text) (filled : text ≢ []) (request : Request) where
+    sets : (kind at : List ℕ) → first_word (after_word (after_word line)) ≡ kind → path ≡ at → Sets line at kind text
+    sets kind at kind_is there = record { command_is = word; path_is = path_is ∙ there; kind_is = kind_is; text_is = text_is; filled = filled }
+
+    access-asks : first_word (after_word (after_word line)) ≡ codes "access" → set_access known path text ≡ Ok request → Asks known line request
+    unfolding set_access
+    access-asks kind read =
+        let at = bind_ok (path_of path) _ request read in
+        let there = path_of-ok path at.0 at.1 in
+        let acl = bind_ok (acl_of known text) _ request at.2 in
+        let same : SetAccess at.0 acl.0 ≡ request = cc in
+        subst (Asks known line) same (text, sets (codes "access") at.0 kind there.0, there.1, acl_of-ok known text acl.0 acl.1)
+
+    default-asks : first_word (after_word (after_word line)) ≡ codes "default" → set_default known path text ≡ Ok request → Asks known line request
+    unfolding set_default
+    default-asks kind read =
+        let at = bind_ok (path_of path) _ request read in
+        let there = path_of-ok path at.0 at.1 in
+        let default = bind_ok (default_of known text) _ request at.2 in
+        let same : SetDefault at.0 default.0 ≡ request = cc in
+        subst (Asks known line) same (text, sets (codes "default") at.0 kind there.0, there.1, default_of-ok known text default.0 default.1)
+
+    nfs4-asks : first_word (after_word (after_word line)) ≡ codes "nfs4" → set_nfs4 known path text ≡ Ok request → Asks known line request
+    unfolding set_nfs4
+    nfs4-asks kind read =
+        let at = bind_ok (path_of path) _ request read in
+        let there = path_of-ok path at.0 at.1 in
+        let aces = bind_ok (aces_of known text) _ request at.2 in
+        let same : SetNfs4 at.0 aces.0 ≡ request = cc in
+        subst (Asks known line) same (text, sets (codes "nfs4") at.0 kind there.0, there.1, aces_of-ok known text aces.0 aces.1)
+
+  set-asks : first_word line ≡ codes "set" → (path kind text : List ℕ) → first_word (after_word line) ≡ path → first_word (after_word (after_word line)) ≡ kind
+      → after_word (after_word (after_word line)) ≡ text → (request : Request) → set_list known path kind text ≡ Ok request → Asks known line request
+  set-asks word path kind [] path_is kind_is text_is request read = cc
+  set-asks word path kind (byte ∷ bytes) path_is kind_is text_is request read =
+      let text = byte ∷ bytes in
+      let filled : text ≢ [] = λ none. cc in
+      elim (branch (bytes_eq kind (codes "access")) (set_access known path text) _ request read) [
+        | inl access ↦ access-asks word path text path_is text_is filled request (kind_is ∙ is_word kind (codes "access") access.0) access.1
+        | inr other ↦ elim (branch (bytes_eq kind (codes "default")) (set_default known path text) _ request other.1) [
+          | inl default ↦ default-asks word path text path_is text_is filled request (kind_is ∙ is_word kind (codes "default") default.0) default.1
+          | inr another ↦ elim (branch (bytes_eq kind (codes "nfs4")) (set_nfs4 known path text) _ request another.1) [
+            | inl nfs4 ↦ nfs4-asks word path text path_is text_is filled request (kind_is ∙ is_word kind (codes "nfs4") nfs4.0) nfs4.1
+            | inr none ↦ let wrong = none.1 in cc
+          ]
+        ]
+      ]
+
+  -- what is asked for, the words say
+  pub asked_by-asks : (request : Request) → asked_by known line ≡ Ok request → Asks known line request
+  unfolding command
+  asked_by-asks request read =
+      let word = first_word line in
+      let fields = after_word line in
+      let is : (text : List ℕ) → bytes_eq word text ≡ true → first_word line ≡ text = λ text same. is_word word text same in
+      elim (branch (bytes_eq word (codes "get")) (get (words fields)) _ request read) [
+        | inl one ↦ get-asks (is (codes "get") one.0) (words fields) refl request one.1
+        | inr read2 ↦ elim (branch (bytes_eq word (codes "set")) (set known fields) _ request read2.1) [
+          | inl one ↦ set-asks (is (codes "set") one.0) _ _ _ refl refl refl request one.1
+          | inr read3 ↦ elim (branch (bytes_eq word (codes "chmod")) (chmod (words fields)) _ request read3.1) [
+            | inl one ↦ chmod-asks (is (codes "chmod") one.0) (words fields) refl request one.1
+            | inr read4 ↦ elim (branch (bytes_eq word (codes "create")) (create known (words fields)) _ request read4.1) [
+              | inl one ↦ create-asks (is (codes "create") one.0) (words fields) refl request one.1
+              | inr read5 ↦ elim (branch (bytes_eq word (codes "check")) (check known (words fields)) _ request read5.1) [
+                | inl one ↦ check-asks (is (codes "check") one.0) (words fields) refl request one.1
+                | inr read6 ↦ elim (branch (bytes_eq word (codes "check4")) (check4 known (words fields)) _ request read6.1) [
+                  | inl one ↦ check4-asks (is (codes "check4") one.0) (words fields) refl request one.1
+                  | inr read7 ↦ elim (branch (bytes_eq word (codes "translate")) (translate (words fields)) _ request read7.1) [
+                    | inl one ↦ translate-asks (is (codes "translate") one.0) (words fields) refl request one.1
+                    | inr none ↦ let wrong = none.1 in cc
+                  ]
+                ]
+              ]
+            ]
+          ]
+        ]
+      ]
+
+  -- what the words say is asked for
+
+  path_of-is : (path : List ℕ) → IsPath path → path_of path ≡ Ok path
+  path_of-is path is = rw is refl
+
+  set-said : (path kind text : List ℕ) → Sets line path kind text → asked_by known line ≡ set_list known path kind text
+  unfolding command
+  set-said path kind text says = rw (says.command_is, says.path_is, says.kind_is, says.text_is) refl
+
+  filled_list : (path kind text : List ℕ) → text ≢ [] → (request : Request)
+      → ((byte : ℕ) (bytes : List ℕ) → text ≡ byte ∷ bytes → set_list known path kind (byte ∷ bytes) ≡ Ok request) → set_list known path kind text ≡ Ok request
+  filled_list path kind [] filled request reads = absurd (filled refl)
+  filled_list path kind (byte ∷ bytes) filled request reads = reads byte bytes refl
+
+  pub asks-asked_by : (request : Request) → Asks known line request → asked_by known line ≡ Ok request
+  unfolding command get translate chmod create check check4 set_access set_default set_nfs4
+  asks-asked_by (Get path) (says, there) = rw (says.command_is, says.fields_are, path_of-is path there) refl
+  asks-asked_by (Translate path) (says, there) = rw (says.command_is, says.fields_are, path_of-is path there) refl
+  asks-asked_by (Chmod path mode) (digits, says, there, mode_is) = rw (says.command_is, says.fields_are, path_of-is path there, mode_is) refl
+  asks-asked_by (Create kind path user mode) (name, digits, says, there, user_is, mode_is) =
+      rw (says.command_is, says.fields_are, kind_of-text kind, path_of-is path there, user_is, mode_is) refl
+  asks-asked_by (Check path user perms) (name, letters, says, there, user_is, perms_are) =
+      rw (says.command_is, says.fields_are, path_of-is path there, user_is, perms_are) refl
+  asks-asked_by (Check4 path user mask) (name, letters, says, there, user_is, mask_is) =
+      rw (says.command_is, says.fields_are, path_of-is path there, user_is, mask_is) refl
+  asks-asked_by (SetAccess path acl) (text, says, there, spells) =
+      set-said path (codes "access") text says
+      ∙ filled_list path (codes "access") text says.filled (SetAccess path acl) (λ byte bytes is.
+      let read : acl_of known (byte ∷ bytes) ≡ Ok acl = subst (λ t. acl_of known t ≡ Ok acl) is (acl_of-spelt known text acl spells) in
+      rw (path_of-is path there, read) refl)
+  asks-asked_by (SetDefault path default) (text, says, there, spells) =
+      set-said path (codes "default") text says
+      ∙ filled_list path (codes "default") text says.filled (SetDefault path default) (λ byte bytes is.
+      let read : default_of known (byte ∷ bytes) ≡ Ok default = subst (λ t. default_of known t ≡ Ok default) is (default_of-spelt known text default spells) in
+      rw (path_of-is path there, read) refl)
+  asks-asked_by (SetNfs4 path aces) (text, says, there, spells) =
+      set-said path (codes "nfs4") text says
+      ∙ filled_list path (codes "nfs4") text says.filled (SetNfs4 path aces) (λ byte bytes is.
+      let read : aces_of known (byte ∷ bytes) ≡ Ok aces = subst (λ t. aces_of known t ≡ Ok aces) is (aces_of-spelt known text aces spells) in
+      rw (path_of-is path there, read) refl)
+  asks-asked_by (Bad fault) never = absurd never

@@ -1,0 +1,222 @@
+//! Answers, and how they are printed.
+
+ghost use Rattle.std.specs.Prelude.{◌≡◌, ◌++◌, ◌∷◌, [], ◌+◌, ◌<◌, length, take, codes, OnOk, OnErr};
+ghost use Rattle.acl_posix.specs.Perms.{bits_of};
+ghost use Rattle.acl_lang.specs.Printed.{acl_text, answer_text, below_text, error_text, head_text, kind_text, line_fault_word, mode_text, owners_text, reply_text, style_text, tree_fault_word, view_text};
+
+use acl_names::{Directory, Gid, Uid, push_id};
+use acl_nfs4::Kind;
+use acl_posix::{Acl, Mode};
+use acl_tree::{LineFault, NodeAcl, Reply, TreeFault, View};
+use bitflags::Flags;
+use std::alloc::AllocError;
+
+/// A reply with the number of the line that it answers.
+#[derive(Debug, Drop)]
+pub struct Answer {
+    pub line: u32,
+    pub reply: Reply,
+}
+
+/// Appends the answer: the number of its line, and the reply, on one line or, with lists, on several. For want of memory
+/// `out` is as it was.
+pub fn render(answer: &Answer, directory: &Directory, out: &mut Vec<u8>) -> Result<(), AllocError>
+    ensures text { OnOk result (out.new.items ≡ out.old.items ++ answer_text directory.now answer.now) }
+    ensures unchanged { OnErr result (out.new.items ≡ out.old.items) }
+{
+    let old_len = out.len();
+    let printed = push_answer(answer, directory, out);
+    if printed.is_err() {
+        out.truncate(old_len);
+    }
+    printed
+}
+
+fn push_answer(answer: &Answer, directory: &Directory, out: &mut Vec<u8>) -> Result<(), AllocError>
+    ensures text { OnOk result (out.new.items ≡ out.old.items ++ answer_text directory.now answer.now) }
+    ensures kept { take (length out.old.items) out.new.items ≡ out.old.items }
+{
+    push_id(None, answer.line, out)?;
+    out.extend_from_slice(b" ")?;
+    push_reply(&answer.reply, directory, out)
+}
+
+fn push_reply(reply: &Reply, directory: &Directory, out: &mut Vec<u8>) -> Result<(), AllocError>
+    ensures text { OnOk result (out.new.items ≡ out.old.items ++ reply_text directory.now reply.now) }
+    ensures kept { take (length out.old.items) out.new.items ≡ out.old.items }
+{
+    match reply {
+        Reply::Done => out.extend_from_slice(b"ok\n"),
+        Reply::Granted => out.extend_from_slice(b"granted\n"),
+        Reply::Denied => out.extend_from_slice(b"denied\n"),
+        Reply::Node(view) => push_view(view, directory, out),
+        Reply::Translated(acl) => {
+            out.extend_from_slice(b"translated\n")?;
+            acl.print_aces(directory, out)
+        }
+        Reply::TranslatedBoth { access, inherit } => {
+            out.extend_from_slice(b"translated\n")?;
+            access.print_aces(directory, out)?;
+            inherit.print_aces(directory, out)
+        }
+        Reply::Refused(fault) => push_error(fault.number(), tree_fault_word(*fault), out),
+        Reply::Fault(fault) => push_error(fault.number(), line_fault_word(*fault), out),
+    }
+}
+
+/// Appends `error CODE WORD`.
+fn push_error(code: u8, word: &[u8], out: &mut Vec<u8>) -> Result<(), AllocError>
+    ensures text { OnOk result (out.new.items ≡ out.old.items ++ error_text code word.now) }
+    ensures kept { take (length out.old.items) out.new.items ≡ out.old.items }
+{
+    out.extend_from_slice(b"error ")?;
+    push_id(None, u32::from(code), out)?;
+    out.extend_from_slice(b" ")?;
+    out.extend_from_slice(word)?;
+    out.extend_from_slice(b"\n")
+}
+
+fn tree_fault_word(fault: TreeFault) -> &'static [u8]
+    ensures { result.now ≡ tree_fault_word fault }
+{
+    match fault {
+        TreeFault::NoSuchPath => b"no-such-path",
+        TreeFault::Exists => b"exists",
+        TreeFault::NotADirectory => b"not-a-directory",
+        TreeFault::WrongStyle => b"wrong-style",
+        TreeFault::DefaultOnFile => b"default-on-file",
+        TreeFault::InheritOnFile => b"inherit-on-file",
+        TreeFault::Full => b"full",
+        TreeFault::TooMany => b"too-many",
+    }
+}
+
+fn line_fault_word(fault: LineFault) -> &'static [u8]
+    ensures { result.now ≡ line_fault_word fault }
+{
+    match fault {
+        LineFault::Syntax => b"syntax",
+        LineFault::BadPath => b"bad-path",
+        LineFault::BadMode => b"bad-mode",
+        LineFault::BadPerms => b"bad-perms",
+        LineFault::UnknownName => b"unknown-name",
+        LineFault::BadAcl => b"bad-acl",
+        LineFault::InvalidAcl => b"invalid-acl",
+        LineFault::TooMany => b"too-many",
+        LineFault::InheritOnly => b"inherit-only",
+        LineFault::LineTooLong => b"line-too-long",
+    }
+}
+
+fn push_view(view: &View, directory: &Directory, out: &mut Vec<u8>) -> Result<(), AllocError>
+    ensures text { OnOk result (out.new.items ≡ out.old.items ++ view_text directory.now view.now) }
+    ensures kept { take (length out.old.items) out.new.items ≡ out.old.items }
+{
+    push_head(view, directory, out)?;
+    out.extend_from_slice(b"\n")?;
+    push_acl(&view.acl, directory, out)
+}
+
+/// Appends `get PATH KIND OWNER GROUP MODE STYLE`.
+fn push_head(view: &View, directory: &Directory, out: &mut Vec<u8>) -> Result<(), AllocError>
+    ensures text { OnOk result (out.new.items ≡ out.old.items ++ head_text directory.now view.now) }
+    ensures kept { take (length out.old.items) out.new.items ≡ out.old.items }
+{
+    push_what(view, out)?;
+    push_owners(view.owner, view.group, directory, out)?;
+    push_how(view, out)
+}
+
+/// Appends `get PATH KIND` and a blank.
+fn push_what(view: &View, out: &mut Vec<u8>) -> Result<(), AllocError>
+    ensures text { OnOk result (out.new.items ≡ out.old.items ++ (codes "get " ++ (view.now.path ++ 32 ∷ (kind_text view.now.kind ++ 32 ∷ [])))) }
+    ensures kept { take (length out.old.items) out.new.items ≡ out.old.items }
+{
+    out.extend_from_slice(b"get ")?;
+    out.extend_from_slice(view.path.as_bytes())?;
+    out.extend_from_slice(b" ")?;
+    out.extend_from_slice(kind_text(view.kind))?;
+    out.extend_from_slice(b" ")
+}
+
+/// Appends a blank and `MODE STYLE`.
+fn push_how(view: &View, out: &mut Vec<u8>) -> Result<(), AllocError>
+    ensures text { OnOk result (out.new.items ≡ out.old.items ++ (32 ∷ mode_text view.now.mode ++ 32 ∷ style_text view.now.acl)) }
+    ensures kept { take (length out.old.items) out.new.items ≡ out.old.items }
+{
+    out.extend_from_slice(b" ")?;
+    out.extend_from_slice(&mode_text(view.mode))?;
+    out.extend_from_slice(b" ")?;
+    out.extend_from_slice(style_text(&view.acl))
+}
+
+/// Appends `OWNER GROUP`.
+fn push_owners(
+    owner: Uid,
+    group: Gid,
+    directory: &Directory,
+    out: &mut Vec<u8>,
+) -> Result<(), AllocError>
+    ensures text { OnOk result (out.new.items ≡ out.old.items ++ owners_text directory.now owner group) }
+    ensures kept { take (length out.old.items) out.new.items ≡ out.old.items }
+{
+    push_id(directory.user_name(owner), owner.value(), out)?;
+    out.extend_from_slice(b" ")?;
+    push_id(directory.group_name(group), group.value(), out)
+}
+
+fn kind_text(kind: Kind) -> &'static [u8]
+    ensures { result.now ≡ kind_text kind }
+{
+    match kind {
+        Kind::File => b"file",
+        Kind::Dir => b"dir",
+    }
+}
+
+/// Three octal digits.
+fn mode_text(mode: Mode) -> [u8; 3]
+    ensures { result ≡ mode_text mode }
+{
+    [
+        b'0' + mode.user.bits(),
+        b'0' + mode.group.bits(),
+        b'0' + mode.other.bits(),
+    ]
+}
+
+fn style_text(acl: &NodeAcl) -> &'static [u8]
+    ensures { result.now ≡ style_text acl.now }
+{
+    match acl {
+        NodeAcl::Posix { .. } => b"posix",
+        NodeAcl::Nfs4 { .. } => b"nfs4",
+    }
+}
+
+fn push_acl(acl: &NodeAcl, directory: &Directory, out: &mut Vec<u8>) -> Result<(), AllocError>
+    ensures text { OnOk result (out.new.items ≡ out.old.items ++ acl_text directory.now acl.now) }
+    ensures kept { take (length out.old.items) out.new.items ≡ out.old.items }
+{
+    match acl {
+        NodeAcl::Posix { access, default } => {
+            access.print_effective(directory, out)?;
+            push_default(default, directory, out)
+        }
+        NodeAcl::Nfs4 { acl } => acl.print_aces(directory, out),
+    }
+}
+
+fn push_default(
+    default: &Option<Acl>,
+    directory: &Directory,
+    out: &mut Vec<u8>,
+) -> Result<(), AllocError>
+    ensures text { OnOk result (out.new.items ≡ out.old.items ++ below_text directory.now default.now) }
+    ensures kept { take (length out.old.items) out.new.items ≡ out.old.items }
+{
+    match default {
+        Some(acl) => acl.print_default(directory, out),
+        None => Ok(()),
+    }
+}

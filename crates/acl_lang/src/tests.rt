@@ -1,0 +1,8 @@
+//! Worked examples.
+mod fixture;
+mod hostile;
+mod lines;
+mod printed;
+mod refused_growths;
+mod sizes;
+mod texts;

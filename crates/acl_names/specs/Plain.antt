@@ -1,0 +1,37 @@
+-- Pieces that stand in a text plainly, with no blank and no comment.
+use Rattle.std.specs.Prelude.{◌≡◌, ℕ, ◌<◌, Bool, true, not, ◌&&◌, ◌||◌, ◌==◌, List, ◌∷◌, ◌++◌, length, Option, Some, Result, Ok}
+use Rattle.std.specs.List.{All}
+use Rattle.acl_names.specs.Ids.{decimal_value}
+use Rattle.acl_names.specs.Pieces.{is_blank}
+
+-- neither a blank nor a byte that cuts a text into pieces
+abbrev pub is_plain : ℕ → Bool
+is_plain byte = not (is_blank byte) && (not (byte == 10) && (not (byte == 35) && not (byte == 44)))
+
+abbrev pub IsPlain : List ℕ → Type 0
+IsPlain text = All (λ byte. is_plain byte ≡ true) text
+
+-- a byte that stands in a plain piece's field
+abbrev pub is_field_byte : ℕ → Bool
+is_field_byte byte = is_plain byte && not (byte == 58)
+
+-- a byte that ends one: a blank, or one that cuts a text into pieces or a piece into fields
+abbrev pub ends_field : ℕ → Bool
+ends_field byte = (byte == 32) || (byte == 9) || (byte == 58) || (byte == 44) || (byte == 35) || (byte == 10)
+
+abbrev pub IsField : List ℕ → Type 0
+IsField text = All (λ byte. is_field_byte byte ≡ true) text
+
+-- the text begins with a plain piece that says the value, and this is the rest of it
+pub record IsFront {A F : Type 0} (value_of : List ℕ → Result A F) (text : List ℕ) (value : A) (rest : List ℕ) : Type 0 where
+  pub piece : List ℕ
+  pub cut : text ≡ piece ++ rest
+  pub some : 0 < length piece
+  pub plain : IsPlain piece
+  pub said : value_of piece ≡ Ok value
+
+-- the text begins with a decimal of this id and a separator, and this is the rest of it
+pub record BeginsWithDecimal (separator : ℕ) (text : List ℕ) (id : ℕ) (rest : List ℕ) : Type 0 where
+  pub digits : List ℕ
+  pub cut : text ≡ digits ++ separator ∷ rest
+  pub writes : decimal_value digits ≡ Some id

@@ -1,0 +1,274 @@
+-- Why the askers of all pairs of entries tell whether two lists decide alike for everyone.
+use Rattle.std.proofs.Common.{◌≡◌, ◌≤◌, ◌==◌, ℕ, Bool, true, false, cond, ◌&&◌, ◌||◌, refl, sym, ap, ap₂, subst, ◌∙◌, ◌⊎◌, inl, inr, List, [], ◌∷◌, ◌++◌, Option, Some, None, length, arith}
+use Rattle.std.specs.Prelude.{find, option_map, option_to_list, unwrap_or}
+use Rattle.std.specs.List.{All, list_any}
+use Rattle.std.proofs.lemmas.Bool.{true≢false, and_parts, or_cases, eqb-true, eq-eqb}
+use Rattle.std.proofs.lemmas.List.Elements.{All-head, All-tail}
+use Rattle.acl_names.specs.Bits.{has}
+use Rattle.acl_names.specs.Requester.{Identity, is_in_group}
+use Rattle.acl_names.proofs.AnyLemmas.{or_true, or_false, list_any-append}
+use Rattle.acl_nfs4.specs.Ace.{Nfsace4, decides, is_allow}
+use Rattle.acl_nfs4.specs.Comparison.{AlikeFor, needed_uid, needed_gid, asker_for, IsStranger, OfEachWho, PairsSuffice, TwoGroupsSuffice}
+use Rattle.acl_nfs4.specs.Evaluation.{speaks, allows}
+use Rattle.acl_nfs4.specs.Who.{matches}
+use Rattle.acl_nfs4.specs.declared.who.Who.{Who}
+use Rattle.acl_nfs4.specs.declared.who.Who.TheVariants.{Owner, Group, Everyone, User, NamedGroup}
+use Rattle.acl_nfs4.proofs.Evaluated.{allows-cons}
+
+-- ---- fewer entries apply, but the first that speaks still does
+
+-- whom the first entry that speaks of the bit is about; everyone, where none speaks
+abbrev pub speaker : (Who → Bool) → ℕ → List Nfsace4 → Who
+speaker applies bit aces = unwrap_or (option_map (λ (ace : Nfsace4). ace.who) (find (speaks applies bit) aces)) Everyone
+
+speaker-cons : (applies : Who → Bool) (bit : ℕ) (ace : Nfsace4) (rest : List Nfsace4)
+    → speaker applies bit (ace ∷ rest) ≡ cond (speaks applies bit ace) ace.who (speaker applies bit rest)
+speaker-cons applies bit ace rest =
+    elim (speaks applies bit ace)
+    as (λ b. unwrap_or (option_map (λ (other : Nfsace4). other.who) (cond b (Some ace) (find (speaks applies bit) rest))) Everyone
+    ≡ cond b ace.who (speaker applies bit rest))
+    [ true ↦ refl | false ↦ refl ]
+
+-- what holds of each who holds of the speaker
+pub speaker-holds : (P : Who → Type 0) (applies : Who → Bool) (bit : ℕ) (aces : List Nfsace4) → OfEachWho aces P → P (speaker applies bit aces)
+speaker-holds P applies bit [] each = each.1
+speaker-holds P applies bit (ace ∷ rest) each =
+    subst P (sym (speaker-cons applies bit ace rest))
+    (go (speaks applies bit ace) (speaker-holds P applies bit rest (All-tail (λ (other : Nfsace4). P other.who) ace rest each.0, each.1)))
+  where
+    go : (b : Bool) → P (speaker applies bit rest) → P (cond b ace.who (speaker applies bit rest))
+    go true later = All-head (λ (other : Nfsace4). P other.who) ace rest each.0
+    go false later = later
+
+-- the speaker applies
+pub speaker-applies : (applies : Who → Bool) (bit : ℕ) (aces : List Nfsace4) → applies Everyone ≡ true → applies (speaker applies bit aces) ≡ true
+unfolding speaks
+speaker-applies applies bit [] everyone = everyone
+speaker-applies applies bit (ace ∷ rest) everyone =
+    ap applies (speaker-cons applies bit ace rest) ∙ go (speaks applies bit ace) refl (speaker-applies applies bit rest everyone)
+  where
+    go : (b : Bool) → speaks applies bit ace ≡ b → applies (speaker applies bit rest) ≡ true → applies (cond b ace.who (speaker applies bit rest)) ≡ true
+    go true spoken later = (and_parts (applies ace.who) (has ace.mask bit) (and_parts (decides ace) _ spoken).1).0
+    go false spoken later = later
+
+-- each entry that applies to the fewer applies to the others
+abbrev pub Narrows : (Who → Bool) → (Who → Bool) → List Nfsace4 → Type 0
+Narrows fewer applies aces = All (λ ace. fewer ace.who ≡ true → applies ace.who ≡ true) aces
+
+pub same_speaker : (fewer applies : Who → Bool) (bit : ℕ) (aces : List Nfsace4) → Narrows fewer applies aces
+    → fewer (speaker applies bit aces) ≡ true → allows fewer bit aces ≡ allows applies bit aces
+unfolding speaks
+same_speaker fewer applies bit [] narrows still = refl
+same_speaker fewer applies bit (ace ∷ rest) narrows still =
+    allows-cons fewer bit ace rest
+    ∙ go (same_speaker fewer applies bit rest later) (speaks applies bit ace) refl (sym (ap fewer (speaker-cons applies bit ace rest)) ∙ still)
+    ∙ sym (allows-cons applies bit ace rest)
+  where
+    here : fewer ace.who ≡ true → applies ace.who ≡ true
+    here = All-head (λ (other : Nfsace4). fewer other.who ≡ true → applies other.who ≡ true) ace rest narrows
+
+    later : Narrows fewer applies rest
+    later = All-tail (λ (other : Nfsace4). fewer other.who ≡ true → applies other.who ≡ true) ace rest narrows
+
+    speaks_too : speaks applies bit ace ≡ true → fewer ace.who ≡ true → speaks fewer bit ace ≡ true
+    speaks_too spoken f =
+        let parts = and_parts (decides ace) (applies ace.who && has ace.mask bit) spoken in
+        let inner = and_parts (applies ace.who) (has ace.mask bit) parts.1 in
+        ap₂ (λ a b. a && b) parts.0 (ap₂ (λ a b. a && b) f inner.1)
+
+    spoke_before : speaks fewer bit ace ≡ true → speaks applies bit ace ≡ true
+    spoke_before spoken =
+        let parts = and_parts (decides ace) (fewer ace.who && has ace.mask bit) spoken in
+        let inner = and_parts (fewer ace.who) (has ace.mask bit) parts.1 in
+        ap₂ (λ a b. a && b) parts.0 (ap₂ (λ a b. a && b) (here inner.0) inner.1)
+
+    silent : (b : Bool) → speaks fewer bit ace ≡ b → speaks applies bit ace ≡ false → b ≡ false
+    silent true e not_before = absurd (true≢false (sym (spoke_before e) ∙ not_before))
+    silent false e not_before = refl
+
+    go : (fewer (speaker applies bit rest) ≡ true → allows fewer bit rest ≡ allows applies bit rest)
+        → (b : Bool) → speaks applies bit ace ≡ b → fewer (cond b ace.who (speaker applies bit rest)) ≡ true
+        → cond (speaks fewer bit ace) (is_allow ace.kind) (allows fewer bit rest)
+        ≡ cond (speaks applies bit ace) (is_allow ace.kind) (allows applies bit rest)
+    go below true e f =
+        ap (λ s. cond s (is_allow ace.kind) (allows fewer bit rest)) (speaks_too e f)
+        ∙ sym (ap (λ s. cond s (is_allow ace.kind) (allows applies bit rest)) e)
+    go below false e f =
+        ap (λ s. cond s (is_allow ace.kind) (allows fewer bit rest)) (silent (speaks fewer bit ace) refl e)
+        ∙ below f
+        ∙ sym (ap (λ s. cond s (is_allow ace.kind) (allows applies bit rest)) e)
+
+-- ---- the asker of two entries
+
+-- one who asks with the uid and the groups that the entries need
+abbrev pub asking : ℕ → ℕ → Who → Who → Identity
+asking group uid who other = record { uid = uid; gids = option_to_list (needed_gid group who) ++ option_to_list (needed_gid group other) }
+
+eqb-refl : (n : ℕ) → (n == n) ≡ true
+eqb-refl n = eq-eqb n n refl
+
+module _ (owner group : ℕ) (requester : Identity) where
+  -- the groups that one needs for an entry to apply are the requester's, where it applies to the requester
+  needed_is_own : (who : Who) (gid : ℕ) → matches owner group requester who ≡ true
+      → list_any (λ own. own == gid) (option_to_list (needed_gid group who)) ≡ true → is_in_group requester gid ≡ true
+  needed_is_own Owner gid is any = absurd (true≢false (sym any))
+  needed_is_own Everyone gid is any = absurd (true≢false (sym any))
+  needed_is_own (User uid) gid is any = absurd (true≢false (sym any))
+  needed_is_own Group gid is any = subst (λ g. is_in_group requester g ≡ true) (eqb-true group gid (sym (or_false (group == gid)) ∙ any)) is
+  needed_is_own (NamedGroup named) gid is any =
+      subst (λ g. is_in_group requester g ≡ true) (eqb-true named gid (sym (or_false (named == gid)) ∙ any)) is
+
+  both_own : (who other : Who) (gid : ℕ) → matches owner group requester who ≡ true → matches owner group requester other ≡ true
+      → list_any (λ own. own == gid) (option_to_list (needed_gid group who) ++ option_to_list (needed_gid group other)) ≡ true
+      → is_in_group requester gid ≡ true
+  both_own who other gid is_who is_other any =
+      elim (or_cases _ _ (sym (list_any-append (λ own. own == gid) (option_to_list (needed_gid group who)) (option_to_list (needed_gid group other))) ∙ any)) [
+        | inl mine ↦ needed_is_own who gid is_who mine
+        | inr mine ↦ needed_is_own other gid is_other mine
+      ]
+
+  -- an entry for the asker is one for the requester, unless it is for the asker's uid alone
+  narrower : (uid : ℕ) (who other : Who) → matches owner group requester who ≡ true → matches owner group requester other ≡ true
+      → (entry : Who) → (needed_uid owner entry ≡ Some uid → requester.uid ≡ uid)
+      → matches owner group (asking group uid who other) entry ≡ true → matches owner group requester entry ≡ true
+  narrower uid who other is_who is_other Owner own is =
+      let same = eqb-true uid owner is in eq-eqb requester.uid owner (own (ap Some (sym same)) ∙ same)
+  narrower uid who other is_who is_other (User named) own is =
+      let same = eqb-true uid named is in eq-eqb requester.uid named (own (ap Some (sym same)) ∙ same)
+  narrower uid who other is_who is_other Everyone own is = refl
+  narrower uid who other is_who is_other Group own is = both_own who other group is_who is_other is
+  narrower uid who other is_who is_other (NamedGroup gid) own is = both_own who other gid is_who is_other is
+
+  -- whom an entry needs, it has in the requester to whom it applies
+  needs_own : (who : Who) (uid : ℕ) → matches owner group requester who ≡ true → needed_uid owner who ≡ Some uid → requester.uid ≡ uid
+  needs_own Owner uid is e = eqb-true requester.uid owner is ∙ cc
+  needs_own (User named) uid is e = eqb-true requester.uid named is ∙ cc
+  needs_own Everyone uid is e = absurd cc
+  needs_own Group uid is e = absurd cc
+  needs_own (NamedGroup gid) uid is e = absurd cc
+
+-- both entries are for the asker
+module _ (owner group uid : ℕ) where
+  first_applies : (who other : Who) → ((id : ℕ) → needed_uid owner who ≡ Some id → uid ≡ id)
+      → matches owner group (asking group uid who other) who ≡ true
+  first_applies Owner other own = eq-eqb uid owner (own owner refl)
+  first_applies (User named) other own = eq-eqb uid named (own named refl)
+  first_applies Everyone other own = refl
+  first_applies Group other own = ap (λ b. b || list_any (λ own. own == group) (option_to_list (needed_gid group other))) (eqb-refl group)
+  first_applies (NamedGroup gid) other own = ap (λ b. b || list_any (λ own. own == gid) (option_to_list (needed_gid group other))) (eqb-refl gid)
+
+  in_second : (who : Who) (gid : ℕ) → list_any (λ own. own == gid) (option_to_list (needed_gid group who) ++ gid ∷ []) ≡ true
+  in_second who gid =
+      list_any-append (λ own. own == gid) (option_to_list (needed_gid group who)) (gid ∷ [])
+      ∙ ap (λ b. list_any (λ own. own == gid) (option_to_list (needed_gid group who)) || (b || false)) (eqb-refl gid)
+      ∙ or_true _
+
+  second_applies : (who other : Who) → ((id : ℕ) → needed_uid owner other ≡ Some id → uid ≡ id)
+      → matches owner group (asking group uid who other) other ≡ true
+  second_applies who Owner own = eq-eqb uid owner (own owner refl)
+  second_applies who (User named) own = eq-eqb uid named (own named refl)
+  second_applies who Everyone own = refl
+  second_applies who Group own = in_second who group
+  second_applies who (NamedGroup gid) own = in_second who gid
+
+-- ---- the theorems
+
+module _ (first second : List Nfsace4) (owner group : ℕ) (requester : Identity) (bit : ℕ) where
+  abbrev applies : Who → Bool
+  applies = matches owner group requester
+
+  abbrev pub who : Who
+  who = speaker (matches owner group requester) bit first
+
+  abbrev pub other : Who
+  other = speaker (matches owner group requester) bit second
+
+  is_who : matches owner group requester who ≡ true
+  is_who = speaker-applies (matches owner group requester) bit first refl
+
+  is_other : matches owner group requester other ≡ true
+  is_other = speaker-applies (matches owner group requester) bit second refl
+
+  -- an asker with a uid that these entries need, and that the others don't ask for unless it is the requester's, is decided
+  -- like the requester
+  decided_alike : (uid : ℕ)
+      → ((id : ℕ) → needed_uid owner who ≡ Some id → uid ≡ id) → ((id : ℕ) → needed_uid owner other ≡ Some id → uid ≡ id)
+      → All (λ ace. needed_uid owner ace.who ≡ Some uid → requester.uid ≡ uid) first
+      → All (λ ace. needed_uid owner ace.who ≡ Some uid → requester.uid ≡ uid) second
+      → allows (matches owner group (asking group uid who other)) bit first ≡ allows (matches owner group (asking group uid who other)) bit second
+      → allows (matches owner group requester) bit first ≡ allows (matches owner group requester) bit second
+  decided_alike uid needs_who needs_other own_first own_second alike =
+      sym (same_speaker (matches owner group (asking group uid who other)) applies bit first
+      (λ k d inside. narrower owner group requester uid who other is_who is_other _ (own_first k d inside))
+      (first_applies owner group uid who other needs_who))
+      ∙ alike
+      ∙ same_speaker (matches owner group (asking group uid who other)) applies bit second
+      (λ k d inside. narrower owner group requester uid who other is_who is_other _ (own_second k d inside))
+      (second_applies owner group uid who other needs_other)
+
+  -- ---- the asker's uid
+
+  abbrev asked : ℕ → ℕ
+  asked stranger = unwrap_or (needed_uid owner who) (unwrap_or (needed_uid owner other) stranger)
+
+  asked_first : (stranger id : ℕ) → needed_uid owner who ≡ Some id → asked stranger ≡ id
+  asked_first stranger id e = ap (λ o. unwrap_or o (unwrap_or (needed_uid owner other) stranger)) e
+
+  asked_second : (stranger id : ℕ) → needed_uid owner other ≡ Some id → asked stranger ≡ id
+  asked_second stranger id e = go (needed_uid owner who) refl
+    where
+      go : (o : Option ℕ) → needed_uid owner who ≡ o → unwrap_or o (unwrap_or (needed_uid owner other) stranger) ≡ id
+      go None n = ap (λ o. unwrap_or o stranger) e
+      go (Some uid) n = sym (needs_own owner group requester who uid is_who n) ∙ needs_own owner group requester other id is_other e
+
+  asked_own : (stranger : ℕ) → (requester.uid ≡ asked stranger) ⊎ (asked stranger ≡ stranger)
+  asked_own stranger = go (needed_uid owner who) refl (needed_uid owner other) refl
+    where
+      go : (a : Option ℕ) → needed_uid owner who ≡ a → (b : Option ℕ) → needed_uid owner other ≡ b
+          → (requester.uid ≡ unwrap_or a (unwrap_or b stranger)) ⊎ (unwrap_or a (unwrap_or b stranger) ≡ stranger)
+      go (Some uid) a b eb = inl (needs_own owner group requester who uid is_who a)
+      go None a (Some uid) eb = inl (needs_own owner group requester other uid is_other eb)
+      go None a None eb = inr refl
+
+  own_among : (stranger : ℕ) (aces : List Nfsace4) → IsStranger owner aces stranger
+      → All (λ ace. needed_uid owner ace.who ≡ Some (asked stranger) → requester.uid ≡ asked stranger) aces
+  own_among stranger aces unknown k d inside needed =
+      elim (asked_own stranger) [
+        | inl own ↦ own
+        | inr strange ↦ absurd (unknown k d inside (needed ∙ ap Some strange))
+      ]
+
+pub pairs_suffice : PairsSuffice
+pairs_suffice first second owner group bits stranger unknown_first unknown_second each requester bit in_bits =
+    decided_alike first second owner group requester bit (asked first second owner group requester bit stranger)
+    (asked_first first second owner group requester bit stranger)
+    (asked_second first second owner group requester bit stranger)
+    (own_among first second owner group requester bit stranger first unknown_first)
+    (own_among first second owner group requester bit stranger second unknown_second)
+    (speaker-holds
+    (λ (w : Who). AlikeFor first second owner group bits (asker_for owner group stranger (who first second owner group requester bit) w))
+    (matches owner group requester) bit second
+    (speaker-holds
+    (λ (v : Who). OfEachWho second (λ (w : Who). AlikeFor first second owner group bits (asker_for owner group stranger v w)))
+    (matches owner group requester) bit first each)
+    bit in_bits)
+
+few_gids : (group : ℕ) (who other : Who) → length (option_to_list (needed_gid group who) ++ option_to_list (needed_gid group other)) ≤ 2
+few_gids group who other = go (needed_gid group who) (needed_gid group other)
+  where
+    go : (a b : Option ℕ) → length (option_to_list a ++ option_to_list b) ≤ 2
+    go None None = omega arith
+    go None (Some b) = omega arith
+    go (Some a) None = omega arith
+    go (Some a) (Some b) = omega arith
+
+pub two_groups_suffice : TwoGroupsSuffice
+two_groups_suffice first second owner group bits each requester bit in_bits =
+    let v = who first second owner group requester bit in
+    let w = other first second owner group requester bit in
+    decided_alike first second owner group requester bit requester.uid
+    (λ id. needs_own owner group requester v id (is_who first second owner group requester bit))
+    (λ id. needs_own owner group requester w id (is_other first second owner group requester bit))
+    (λ k d inside needed. refl)
+    (λ k d inside needed. refl)
+    (each (asking group requester.uid v w) (few_gids group v w) bit in_bits)

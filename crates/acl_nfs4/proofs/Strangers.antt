@@ -1,0 +1,92 @@
+-- Of more numbers than there are entries, no entry asks for one.
+use Rattle.std.proofs.Common.{◌≡◌, ◌≢◌, ◌≤◌, ◌+◌, ◌<◌, ◌==◌, ℕ, zero, suc, Bool, true, false, cond, not, ◌&&◌, ◌||◌, refl, sym, ap, ap₂, ◌∙◌, List, [], ◌∷◌, ◌++◌, Option, Some, None, length, length-append, arith}
+use Rattle.std.specs.List.{list_any, filter}
+use Rattle.std.proofs.lemmas.Bool.{true≢false, eqb-true, eq-eqb, or_parts}
+use Rattle.std.proofs.lemmas.List.Elements.{All-nil, All-cons}
+use Rattle.acl_names.proofs.AnyLemmas.{list_any-append, list_any-agree, list_any-filter, list_any-weaken}
+use Rattle.acl_nfs4.specs.Ace.{Nfsace4}
+use Rattle.acl_nfs4.specs.Comparison.{needed_uid, needs_user, asks_for, IsStranger}
+use Rattle.acl_nfs4.specs.declared.who.Who.{Who}
+use Rattle.acl_nfs4.specs.declared.who.Who.TheVariants.{Owner, Group, Everyone, User, NamedGroup}
+
+abbrev pub is_at : ℕ → Option ℕ → Bool
+is_at k (Some n) = n == k
+is_at k None = false
+
+module _ {X : Type 0} where
+  fewer : (t : X → Bool) (xs : List X) → length (filter t xs) ≤ length xs
+  fewer t [] = omega arith
+  fewer t (x ∷ xs) = go (fewer t xs) (t x)
+    where
+      go : length (filter t xs) ≤ length xs → (b : Bool) → length (cond b (x ∷ filter t xs) (filter t xs)) ≤ length (x ∷ xs)
+      go rest true = omega arith
+      go rest false = omega arith
+
+  -- without those that pass there is one fewer, where one passes
+  one_fewer : (t : X → Bool) (xs : List X) → list_any t xs ≡ true → length (filter (λ x. not (t x)) xs) + 1 ≤ length xs
+  one_fewer t [] any = absurd (true≢false (sym any))
+  one_fewer t (x ∷ xs) any = go (one_fewer t xs) (fewer (λ y. not (t y)) xs) (t x) any
+    where
+      go : (list_any t xs ≡ true → length (filter (λ y. not (t y)) xs) + 1 ≤ length xs)
+          → length (filter (λ y. not (t y)) xs) ≤ length xs
+          → (b : Bool) → (b || list_any t xs) ≡ true
+          → length (cond (not b) (x ∷ filter (λ y. not (t y)) xs) (filter (λ y. not (t y)) xs)) + 1 ≤ length (x ∷ xs)
+      go rest below true any = omega arith
+      go rest below false any = let h = rest any in omega (arith, h)
+
+  others_stay : (f : X → Option ℕ) (k n : ℕ) → k ≢ n → (xs : List X) → list_any (λ x. is_at k (f x)) xs ≡ true
+      → list_any (λ x. is_at k (f x)) (filter (λ x. not (is_at n (f x))) xs) ≡ true
+  others_stay f k n apart xs any =
+      sym (list_any-filter (λ x. not (is_at n (f x))) (λ x. is_at k (f x)) xs)
+      ∙ list_any-weaken (λ x. is_at k (f x)) (λ x. not (is_at n (f x)) && is_at k (f x)) (λ x. go (f x)) xs any
+    where
+      differs : (m : ℕ) → (m == k) ≡ true → (b : Bool) → (m == n) ≡ b → (not b && (m == k)) ≡ true
+      differs m is false e = is
+      differs m is true e = absurd (apart (sym (eqb-true m k is) ∙ eqb-true m n e))
+
+      go : (o : Option ℕ) → is_at k o ≡ true → (not (is_at n o) && is_at k o) ≡ true
+      go None is = absurd (true≢false (sym is))
+      go (Some m) is = differs m is (m == n) refl
+
+  -- where each number below n is that of an element, there are at least n elements
+  pub enough : (f : X → Option ℕ) (n : ℕ) (xs : List X) → ((k : ℕ) → k < n → list_any (λ x. is_at k (f x)) xs ≡ true) → n ≤ length xs
+  enough f zero xs each = omega arith
+  enough f (suc n) xs each =
+      let here : list_any (λ (x : X). is_at n (f x)) xs ≡ true = each n (omega arith) in
+      let dropped = one_fewer (λ (x : X). is_at n (f x)) xs here in
+      let rest : n ≤ length (filter (λ (x : X). not (is_at n (f x))) xs) =
+      enough f n (filter (λ x. not (is_at n (f x))) xs)
+      (λ k below. others_stay f k n (λ e. let same : k ≡ n = e in absurd (omega arith)) xs (each k (omega arith))) in
+      omega (arith, dropped, rest)
+
+-- who asks for a user asks for that user's uid
+asked_uid : (owner uid : ℕ) (who : Who) → needs_user owner uid who ≡ is_at uid (needed_uid owner who)
+asked_uid owner uid Owner = refl
+asked_uid owner uid (User named) = refl
+asked_uid owner uid Group = refl
+asked_uid owner uid Everyone = refl
+asked_uid owner uid (NamedGroup gid) = refl
+
+asked : (owner uid : ℕ) (aces : List Nfsace4) → list_any (λ ace. is_at uid (needed_uid owner ace.who)) aces ≡ asks_for owner uid aces
+asked owner uid aces =
+    list_any-agree (λ (ace : Nfsace4). is_at uid (needed_uid owner ace.who)) (λ (ace : Nfsace4). needs_user owner uid ace.who)
+    (λ ace. sym (asked_uid owner uid ace.who)) aces
+
+-- two lists can't ask for more users than they have entries
+pub asked_few : (owner n : ℕ) (first second : List Nfsace4)
+    → ((k : ℕ) → k < n → (asks_for owner k first || asks_for owner k second) ≡ true) → n ≤ length first + length second
+asked_few owner n first second each =
+    let both : n ≤ length (first ++ second) =
+    enough (λ (ace : Nfsace4). needed_uid owner ace.who) n (first ++ second)
+    (λ k below. list_any-append (λ (ace : Nfsace4). is_at k (needed_uid owner ace.who)) first second
+    ∙ ap₂ (λ a b. a || b) (asked owner k first) (asked owner k second) ∙ each k below) in
+    omega (arith, both, length-append first second)
+
+-- one whom no entry asks for is a stranger
+pub is_stranger : (owner uid : ℕ) (aces : List Nfsace4) → asks_for owner uid aces ≡ false → IsStranger owner aces uid
+is_stranger owner uid [] none = All-nil (λ (ace : Nfsace4). needed_uid owner ace.who ≢ Some uid)
+is_stranger owner uid (ace ∷ rest) none =
+    let parts = or_parts (needs_user owner uid ace.who) (asks_for owner uid rest) none in
+    All-cons (λ (other : Nfsace4). needed_uid owner other.who ≢ Some uid) ace rest
+    (λ e. true≢false (sym (asked_uid owner uid ace.who ∙ ap (is_at uid) e ∙ eq-eqb uid uid refl) ∙ parts.0))
+    (is_stranger owner uid rest parts.1)

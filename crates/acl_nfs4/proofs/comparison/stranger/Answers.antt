@@ -1,0 +1,16 @@
+use Rattle.std.proofs.Common.{◌≤◌, ◌+◌, length, arith}
+use Rattle.acl_nfs4.proofs.Strangers.{asked_few}
+use Rattle.acl_nfs4.proofs.comparison.stranger.Goals as goal
+
+-- after so many numbers there were more that entries ask for than entries
+pub returns-clause-first : goal.returns-clause-first
+returns-clause-first c =
+    let few : c.loop-number.number ≤ length c.args.first.now + length c.args.second.now =
+    asked_few c.args.owner c.loop-number.number c.args.first.now c.args.second.now c.loop-number.invariant in
+    absurd (omega (arith, few))
+
+pub returns-clause-second : goal.returns-clause-second
+returns-clause-second c =
+    let few : c.loop-number.number ≤ length c.args.first.now + length c.args.second.now =
+    asked_few c.args.owner c.loop-number.number c.args.first.now c.args.second.now c.loop-number.invariant in
+    absurd (omega (arith, few))

@@ -1,0 +1,13 @@
+-- The fields of an entry with which a text begins.
+use Rattle.std.specs.Prelude.{◌≡◌, List, ℕ, [], ◌∷◌, ◌++◌}
+use Rattle.std.specs.List.{join_with_byte}
+use Rattle.acl_names.specs.Plain.{IsField}
+use Rattle.acl_nfs4.specs.AceText.{AceFields}
+
+-- the text begins with these fields, plainly written, and this is the rest of it
+pub record BeginsWithFields (text : List ℕ) (fields : AceFields) (rest : List ℕ) : Type 0 where
+  pub kind : IsField fields.kind
+  pub flags : IsField fields.flags
+  pub who : IsField fields.who
+  pub letters : IsField fields.letters
+  pub cut : text ≡ fields.kind ++ 58 ∷ (fields.flags ++ 58 ∷ (fields.who ++ 58 ∷ (fields.letters ++ rest)))

@@ -1,0 +1,302 @@
+ghost use Rattle.std.specs.Prelude.{◌≡◌, ◌≤◌, ◌↔◌, ◌&&◌, ◌||◌, ℕ, None, IfOk, IfSome, MatchOption, length, ◌==◌, option_to_list};
+ghost use Rattle.std.specs.List.{list_any};
+ghost use Rattle.acl_names.specs.Bits.{has};
+ghost use Rattle.acl_names.specs.Requester.{is_in_group};
+ghost use Rattle.acl_nfs4.specs.Ace.{decides};
+ghost use Rattle.acl_nfs4.specs.Comparison.{AlikeAt, DecideAlike, IsDifference, IsStranger, OfEachWho, PairsSuffice, TwoGroupsSuffice, asker_for, asks_for, decided_by, identity_of, needed_gid, needed_uid, needs_user};
+ghost use Rattle.acl_nfs4.specs.Evaluation.{allows};
+ghost use Rattle.acl_nfs4.specs.Mask.{mask_bits};
+ghost use Rattle.acl_nfs4.specs.Who.{matches};
+
+use crate::limits::MAX_ACES;
+use crate::{Ace, Acl4, Mask, Who};
+use acl_names::{Gid, Requester, Uid};
+use bitflags::Flags as FlagSet;
+use std::alloc::{AllocError, Global};
+
+/// Someone who asks for access and is in at most two groups.
+#[derive(Clone, Copy, Debug, PartialEq, Eq)]
+pub struct Asker {
+    /// Who asks.
+    pub uid: Uid,
+    /// A group of the asker.
+    pub gid: Option<Gid>,
+    /// Another.
+    pub other_gid: Option<Gid>,
+}
+
+/// For whom two lists decide differently, and what.
+#[derive(Clone, Copy, Debug, PartialEq, Eq)]
+pub struct Difference {
+    /// To whom.
+    pub asker: Asker,
+    /// What only the first list allows.
+    pub lost: Mask,
+    /// What only the second list allows.
+    pub gained: Mask,
+}
+
+/// What is asked of two lists: about a file of this owner and this group, of these bits, with a user for whom no entry asks.
+#[derive(Clone, Copy)]
+struct Question {
+    owner: Uid,
+    group: Gid,
+    bits: Mask,
+    stranger: Uid,
+}
+
+/// Two lists decide alike for everyone where they decide alike for the asker of each pair of entries, one of each list:
+/// someone who is whom both entries name, and in no other group. So they do where they decide alike for everyone who is in at
+/// most two groups.
+pub fn comparison_laws()
+    ensures pairs { PairsSuffice }
+    ensures two_groups { TwoGroupsSuffice }
+{}
+
+impl Who {
+    /// The user that one has to be for an entry about this to apply.
+    fn needed_uid(&self, owner: Uid) -> Option<Uid>
+        ensures { result ≡ needed_uid owner self.now }
+    {
+        match *self {
+            Who::Owner => Some(owner),
+            Who::User(uid) => Some(uid),
+            Who::Group => None,
+            Who::Everyone => None,
+            Who::NamedGroup(_) => None,
+        }
+    }
+
+    /// The group that one has to be in.
+    fn needed_gid(&self, group: Gid) -> Option<Gid>
+        ensures { result ≡ needed_gid group self.now }
+    {
+        match *self {
+            Who::Group => Some(group),
+            Who::NamedGroup(gid) => Some(gid),
+            Who::Owner => None,
+            Who::Everyone => None,
+            Who::User(_) => None,
+        }
+    }
+
+    /// Whether one has to be this user.
+    fn needs_user(&self, owner: Uid, uid: Uid) -> bool
+        ensures { result ≡ needs_user owner uid self.now }
+    {
+        match *self {
+            Who::Owner => owner == uid,
+            Who::User(named) => named == uid,
+            Who::Group => false,
+            Who::Everyone => false,
+            Who::NamedGroup(_) => false,
+        }
+    }
+}
+
+/// Whether it is this group.
+fn is_gid(own: Option<Gid>, gid: Gid) -> bool
+    ensures { result ≡ list_any (λ one. one == gid) (option_to_list own) }
+{
+    match own {
+        Some(one) => one == gid,
+        None => false,
+    }
+}
+
+impl Asker {
+    /// One to whom entries about both apply, if they apply to anybody at once: a stranger, where neither asks for a user.
+    pub fn for_both(owner: Uid, group: Gid, stranger: Uid, who: &Who, other: &Who) -> Asker
+        ensures { identity_of result ≡ asker_for owner group stranger who.now other.now }
+    {
+        let uid = match who.needed_uid(owner) {
+            Some(uid) => uid,
+            None => match other.needed_uid(owner) {
+                Some(uid) => uid,
+                None => stranger,
+            },
+        };
+        Asker {
+            uid,
+            gid: who.needed_gid(group),
+            other_gid: other.needed_gid(group),
+        }
+    }
+
+    /// The asker as a requester, to be asked of any list.
+    pub fn requester(&self, alloc: Global) -> Result<Requester, AllocError>
+        ensures { IfOk result (λ requester. requester ≡ identity_of self.now) }
+    {
+        let mut gids = Vec::new(alloc);
+        if let Some(gid) = self.gid {
+            gids.push(gid)?;
+        }
+        if let Some(gid) = self.other_gid {
+            gids.push(gid)?;
+        }
+        Ok(Requester::new(self.uid, gids))
+    }
+
+    /// Whether the asker is in this group.
+    fn is_in_group(&self, gid: Gid) -> bool
+        ensures { result ≡ is_in_group (identity_of self.now) gid }
+    {
+        is_gid(self.gid, gid) || is_gid(self.other_gid, gid)
+    }
+
+    /// Whether the asker is one of those whom the who is about.
+    fn is_one_of(&self, owner: Uid, group: Gid, who: &Who) -> bool
+        ensures { result ≡ matches owner group (identity_of self.now) who.now }
+    {
+        match *who {
+            Who::Owner => self.uid == owner,
+            Who::Group => self.is_in_group(group),
+            Who::Everyone => true,
+            Who::User(uid) => self.uid == uid,
+            Who::NamedGroup(gid) => self.is_in_group(gid),
+        }
+    }
+
+    /// Whether the entry decides about the asker.
+    fn is_concerned(&self, owner: Uid, group: Gid, ace: &Ace) -> bool
+        ensures { result ≡ (decides ace.now && matches owner group (identity_of self.now) ace.now.who) }
+    {
+        ace.decides() && self.is_one_of(owner, group, &ace.who())
+    }
+}
+
+/// Those of the bits that the entries allow the asker. It goes down the list once, until no bit is open.
+fn allowed_to(aces: &[Ace], owner: Uid, group: Gid, asker: &Asker, bits: Mask) -> Mask
+    ensures { (bit : ℕ) → has (mask_bits result) bit ≡ (has (mask_bits bits) bit && allows (matches owner group (identity_of asker.now)) bit aces.now) }
+{
+    let mut allowed = Mask::empty();
+    let mut open = bits;
+    for ace in aces {
+        if open.is_empty() {
+            return allowed;
+        }
+        if asker.is_concerned(owner, group, ace) {
+            if ace.kind().is_allow() {
+                allowed = allowed.union(open.intersection(ace.mask()));
+            }
+            open = open.without(ace.mask());
+        }
+    }
+    allowed
+}
+
+/// Whether one of the entries asks for this user.
+fn asks_for(aces: &[Ace], owner: Uid, uid: Uid) -> bool
+    ensures { result ≡ asks_for owner uid aces.now }
+{
+    aces.iter().any(|ace| ace.who().needs_user(owner, uid))
+}
+
+/// A user for whom no entry asks: one of the first numbers, since there are fewer entries.
+fn stranger(first: &[Ace], second: &[Ace], owner: Uid) -> Uid
+    requires first { length first.now ≤ MAX_ACES }
+    requires second { length second.now ≤ MAX_ACES }
+    ensures first { IsStranger owner first.now result }
+    ensures second { IsStranger owner second.now result }
+{
+    for number in 0..257 {
+        if let Some(uid) = Uid::new(number) {
+            if !(asks_for(first, owner, uid) || asks_for(second, owner, uid)) {
+                return uid;
+            }
+        }
+    }
+    owner
+}
+
+/// What the lists decide differently for the asker of these two.
+fn difference_at(
+    first: &[Ace],
+    second: &[Ace],
+    question: &Question,
+    who: &Who,
+    other: &Who,
+) -> Option<Difference>
+    ensures { MatchOption result
+        (AlikeAt first.now second.now question.now.owner question.now.group (mask_bits question.now.bits) question.now.stranger who.now other.now)
+        (IsDifference (decided_by first.now question.now.owner question.now.group) (decided_by second.now question.now.owner question.now.group) (mask_bits question.now.bits)) }
+{
+    let asker = Asker::for_both(
+        question.owner,
+        question.group,
+        question.stranger,
+        who,
+        other,
+    );
+    let before = allowed_to(first, question.owner, question.group, &asker, question.bits);
+    let after = allowed_to(
+        second,
+        question.owner,
+        question.group,
+        &asker,
+        question.bits,
+    );
+    if before == after {
+        return None;
+    }
+    Some(Difference {
+        asker,
+        lost: before.without(after),
+        gained: after.without(before),
+    })
+}
+
+/// What the lists decide differently for the asker of this one and of an entry of the second list.
+fn difference_for(
+    first: &[Ace],
+    second: &[Ace],
+    question: &Question,
+    who: &Who,
+) -> Option<Difference>
+    ensures { MatchOption result
+        (OfEachWho second.now (λ other. AlikeAt first.now second.now question.now.owner question.now.group (mask_bits question.now.bits) question.now.stranger who.now other))
+        (IsDifference (decided_by first.now question.now.owner question.now.group) (decided_by second.now question.now.owner question.now.group) (mask_bits question.now.bits)) }
+{
+    for ace in second {
+        if let Some(difference) = difference_at(first, second, question, who, &ace.who()) {
+            return Some(difference);
+        }
+    }
+    difference_at(first, second, question, who, &Who::Everyone)
+}
+
+/// What the lists decide differently for the asker of an entry of each.
+fn difference_of(first: &[Ace], second: &[Ace], question: &Question) -> Option<Difference>
+    ensures { MatchOption result
+        (OfEachWho first.now (λ who. OfEachWho second.now (λ other.
+        AlikeAt first.now second.now question.now.owner question.now.group (mask_bits question.now.bits) question.now.stranger who other)))
+        (IsDifference (decided_by first.now question.now.owner question.now.group) (decided_by second.now question.now.owner question.now.group) (mask_bits question.now.bits)) }
+{
+    for ace in first {
+        if let Some(difference) = difference_for(first, second, question, &ace.who()) {
+            return Some(difference);
+        }
+    }
+    difference_for(first, second, question, &Who::Everyone)
+}
+
+impl Acl4 {
+    /// What this list and another decide differently of these bits, for a file of this owner and this group: none exactly
+    /// where they decide alike for every requester, of whatever uid and groups; else someone in at most two groups, with what
+    /// only this list and what only the other allows. It asks for the asker of each pair of entries, at most 129 times 129,
+    /// and takes no memory.
+    pub fn difference(&self, other: &Acl4, owner: Uid, group: Gid, bits: Mask) -> Option<Difference>
+        ensures none { (result ≡ None) ↔ DecideAlike (decided_by self.now owner group) (decided_by other.now owner group) (mask_bits bits) }
+        ensures some { IfSome result (IsDifference (decided_by self.now owner group) (decided_by other.now owner group) (mask_bits bits)) }
+    {
+        let first = self.aces();
+        let second = other.aces();
+        let question = Question {
+            owner,
+            group,
+            bits,
+            stranger: stranger(first, second, owner),
+        };
+        difference_of(first, second, &question)
+    }
+}

@@ -1,0 +1,43 @@
+-- A text that begins with an entry field by field begins with it.
+use Rattle.std.proofs.Common.{◌≡◌, ℕ, ◌<◌, List, [], ◌∷◌, ◌++◌, length, take, drop, Some, Ok, sym, ap, ◌∙◌, append_assoc, length-append, arith, true}
+use Rattle.std.specs.List.{AllByRecursion, join_with_byte}
+use Rattle.std.specs.Str.{bytes_eq}
+use Rattle.std.proofs.lemmas.List.{take-append-drop}
+use Rattle.std.proofs.lemmas.Slice.Eq.{bytes_eq-Decides}
+use Rattle.acl_names.specs.Directory.{Known}
+use Rattle.acl_names.specs.Plain.{IsField, IsFront}
+use Rattle.acl_names.proofs.Fields.{fields_again, joined_plain, tested_field}
+use Rattle.acl_posix.specs.Entry.{Triple}
+use Rattle.acl_posix.specs.EntryText.{Fields, as_fields, fields_of, entry_of}
+use Rattle.acl_posix.specs.Front.{BeginsWithWord, BeginsWithTag, BeginsWithPerms}
+use Rattle.acl_posix.specs.PermsText.{perms_of_text, three_letters}
+use Rattle.acl_posix.specs.declared.entry.Tag.{Tag}
+use Rattle.acl_posix.specs.declared.reading.TagWord.{TagWord}
+use Rattle.acl_posix.proofs.ReadLemmas.{three_letters-read}
+use Rattle.acl_posix.proofs.RoundTrip.{three_pass, read_parts}
+
+pub begins_with : (front text rest : List ℕ) → bytes_eq (take (length front) text) front ≡ true → rest ≡ drop (length front) text → text ≡ front ++ rest
+begins_with front text rest same is =
+    sym (take-append-drop (length front) text)
+    ∙ ap (λ t. t ++ drop (length front) text) ((bytes_eq-Decides (take (length front) text) front).0 same)
+    ∙ ap (λ t. front ++ t) (sym is)
+
+pub front_is : (known : Known) (text behind_word behind_tag rest : List ℕ) (word : TagWord) (tag : Tag) (perms : ℕ)
+    → BeginsWithWord text word behind_word → BeginsWithTag behind_word word tag behind_tag → BeginsWithPerms behind_tag perms rest
+    → IsFront (entry_of known) text (record { tag = tag; perms = perms }) rest
+front_is known text behind_word behind_tag rest word tag perms w t p =
+    let three = three_letters p.read p.write p.execute in
+    let more = t.qualifier ∷ three ∷ [] in
+    let are : AllByRecursion IsField (w.written ∷ more) = (w.field, (t.field, (tested_field three (three_pass p.read p.write p.execute), tt))) in
+    let fields : Fields = record { tag = w.written; qualifier = Some t.qualifier; perms = three } in
+    let piece = join_with_byte 58 (w.written ∷ more) in
+    let cut : fields_of piece ≡ Some fields = ap as_fields (fields_again w.written more are) in
+    let allowed : perms_of_text three ≡ Some perms = three_letters-read p.read p.write p.execute ∙ ap Some (sym p.says) in
+    record {
+      piece = piece;
+      cut = w.cut ∙ ap (λ x. w.written ++ 58 ∷ x) (t.cut ∙ ap (λ x. t.qualifier ++ 58 ∷ x) p.cut)
+          ∙ sym (append_assoc w.written (58 ∷ (t.qualifier ++ 58 ∷ three)) rest ∙ ap (λ x. w.written ++ 58 ∷ x) (append_assoc t.qualifier (58 ∷ three) rest));
+      some = omega (arith, length-append w.written (58 ∷ join_with_byte 58 more));
+      plain = joined_plain w.written more are;
+      said = read_parts known piece fields word perms tag cut w.says allowed (t.says known);
+    }

@@ -1,0 +1,69 @@
+//! One session on one thread.
+ghost use Rattle.std.specs.Prelude.{◌≡◌, ◌≤◌, ◌++◌, length, IfOk, IsErrOf, OnOk};
+ghost use Rattle.std.specs.Io.KnownBytes.{Appends, Keeps};
+ghost use Rattle.acl_lang.specs.Texts.{requests_of};
+ghost use Rattle.acl_service.specs.Runs.{session_text, tree_after};
+
+use acl_lang::{Answer, MAX_TEXT_LEN, Requests, render};
+use acl_names::Directory;
+use acl_tree::Tree;
+use std::alloc::{AllocError, Global};
+use std::io::Write;
+
+/// Why a session came to no end.
+#[derive(Clone, Copy, Debug, PartialEq, Eq)]
+pub enum OneFault {
+    /// Memory ran out. Nothing was written.
+    Memory,
+    /// The answers couldn't be written.
+    Write,
+}
+
+/// Applies the requests of the text's lines one by one, and prints each answer before the next line is read.
+fn answer_lines(
+    alloc: Global,
+    directory: &Directory,
+    tree: &mut Tree,
+    text: &[u8],
+    printed: &mut Vec<u8>,
+) -> Result<(), AllocError>
+    requires { length text.now ≤ MAX_TEXT_LEN }
+    ensures text { OnOk result (printed.new.items ≡ printed.old.items ++ session_text directory.now tree.old text.now) }
+    ensures tree { OnOk result (tree.new ≡ tree_after directory.now tree.old (requests_of directory.now text.now)) }
+{
+    let mut requests = Requests::new(text, directory);
+    while let Some(numbered) = requests.next(alloc)? {
+        let reply = tree.apply(alloc, &numbered.request, directory)?;
+        let answer = Answer {
+            line: numbered.line,
+            reply,
+        };
+        render(&answer, directory, printed)?;
+    }
+    Ok(())
+}
+
+/// Applies the commands of a text to the tree, line by line, and answers with the tree that they leave. Their answers go to
+/// `out`: all of them are made first and then written at once. The tree is dropped on a fault.
+pub fn run_one<W: Write>(
+    alloc: Global,
+    directory: &Directory,
+    tree: Tree,
+    text: &[u8],
+    out: &mut W,
+) -> Result<Tree, OneFault>
+    requires { length text.now ≤ MAX_TEXT_LEN }
+    ensures tree { IfOk result (λ after. after ≡ tree_after directory.now tree (requests_of directory.now text.now)) }
+    ensures written { OnOk result (Appends (W.contents out.old) (W.contents out.new) (session_text directory.now tree text.now)) }
+    ensures memory { IsErrOf result OneFault.Memory → Keeps (W.contents out.old) (W.contents out.new) }
+{
+    let mut tree = tree;
+    let mut printed = Vec::new(alloc);
+    if answer_lines(alloc, directory, &mut tree, text, &mut printed).is_err() {
+        return Err(OneFault::Memory);
+    }
+    match out.write_all(printed.as_slice()) {
+        Ok(()) => Ok(tree),
+        Err(_) => Err(OneFault::Write),
+    }
+}

@@ -1,0 +1,27 @@
+//! A tree of files and directories with access control lists of either style, and the commands on it.
+#![tactic(auto)]
+
+mod boxed;
+mod faults;
+mod laws;
+mod limits;
+mod node;
+mod node_acl;
+mod path;
+mod refusal;
+mod reply;
+mod request;
+#[cfg(test)]
+mod tests;
+mod tree;
+
+pub use boxed::Boxed;
+pub use faults::{LineFault, TreeFault};
+pub use laws::command_laws;
+pub use limits::{MAX_COMPONENT_LEN, MAX_NODES, MAX_PATH_LEN};
+pub use node::Node;
+pub use node_acl::{NodeAcl, Style};
+pub use path::{Path, PathFault};
+pub use reply::{Reply, View};
+pub use request::Request;
+pub use tree::Tree;

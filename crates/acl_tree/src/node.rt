@@ -1,0 +1,107 @@
+//! The nodes of a tree.
+ghost use Rattle.std.specs.Prelude.{◌≡◌, IfOk};
+ghost use Rattle.acl_posix.specs.Perms.{bits_of};
+ghost use Rattle.acl_tree.specs.Nodes.{is_dir, may, view_of, with_access, with_default, with_mode, with_nfs4};
+ghost use Rattle.acl_tree.specs.Refusals.{Changes};
+
+use crate::node_acl::try_clone_boxed;
+use crate::refusal::Refusal;
+use crate::{Boxed, NodeAcl, Path, TreeFault, View};
+use acl_names::{Gid, Requester, Uid};
+use acl_nfs4::{Acl4, Kind};
+use acl_posix::{Acl, Mode, Perms};
+use std::alloc::{AllocError, Global};
+
+/// A file or a directory.
+#[derive(Debug, Drop)]
+pub struct Node {
+    pub kind: Kind,
+    pub owner: Uid,
+    pub group: Gid,
+    pub acl: NodeAcl,
+}
+
+impl Node {
+    /// Whether it is a directory.
+    pub fn is_dir(&self) -> bool
+        ensures { result ≡ is_dir self.now.kind }
+    {
+        matches!(self.kind, Kind::Dir)
+    }
+
+    /// What is shown of it at this path.
+    pub fn view(&self, alloc: Global, path: &Path) -> Result<View, AllocError>
+        ensures { IfOk result (λ view. view ≡ view_of path.now self.now) }
+    {
+        Ok(View {
+            path: path.try_clone(alloc)?,
+            kind: self.kind,
+            owner: self.owner,
+            group: self.group,
+            mode: self.acl.mode(),
+            acl: self.acl.try_clone(alloc)?,
+        })
+    }
+
+    /// Whether its access list grants the permissions.
+    pub fn may(&self, requester: &Requester, perms: Perms) -> bool
+        ensures { result ≡ may self.now requester.now (bits_of perms) }
+    {
+        self.acl.grants(self.owner, self.group, requester, perms)
+    }
+
+    /// Sets the access list. A default list stays.
+    pub(crate) fn set_access(&mut self, alloc: Global, acl: &Acl) -> Result<(), Refusal>
+        ensures { Changes (with_access acl.now self.old) self.old result self.new }
+    {
+        let new = acl.try_clone(alloc)?;
+        match &mut self.acl {
+            NodeAcl::Posix { access, .. } => *access = new,
+            NodeAcl::Nfs4 { .. } => {
+                self.acl = NodeAcl::Posix {
+                    access: new,
+                    default: None,
+                };
+            }
+        }
+        Ok(())
+    }
+
+    /// Sets the default list, or takes it away.
+    pub(crate) fn set_default(
+        &mut self,
+        alloc: Global,
+        default: &Option<Boxed<Acl>>,
+    ) -> Result<(), Refusal>
+        ensures { Changes (with_default default.now self.old) self.old result self.new }
+    {
+        let is_dir = self.is_dir();
+        let NodeAcl::Posix { default: place, .. } = &mut self.acl else {
+            return Err(Refusal::Fault(TreeFault::WrongStyle));
+        };
+        if !is_dir {
+            return Err(Refusal::Fault(TreeFault::DefaultOnFile));
+        }
+        *place = try_clone_boxed(alloc, default)?;
+        Ok(())
+    }
+
+    /// Sets the list of the NFSv4 style. Lists of the other style go.
+    pub(crate) fn set_nfs4(&mut self, alloc: Global, acl: &Acl4) -> Result<(), Refusal>
+        ensures { Changes (with_nfs4 acl.now self.old) self.old result self.new }
+    {
+        if !self.is_dir() && acl.has_inheritance() {
+            return Err(Refusal::Fault(TreeFault::InheritOnFile));
+        }
+        let acl = acl.try_clone(alloc)?;
+        self.acl = NodeAcl::Nfs4 { acl };
+        Ok(())
+    }
+
+    /// Changes the mode.
+    pub(crate) fn change_mode(&mut self, alloc: Global, mode: Mode) -> Result<(), Refusal>
+        ensures { Changes (with_mode mode self.old) self.old result self.new }
+    {
+        self.acl.change_mode(alloc, mode)
+    }
+}

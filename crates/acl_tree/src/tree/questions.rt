@@ -1,0 +1,87 @@
+//! The commands that ask.
+ghost use Rattle.std.specs.Prelude.{◌≡◌};
+ghost use Rattle.acl_nfs4.specs.Mask.{mask_bits};
+ghost use Rattle.acl_posix.specs.Perms.{bits_of};
+ghost use Rattle.acl_tree.specs.Commands.{get, check, check4, translate, granted};
+ghost use Rattle.acl_tree.specs.Refusals.{Answers};
+
+use super::Tree;
+use crate::node_acl::grants4;
+use crate::refusal::Refusal;
+use crate::{Boxed, NodeAcl, Path, Reply, TreeFault};
+use acl_names::{Directory, Uid};
+use acl_nfs4::Mask;
+use acl_posix::Perms;
+use std::alloc::Global;
+
+/// What is told of whether it may be done.
+fn granted(may: bool) -> Reply
+    ensures { result ≡ granted may }
+{
+    if may { Reply::Granted } else { Reply::Denied }
+}
+
+impl Tree {
+    /// Shows the node at the path.
+    pub(super) fn get(&self, alloc: Global, path: &Path) -> Result<Reply, Refusal>
+        ensures { Answers (get self.now path.now) result }
+    {
+        let node = self.node_at(path.as_bytes())?;
+        let view = node.view(alloc, path)?;
+        Ok(Reply::Node(Boxed::new(alloc, view)?))
+    }
+
+    /// Whether the user has the permissions on the node at the path.
+    pub(super) fn check(
+        &self,
+        alloc: Global,
+        directory: &Directory,
+        path: &Path,
+        uid: Uid,
+        perms: Perms,
+    ) -> Result<Reply, Refusal>
+        ensures { Answers (check directory.now self.now path.now uid (bits_of perms)) result }
+    {
+        let node = self.node_at(path.as_bytes())?;
+        let requester = directory.requester(alloc, uid)?;
+        Ok(granted(node.may(&requester, perms)))
+    }
+
+    /// Whether the NFSv4 list of the node at the path grants the user the mask.
+    pub(super) fn check4(
+        &self,
+        alloc: Global,
+        directory: &Directory,
+        path: &Path,
+        uid: Uid,
+        mask: Mask,
+    ) -> Result<Reply, Refusal>
+        ensures { Answers (check4 directory.now self.now path.now uid (mask_bits mask)) result }
+    {
+        let node = self.node_at(path.as_bytes())?;
+        let NodeAcl::Nfs4 { acl } = &node.acl else {
+            return Err(Refusal::Fault(TreeFault::WrongStyle));
+        };
+        let requester = directory.requester(alloc, uid)?;
+        Ok(granted(grants4(acl, node.owner, node.group, &requester, mask)))
+    }
+
+    /// The POSIX lists of the node at the path as NFSv4 ones.
+    pub(super) fn translate(&self, alloc: Global, path: &Path) -> Result<Reply, Refusal>
+        ensures { Answers (translate self.now path.now) result }
+    {
+        let node = self.node_at(path.as_bytes())?;
+        let NodeAcl::Posix { access, default } = &node.acl else {
+            return Err(Refusal::Fault(TreeFault::WrongStyle));
+        };
+        let access = acl_bridge::translate(alloc, access)?;
+        let access = Boxed::new(alloc, access)?;
+        match default {
+            Some(default) => Ok(Reply::TranslatedBoth {
+                access,
+                inherit: Boxed::new(alloc, acl_bridge::translate_default(alloc, default)?)?,
+            }),
+            None => Ok(Reply::Translated(access)),
+        }
+    }
+}
