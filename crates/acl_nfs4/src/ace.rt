@@ -1,3 +1,4 @@
+//! The entries of NFSv4 access control lists (RFC 8881, section 6.2.1).
 ghost use Rattle.std.specs.Prelude.{◌≡◌, ◌||◌, false};
 ghost use Rattle.acl_nfs4.specs.Flags.{flag_bits};
 ghost use Rattle.acl_nfs4.specs.Mask.{mask_bits};

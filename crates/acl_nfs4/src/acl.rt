@@ -1,3 +1,4 @@
+//! NFSv4 access control lists: their entries in order, at most 128.
 ghost use Rattle.std.specs.Prelude.{◌≡◌, ◌≢◌, ◌<◌, ◌≤◌, IsOk, ◌↔◌, true, [], ◌∷◌, ◌++◌, length, OnOk, OnErr, IfOk, IfErr, Err};
 
 use crate::Ace;

@@ -1,3 +1,4 @@
+//! A list that is being made, on the stack: nothing grows until it is finished.
 ghost use Rattle.std.specs.Prelude.{◌≡◌, ◌<◌, ◌≤◌, IsOk, false, [], ◌∷◌, ◌++◌, length, OnOk, OnErr, IfOk};
 
 use crate::limits::MAX_ACES;

@@ -1,3 +1,4 @@
+//! The access check (RFC 8881, section 6.2.1).
 ghost use Rattle.std.specs.Prelude.{◌≡◌, ◌↔◌, ◌&&◌, IsTrue};
 ghost use Rattle.acl_nfs4.specs.Ace.{decides};
 ghost use Rattle.acl_nfs4.specs.Who.{matches};

@@ -1,3 +1,4 @@
+//! The flags of an entry (RFC 8881, section 6.2.1.4).
 ghost use Rattle.std.specs.Prelude.{⊤, ◌≡◌, ◌==◌, [], ◌∷◌, codes, not};
 ghost use Rattle.acl_names.specs.Bits.{has, without, ◌∩◌};
 

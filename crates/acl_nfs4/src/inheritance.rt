@@ -1,3 +1,4 @@
+//! What a new file or directory inherits (RFC 8881, section 6.4.3).
 ghost use Rattle.std.specs.Prelude.{◌≡◌, ◌≤◌, length, option_map, IfOk, IsOk, IfSome};
 ghost use Rattle.acl_names.specs.Bits.{has};
 ghost use Rattle.acl_nfs4.specs.Flags.{flag_bits, file_inherit, directory_inherit, no_propagate_inherit};

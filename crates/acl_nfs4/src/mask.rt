@@ -1,3 +1,4 @@
+//! The mask of an entry: what it allows, denies or tells of (RFC 8881, section 6.2.1.3).
 ghost use Rattle.std.specs.Prelude.{⊤, ◌≡◌, [], ◌∷◌, codes};
 ghost use Rattle.acl_names.specs.Bits.{without, ◌∩◌};
 ghost use Rattle.acl_posix.specs.Perms.{bits_of};

@@ -1,3 +1,4 @@
+//! The mode that a list shows (RFC 8881, section 6.3.2).
 ghost use Rattle.std.specs.Prelude.{◌≡◌, ◌&&◌, ◌||◌, IsTrue, ℕ};
 ghost use Rattle.acl_names.specs.Bits.{has};
 ghost use Rattle.acl_posix.specs.Perms.{bits_of};

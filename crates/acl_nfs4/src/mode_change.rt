@@ -1,3 +1,4 @@
+//! Setting the mode of a list (RFC 8881, section 6.4.1.1).
 ghost use Rattle.std.specs.Prelude.{◌≡◌, ◌<◌, ◌≤◌, ◌↔◌, ◌++◌, false, length, Err, OnOk, OnErr, IfOk, IsOk};
 ghost use Rattle.std.specs.List.{list_any};
 ghost use Rattle.acl_posix.specs.Perms.{bits_of};

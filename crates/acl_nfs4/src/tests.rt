@@ -3,6 +3,7 @@ mod access;
 mod comparison;
 mod entries;
 mod fixture;
+mod hostile;
 mod inheritance;
 mod longest;
 mod mode;

@@ -1,3 +1,4 @@
+//! Whom an entry is for (RFC 8881, section 6.2.1.5).
 ghost use Rattle.std.specs.Prelude.{◌≡◌};
 ghost use Rattle.acl_nfs4.specs.Flags.{flag_bits};
 

@@ -1,6 +1,7 @@
 //! Worked examples.
 mod access;
 mod fixture;
+mod hostile;
 mod mode;
 mod refused_growths;
 mod text;

@@ -1,6 +1,6 @@
 //! Worked examples, with lists as their texts spell them.
 use crate::tests::fixture::{aces, acl, directory};
-use crate::{default_translation_laws, translate, translate_default, translation_laws};
+use crate::{translate, translate_default};
 use acl_names::{Directory, Gid, Uid};
 use acl_nfs4::{Acl4, Kind, mask_of};
 use acl_posix::{Acl, Mode, read_perms};
@@ -124,14 +124,5 @@ fn a_file_below_both_lists(rt: HostRuntime) -> Result<(), Fail> {
         "A::OWNER@:rwa,D::OWNER@:x,A::bob@example.org:r,D::bob@example.org:wax,A::GROUP@:r,D::GROUP@:wax",
     )?;
     assert!(rt; below.aces() == made.aces());
-    Ok(())
-}
-
-/// The laws are calls that do nothing.
-#[test]
-fn laws(rt: HostRuntime) -> Result<(), Fail> {
-    translation_laws();
-    default_translation_laws();
-    assert!(rt; true);
     Ok(())
 }

@@ -53,3 +53,35 @@ fn one_entry_too_many(rt: HostRuntime) -> Result<(), Fail> {
     assert_eq!(rt; list.push(Ace::default()), Err(AceFault::TooMany));
     Ok(())
 }
+
+/// A list of 128 entries that a mode leaves 128 long: what the owner's, the group's and the others' entries come to takes
+/// the place of as many that have nothing else.
+#[test]
+fn a_mode_set_on_as_many_entries_as_there_may_be(rt: HostRuntime) -> Result<(), Fail> {
+    let mut list = Acl4::empty(rt.alloc());
+    for who in [
+        Who::Owner,
+        Who::Owner,
+        Who::Group,
+        Who::Group,
+        Who::Everyone,
+    ] {
+        let entry = Ace::new(AceType::Allow, Flags::empty(), who, Mask::READ_DATA);
+        assert!(rt; list.push(entry).is_ok());
+    }
+    let other = Ace::new(
+        AceType::Audit,
+        Flags::empty(),
+        Who::Everyone,
+        Mask::READ_DATA,
+    );
+    for _ in 5..128 {
+        assert!(rt; list.push(other).is_ok());
+    }
+    let mode = Mode::from_bits(0o641).ok_or("a mode")?;
+    assert_eq!(rt; list.chmod4(rt.alloc(), mode), Ok(()));
+    assert_eq!(rt; list.aces().len(), 128);
+    assert_eq!(rt; list.mode4(), mode);
+    assert_eq!(rt; list.push(other), Err(AceFault::TooMany));
+    Ok(())
+}

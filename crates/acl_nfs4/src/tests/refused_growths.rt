@@ -1,11 +1,13 @@
 //! Calls that may want memory: one refused growth, wherever it falls, is told by the call in which it falls, leaves
 //! everything as it was, and the call may be made again.
 //!
-//! `rt try --test --fail-alloc N` refuses the growth N of a test. Each test here passes whichever growth that is.
-use crate::tests::fixture::{acl, directory};
-use crate::{Ace, AceFault, Acl4, Fault4, Kind, read_aces};
-use acl_names::Directory;
+//! scripts/refused-growths refuses one growth of a test after the other. Each test here passes whichever growth that is,
+//! and prints how many refusals it was told of.
+use crate::tests::fixture::directory;
+use crate::{Ace, AceFault, AceType, Acl4, Fault4, Flags, Kind, Mask, Who, read_aces};
+use acl_names::{Directory, Uid};
 use acl_posix::Mode;
+use bitflags::Flags as FlagSet;
 use std::alloc::Global;
 use std::test::Fail;
 
@@ -13,85 +15,170 @@ use std::test::Fail;
 const LONG: &str =
     "A:f:1:r,A:f:2:r,A:f:3:r,A:f:4:r,A:f:5:r,A:f:6:r,A:f:7:r,A:f:8:r,A:f:9:r,A:f:10:r,A:f:11:r,A:f:12:r,A:f:13:r,A:f:14:r,A:f:15:r,A:f:16:r,A:f:17:r";
 
-/// The examples' directory, at the second attempt if the first is refused.
-fn names(alloc: Global) -> Result<Directory, Fail> {
-    match directory(alloc) {
-        Some(directory) => Ok(directory),
-        None => Ok(directory(alloc).ok_or("refused without cause")?),
+/// What a file in a directory with that list inherits.
+const BELOW: &str =
+    "A::1:r\nA::2:r\nA::3:r\nA::4:r\nA::5:r\nA::6:r\nA::7:r\nA::8:r\nA::9:r\nA::10:r\nA::11:r\nA::12:r\nA::13:r\nA::14:r\nA::15:r\nA::16:r\nA::17:r\n";
+
+/// How many refusals a test was told of.
+#[derive(Clone, Copy)]
+struct Told {
+    refusals: u32,
+}
+
+impl Told {
+    /// One more.
+    fn one_more(&mut self) {
+        self.refusals = self.refusals.saturating_add(1);
     }
 }
 
-/// A long list, at the second attempt if the first is refused.
-fn long_acl(alloc: Global) -> Result<Acl4, Fail> {
-    match acl(alloc, LONG) {
-        Some(list) => Ok(list),
-        None => Ok(acl(alloc, LONG).ok_or("refused without cause")?),
+/// The examples' directory, at the second attempt if the first is refused.
+fn names(alloc: Global, told: &mut Told) -> Result<Directory, Fail> {
+    match directory(alloc) {
+        Some(directory) => Ok(directory),
+        None => {
+            told.one_more();
+            Ok(directory(alloc).ok_or("refused without cause")?)
+        }
     }
+}
+
+/// The long list, at the second attempt if the first is refused.
+fn long_acl(alloc: Global, names: &Directory, told: &mut Told) -> Result<Acl4, Fail> {
+    match read_aces(alloc, LONG.as_bytes(), names) {
+        Ok(list) => Ok(list),
+        Err(AceFault::Memory) => {
+            told.one_more();
+            Ok(read_aces(alloc, LONG.as_bytes(), names)?)
+        }
+        Err(_) => Err("another answer took the place of Memory".into()),
+    }
+}
+
+/// A copy of the list, at the second attempt if the first is refused.
+fn copy(alloc: Global, list: &Acl4, told: &mut Told) -> Result<Acl4, Fail> {
+    match list.try_clone(alloc) {
+        Ok(copy) => Ok(copy),
+        Err(_) => {
+            told.one_more();
+            Ok(list.try_clone(alloc)?)
+        }
+    }
+}
+
+/// An entry that lets the user with this number read.
+fn reader(number: u32) -> Option<Ace> {
+    let who = Who::User(Uid::new(number)?);
+    Some(Ace::new(AceType::Allow, Flags::empty(), who, Mask::READ_DATA))
 }
 
 #[test]
 fn push_under_a_refused_growth(rt: HostRuntime) -> Result<(), Fail> {
+    let mut told = Told { refusals: 0 };
     let mut list = Acl4::empty(rt.alloc());
     for number in 0..128 {
-        if list.push(Ace::default()) == Err(AceFault::Memory) {
-            assert_eq!(rt; list.aces().len(), number);
-            assert!(rt; list.push(Ace::default()).is_ok());
+        let entry = reader(number).ok_or("an entry")?;
+        if list.push(entry) == Err(AceFault::Memory) {
+            told.one_more();
+            assert_eq!(rt; list.aces().len(), number as usize);
+            assert!(rt; list.push(entry).is_ok());
         }
     }
     assert_eq!(rt; list.aces().len(), 128);
+    for (number, entry) in list.aces().iter().enumerate() {
+        assert_eq!(rt; Some(*entry), reader(number as u32));
+    }
+    println!(rt; "refusals: {}", told.refusals)?;
     Ok(())
 }
 
 #[test]
 fn read_aces_under_a_refused_growth(rt: HostRuntime) -> Result<(), Fail> {
-    let names = names(rt.alloc())?;
-    let mut list = read_aces(rt.alloc(), LONG.as_bytes(), &names);
-    if matches!(list, Err(AceFault::Memory)) {
-        list = read_aces(rt.alloc(), LONG.as_bytes(), &names);
-    }
-    assert_eq!(rt; list.ok().ok_or("a list")?.aces().len(), 17);
+    let mut told = Told { refusals: 0 };
+    let names = names(rt.alloc(), &mut told)?;
+    let list = long_acl(rt.alloc(), &names, &mut told)?;
+    assert_eq!(rt; list.aces().len(), 17);
+    println!(rt; "refusals: {}", told.refusals)?;
     Ok(())
 }
 
 #[test]
 fn print_aces_under_a_refused_growth(rt: HostRuntime) -> Result<(), Fail> {
-    let names = names(rt.alloc())?;
-    let list = long_acl(rt.alloc())?;
+    let mut told = Told { refusals: 0 };
+    let names = names(rt.alloc(), &mut told)?;
+    let list = long_acl(rt.alloc(), &names, &mut told)?;
     let mut out = Vec::new(rt.alloc());
+    if out.push(b'>').is_err() {
+        told.one_more();
+        out.push(b'>')?;
+    }
     if list.print_aces(&names, &mut out).is_err() {
-        assert_eq!(rt; out.len(), 0);
+        told.one_more();
+        assert_eq!(rt; out.as_slice(), b">".as_slice());
         list.print_aces(&names, &mut out)?;
     }
-    // 9 lines of 8 bytes, and 8 of 9.
-    assert_eq!(rt; out.len(), 144);
+    // 9 lines of 8 bytes, and 8 of 9, after the one that stood there.
+    assert_eq!(rt; out.len(), 145);
+    assert!(rt; out.starts_with(b">A:f:1:r\nA:f:2:r\n".as_slice()));
+    println!(rt; "refusals: {}", told.refusals)?;
     Ok(())
 }
 
 #[test]
 fn chmod4_under_a_refused_growth(rt: HostRuntime) -> Result<(), Fail> {
-    let mut list = long_acl(rt.alloc())?;
+    let mut told = Told { refusals: 0 };
+    let names = names(rt.alloc(), &mut told)?;
+    let mut list = long_acl(rt.alloc(), &names, &mut told)?;
+    let before = copy(rt.alloc(), &list, &mut told)?;
     let mode = Mode::from_bits(0o700).ok_or("a mode")?;
     if list.chmod4(rt.alloc(), mode) == Err(Fault4::Memory) {
-        assert_eq!(rt; list.aces().len(), 17);
+        told.one_more();
+        assert!(rt; list.aces() == before.aces());
         assert_eq!(rt; list.chmod4(rt.alloc(), mode), Ok(()));
     }
     // The owner's, what is inherited of each entry, a denial of each user, and the group's.
     assert_eq!(rt; list.aces().len(), 36);
+    println!(rt; "refusals: {}", told.refusals)?;
     Ok(())
 }
 
 #[test]
-fn lists_made_under_a_refused_growth(rt: HostRuntime) -> Result<(), Fail> {
-    let list = long_acl(rt.alloc())?;
+fn inherited_under_a_refused_growth(rt: HostRuntime) -> Result<(), Fail> {
+    let mut told = Told { refusals: 0 };
+    let names = names(rt.alloc(), &mut told)?;
+    let list = long_acl(rt.alloc(), &names, &mut told)?;
     let below = match list.inherited(rt.alloc(), Kind::File) {
         Ok(below) => below,
-        Err(_) => list.inherited(rt.alloc(), Kind::File)?,
+        Err(_) => {
+            told.one_more();
+            list.inherited(rt.alloc(), Kind::File)?
+        }
     };
-    let copy = match below.try_clone(rt.alloc()) {
-        Ok(copy) => copy,
-        Err(_) => below.try_clone(rt.alloc())?,
+    let mut out = Vec::new(rt.alloc());
+    if below.print_aces(&names, &mut out).is_err() {
+        told.one_more();
+        below.print_aces(&names, &mut out)?;
+    }
+    assert_eq!(rt; out.as_slice(), BELOW.as_bytes());
+    println!(rt; "refusals: {}", told.refusals)?;
+    Ok(())
+}
+
+#[test]
+fn lists_with_room_under_a_refused_growth(rt: HostRuntime) -> Result<(), Fail> {
+    let mut told = Told { refusals: 0 };
+    let mut list = match Acl4::with_capacity(rt.alloc(), 40) {
+        Ok(list) => list,
+        Err(_) => {
+            told.one_more();
+            Acl4::with_capacity(rt.alloc(), 40)?
+        }
     };
-    assert!(rt; copy.aces() == below.aces());
-    assert_eq!(rt; copy.aces().len(), 17);
+    assert_eq!(rt; list.aces().len(), 0);
+    for number in 0..40 {
+        assert!(rt; list.push(reader(number).ok_or("an entry")?).is_ok());
+    }
+    assert_eq!(rt; list.aces().len(), 40);
+    println!(rt; "refusals: {}", told.refusals)?;
     Ok(())
 }

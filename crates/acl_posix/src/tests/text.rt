@@ -109,29 +109,3 @@ fn permissions_are_one_to_three_characters(rt: HostRuntime) -> Result<(), Fail> 
     }
     Ok(())
 }
-
-/// Reads a text that was cut or bent: it answers, whatever the text.
-fn answers(alloc: Global, names: &Directory, text: &[u8]) -> bool {
-    match read_entries(alloc, text, names) {
-        Ok(entries) => entries.as_slice().len() <= 4,
-        Err(fault) => fault != TextFault::Memory,
-    }
-}
-
-#[test]
-fn cut_and_bent_texts_are_answered(rt: HostRuntime) -> Result<(), Fail> {
-    let names = directory(rt.alloc()).ok_or("directory")?;
-    let text = b"user : : rwx , g::r-x\nmask:rwx # all\nother:r";
-    for end in 0..text.len() {
-        assert!(rt;
-            answers(rt.alloc(), &names, &text[..end]),
-            "the first {end} bytes"
-        );
-        for byte in [0, b':', b',', b'#', b'\n', 0x80] {
-            let mut bent = Vec::from_slice(rt.alloc(), text)?;
-            bent[end] = byte;
-            assert!(rt; answers(rt.alloc(), &names, &bent), "{byte} at {end}");
-        }
-    }
-    Ok(())
-}

@@ -41,7 +41,8 @@ fn lists_are_refused_for_the_first_fault(rt: HostRuntime) -> Result<(), Fail> {
 fn entries_stand_in_canonical_order(rt: HostRuntime) -> Result<(), Fail> {
     let names = directory(rt.alloc()).ok_or("the directory")?;
     let text = b"o::-,m::rwx,g:60:r,g:ops2:r,g:0:w,g::r,u:7:r,u:bob:w,u::rw";
-    assert!(rt; read_entries(rt.alloc(), text, &names).is_err());
+    let fault = read_entries(rt.alloc(), text, &names).err();
+    assert_eq!(rt; fault, Some(TextFault::UnknownName));
     let text = b"o::-,m::rwx,g:60:r,g:0:w,g::r,u:bob:w,u:7:r,u::rw";
     let entries = read_entries(rt.alloc(), text, &names)?;
     let acl = Acl::new(entries)?;

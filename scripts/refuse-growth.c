@@ -1,0 +1,60 @@
+/*
+ * Refuses one growth of memory. Preloaded into a program of tests by scripts/refused-growths, it counts the calls that
+ * take memory, and lets the one fail whose number is in the environment as REFUSED_GROWTH (none, if it is 0). How many
+ * were made is written at the end to the file GROWTHS_FILE, if that is set.
+ */
+#include <errno.h>
+#include <stdatomic.h>
+#include <stddef.h>
+#include <stdio.h>
+#include <stdlib.h>
+
+void *__libc_malloc(size_t size);
+void *__libc_realloc(void *old, size_t size);
+void *__libc_memalign(size_t alignment, size_t size);
+
+static atomic_long growths;
+static long refused;
+static atomic_bool armed;
+
+__attribute__((constructor)) static void begin(void)
+{
+    const char *number = getenv("REFUSED_GROWTH");
+    refused = number ? atol(number) : 0;
+    growths = 0;
+    armed = 1;
+}
+
+__attribute__((destructor)) static void end(void)
+{
+    const char *path = getenv("GROWTHS_FILE");
+    armed = 0;
+    FILE *file = path ? fopen(path, "w") : NULL;
+    if (file) {
+        fprintf(file, "%ld\n", (long)growths);
+        fclose(file);
+    }
+}
+
+static int is_refused(void)
+{
+    if (!armed || ++growths != refused)
+        return 0;
+    errno = ENOMEM;
+    return 1;
+}
+
+void *malloc(size_t size)
+{
+    return is_refused() ? NULL : __libc_malloc(size);
+}
+
+void *realloc(void *old, size_t size)
+{
+    return is_refused() ? NULL : __libc_realloc(old, size);
+}
+
+void *aligned_alloc(size_t alignment, size_t size)
+{
+    return is_refused() ? NULL : __libc_memalign(alignment, size);
+}
