@@ -8,9 +8,12 @@ ghost use Rattle.acl_bridge.specs.Translation.{translation, default_translation,
 ghost use Rattle.acl_bridge.specs.TranslationLaws.{DecideAlike, GrantsAsMuch, translated_mode, most_translated};
 
 use crate::passes::{Class, Effect, Part, append_class};
-use acl_nfs4::{Acl4, Kind};
-use acl_posix::Acl;
+use acl_nfs4::{Acl4, Kind, MAX_ACES};
+use acl_posix::{Acl, MAX_ENTRIES};
 use std::alloc::{AllocError, Global};
+
+// A translation always fits: there are at most two entries for each of the list's, none for its mask, and one for the others.
+const _: () = prove!(2 * MAX_ENTRIES - 3 <= MAX_ACES);
 
 /// The list's translation, to take effect here or below.
 fn translation_for(alloc: Global, acl: &Acl, effect: Effect) -> Result<Acl4, AllocError>
