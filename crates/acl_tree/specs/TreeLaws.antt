@@ -40,7 +40,7 @@ ParentsAreDirectories = EachMadeTree NodesLieInDirectories
 abbrev pub TreesAreWithinTheLimit : Type 0
 TreesAreWithinTheLimit = EachMadeTree IsWithinLimit
 
--- every path of the tree is one, where each command's is
+-- nodes are at paths alone, if the paths that the commands name are ones
 abbrev pub TreesHavePathsAlone : Type 0
 TreesHavePathsAlone =
     (directory : Known) (tree : NodesUnderUmask) (made : IsMadeByCommands directory tree)
