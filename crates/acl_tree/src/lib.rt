@@ -17,7 +17,7 @@ mod tree;
 
 pub use boxed::Boxed;
 pub use faults::{LineFault, TreeFault};
-pub use laws::command_laws;
+pub use laws::{command_laws, mask_laws, tree_laws};
 pub use limits::{MAX_COMPONENT_LEN, MAX_NODES, MAX_PATH_LEN};
 pub use node::Node;
 pub use node_acl::{NodeAcl, Style};

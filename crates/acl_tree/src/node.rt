@@ -12,12 +12,13 @@ use acl_nfs4::{Acl4, Kind};
 use acl_posix::{Acl, Mode, Perms};
 use std::alloc::{AllocError, Global};
 
-/// A file or a directory.
+/// A file or a directory. In a tree its kind, its owner and its group never change.
 #[derive(Debug, Drop)]
 pub struct Node {
     pub kind: Kind,
     pub owner: Uid,
     pub group: Gid,
+    /// Its access control lists, of either style.
     pub acl: NodeAcl,
 }
 
@@ -29,7 +30,7 @@ impl Node {
         matches!(self.kind, Kind::Dir)
     }
 
-    /// What is shown of it at this path.
+    /// What is shown of it at this path, with copies of its lists. It fails only if memory runs out.
     pub fn view(&self, alloc: Global, path: &Path) -> Result<View, AllocError>
         ensures { IfOk result (λ view. view ≡ view_of path.now self.now) }
     {
@@ -43,17 +44,18 @@ impl Node {
         })
     }
 
-    /// Whether its access list grants the permissions.
+    /// Whether its list grants the requester each of the permissions.
     pub fn may(&self, requester: &Requester, perms: Perms) -> bool
         ensures { result ≡ may self.now requester.now (bits_of perms) }
     {
         self.acl.grants(self.owner, self.group, requester, perms)
     }
 
-    /// Sets the access list. A default list stays.
+    /// Sets the access list. A default list stays; an NFSv4 list goes.
     pub(crate) fn set_access(&mut self, alloc: Global, acl: &Acl) -> Result<(), Refusal>
         ensures { Changes (with_access acl.now self.old) self.old result self.new }
     {
+        // The copy comes first, so that the node is as it was if memory runs out.
         let new = acl.try_clone(alloc)?;
         match &mut self.acl {
             NodeAcl::Posix { access, .. } => *access = new,
@@ -86,7 +88,7 @@ impl Node {
         Ok(())
     }
 
-    /// Sets the list of the NFSv4 style. Lists of the other style go.
+    /// Sets the NFSv4 list. POSIX lists go.
     pub(crate) fn set_nfs4(&mut self, alloc: Global, acl: &Acl4) -> Result<(), Refusal>
         ensures { Changes (with_nfs4 acl.now self.old) self.old result self.new }
     {

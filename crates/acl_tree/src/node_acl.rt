@@ -17,18 +17,22 @@ use std::alloc::{AllocError, Global};
 /// Which of the two kinds of access control list a node has.
 #[derive(Clone, Copy, Debug, PartialEq, Eq)]
 pub enum Style {
+    /// POSIX lists: one for access, and on a directory perhaps a default one.
     Posix,
+    /// One NFSv4 list.
     Nfs4,
 }
 
-/// The access control lists of a node. Only directories have a default list.
+/// The access control lists of a node.
 #[derive(Debug, Drop)]
 pub enum NodeAcl {
+    /// The list that access is decided by, and the one that new nodes inherit; in a tree only directories have the second.
     Posix { access: Acl, default: Option<Acl> },
+    /// The list that access is decided by, and that new nodes inherit from.
     Nfs4 { acl: Acl4 },
 }
 
-/// The same list, where there is one.
+/// A copy of the list, if there is one.
 fn try_clone_default(alloc: Global, default: &Option<Acl>) -> Result<Option<Acl>, AllocError>
     ensures { IfOk result (λ clone. clone ≡ default.now) }
 {
@@ -38,7 +42,7 @@ fn try_clone_default(alloc: Global, default: &Option<Acl>) -> Result<Option<Acl>
     }
 }
 
-/// The list in the box, where there is one.
+/// A copy of the list in the box, if there is one.
 pub(crate) fn try_clone_boxed(
     alloc: Global,
     default: &Option<Boxed<Acl>>,
@@ -51,7 +55,7 @@ pub(crate) fn try_clone_boxed(
     }
 }
 
-/// A new directory has the default list too.
+/// The default list of a new node below one with this list: a directory takes it over, a file has none.
 fn default_below(alloc: Global, kind: Kind, default: &Acl) -> Result<Option<Acl>, AllocError>
     ensures { IfOk result (λ below. below ≡ default_below kind default.now) }
 {
@@ -84,13 +88,13 @@ fn beyond_umask(mode: Mode, umask: Mode) -> Mode
 pub(crate) fn grants4(acl: &Acl4, owner: Uid, group: Gid, requester: &Requester, mask: Mask) -> bool
     ensures { result ≡ grants4 acl.now owner group requester.now (mask_bits mask) }
 {
-    // A mask tells that it has 32 bits where its number is looked at.
+    // That a mask has 32 bits is known to the proof only after its number is read.
     let _bits = mask.bits();
     acl.grants4(owner, group, requester, mask)
 }
 
 impl NodeAcl {
-    /// The same lists.
+    /// A copy of them. It fails only if memory runs out.
     pub fn try_clone(&self, alloc: Global) -> Result<NodeAcl, AllocError>
         ensures { IfOk result (λ clone. clone ≡ self.now) }
     {
@@ -105,7 +109,7 @@ impl NodeAcl {
         }
     }
 
-    /// The mode that is shown: of the POSIX style that of the access list.
+    /// The mode that is shown: that of the access list, or what the NFSv4 list grants the owner, the group and the others.
     pub fn mode(&self) -> Mode
         ensures { result ≡ mode_shown self.now }
     {
@@ -115,7 +119,7 @@ impl NodeAcl {
         }
     }
 
-    /// Whether the list, of a node of this owner and this group, grants the permissions.
+    /// Whether the list, on a node of this owner and this group, grants the requester each of the permissions.
     pub(crate) fn grants(&self, owner: Uid, group: Gid, requester: &Requester, perms: Perms) -> bool
         ensures { result ≡ list_grants self.now owner group requester.now (bits_of perms) }
     {
@@ -125,7 +129,7 @@ impl NodeAcl {
         }
     }
 
-    /// The list of a root.
+    /// The list of a root: that of the mode alone.
     pub(crate) fn of_root(alloc: Global, style: Style, mode: Mode) -> Result<NodeAcl, AllocError>
         ensures { IfOk result (λ acl. acl ≡ root_acl style mode) }
     {
@@ -140,14 +144,14 @@ impl NodeAcl {
                     Ok(()) => Ok(NodeAcl::Nfs4 { acl }),
                     Err(Fault4::Memory) => Err(AllocError),
 
-                    // The mode alone has a handful of entries.
+                    // A mode alone makes five entries at most.
                     Err(Fault4::TooMany) => unreachable!(),
                 }
             }
         }
     }
 
-    /// Changes the mode: of the POSIX style the access list alone.
+    /// Changes the mode; a default list stays.
     pub(crate) fn change_mode(&mut self, alloc: Global, mode: Mode) -> Result<(), Refusal>
         ensures { Changes (acl_with_mode self.old mode) self.old result self.new }
     {
@@ -160,7 +164,7 @@ impl NodeAcl {
         }
     }
 
-    /// The lists of a new node under a parent with these.
+    /// The lists of a new node in a directory with these. The umask counts only if nothing is inherited.
     pub(crate) fn at_creation(
         &self,
         alloc: Global,

@@ -1,37 +1,42 @@
-//! The answers to commands.
+//! The replies to commands.
 use crate::{Boxed, LineFault, NodeAcl, Path, TreeFault};
 use acl_names::{Gid, Uid};
 use acl_nfs4::{Acl4, Kind};
 use acl_posix::Mode;
 
-/// What is shown of a node.
+/// What is shown of a node: all that there is of it, its path and its mode.
 #[derive(Debug, Drop)]
 pub struct View {
     pub path: Path,
     pub kind: Kind,
     pub owner: Uid,
     pub group: Gid,
+    /// The mode that its list shows.
     pub mode: Mode,
+    /// A copy of its lists.
     pub acl: NodeAcl,
 }
 
-/// The answer to a command.
+/// The reply to a command.
 #[derive(Debug, Drop)]
 pub enum Reply {
-    /// The tree was changed.
+    /// The command was carried out.
     Done,
+    /// The node that was asked for.
     Node(Boxed<View>),
+    /// All that was asked for is granted.
     Granted,
+    /// Something that was asked for is denied.
     Denied,
-    /// The access list's translation.
+    /// The translation of the access list of a node that has no default list.
     Translated(Boxed<Acl4>),
-    /// The translations of the access list and of the default list.
+    /// The translation of the access list, and that of the default list, which only new nodes inherit.
     TranslatedBoth {
         access: Boxed<Acl4>,
         inherit: Boxed<Acl4>,
     },
-    /// The command was refused, and the tree stays.
+    /// The command was refused, and the tree is as it was.
     Refused(TreeFault),
-    /// The line was no command.
+    /// The line was no command, and the tree is as it was.
     Fault(LineFault),
 }

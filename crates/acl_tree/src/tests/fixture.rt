@@ -1,6 +1,6 @@
-//! The users, groups and tree of the examples, commands on it, and lists that texts spell; none where memory is refused or a
-//! text is.
-use crate::{Boxed, LineFault, NodeAcl, Path, Reply, Request, Style, Tree, TreeFault, View};
+//! The users, groups and tree of the examples, commands on it, and lists that texts spell. A function answers none if memory or
+//! a text is refused.
+use crate::{Boxed, LineFault, Node, NodeAcl, Path, Reply, Request, Style, Tree, TreeFault, View};
 use acl_names::{Directory, Gid, Group, Uid, User};
 use acl_nfs4::{Acl4, Kind, read_aces, read_letters};
 use acl_posix::{Acl, Mode, read_entries, read_perms};
@@ -11,6 +11,9 @@ pub const ALICE: u32 = 1000;
 pub const BOB: u32 = 1001;
 
 pub const CAROL: u32 = 1002;
+
+/// The paths of all nodes that the tests create, but for those that fill a tree.
+const PATHS: [&str; 5] = ["/", "/a", "/d", "/d/e", "/d/f"];
 
 pub fn uid(number: u32) -> Option<Uid> {
     Uid::new(number)
@@ -79,6 +82,12 @@ pub enum Told {
     Translated,
     Refused(TreeFault),
     Fault(LineFault),
+}
+
+/// Copies of a tree's nodes, each at its path.
+#[derive(Drop)]
+pub struct Nodes {
+    views: Vec<View>,
 }
 
 /// The examples' directory and tree.
@@ -196,11 +205,35 @@ impl World {
         self.apply(&Request::Translate(path))
     }
 
+    /// Copies of the tree's nodes.
+    pub fn nodes(&self) -> Option<Nodes> {
+        let mut views = Vec::new(self.alloc);
+        for at in PATHS {
+            let path = self.path(at)?;
+            if let Some(node) = self.tree.node(&path) {
+                views.push(node.view(self.alloc, &path).ok()?).ok()?;
+            }
+        }
+        Some(Nodes { views })
+    }
+
+    /// Whether the tree has these nodes, each as it was copied, and no others. It takes no memory.
+    pub fn has_nodes(&self, nodes: &Nodes) -> bool {
+        self.tree.len() == nodes.views.len() && nodes.views.iter().all(|view| self.has_copied(view))
+    }
+
+    fn has_copied(&self, view: &View) -> bool {
+        match self.tree.node(&view.path) {
+            Some(node) => is_copied(node, view),
+            None => false,
+        }
+    }
+
     /// Whether the node at the path is shown with this owner, group and mode.
     pub fn shows(&mut self, at: &str, owner: u32, group: u32, bits: u16) -> Option<bool> {
         let path = self.path(at)?;
         match self.apply(&Request::Get(path))? {
-            Reply::Node(view) => Some(is_shown(view, owner, group, bits)),
+            Reply::Node(view) => Some(is_shown(&view, owner, group, bits)),
             _ => Some(false),
         }
     }
@@ -254,6 +287,20 @@ impl World {
 
 fn is_shown(view: &View, owner: u32, group: u32, bits: u16) -> bool {
     view.owner.value() == owner && view.group.value() == group && view.mode.bits() == bits
+}
+
+fn is_copied(node: &Node, view: &View) -> bool {
+    node.kind == view.kind
+        && node.owner == view.owner
+        && node.group == view.group
+        && has_lists(&node.acl, &view.acl)
+}
+
+fn has_lists(own: &NodeAcl, lists: &NodeAcl) -> bool {
+    match lists {
+        NodeAcl::Posix { access, default } => is_posix(own, access, default),
+        NodeAcl::Nfs4 { acl } => is_nfs4(own, acl),
+    }
 }
 
 fn is_posix(own: &NodeAcl, list: &Acl, list_below: &Option<Acl>) -> bool {

@@ -65,10 +65,42 @@ fn too_many_entries_for_a_mode(rt: HostRuntime) -> Result<(), Fail> {
         Boxed::new(rt.alloc(), list)?,
     );
     assert_eq!(rt; world.told(&request), Some(Told::Done));
+    let before = world.nodes().ok_or("copies")?;
     assert_eq!(rt;
         world.chmod("/a", 0o644),
         Some(Told::Refused(TreeFault::TooMany))
     );
+    assert!(rt; world.has_nodes(&before));
     assert_eq!(rt; world.check4("/a", 0, "t"), Some(Told::Granted));
+    Ok(())
+}
+
+/// The entries of the text, and of 60 users by their uids.
+fn with_users(alloc: Global, text: &str) -> Option<String> {
+    let mut all = String::from_str(alloc, text).ok()?;
+    for number in 1..61 {
+        let entry = format!(in alloc; ",u:{number}:r").ok()?;
+        all.push_str(entry.as_str()).ok()?;
+    }
+    Some(all)
+}
+
+#[test]
+fn most_entries_of_an_access_list(rt: HostRuntime) -> Result<(), Fail> {
+    let mut world = World::with_a(rt.alloc()).ok_or("a tree")?;
+    let text = with_users(rt.alloc(), "u::r,g::r,o::r,m::r").ok_or("a text")?;
+    assert_eq!(rt; world.set_access("/a", text.as_str()), Some(Told::Done));
+    assert_eq!(rt; world.has_access("/a", text.as_str()), Some(true));
+    Ok(())
+}
+
+#[test]
+fn many_named_users(rt: HostRuntime) -> Result<(), Fail> {
+    let mut world = World::with_a(rt.alloc()).ok_or("a tree")?;
+    let text = with_users(rt.alloc(), "u::r,g::r,m::r,o::-").ok_or("a text")?;
+    assert_eq!(rt; world.set_access("/a", text.as_str()), Some(Told::Done));
+    assert_eq!(rt; world.check("/a", 60, "r"), Some(Told::Granted));
+    assert_eq!(rt; world.check("/a", 1, "r"), Some(Told::Granted));
+    assert_eq!(rt; world.check("/a", 61, "r"), Some(Told::Denied));
     Ok(())
 }

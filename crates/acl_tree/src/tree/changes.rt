@@ -68,7 +68,7 @@ impl Tree {
         node.change_mode(alloc, mode)
     }
 
-    /// Creates a node at the path, with the lists that it has from the directory it lies in.
+    /// Creates a node at the path, with lists of the style of the directory that it lies in.
     pub(super) fn create(
         &mut self,
         alloc: Global,

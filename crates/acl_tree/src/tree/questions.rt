@@ -14,7 +14,7 @@ use acl_nfs4::Mask;
 use acl_posix::Perms;
 use std::alloc::Global;
 
-/// What is told of whether it may be done.
+/// The reply to whether something may be done.
 fn granted(may: bool) -> Reply
     ensures { result ≡ granted may }
 {
@@ -31,7 +31,7 @@ impl Tree {
         Ok(Reply::Node(Boxed::new(alloc, view)?))
     }
 
-    /// Whether the user has the permissions on the node at the path.
+    /// Whether the list of the node at the path grants the user each of the permissions.
     pub(super) fn check(
         &self,
         alloc: Global,
@@ -47,7 +47,7 @@ impl Tree {
         Ok(granted(node.may(&requester, perms)))
     }
 
-    /// Whether the NFSv4 list of the node at the path grants the user the mask.
+    /// Whether the NFSv4 list of the node at the path grants the user each bit of the mask.
     pub(super) fn check4(
         &self,
         alloc: Global,
@@ -66,7 +66,7 @@ impl Tree {
         Ok(granted(grants4(acl, node.owner, node.group, &requester, mask)))
     }
 
-    /// The POSIX lists of the node at the path as NFSv4 ones.
+    /// The POSIX lists of the node at the path as NFSv4 lists.
     pub(super) fn translate(&self, alloc: Global, path: &Path) -> Result<Reply, Refusal>
         ensures { Answers (translate self.now path.now) result }
     {
