@@ -1,7 +1,6 @@
 -- What the readers of lists say of a text, as what a line's field says.
-use Rattle.std.proofs.Common.{◌≡◌, ◌∙◌, [], ◌∷◌, ℕ, List, Ok, Err, None, ap, refl, map}
+use Rattle.std.proofs.Common.{◌≡◌, ◌∙◌, [], ◌∷◌, ℕ, List, Ok, Err, ap, refl, map}
 use Rattle.std.specs.Prelude.{Result}
-use Rattle.std.specs.List.Sorted.{IsPermutation}
 use Rattle.acl_names.specs.Directory.{Known}
 use Rattle.acl_names.specs.ListText.{IsFaultOf, Say, Spells}
 use Rattle.acl_names.specs.Pieces.{pieces}
@@ -11,19 +10,16 @@ use Rattle.acl_nfs4.specs.AceText.{piece_value}
 use Rattle.acl_nfs4.specs.ReadFault as aces_fault
 use Rattle.acl_nfs4.specs.declared.acl.AceFault.{AceFault}
 use Rattle.acl_nfs4.specs.declared.acl.AceFault.TheVariants as ace
-use Rattle.acl_posix.specs.Canonical.{IsAcl}
 use Rattle.acl_posix.specs.Entry.{Triple}
 use Rattle.acl_posix.specs.EntryText.{entry_of}
 use Rattle.acl_posix.specs.ReadFault as entries_fault
-use Rattle.acl_posix.specs.Validity.{fault_of}
 use Rattle.acl_posix.specs.declared.entries.TextFault.{TextFault}
 use Rattle.acl_posix.specs.declared.entries.TextFault.TheVariants as refusal
 use Rattle.acl_tree.specs.declared.faults.LineFault.{LineFault}
 use Rattle.acl_tree.specs.declared.faults.LineFault.TheVariants.{TooMany}
-use Rattle.acl_lang.specs.Fields.{accepted, aces_of, as_ace, as_entry, entries_of}
+use Rattle.acl_lang.specs.Fields.{aces_of, as_ace, as_entry, entries_of}
 use Rattle.acl_lang.specs.ReadList.{at_most_read}
 use Rattle.acl_lang.specs.Refusals.{Asked, Reads, aces_refusal, text_refusal}
-use Rattle.acl_lang.proofs.OrderLemmas.{in_order-acl}
 use Rattle.acl_lang.proofs.ReadLemmas.{at_most_read-all, at_most_read-fault, at_most_read-many}
 
 -- A reader whose faults are told as those of a line.
@@ -74,7 +70,3 @@ module _ (known : Known) (text : List ℕ) where
   aces_of-refused ace.TooMany is = read-many (piece_value known) (λ piece. as_ace (piece_value known piece)) (λ piece value is. ap as_ace is) 128 text is
   aces_of-refused ace.InheritOnly is = read-fault (piece_value known) (λ piece. as_ace (piece_value known piece)) (λ piece value is. ap as_ace is) 128 text _ _ is (λ piece is. ap as_ace is)
   aces_of-refused ace.Memory is = tt
-
--- entries with nothing wrong are their access control list
-pub accepted-acl : (entries acl : List Triple) → fault_of entries ≡ None → IsAcl acl → IsPermutation entries acl → accepted entries ≡ Ok acl
-accepted-acl entries acl right is moved = rw (right, in_order-acl entries acl is moved) refl

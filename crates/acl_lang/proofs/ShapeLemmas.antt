@@ -27,7 +27,7 @@ use Rattle.acl_tree.specs.declared.request.Request.{Request}
 use Rattle.acl_tree.specs.declared.request.Request.TheVariants.{Get, SetAccess, SetDefault, SetNfs4, Chmod, Create, Check, Check4, Translate, Bad}
 use Rattle.acl_lang.specs.Commands.{asked_by, check, check4, chmod, command, create, get, set, set_access, set_default, set_list, set_nfs4, translate}
 use Rattle.acl_lang.specs.Fields.{accepted, acl_of, aces_of, as_ace, as_entry, default_of, entries_of, kind_of, mask_of, mode_of, path_of, perms_of, user_of}
-use Rattle.acl_lang.specs.InOrder.{in_order}
+use Rattle.acl_posix.specs.InOrder.{in_order}
 use Rattle.acl_lang.specs.Printed.{kind_text}
 use Rattle.acl_lang.specs.ReadList.{at_most_read, each_read}
 use Rattle.acl_lang.specs.Shapes.{Asks, IsPath, Sets, SpellsAcl, SpellsDefault}

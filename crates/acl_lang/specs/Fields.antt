@@ -18,6 +18,7 @@ use Rattle.acl_nfs4.specs.declared.reading.PieceFault as aces
 use Rattle.acl_nfs4.specs.declared.reading.PieceFault.TheVariants as ace
 use Rattle.acl_posix.specs.Entry.{Triple}
 use Rattle.acl_posix.specs.EntryText.{entry_of}
+use Rattle.acl_posix.specs.InOrder.{in_order}
 use Rattle.acl_posix.specs.Mode.{Classes}
 use Rattle.acl_posix.specs.PermsText.{perms_of_text}
 use Rattle.acl_posix.specs.Validity.{fault_of}
@@ -28,7 +29,6 @@ use Rattle.acl_posix.specs.declared.reading.PieceFault.TheVariants as entry
 use Rattle.acl_tree.specs.Path.{is_path}
 use Rattle.acl_tree.specs.declared.faults.LineFault.{LineFault}
 use Rattle.acl_tree.specs.declared.faults.LineFault.TheVariants.{Syntax, BadPath, BadMode, BadPerms, UnknownName, BadAcl, InvalidAcl, TooMany, InheritOnly}
-use Rattle.acl_lang.specs.InOrder.{in_order}
 use Rattle.acl_lang.specs.ReadList.{at_most_read}
 use Rattle.acl_lang.specs.Refusals.{Asked}
 

@@ -12,11 +12,12 @@ use Rattle.acl_names.specs.Steps.{◌>>=◌, or_fault}
 use Rattle.acl_posix.proofs.ValidityLemmas.{valid_iff}
 use Rattle.acl_posix.specs.Entry.{Triple}
 use Rattle.acl_posix.specs.EntryText.{entry_of}
+use Rattle.acl_posix.specs.InOrder.{in_order}
 use Rattle.acl_posix.specs.Validity.{IsValid, fault_of}
 use Rattle.acl_posix.specs.declared.acl.Invalid.{Invalid}
 use Rattle.acl_posix.specs.declared.reading.PieceFault.{PieceFault}
 use Rattle.acl_service.specs.AclText.{accepted, acl_of, as_field, entries_of, nobody}
-use Rattle.acl_service.specs.Ask.{Ask, GiveEntries, GiveFlag, GiveGids, GiveId, GivePerms, Write}
+use Rattle.acl_service.specs.Ask.{Ask, GiveAcl, GiveFlag, GiveGids, GiveId, GivePerms, Write}
 use Rattle.acl_service.specs.Asked.{Asked, acl_in, asked_by, asked_in, flag_in, flag_of, gids_in, gids_of, id_in, id_of, perms_in, perms_of}
 use Rattle.acl_service.specs.CommandLine.{TakesWords, decide_line}
 use Rattle.acl_service.specs.Reading.{at_most_read, each_read}
@@ -110,16 +111,20 @@ is_none-true : (fault : Option Invalid) → is_none fault ≡ true → fault ≡
 is_none-true None is = refl
 is_none-true (Some fault) is = cc
 
-acl_of-spelt : (text : Text) (entries : List Triple) → Spells (entry_of nobody) 64 text entries → IsValid entries → acl_of text ≡ Ok entries
+acl_of-spelt : (text : Text) (entries : List Triple) → Spells (entry_of nobody) 64 text entries → IsValid entries → acl_of text ≡ Ok (in_order entries)
 acl_of-spelt text entries spelt valid = rw (entries_of-spelt text entries spelt, (valid_iff entries).0 valid) refl
 
-acl_of-ok : (text : Text) (entries : List Triple) → acl_of text ≡ Ok entries → Spells (entry_of nobody) 64 text entries × IsValid entries
-acl_of-ok text entries is =
-    let read = first_step accepted entries (entries_of text) is in
-    let test = if_then (is_none (fault_of read.0)) InvalidAcl read.0 entries read.2 in
-    let valid : IsValid entries = subst IsValid test.1 ((valid_iff read.0).1 (is_none-true (fault_of read.0) test.0)) in
-    let said = at_most_read-said field_of 64 (pieces text) entries (read.1 ∙ ap Ok test.1) in
-    (record { said = Say-from_field (pieces text) entries said.0; within = said.1 }, valid)
+acl_of-ok : (text : Text) (acl : List Triple) → acl_of text ≡ Ok acl
+    → (entries : List Triple) × Spells (entry_of nobody) 64 text entries × IsValid entries × (in_order entries ≡ acl)
+acl_of-ok text acl is =
+    let read = first_step accepted acl (entries_of text) is in
+    let test = if_then (is_none (fault_of read.0)) InvalidAcl (in_order read.0) acl read.2 in
+    let said = at_most_read-said field_of 64 (pieces text) read.0 read.1 in (
+      read.0,
+      record { said = Say-from_field (pieces text) read.0 said.0; within = said.1 },
+      (valid_iff read.0).1 (is_none-true (fault_of read.0) test.0),
+      test.1,
+    )
 
 -- Fields.
 
@@ -139,8 +144,8 @@ module _ (words : List Text) where
   perms_in-given : (perms : ℕ) → GivePerms words perms → perms_in rows ≡ Ok perms
   perms_in-given perms (text, given, is) = rw (given, is) refl
 
-  acl_in-given : (entries : List Triple) → GiveEntries words entries → IsValid entries → acl_in rows ≡ Ok entries
-  acl_in-given entries (text, given, spelt) valid = rw given (acl_of-spelt text entries spelt valid)
+  acl_in-given : (acl : List Triple) → GiveAcl words acl → acl_in rows ≡ Ok acl
+  acl_in-given acl (text, entries, given, spelt, valid, same) = rw (given, ← same) (acl_of-spelt text entries spelt valid)
 
   -- a field that reads is given
   GiveId-read : (name : Text) (id : ℕ) → id_in name rows ≡ Ok id → GiveId words name id
@@ -159,11 +164,11 @@ module _ (words : List Text) where
       let text = first_step perms_of perms (or_fault BadPerms (first_of (codes "perms") rows)) is in
       (text.0, or_fault-ok BadPerms _ _ text.1, or_fault-ok BadPerms _ _ text.2)
 
-  GiveEntries-read : (entries : List Triple) → acl_in rows ≡ Ok entries → GiveEntries words entries × IsValid entries
-  GiveEntries-read entries is =
-      let text = first_step acl_of entries (or_fault BadAcl (first_of (codes "text") rows)) is in
-      let spelt = acl_of-ok text.0 entries text.2 in
-      ((text.0, or_fault-ok BadAcl _ _ text.1, spelt.0), spelt.1)
+  GiveAcl-read : (acl : List Triple) → acl_in rows ≡ Ok acl → GiveAcl words acl
+  GiveAcl-read acl is =
+      let text = first_step acl_of acl (or_fault BadAcl (first_of (codes "text") rows)) is in
+      let spelt = acl_of-ok text.0 acl text.2 in
+      (text.0, spelt.0, or_fault-ok BadAcl _ _ text.1, spelt.1, spelt.2, spelt.3)
 
   -- a flag is set exactly where it is given
   flag_of-given : (value : Option Text) → (flag_of value ≡ true) ↔ (value ≡ Some (codes "true"))
@@ -195,7 +200,7 @@ asked_by-Ask words asked ask = (
     id_in-given words _ _ ask.uid,
     gids_in-given words _ ask.gids,
     perms_in-given words _ ask.request,
-    acl_in-given words _ ask.entries ask.valid,
+    acl_in-given words _ ask.acl,
     flag_in-given words _ _ ask.nfs4,
   ) refl,
 )
@@ -208,10 +213,9 @@ Ask-asked_by words asked taken is =
     let uid = first_step _ asked (id_in (codes "uid") (rows words)) group.2 in
     let gids = first_step _ asked (gids_in (rows words)) uid.2 in
     let perms = first_step _ asked (perms_in (rows words)) gids.2 in
-    let entries = first_step _ asked (acl_in (rows words)) perms.2 in
-    let given = GiveEntries-read words entries.0 entries.1 in
+    let acl = first_step _ asked (acl_in (rows words)) perms.2 in
     let nfs4 = flag_in (codes "nfs4") (rows words) in
-    let all : record { owner = owner.0; group = group.0; requester = record { uid = uid.0; gids = gids.0 }; request = perms.0; entries = entries.0; nfs4 = nfs4 } ≡ asked = cc in
+    let all : record { owner = owner.0; group = group.0; requester = record { uid = uid.0; gids = gids.0 }; request = perms.0; acl = acl.0; nfs4 = nfs4 } ≡ asked = cc in
     subst (Ask words) all (record {
       taken = taken;
       owner = GiveId-read words _ _ owner.1;
@@ -219,7 +223,6 @@ Ask-asked_by words asked taken is =
       uid = GiveId-read words _ _ uid.1;
       gids = GiveGids-from words _ _ refl gids.1;
       request = GivePerms-read words _ perms.1;
-      entries = given.0;
-      valid = given.1;
+      acl = GiveAcl-read words _ acl.1;
       nfs4 = flag_of-given words (first_of (codes "nfs4") (rows words));
     })

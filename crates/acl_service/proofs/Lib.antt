@@ -3,5 +3,4 @@ pub mod CommandLemmas
 pub mod ReadLemmas
 pub mod AclLemmas
 pub mod OutcomeLemmas
-pub mod OrderLemmas
 pub mod AskLemmas

@@ -6,6 +6,7 @@ use Rattle.acl_names.specs.Pieces.{pieces}
 use Rattle.acl_names.specs.Steps.{◌>>=◌}
 use Rattle.acl_posix.specs.Entry.{Triple}
 use Rattle.acl_posix.specs.EntryText.{entry_of}
+use Rattle.acl_posix.specs.InOrder.{in_order}
 use Rattle.acl_posix.specs.Validity.{fault_of}
 use Rattle.acl_posix.specs.declared.limits.TheConstants.{MAX_ENTRIES}
 use Rattle.acl_posix.specs.declared.reading.PieceFault.{PieceFault}
@@ -31,10 +32,10 @@ as_field (Err fault) = Err (piece_fault fault)
 abbrev pub entries_of : Text → Result (List Triple) FieldFault
 entries_of text = at_most_read MAX_ENTRIES (λ piece. as_field (entry_of nobody piece)) (pieces text)
 
--- the entries, where they are an access control list
+-- the access control list of these entries
 abbrev pub accepted : List Triple → Result (List Triple) FieldFault
-accepted entries = if is_none (fault_of entries) then Ok entries else Err InvalidAcl
+accepted entries = if is_none (fault_of entries) then Ok (in_order entries) else Err InvalidAcl
 
--- the entries of the access control list that a text spells
+-- the access control list that a text spells
 abbrev pub acl_of : Text → Result (List Triple) FieldFault
 acl_of text = entries_of text >>= accepted

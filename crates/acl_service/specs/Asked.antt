@@ -15,14 +15,14 @@ use Rattle.acl_service.specs.Reading.{at_most_read}
 use Rattle.acl_service.specs.declared.decide_command.fault.FieldFault.{FieldFault}
 use Rattle.acl_service.specs.declared.decide_command.fault.FieldFault.TheVariants.{BadId, BadPerms, BadAcl}
 
--- whether the requester may do all of what is requested with a file of this owner, this group and these entries; and, with
--- nfs4, which NFSv4 list the entries translate to
+-- whether the requester may do all of what is requested with a file of this owner, this group and this access control list;
+-- and, with nfs4, which NFSv4 list it translates to
 pub record Asked : Type 0 where
   pub owner : ℕ
   pub group : ℕ
   pub requester : Identity
   pub request : ℕ
-  pub entries : List Triple
+  pub acl : List Triple
   pub nfs4 : Bool
 
 -- the id that a text writes in decimal
@@ -68,13 +68,13 @@ asked_in rows = do
   uid ← id_in (codes "uid") rows
   gids ← gids_in rows
   perms ← perms_in rows
-  entries ← acl_in rows
+  acl ← acl_in rows
   Ok (record {
     owner = owner;
     group = group;
     requester = record { uid = uid; gids = gids };
     request = perms;
-    entries = entries;
+    acl = acl;
     nfs4 = flag_in (codes "nfs4") rows;
   })
 

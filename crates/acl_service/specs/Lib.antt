@@ -6,7 +6,6 @@ pub mod Reading
 pub mod AclText
 pub mod Asked
 pub mod Question
-pub mod InOrder
 pub mod Outcome
 pub mod Ask
 pub mod Runs
