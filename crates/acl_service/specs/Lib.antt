@@ -1,8 +1,6 @@
 pub mod Input
-pub mod Words
 pub mod CommandLine
 pub mod Faults
-pub mod Reading
 pub mod AclText
 pub mod Asked
 pub mod Question
