@@ -5,7 +5,8 @@ use Rattle.std.proofs.lemmas.Bool.Decides.{nat_tests}
 use Rattle.std.proofs.lemmas.Slice.Eq.{bytes_eq-Decides}
 use Rattle.std.specs.Prelude.{Result, is_none, if◌then◌else◌}
 use Rattle.std.specs.Str.{bytes_eq}
-use Rattle.acl_names.proofs.StepLemmas.{bind_ok}
+use Rattle.acl_names.proofs.ReadListLemmas.{spelt-read}
+use Rattle.acl_names.proofs.StepLemmas.{bind_ok, if_then, is_none-true}
 use Rattle.acl_names.specs.Directory.{Known}
 use Rattle.acl_names.specs.ListText.{Say, Spells}
 use Rattle.acl_names.specs.Pieces.{after_word, first_word, pieces}
@@ -14,12 +15,14 @@ use Rattle.acl_nfs4.specs.Ace.{Nfsace4}
 use Rattle.acl_nfs4.specs.AceText.{piece_value}
 use Rattle.acl_nfs4.specs.declared.inheritance.Kind.{Kind}
 use Rattle.acl_nfs4.specs.declared.inheritance.Kind.TheVariants.{File, Dir}
+use Rattle.acl_nfs4.specs.declared.limits.TheConstants.{MAX_ACES}
 use Rattle.acl_nfs4.specs.declared.reading.PieceFault as aces
 use Rattle.acl_posix.proofs.ValidityLemmas.{valid_iff}
 use Rattle.acl_posix.specs.Entry.{Triple}
 use Rattle.acl_posix.specs.EntryText.{entry_of}
 use Rattle.acl_posix.specs.Validity.{fault_of}
 use Rattle.acl_posix.specs.declared.acl.Invalid.{Invalid}
+use Rattle.acl_posix.specs.declared.limits.TheConstants.{MAX_ENTRIES}
 use Rattle.acl_posix.specs.declared.reading.PieceFault as entries
 use Rattle.acl_tree.specs.Path.{is_path}
 use Rattle.acl_tree.specs.declared.faults.LineFault.TheVariants.{BadPath, InvalidAcl, Syntax, TooMany}
@@ -27,13 +30,11 @@ use Rattle.acl_tree.specs.declared.request.Request.{Request}
 use Rattle.acl_tree.specs.declared.request.Request.TheVariants.{Get, SetAccess, SetDefault, SetNfs4, Chmod, Create, Check, Check4, Translate, Bad}
 use Rattle.acl_lang.specs.Commands.{asked_by, check, check4, chmod, command, create, get, set, set_access, set_default, set_list, set_nfs4, translate}
 use Rattle.acl_lang.specs.Fields.{accepted, acl_of, aces_of, as_ace, as_entry, default_of, entries_of, kind_of, mask_of, mode_of, path_of, perms_of, user_of}
-use Rattle.acl_lang.specs.InOrder.{in_order}
+use Rattle.acl_posix.specs.InOrder.{in_order}
 use Rattle.acl_lang.specs.Printed.{kind_text}
-use Rattle.acl_lang.specs.ReadList.{at_most_read, each_read}
 use Rattle.acl_lang.specs.Shapes.{Asks, IsPath, Sets, SpellsAcl, SpellsDefault}
 use Rattle.acl_lang.specs.Words.{words}
 use Rattle.acl_lang.proofs.ListLemmas.{aces_of-spelt, entries_of-spelt}
-use Rattle.acl_lang.proofs.ReadLemmas.{length-Say}
 
 -- Tests that gave a value.
 
@@ -42,14 +43,6 @@ module _ {A F : Type 0} where
   branch : (b : Bool) (x y : Result A F) (value : A) → (if b then x else y) ≡ Ok value → ((b ≡ true) × (x ≡ Ok value)) ⊎ ((b ≡ false) × (y ≡ Ok value))
   branch true x y value is = inl (refl, is)
   branch false x y value is = inr (refl, is)
-
-  if_then : (b : Bool) (fault : F) (x y : A) → (if b then Ok x else Err fault) ≡ Ok y → (b ≡ true) × (x ≡ y)
-  if_then true fault x y is = (refl, cc)
-  if_then false fault x y is = cc
-
-  if_else : (b : Bool) (fault : F) (x y : A) → (if b then Err fault else Ok x) ≡ Ok y → (b ≡ false) × (x ≡ y)
-  if_else true fault x y is = cc
-  if_else false fault x y is = (refl, cc)
 
 is_word : (text word : List ℕ) → bytes_eq text word ≡ true → text ≡ word
 is_word text word same = (bytes_eq-Decides text word).0 same
@@ -61,45 +54,7 @@ other_is : (b : Bool) (text word : List ℕ) → bytes_eq text word ≡ b → te
 other_is true text word same other = absurd (other (is_word text word same))
 other_is false text word same other = refl
 
-is_none-true : (fault : Option Invalid) → is_none fault ≡ true → fault ≡ None
-is_none-true None is = refl
-is_none-true (Some fault) is = cc
-
 -- Lists that are read.
-
-module _ {A F : Type 0} (read : List ℕ → Result A F) where
-  each_read-Say : (texts : List (List ℕ)) (values : List A) → each_read read texts ≡ Ok values → Say read texts values
-  each_read-Say [] [] is = refl
-  each_read-Say [] (value ∷ values) is = cc
-  each_read-Say (text ∷ texts) values is =
-      let one = bind_ok (read text) (λ first. each_read read texts >>= (λ rest. Ok (first ∷ rest))) values is in
-      let more = bind_ok (each_read read texts) (λ rest. Ok (one.0 ∷ rest)) values one.2 in
-      let said : map read texts ≡ map Ok more.0 = each_read-Say texts more.0 more.1 in
-      let all : one.0 ∷ more.0 ≡ values = cc in
-      subst (Say read (text ∷ texts)) all (ap₂ (λ first rest. first ∷ rest) one.1 said)
-
-  at_most_read-said : (too_many : F) (most : ℕ) (texts : List (List ℕ)) (values : List A) → at_most_read too_many most read texts ≡ Ok values
-      → Say read texts values × (length values ≤ most)
-  unfolding at_most_read
-  at_most_read-said too_many most texts values is =
-      let front = bind_ok (each_read read (take most texts)) (λ read_values. if ltb most (length texts) then Err too_many else Ok read_values) values is in
-      let test = if_else (ltb most (length texts)) too_many front.0 values front.2 in
-      let short : length texts ≤ most = grind (arith, nat_tests, test.0) in
-      let whole : take most texts ≡ texts = take_all most texts short in
-      let said : Say read texts values = subst (Say read texts) test.1 (each_read-Say texts front.0 (ap (each_read read) (sym whole) ∙ front.1)) in
-      let count = length-Say read texts values said in
-      (said, omega arith)
-
-module _ {A F G : Type 0} (value_of : List ℕ → Result A F) (read : List ℕ → Result A G)
-    (from_ok : (piece : List ℕ) (value : A) → read piece ≡ Ok value → value_of piece ≡ Ok value) where
-  Say-from : (texts : List (List ℕ)) (values : List A) → Say read texts values → Say value_of texts values
-  Say-from [] [] said = refl
-  Say-from [] (value ∷ values) said = cc
-  Say-from (text ∷ texts) [] said = cc
-  Say-from (text ∷ texts) (value ∷ values) said =
-      let is : read text ≡ Ok value = cc in
-      let more : map read texts ≡ map Ok values = cc in
-      rw (from_ok text value is, Say-from texts values more) refl
 
 as_entry-ok : (r : Result Triple entries.PieceFault) (entry : Triple) → as_entry r ≡ Ok entry → r ≡ Ok entry
 as_entry-ok (Ok x) entry is = cc
@@ -110,21 +65,13 @@ as_ace-ok (Ok x) ace is = cc
 as_ace-ok (Err fault) ace is = cc
 
 module _ (known : Known) where
-  entries_of-ok : (text : List ℕ) (list : List Triple) → entries_of known text ≡ Ok list → Spells (entry_of known) 64 text list
-  entries_of-ok text list is =
-      let said = at_most_read-said (λ piece. as_entry (entry_of known piece)) TooMany 64 (pieces text) list is in
-      record {
-        said = Say-from (entry_of known) (λ piece. as_entry (entry_of known piece)) (λ piece entry. as_entry-ok (entry_of known piece) entry) (pieces text) list said.0;
-        within = said.1;
-      }
+  entries_of-ok : (text : List ℕ) (list : List Triple) → entries_of known text ≡ Ok list → Spells (entry_of known) MAX_ENTRIES text list
+  entries_of-ok text =
+      spelt-read (entry_of known) (λ piece. as_entry (entry_of known piece)) TooMany MAX_ENTRIES text (λ piece entry. as_entry-ok (entry_of known piece) entry)
 
-  aces_of-ok : (text : List ℕ) (list : List Nfsace4) → aces_of known text ≡ Ok list → Spells (piece_value known) 128 text list
-  aces_of-ok text list is =
-      let said = at_most_read-said (λ piece. as_ace (piece_value known piece)) TooMany 128 (pieces text) list is in
-      record {
-        said = Say-from (piece_value known) (λ piece. as_ace (piece_value known piece)) (λ piece ace. as_ace-ok (piece_value known piece) ace) (pieces text) list said.0;
-        within = said.1;
-      }
+  aces_of-ok : (text : List ℕ) (list : List Nfsace4) → aces_of known text ≡ Ok list → Spells (piece_value known) MAX_ACES text list
+  aces_of-ok text =
+      spelt-read (piece_value known) (λ piece. as_ace (piece_value known piece)) TooMany MAX_ACES text (λ piece ace. as_ace-ok (piece_value known piece) ace)
 
   acl_of-ok : (text : List ℕ) (acl : List Triple) → acl_of known text ≡ Ok acl → SpellsAcl known text acl
   acl_of-ok text acl is =

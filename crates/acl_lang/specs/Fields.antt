@@ -6,6 +6,7 @@ use Rattle.acl_names.specs.Directory.{Known, uid_of}
 use Rattle.acl_names.specs.Ids.{written_id, resolved}
 use Rattle.acl_names.specs.Letters.{letters_of}
 use Rattle.acl_names.specs.Pieces.{pieces}
+use Rattle.acl_names.specs.ReadList.{at_most_read}
 use Rattle.acl_names.specs.Steps.{◌>>=◌, or_fault}
 use Rattle.acl_nfs4.specs.Ace.{Nfsace4}
 use Rattle.acl_nfs4.specs.AceText.{piece_value}
@@ -18,6 +19,7 @@ use Rattle.acl_nfs4.specs.declared.reading.PieceFault as aces
 use Rattle.acl_nfs4.specs.declared.reading.PieceFault.TheVariants as ace
 use Rattle.acl_posix.specs.Entry.{Triple}
 use Rattle.acl_posix.specs.EntryText.{entry_of}
+use Rattle.acl_posix.specs.InOrder.{in_order}
 use Rattle.acl_posix.specs.Mode.{Classes}
 use Rattle.acl_posix.specs.PermsText.{perms_of_text}
 use Rattle.acl_posix.specs.Validity.{fault_of}
@@ -28,8 +30,6 @@ use Rattle.acl_posix.specs.declared.reading.PieceFault.TheVariants as entry
 use Rattle.acl_tree.specs.Path.{is_path}
 use Rattle.acl_tree.specs.declared.faults.LineFault.{LineFault}
 use Rattle.acl_tree.specs.declared.faults.LineFault.TheVariants.{Syntax, BadPath, BadMode, BadPerms, UnknownName, BadAcl, InvalidAcl, TooMany, InheritOnly}
-use Rattle.acl_lang.specs.InOrder.{in_order}
-use Rattle.acl_lang.specs.ReadList.{at_most_read}
 use Rattle.acl_lang.specs.Refusals.{Asked}
 
 -- P: a path

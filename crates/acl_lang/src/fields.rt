@@ -90,11 +90,7 @@ fn read_list(alloc: Global, text: &[u8], directory: &Directory) -> Result<Entrie
 fn accept(entries: Entries) -> Result<Acl, Refusal>
     ensures { Reads (accepted entries) result }
 {
-    let acl = Acl::new(entries)?;
-
-    // A list tells that it is in canonical order where its entries are looked at.
-    let _entries = acl.entries();
-    Ok(acl)
+    Ok(Acl::new(entries)?)
 }
 
 /// The access control list of the posix style that a text spells.

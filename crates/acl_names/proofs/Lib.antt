@@ -16,6 +16,7 @@ pub mod LettersAgain
 pub mod Prefixes
 pub mod AscendingSets
 pub mod StepLemmas
+pub mod ReadListLemmas
 mod DigitLemmas
 pub mod PlainLists
 mod PlainCounts

@@ -1,5 +1,6 @@
 -- Reading step by step: what a value that is read says of each step.
 use Rattle.std.proofs.Common.{◌≡◌, ◌⊎◌, ℕ, Bool, true, false, cond, nat_le, List, Option, Some, None, Result, Ok, Err, refl, ap, ◌∙◌, inl, inr}
+use Rattle.std.specs.Prelude.{is_none, if◌then◌else◌}
 use Rattle.acl_names.specs.Ids.{Written, Number, Name, number_or_name, has_name_shape, resolved, max_id}
 use Rattle.acl_names.specs.Steps.{◌>>=◌, or_fault}
 
@@ -11,6 +12,20 @@ bind_ok (Err fault) f y e = cc
 pub given : {A F : Type 0} (fault : F) (o : Option A) (x : A) → or_fault fault o ≡ Ok x → o ≡ Some x
 given fault (Some y) x e = cc
 given fault None x e = cc
+
+-- a test that gave a value
+
+pub if_then : {A F : Type 0} (b : Bool) (fault : F) (x y : A) → (if b then Ok x else Err fault) ≡ Ok y → (b ≡ true) × (x ≡ y)
+if_then true fault x y e = (refl, cc)
+if_then false fault x y e = cc
+
+pub if_else : {A F : Type 0} (b : Bool) (fault : F) (x y : A) → (if b then Err fault else Ok x) ≡ Ok y → (b ≡ false) × (x ≡ y)
+if_else true fault x y e = cc
+if_else false fault x y e = (refl, cc)
+
+pub is_none-true : {A : Type 0} (o : Option A) → is_none o ≡ true → o ≡ None
+is_none-true None e = refl
+is_none-true (Some x) e = cc
 
 pub some_from_cond : {A : Type 0} (t : Bool) (x y : A) → cond t (Some x) None ≡ Some y → (t ≡ true) × (x ≡ y)
 some_from_cond true x y e = (refl, cc)

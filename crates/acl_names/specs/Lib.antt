@@ -9,5 +9,6 @@ pub mod Named
 pub mod Directory
 pub mod Letters
 pub mod Steps
+pub mod ReadList
 pub mod Digits
 pub mod Plain

@@ -5,6 +5,7 @@ pub mod CanonicalLemmas
 pub mod PermsLemmas
 pub mod AccessLemmas
 pub mod OrderLemmas
+pub mod InOrderLemmas
 pub mod PartLemmas
 pub mod FoundLemmas
 pub mod FaultLemmas

@@ -45,14 +45,17 @@ impl Acl {
     ghost use Rattle.acl_posix.specs.Entry.{Triple, perms_of};
     ghost use Rattle.acl_posix.specs.Validity.{IsValid, IsRefusedFor, fault_of};
     ghost use Rattle.acl_posix.specs.Canonical.{IsAcl, IsCanonical};
+    ghost use Rattle.acl_posix.specs.InOrder.{in_order};
     ghost use Rattle.acl_posix.specs.Perms.{bits_of, IsPermissions};
 
     /// The access control list of these entries, where they are one (1003.1e draft 17, section 23): one entry each for the
     /// owner, the file's group and the others, at most one mask, no user and no group twice, and a mask where a user or a
     /// group is named. Else it is refused for the first of: an entry is missing, an entry stands twice, there is no mask. The
-    /// entries are dropped on a refusal. It takes over their storage, and takes no memory.
+    /// entries are dropped on a refusal. It takes over their storage, and takes no memory. The list is the entries in canonical
+    /// order.
     #[inline(always)]
     pub fn new(entries: Entries) -> Result<Acl, Invalid>
+        ensures list { IfOk result (λ acl. acl ≡ in_order entries) }
         ensures valid { OnOk result (IsValid entries) }
         ensures same_entries { IfOk result (IsPermutation entries) }
         ensures err { IfErr result (IsRefusedFor entries) }

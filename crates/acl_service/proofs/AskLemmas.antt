@@ -1,73 +1,28 @@
 -- Words ask what their fields give.
-use Rattle.std.proofs.Common.{◌≡◌, ◌∙◌, ◌≤◌, [], ◌∷◌, ℕ, List, Option, Some, None, Ok, Err, Bool, true, false, ap, ap₂, codes, inl, inr, length, ltb, map, refl, subst, sym, take, arith}
-use Rattle.std.proofs.lemmas.List.{take_all}
-use Rattle.std.proofs.lemmas.Bool.Decides.{nat_tests}
+use Rattle.std.proofs.Common.{◌≡◌, [], ◌∷◌, ℕ, List, Option, Some, None, Ok, Err, Bool, true, false, ap, codes, inl, inr, map, refl, subst, sym}
 use Rattle.std.proofs.lemmas.Slice.Eq.{bytes_eq-Decides}
-use Rattle.std.specs.Prelude.{Result, ◌↔◌, is_none, if◌then◌else◌}
+use Rattle.std.specs.Prelude.{Result, ◌↔◌, is_none}
 use Rattle.clap.specs.Words.{Row, Text, first_of, matches_of}
 use Rattle.acl_names.specs.Ids.{decimal_value}
 use Rattle.acl_names.specs.ListText.{Say, Spells}
-use Rattle.acl_names.specs.Pieces.{parts, pieces}
-use Rattle.acl_names.specs.Steps.{◌>>=◌, or_fault}
+use Rattle.acl_names.specs.Pieces.{parts}
+use Rattle.acl_names.specs.Steps.{or_fault}
+use Rattle.acl_names.proofs.ReadListLemmas.{at_most_read-all, at_most_read-said, spelt-read}
+use Rattle.acl_names.proofs.StepLemmas.{bind_ok, given, if_then, is_none-true}
+use Rattle.acl_names.specs.declared.limits.TheConstants.{MAX_GROUPS_OF_USER}
+use Rattle.acl_posix.specs.declared.limits.TheConstants.{MAX_ENTRIES}
 use Rattle.acl_posix.proofs.ValidityLemmas.{valid_iff}
 use Rattle.acl_posix.specs.Entry.{Triple}
 use Rattle.acl_posix.specs.EntryText.{entry_of}
+use Rattle.acl_posix.specs.InOrder.{in_order}
 use Rattle.acl_posix.specs.Validity.{IsValid, fault_of}
-use Rattle.acl_posix.specs.declared.acl.Invalid.{Invalid}
 use Rattle.acl_posix.specs.declared.reading.PieceFault.{PieceFault}
 use Rattle.acl_service.specs.AclText.{accepted, acl_of, as_field, entries_of, nobody}
-use Rattle.acl_service.specs.Ask.{Ask, GiveEntries, GiveFlag, GiveGids, GiveId, GivePerms, Write}
+use Rattle.acl_service.specs.Ask.{Ask, GiveAcl, GiveFlag, GiveGids, GiveId, GivePerms, Write}
 use Rattle.acl_service.specs.Asked.{Asked, acl_in, asked_by, asked_in, flag_in, flag_of, gids_in, gids_of, id_in, id_of, perms_in, perms_of}
 use Rattle.acl_service.specs.CommandLine.{TakesWords, decide_line}
-use Rattle.acl_service.specs.Reading.{at_most_read, each_read}
-use Rattle.acl_service.specs.declared.decide_command.fault.FieldFault.{FieldFault}
 use Rattle.acl_service.specs.declared.decide_command.fault.FieldFault.TheVariants.{BadAcl, BadId, BadPerms, InvalidAcl, TooMany}
 use Rattle.acl_service.proofs.AclLemmas.{entries_of-spelt, field_of}
-use Rattle.acl_service.proofs.ReadLemmas.{at_most_read-all, length-Say}
-
--- Steps that give a value, taken back.
-
-module _ {A B : Type 0} (f : A → Result B FieldFault) (value : B) where
-  pub first_step : (r : Result A FieldFault) → (r >>= f) ≡ Ok value → (x : A) × (r ≡ Ok x) × (f x ≡ Ok value)
-  first_step (Ok x) is = (x, refl, is)
-  first_step (Err fault) is = cc
-
-or_fault-ok : {A : Type 0} (fault : FieldFault) (o : Option A) (x : A) → or_fault fault o ≡ Ok x → o ≡ Some x
-or_fault-ok fault (Some y) x is = cc
-or_fault-ok fault None x is = cc
-
--- the else of a test
-if_else : {A : Type 0} (b : Bool) (fault : FieldFault) (x y : A) → (if b then Err fault else Ok x) ≡ Ok y → (b ≡ false) × (x ≡ y)
-if_else true fault x y is = cc
-if_else false fault x y is = (refl, cc)
-
-if_then : {A : Type 0} (b : Bool) (fault : FieldFault) (x y : A) → (if b then Ok x else Err fault) ≡ Ok y → (b ≡ true) × (x ≡ y)
-if_then true fault x y is = (refl, cc)
-if_then false fault x y is = cc
-
--- Lists that are read.
-
-module _ {A : Type 0} (read : Text → Result A FieldFault) where
-  each_read-Say : (texts : List Text) (values : List A) → each_read read texts ≡ Ok values → Say read texts values
-  each_read-Say [] [] is = refl
-  each_read-Say [] (value ∷ values) is = cc
-  each_read-Say (text ∷ texts) values is =
-      let one = first_step (λ first. each_read read texts >>= (λ rest. Ok (first ∷ rest))) values (read text) is in
-      let more = first_step (λ rest. Ok (one.0 ∷ rest)) values (each_read read texts) one.2 in
-      let said : map read texts ≡ map Ok more.0 = each_read-Say texts more.0 more.1 in
-      let all : one.0 ∷ more.0 ≡ values = cc in
-      subst (Say read (text ∷ texts)) all (ap₂ (λ first rest. first ∷ rest) one.1 said)
-
-  pub at_most_read-said : (most : ℕ) (texts : List Text) (values : List A) → at_most_read most read texts ≡ Ok values → Say read texts values × (length values ≤ most)
-  unfolding at_most_read
-  at_most_read-said most texts values is =
-      let front = first_step (λ read_values. if ltb most (length texts) then Err TooMany else Ok read_values) values (each_read read (take most texts)) is in
-      let test = if_else (ltb most (length texts)) TooMany front.0 values front.2 in
-      let short : length texts ≤ most = grind (arith, nat_tests, test.0) in
-      let whole : take most texts ≡ texts = take_all most texts short in
-      let said : Say read texts values = subst (Say read texts) test.1 (each_read-Say texts front.0 (ap (each_read read) (sym whole) ∙ front.1)) in
-      let count = length-Say read texts values said in
-      (said, omega arith)
 
 -- Gids.
 
@@ -87,7 +42,7 @@ Write-Say (text ∷ texts) [] said = cc
 Write-Say (text ∷ texts) (id ∷ ids) said =
     let is : id_of text ≡ Ok id = cc in
     let more : map id_of texts ≡ map Ok ids = cc in
-    let first = or_fault-ok BadId (decimal_value text) id is in
+    let first = given BadId (decimal_value text) id is in
     rw (first, Write-Say texts ids more) refl
 
 -- Entries.
@@ -96,30 +51,22 @@ as_field-ok : (r : Result Triple PieceFault) (entry : Triple) → as_field r ≡
 as_field-ok (Ok x) entry is = cc
 as_field-ok (Err fault) entry is = cc
 
-Say-from_field : (texts : List Text) (entries : List Triple) → Say field_of texts entries → Say (entry_of nobody) texts entries
-Say-from_field [] [] said = refl
-Say-from_field [] (entry ∷ entries) said = cc
-Say-from_field (text ∷ texts) [] said = cc
-Say-from_field (text ∷ texts) (entry ∷ entries) said =
-    let is : field_of text ≡ Ok entry = cc in
-    let more : map field_of texts ≡ map Ok entries = cc in
-    let first = as_field-ok (entry_of nobody text) entry is in
-    rw (first, Say-from_field texts entries more) refl
+field_of-from : (piece : List ℕ) (entry : Triple) → field_of piece ≡ Ok entry → entry_of nobody piece ≡ Ok entry
+field_of-from piece entry = as_field-ok (entry_of nobody piece) entry
 
-is_none-true : (fault : Option Invalid) → is_none fault ≡ true → fault ≡ None
-is_none-true None is = refl
-is_none-true (Some fault) is = cc
-
-acl_of-spelt : (text : Text) (entries : List Triple) → Spells (entry_of nobody) 64 text entries → IsValid entries → acl_of text ≡ Ok entries
+acl_of-spelt : (text : Text) (entries : List Triple) → Spells (entry_of nobody) MAX_ENTRIES text entries → IsValid entries → acl_of text ≡ Ok (in_order entries)
 acl_of-spelt text entries spelt valid = rw (entries_of-spelt text entries spelt, (valid_iff entries).0 valid) refl
 
-acl_of-ok : (text : Text) (entries : List Triple) → acl_of text ≡ Ok entries → Spells (entry_of nobody) 64 text entries × IsValid entries
-acl_of-ok text entries is =
-    let read = first_step accepted entries (entries_of text) is in
-    let test = if_then (is_none (fault_of read.0)) InvalidAcl read.0 entries read.2 in
-    let valid : IsValid entries = subst IsValid test.1 ((valid_iff read.0).1 (is_none-true (fault_of read.0) test.0)) in
-    let said = at_most_read-said field_of 64 (pieces text) entries (read.1 ∙ ap Ok test.1) in
-    (record { said = Say-from_field (pieces text) entries said.0; within = said.1 }, valid)
+acl_of-ok : (text : Text) (acl : List Triple) → acl_of text ≡ Ok acl
+    → (entries : List Triple) × Spells (entry_of nobody) MAX_ENTRIES text entries × IsValid entries × (in_order entries ≡ acl)
+acl_of-ok text acl is =
+    let read = bind_ok (entries_of text) accepted acl is in
+    let test = if_then (is_none (fault_of read.0)) InvalidAcl (in_order read.0) acl read.2 in (
+      read.0,
+      spelt-read (entry_of nobody) field_of TooMany MAX_ENTRIES text field_of-from read.0 read.1,
+      (valid_iff read.0).1 (is_none-true (fault_of read.0) test.0),
+      test.1,
+    )
 
 -- Fields.
 
@@ -134,36 +81,36 @@ module _ (words : List Text) where
   gids_in-given : (gids : List ℕ) → GiveGids words gids → gids_in rows ≡ Ok gids
   gids_in-given gids (inl (given, none)) = rw (given, none) refl
   gids_in-given gids (inr (text, given, written, within)) =
-      rw given (at_most_read-all id_of 32 (parts 44 text) gids (Say-Write _ _ written) within)
+      rw given (at_most_read-all id_of TooMany MAX_GROUPS_OF_USER (parts 44 text) gids (Say-Write _ _ written) within)
 
   perms_in-given : (perms : ℕ) → GivePerms words perms → perms_in rows ≡ Ok perms
   perms_in-given perms (text, given, is) = rw (given, is) refl
 
-  acl_in-given : (entries : List Triple) → GiveEntries words entries → IsValid entries → acl_in rows ≡ Ok entries
-  acl_in-given entries (text, given, spelt) valid = rw given (acl_of-spelt text entries spelt valid)
+  acl_in-given : (acl : List Triple) → GiveAcl words acl → acl_in rows ≡ Ok acl
+  acl_in-given acl (text, entries, given, spelt, valid, same) = rw (given, ← same) (acl_of-spelt text entries spelt valid)
 
   -- a field that reads is given
   GiveId-read : (name : Text) (id : ℕ) → id_in name rows ≡ Ok id → GiveId words name id
   GiveId-read name id is =
-      let text = first_step id_of id (or_fault BadId (first_of name rows)) is in
-      (text.0, or_fault-ok BadId _ _ text.1, or_fault-ok BadId _ _ text.2)
+      let text = bind_ok (or_fault BadId (first_of name rows)) id_of id is in
+      (text.0, given BadId _ _ text.1, given BadId _ _ text.2)
 
   GiveGids-from : (gids : List ℕ) (text : Option Text) → first_of (codes "gids") rows ≡ text → gids_of text ≡ Ok gids → GiveGids words gids
   GiveGids-from gids None given is = inl (given, cc)
   GiveGids-from gids (Some text) given is =
-      let said = at_most_read-said id_of 32 (parts 44 text) gids is in
+      let said = at_most_read-said id_of TooMany MAX_GROUPS_OF_USER (parts 44 text) gids is in
       inr (text, given, Write-Say _ _ said.0, said.1)
 
   GivePerms-read : (perms : ℕ) → perms_in rows ≡ Ok perms → GivePerms words perms
   GivePerms-read perms is =
-      let text = first_step perms_of perms (or_fault BadPerms (first_of (codes "perms") rows)) is in
-      (text.0, or_fault-ok BadPerms _ _ text.1, or_fault-ok BadPerms _ _ text.2)
+      let text = bind_ok (or_fault BadPerms (first_of (codes "perms") rows)) perms_of perms is in
+      (text.0, given BadPerms _ _ text.1, given BadPerms _ _ text.2)
 
-  GiveEntries-read : (entries : List Triple) → acl_in rows ≡ Ok entries → GiveEntries words entries × IsValid entries
-  GiveEntries-read entries is =
-      let text = first_step acl_of entries (or_fault BadAcl (first_of (codes "text") rows)) is in
-      let spelt = acl_of-ok text.0 entries text.2 in
-      ((text.0, or_fault-ok BadAcl _ _ text.1, spelt.0), spelt.1)
+  GiveAcl-read : (acl : List Triple) → acl_in rows ≡ Ok acl → GiveAcl words acl
+  GiveAcl-read acl is =
+      let text = bind_ok (or_fault BadAcl (first_of (codes "text") rows)) acl_of acl is in
+      let spelt = acl_of-ok text.0 acl text.2 in
+      (text.0, spelt.0, given BadAcl _ _ text.1, spelt.1, spelt.2, spelt.3)
 
   -- a flag is set exactly where it is given
   flag_of-given : (value : Option Text) → (flag_of value ≡ true) ↔ (value ≡ Some (codes "true"))
@@ -195,7 +142,7 @@ asked_by-Ask words asked ask = (
     id_in-given words _ _ ask.uid,
     gids_in-given words _ ask.gids,
     perms_in-given words _ ask.request,
-    acl_in-given words _ ask.entries ask.valid,
+    acl_in-given words _ ask.acl,
     flag_in-given words _ _ ask.nfs4,
   ) refl,
 )
@@ -203,15 +150,14 @@ asked_by-Ask words asked ask = (
 pub Ask-asked_by : (words : List Text) (asked : Asked) → TakesWords words → asked_by words ≡ Ok asked → Ask words asked
 unfolding asked_in
 Ask-asked_by words asked taken is =
-    let owner = first_step _ asked (id_in (codes "owner") (rows words)) is in
-    let group = first_step _ asked (id_in (codes "group") (rows words)) owner.2 in
-    let uid = first_step _ asked (id_in (codes "uid") (rows words)) group.2 in
-    let gids = first_step _ asked (gids_in (rows words)) uid.2 in
-    let perms = first_step _ asked (perms_in (rows words)) gids.2 in
-    let entries = first_step _ asked (acl_in (rows words)) perms.2 in
-    let given = GiveEntries-read words entries.0 entries.1 in
+    let owner = bind_ok (id_in (codes "owner") (rows words)) _ asked is in
+    let group = bind_ok (id_in (codes "group") (rows words)) _ asked owner.2 in
+    let uid = bind_ok (id_in (codes "uid") (rows words)) _ asked group.2 in
+    let gids = bind_ok (gids_in (rows words)) _ asked uid.2 in
+    let perms = bind_ok (perms_in (rows words)) _ asked gids.2 in
+    let acl = bind_ok (acl_in (rows words)) _ asked perms.2 in
     let nfs4 = flag_in (codes "nfs4") (rows words) in
-    let all : record { owner = owner.0; group = group.0; requester = record { uid = uid.0; gids = gids.0 }; request = perms.0; entries = entries.0; nfs4 = nfs4 } ≡ asked = cc in
+    let all : record { owner = owner.0; group = group.0; requester = record { uid = uid.0; gids = gids.0 }; request = perms.0; acl = acl.0; nfs4 = nfs4 } ≡ asked = cc in
     subst (Ask words) all (record {
       taken = taken;
       owner = GiveId-read words _ _ owner.1;
@@ -219,7 +165,6 @@ Ask-asked_by words asked taken is =
       uid = GiveId-read words _ _ uid.1;
       gids = GiveGids-from words _ _ refl gids.1;
       request = GivePerms-read words _ perms.1;
-      entries = given.0;
-      valid = given.1;
+      acl = GiveAcl-read words _ acl.1;
       nfs4 = flag_of-given words (first_of (codes "nfs4") (rows words));
     })

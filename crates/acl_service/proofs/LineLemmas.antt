@@ -1,7 +1,7 @@
 -- What becomes of the last part of a text.
 use Rattle.std.proofs.Common.{◌≡◌, ◌∙◌, ◌+◌, ◌-◌, ◌<◌, ◌++◌, ◌∷◌, [], ℕ, List, ap, sym, refl, length, map, take, get_or, arith}
 use Rattle.std.proofs.lemmas.List.{take_more, take_all, map-append, nil_from_length}
-use Rattle.acl_service.specs.Words.{without_empty_last}
+use Rattle.acl_names.specs.Pieces.{without_empty_last}
 
 -- an empty last part goes
 without_empty_last-empty : (parts : List (List ℕ)) → without_empty_last (parts ++ [] ∷ []) ≡ parts

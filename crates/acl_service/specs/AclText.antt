@@ -3,16 +3,17 @@ use Rattle.std.specs.Prelude.{List, [], Result, Ok, Err, codes, is_none, if◌th
 use Rattle.clap.specs.Words.{Text}
 use Rattle.acl_names.specs.Directory.{Known}
 use Rattle.acl_names.specs.Pieces.{pieces}
+use Rattle.acl_names.specs.ReadList.{at_most_read}
 use Rattle.acl_names.specs.Steps.{◌>>=◌}
 use Rattle.acl_posix.specs.Entry.{Triple}
 use Rattle.acl_posix.specs.EntryText.{entry_of}
+use Rattle.acl_posix.specs.InOrder.{in_order}
 use Rattle.acl_posix.specs.Validity.{fault_of}
 use Rattle.acl_posix.specs.declared.limits.TheConstants.{MAX_ENTRIES}
 use Rattle.acl_posix.specs.declared.reading.PieceFault.{PieceFault}
 use Rattle.acl_posix.specs.declared.reading.PieceFault.TheVariants as piece
-use Rattle.acl_service.specs.Reading.{at_most_read}
 use Rattle.acl_service.specs.declared.decide_command.fault.FieldFault.{FieldFault}
-use Rattle.acl_service.specs.declared.decide_command.fault.FieldFault.TheVariants.{BadAcl, UnknownName, InvalidAcl}
+use Rattle.acl_service.specs.declared.decide_command.fault.FieldFault.TheVariants.{BadAcl, TooMany, UnknownName, InvalidAcl}
 
 -- a directory that knows no user and no group
 abbrev pub nobody : Known
@@ -29,12 +30,12 @@ as_field (Err fault) = Err (piece_fault fault)
 
 -- the entries that a text spells, at most 64
 abbrev pub entries_of : Text → Result (List Triple) FieldFault
-entries_of text = at_most_read MAX_ENTRIES (λ piece. as_field (entry_of nobody piece)) (pieces text)
+entries_of text = at_most_read TooMany MAX_ENTRIES (λ piece. as_field (entry_of nobody piece)) (pieces text)
 
--- the entries, where they are an access control list
+-- the access control list of these entries
 abbrev pub accepted : List Triple → Result (List Triple) FieldFault
-accepted entries = if is_none (fault_of entries) then Ok entries else Err InvalidAcl
+accepted entries = if is_none (fault_of entries) then Ok (in_order entries) else Err InvalidAcl
 
--- the entries of the access control list that a text spells
+-- the access control list that a text spells
 abbrev pub acl_of : Text → Result (List Triple) FieldFault
 acl_of text = entries_of text >>= accepted

@@ -7,6 +7,7 @@ use Rattle.acl_names.specs.Pieces.{parts}
 use Rattle.acl_names.specs.declared.limits.TheConstants.{MAX_GROUPS_OF_USER}
 use Rattle.acl_posix.specs.Entry.{Triple}
 use Rattle.acl_posix.specs.EntryText.{entry_of}
+use Rattle.acl_posix.specs.InOrder.{in_order}
 use Rattle.acl_posix.specs.PermsText.{perms_of_text}
 use Rattle.acl_posix.specs.Validity.{IsValid}
 use Rattle.acl_posix.specs.declared.limits.TheConstants.{MAX_ENTRIES}
@@ -35,15 +36,16 @@ GiveGids words gids = ((first_of (codes "gids") (matches_of decide_line words) �
 abbrev pub GivePerms : List Text → ℕ → Type 0
 GivePerms words perms = (text : Text) × Give words (codes "perms") text × (perms_of_text text ≡ Some perms)
 
--- the words give a text that spells the entries
-abbrev pub GiveEntries : List Text → List Triple → Type 0
-GiveEntries words entries = (text : Text) × Give words (codes "text") text × Spells (entry_of nobody) MAX_ENTRIES text entries
+-- the words give a text that spells valid entries, and the access control list is those in order
+abbrev pub GiveAcl : List Text → List Triple → Type 0
+GiveAcl words acl = (text : Text) × (entries : List Triple) × Give words (codes "text") text × Spells (entry_of nobody) MAX_ENTRIES text entries
+    × IsValid entries × (in_order entries ≡ acl)
 
 -- the words set the flag exactly where this is true; the parser gives it a value then, `true`
 abbrev pub GiveFlag : List Text → Text → Bool → Type 0
 GiveFlag words name given = (given ≡ true) ↔ Give words name (codes "true")
 
--- the words ask this: the parser takes them, they give each field, and the entries are an access control list
+-- the words ask this: the parser takes them, and they give each field
 pub record Ask (words : List Text) (asked : Asked) : Type 0 where
   pub taken : TakesWords words
   pub owner : GiveId words (codes "owner") asked.owner
@@ -51,6 +53,5 @@ pub record Ask (words : List Text) (asked : Asked) : Type 0 where
   pub uid : GiveId words (codes "uid") asked.requester.uid
   pub gids : GiveGids words asked.requester.gids
   pub request : GivePerms words asked.request
-  pub entries : GiveEntries words asked.entries
-  pub valid : IsValid asked.entries
+  pub acl : GiveAcl words asked.acl
   pub nfs4 : GiveFlag words (codes "nfs4") asked.nfs4

@@ -4,6 +4,7 @@ use Rattle.std.specs.Str.{bytes_eq}
 use Rattle.clap.specs.Words.{Text, Row, first_of, matches_of}
 use Rattle.acl_names.specs.Ids.{decimal_value}
 use Rattle.acl_names.specs.Pieces.{parts}
+use Rattle.acl_names.specs.ReadList.{at_most_read}
 use Rattle.acl_names.specs.Requester.{Identity}
 use Rattle.acl_names.specs.Steps.{◌>>=◌, or_fault}
 use Rattle.acl_names.specs.declared.limits.TheConstants.{MAX_GROUPS_OF_USER}
@@ -11,18 +12,17 @@ use Rattle.acl_posix.specs.Entry.{Triple}
 use Rattle.acl_posix.specs.PermsText.{perms_of_text}
 use Rattle.acl_service.specs.AclText.{acl_of}
 use Rattle.acl_service.specs.CommandLine.{decide_line}
-use Rattle.acl_service.specs.Reading.{at_most_read}
 use Rattle.acl_service.specs.declared.decide_command.fault.FieldFault.{FieldFault}
-use Rattle.acl_service.specs.declared.decide_command.fault.FieldFault.TheVariants.{BadId, BadPerms, BadAcl}
+use Rattle.acl_service.specs.declared.decide_command.fault.FieldFault.TheVariants.{BadId, BadPerms, BadAcl, TooMany}
 
--- whether the requester may do all of what is requested with a file of this owner, this group and these entries; and, with
--- nfs4, which NFSv4 list the entries translate to
+-- whether the requester may do all of what is requested with a file of this owner, this group and this access control list;
+-- and, with nfs4, which NFSv4 list it translates to
 pub record Asked : Type 0 where
   pub owner : ℕ
   pub group : ℕ
   pub requester : Identity
   pub request : ℕ
-  pub entries : List Triple
+  pub acl : List Triple
   pub nfs4 : Bool
 
 -- the id that a text writes in decimal
@@ -32,7 +32,7 @@ id_of text = or_fault BadId (decimal_value text)
 -- the ids between commas (44), at most 32 of them; without a text there are none
 abbrev pub gids_of : Option Text → Result (List ℕ) FieldFault
 gids_of None = Ok []
-gids_of (Some text) = at_most_read MAX_GROUPS_OF_USER id_of (parts 44 text)
+gids_of (Some text) = at_most_read TooMany MAX_GROUPS_OF_USER id_of (parts 44 text)
 
 -- the permissions that a text writes
 abbrev pub perms_of : Text → Result ℕ FieldFault
@@ -68,13 +68,13 @@ asked_in rows = do
   uid ← id_in (codes "uid") rows
   gids ← gids_in rows
   perms ← perms_in rows
-  entries ← acl_in rows
+  acl ← acl_in rows
   Ok (record {
     owner = owner;
     group = group;
     requester = record { uid = uid; gids = gids };
     request = perms;
-    entries = entries;
+    acl = acl;
     nfs4 = flag_in (codes "nfs4") rows;
   })
 

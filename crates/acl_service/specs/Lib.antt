@@ -1,12 +1,9 @@
 pub mod Input
-pub mod Words
 pub mod CommandLine
 pub mod Faults
-pub mod Reading
 pub mod AclText
 pub mod Asked
 pub mod Question
-pub mod InOrder
 pub mod Outcome
 pub mod Ask
 pub mod Runs

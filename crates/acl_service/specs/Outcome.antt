@@ -9,7 +9,6 @@ use Rattle.acl_service.specs.AclText.{nobody}
 use Rattle.acl_posix.specs.Entry.{Triple}
 use Rattle.acl_service.specs.Asked.{Asked, asked_by}
 use Rattle.acl_service.specs.CommandLine.{decide_line}
-use Rattle.acl_service.specs.InOrder.{in_order}
 use Rattle.acl_service.specs.declared.decide_command.fault.FieldFault.{FieldFault}
 
 -- an exit status, and what goes to the output
@@ -24,19 +23,19 @@ pub record EndsAs (outcome : Outcome) (old new : Option (List ℕ)) (status : �
 
 -- whether what is asked is granted (1003.1e draft 17, section 23)
 abbrev pub is_granted : Asked → Bool
-is_granted asked = grants asked.entries asked.owner asked.group asked.requester asked.request
+is_granted asked = grants asked.acl asked.owner asked.group asked.requester asked.request
 
 -- the line that answers
 abbrev pub answer_line : Bool → List ℕ
 answer_line granted = if granted then codes "granted" ++ 10 ∷ [] else codes "denied" ++ 10 ∷ []
 
--- the entries of the NFSv4 list that these entries translate to, one a line
+-- the entries of the NFSv4 list that an access control list translates to, one a line
 abbrev pub translation_text : List Triple → List ℕ
-translation_text entries = aces_text nobody (translation (in_order entries))
+translation_text acl = aces_text nobody (translation acl)
 
 -- the line, and behind it the translation where it is asked for
 abbrev pub answer_text : Asked → List ℕ
-answer_text asked = answer_line (is_granted asked) ++ (if asked.nfs4 then translation_text asked.entries else [])
+answer_text asked = answer_line (is_granted asked) ++ (if asked.nfs4 then translation_text asked.acl else [])
 
 -- an answer, or the fault of a field
 abbrev pub outcome_of_reading : Result Asked FieldFault → Outcome

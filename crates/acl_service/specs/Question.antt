@@ -1,15 +1,14 @@
 -- What a question asks.
 use Rattle.std.specs.Prelude.{◌≡◌}
-use Rattle.std.specs.List.Sorted.{IsPermutation}
 use Rattle.acl_posix.specs.Perms.{bits_of}
 use Rattle.acl_service.specs.Asked.{Asked}
 use Rattle.acl_service.specs.declared.decide_command.question.Question.{Question}
 
--- the question asks this, its entries in any order
+-- the question asks this
 pub record Asks (question : Question) (asked : Asked) : Type 0 where
   pub owner : question.owner ≡ asked.owner
   pub group : question.group ≡ asked.group
   pub requester : question.requester ≡ asked.requester
   pub request : bits_of question.request ≡ asked.request
-  pub entries : IsPermutation asked.entries question.acl
+  pub acl : question.acl ≡ asked.acl
   pub nfs4 : question.nfs4 ≡ asked.nfs4

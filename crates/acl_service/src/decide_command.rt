@@ -21,7 +21,6 @@ use question::Question;
 use std::alloc::{AllocError, Global};
 use std::convert::AsStr;
 use std::io::Write;
-pub use translation::entries_in_order_are_their_list;
 use translation::print_translation;
 
 /// The text that answers: the line, and behind it the translation where it is asked for.

@@ -8,7 +8,7 @@ mod one;
 mod served;
 mod words;
 
-pub use decide_command::{decide, entries_in_order_are_their_list, words_ask_what_they_give};
+pub use decide_command::{decide, words_ask_what_they_give};
 pub use fault::RunFault;
 pub use input::{CapFault, read_capped};
 pub use one::{OneFault, run_one};

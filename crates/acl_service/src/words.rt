@@ -1,7 +1,7 @@
 //! The words of a command, one a line.
 ghost use Rattle.std.specs.Prelude.{◌≡◌, ◌↔◌, map, IfOk, IsErrOf, IsUtf8};
 ghost use Rattle.std.specs.String.{string_bytes};
-ghost use Rattle.acl_service.specs.Words.{lines_of, without_empty_last};
+ghost use Rattle.acl_names.specs.Pieces.{lines_of, without_empty_last};
 
 use std::alloc::Global;
 use thiserror::Error;

@@ -1,6 +1,6 @@
 -- The words on standard input.
 use Rattle.std.specs.Prelude.{◌≡◌, ◌<◌, ◌≤◌, ⊤, ℕ, List, length, IsUtf8}
-use Rattle.acl_service.specs.Words.{lines_of}
+use Rattle.acl_names.specs.Pieces.{lines_of}
 use Rattle.aclctl.specs.declared.fault.ProgramFault.{ProgramFault}
 use Rattle.aclctl.specs.declared.fault.ProgramFault.TheVariants.{CannotRead, TooManyWords, BadWords, NoCommand, Memory}
 

@@ -1,6 +1,5 @@
 //! Access control lists, as the fields of `decide` write them: with ids, for the directory has no names.
-ghost use Rattle.std.specs.Prelude.{◌≡◌, Ok, IfErr, IfOk, IsOkAnd};
-ghost use Rattle.std.specs.List.Sorted.{IsPermutation};
+ghost use Rattle.std.specs.Prelude.{◌≡◌, Ok, IfErr, IfOk};
 ghost use Rattle.acl_service.specs.AclText.{accepted, acl_of, entries_of, nobody};
 ghost use Rattle.acl_service.specs.Faults.{Explains};
 
@@ -33,7 +32,7 @@ fn read_list(alloc: Global, text: &str) -> Result<Entries, DecideFault>
 
 /// The entries as an access control list.
 fn accept(entries: Entries) -> Result<Acl, DecideFault>
-    ensures read { IfOk result (λ acl. (accepted entries ≡ Ok entries) × IsPermutation entries acl) }
+    ensures read { IfOk result (λ acl. accepted entries ≡ Ok acl) }
     ensures refused { IfErr result (Explains (accepted entries)) }
 {
     Ok(Acl::new(entries)?)
@@ -41,7 +40,7 @@ fn accept(entries: Entries) -> Result<Acl, DecideFault>
 
 /// The access control list that a text spells.
 pub(super) fn read_acl(alloc: Global, text: &str) -> Result<Acl, DecideFault>
-    ensures read { IfOk result (λ acl. IsOkAnd (acl_of text.now) (λ entries. IsPermutation entries acl)) }
+    ensures read { IfOk result (λ acl. acl_of text.now ≡ Ok acl) }
     ensures refused { IfErr result (Explains (acl_of text.now)) }
 {
     accept(read_list(alloc, text)?)

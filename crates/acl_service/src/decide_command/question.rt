@@ -1,6 +1,5 @@
 //! What the words of `decide` ask.
 ghost use Rattle.std.specs.Prelude.{◌≡◌, codes, option_map, Ok, Err, IfErr, IfOk, IsOkAnd};
-ghost use Rattle.std.specs.List.Sorted.{IsPermutation};
 ghost use Rattle.clap.specs.Words.{first_of, found_of, rows_of};
 ghost use Rattle.acl_posix.specs.Perms.{bits_of};
 ghost use Rattle.acl_service.specs.Asked.{acl_in, asked_in, flag_in, gids_in, id_in, perms_in};
@@ -30,7 +29,7 @@ impl Question {
     ghost use Rattle.acl_service.specs.Asked.{Asked};
     ghost use Rattle.acl_service.specs.Outcome.{is_granted};
 
-    /// The answer. It is the same in whichever order the entries are asked with.
+    /// The answer.
     pub(super) fn is_granted(&self) -> bool
         ensures { (asked : Asked) → Asks self.now asked → result ≡ is_granted asked }
     {
@@ -82,7 +81,7 @@ fn perms_field(matches: &ArgMatches<'_>) -> Result<Perms, FieldFault>
 
 /// The file's access control list.
 fn acl_field(alloc: Global, matches: &ArgMatches<'_>) -> Result<Acl, DecideFault>
-    ensures read { IfOk result (λ acl. IsOkAnd (acl_in (rows_of (found_of matches.now))) (λ entries. IsPermutation entries acl)) }
+    ensures read { IfOk result (λ acl. acl_in (rows_of (found_of matches.now)) ≡ Ok acl) }
     ensures refused { IfErr result (Explains (acl_in (rows_of (found_of matches.now)))) }
 {
     read_acl(

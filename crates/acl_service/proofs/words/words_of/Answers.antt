@@ -1,7 +1,7 @@
 use Rattle.std.proofs.Common.{◌≡◌, ◌∙◌, ap, lit<, rules}
 use Rattle.std.proofs.lemmas.Iterator.Consumers.{YieldsList-end}
 use Rattle.std.proofs.lemmas.Iterator.Splits.{YieldsList-from_str_split}
-use Rattle.acl_service.specs.Words.{lines_of, without_empty_last}
+use Rattle.acl_names.specs.Pieces.{lines_of, without_empty_last}
 use Rattle.acl_service.proofs.words.words_of.Goals as goal
 
 pub returns-clause-lines : goal.returns-clause-lines
