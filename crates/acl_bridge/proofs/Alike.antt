@@ -1,12 +1,12 @@
 -- A valid list and its translation decide alike.
-use Rattle.std.proofs.Common.{◌≡◌, ℕ, ◌^◌, ◌≤◌, Bool, true, false, cond, ◌&&◌, refl, sym, ap, ◌∙◌, List, [], ◌∷◌, length, arith, ap₂, inl, inr}
+use Rattle.std.proofs.Common.{◌≡◌, ℕ, zero, suc, ◌^◌, ◌≤◌, Bool, true, false, cond, ◌&&◌, refl, sym, ap, ◌∙◌, List, [], ◌∷◌, length, arith, ap₂, inl, inr}
 use Rattle.std.specs.Prelude.{◌==◌, IsTrue}
 use Rattle.std.specs.List.{filter, list_any}
 use Rattle.std.proofs.lemmas.Bool.{true≢false, eqb-true, eq-eqb, and_parts, cases_Bool}
 use Rattle.acl_names.specs.Bits.{has, has_all, ◌∩◌}
 use Rattle.acl_names.specs.Requester.{Identity}
 use Rattle.acl_names.proofs.AnyLemmas.{list_any-weaken, list_any-agree}
-use Rattle.acl_names.proofs.BitSets.{has-and}
+use Rattle.acl_names.proofs.BitSets.{has-and, has-above}
 use Rattle.acl_posix.specs.Access.{effective_perms, deciding_set, first_nonempty, is_for_group_of, grants}
 use Rattle.acl_posix.specs.Entry.{Triple, same_tag, entries_of}
 use Rattle.acl_posix.specs.Validity.{IsValid, count_of}
@@ -20,7 +20,7 @@ use Rattle.acl_nfs4.specs.declared.who.Who.{Who}
 use Rattle.acl_nfs4.proofs.ModeBits.{permission_of, has-mask_of, mask_of-within}
 use Rattle.acl_nfs4.proofs.OneBit.{contains-one}
 use Rattle.acl_bridge.specs.Translation.{who_of, is_for_owner, is_for_user, is_for_group, is_for_others, translation}
-use Rattle.acl_bridge.specs.TranslationLaws.{AgreeOn, DecideAlike, GrantsAsMuch}
+use Rattle.acl_bridge.specs.TranslationLaws.{AgreeOn, DecideAlike, GrantsAsMuch, TranslationGrantsEach}
 use Rattle.acl_bridge.proofs.Deciding.{allows-translation, matching, deciding, FewFor}
 use Rattle.acl_bridge.proofs.Lists.{length-filter, filter_twice, filter_twice-none, length-filter_twice}
 
@@ -197,3 +197,23 @@ translation_decides_alike acl valid = record {
   to_write = agree_on acl valid 1 refl refl;
   to_execute = agree_on acl valid 5 refl refl;
 }
+
+-- a valid list's translation grants permissions together where the list grants each by itself
+pub translation_grants_each : TranslationGrantsEach
+unfolding has
+translation_grants_each acl valid owner group requester perms small = (alone, together)
+  where
+    alone : Grants (matches owner group requester) (translation acl) (mask_of perms)
+        → (place : ℕ) → IsTrue (has perms place) → IsTrue (grants acl owner group requester (2 ^ place))
+    alone granted zero asked = bit_granted acl valid owner group requester 5 refl ∙ granted 5 (has-mask_of perms 5 refl ∙ asked)
+    alone granted (suc zero) asked = bit_granted acl valid owner group requester 1 refl ∙ granted 1 (has-mask_of perms 1 refl ∙ asked)
+    alone granted (suc (suc zero)) asked = bit_granted acl valid owner group requester 0 refl ∙ granted 0 (has-mask_of perms 0 refl ∙ asked)
+    alone granted (suc (suc (suc place))) asked =
+        absurd (true≢false (sym asked ∙ has-above 3 perms (suc (suc (suc place))) small (omega arith)))
+
+    together : ((place : ℕ) → IsTrue (has perms place) → IsTrue (grants acl owner group requester (2 ^ place)))
+        → Grants (matches owner group requester) (translation acl) (mask_of perms)
+    together each bit asked =
+        let of_mode : has mode_bits bit ≡ true = mask_of-within perms bit asked in
+        sym (bit_granted acl valid owner group requester bit of_mode)
+        ∙ each (permission_of bit) (sym (has-mask_of perms bit of_mode) ∙ asked)

@@ -1,18 +1,25 @@
 -- A list may stand for its translation in a comparison.
-use Rattle.std.proofs.Common.{◌≡◌, ◌↔◌, ℕ, Bool, true, false, not, ◌&&◌, refl, sym, ap₂, ◌∙◌, List, Option, None}
+use Rattle.std.proofs.Common.{◌≡◌, ◌↔◌, ℕ, Bool, true, false, not, ◌&&◌, ◌||◌, refl, sym, ap, ap₂, ◌∙◌, List, Option, None}
 use Rattle.std.specs.Prelude.{Result, Ok, Err, IfOk, IfSome}
 use Rattle.std.proofs.lemmas.Option.{IfSome_then}
+use Rattle.acl_names.specs.Asker.{identity_of}
 use Rattle.acl_names.specs.Bits.{has}
+use Rattle.acl_names.proofs.BitSets.{has-or}
 use Rattle.acl_posix.specs.Entry.{Triple}
 use Rattle.acl_posix.specs.Validity.{IsValid}
-use Rattle.acl_nfs4.specs.Comparison.{Decider, DecideAlike, IsDifference, identity_of}
+use Rattle.acl_nfs4.specs.Comparison.{Decider, DecideAlike, IsDifference}
+use Rattle.acl_nfs4.specs.Mask.{mode_bits}
 use Rattle.acl_nfs4.specs.declared.comparison.Difference.{Difference}
-use Rattle.acl_bridge.specs.Comparison.{DecidesEachBit}
+use Rattle.acl_bridge.specs.Comparison.{DecidesEachBit, permission_bits}
 use Rattle.acl_bridge.specs.Translation.{translation}
 use Rattle.acl_bridge.proofs.Alike.{bit_granted}
 
 pub translation_decides_each_bit : (acl : List Triple) → IsValid acl → DecidesEachBit acl (translation acl)
 translation_decides_each_bit acl valid owner group requester bit of_mode = bit_granted acl valid owner group requester bit of_mode
+
+-- a permission's bit is one of a file mode's
+pub alike_of_mode : (before after : Decider) → DecideAlike before after mode_bits → DecideAlike before after permission_bits
+alike_of_mode before after alike requester bit asked = alike requester bit (has-or permission_bits 4 bit ∙ ap (λ b. b || has 4 bit) asked)
 
 -- deciders that decide alike are compared alike
 module _ (before before' after after' : Decider) (bits : ℕ) (same_before : DecideAlike before before' bits) (same_after : DecideAlike after after' bits) where

@@ -1,6 +1,7 @@
 pub mod Alike
 pub mod Compared
 pub mod WholeRequests
+pub mod FirstDifference
 pub mod PairsOfEntries
 pub mod Deciding
 pub mod Defaults

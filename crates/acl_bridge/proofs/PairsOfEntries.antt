@@ -14,7 +14,8 @@ use Rattle.acl_posix.specs.Validity.{IsValid}
 use Rattle.acl_posix.specs.declared.entry.Tag.{Tag}
 use Rattle.acl_posix.specs.declared.entry.Tag.TheVariants.{UserObj, User, GroupObj, Group, Mask, Other}
 use Rattle.acl_nfs4.specs.Ace.{Nfsace4, plain, unless_empty}
-use Rattle.acl_nfs4.specs.Comparison.{needed_uid, asker_for, decided_by, identity_of}
+use Rattle.acl_names.specs.Asker.{identity_of}
+use Rattle.acl_nfs4.specs.Comparison.{needed_uid, asker_for, decided_by}
 use Rattle.acl_nfs4.specs.Mask.{mask_of, rest_of}
 use Rattle.acl_nfs4.specs.declared.ace.AceType.{AceType}
 use Rattle.acl_nfs4.specs.declared.ace.AceType.TheVariants.{Allow, Deny}
@@ -22,7 +23,7 @@ use Rattle.acl_nfs4.specs.declared.who.Who.TheVariants.{Everyone}
 use Rattle.acl_nfs4.specs.Who.{flags_of_who}
 use Rattle.acl_nfs4.specs.declared.who.Who.{Who}
 use Rattle.acl_nfs4.proofs.Compared.{pairs_suffice}
-use Rattle.acl_nfs4.proofs.Strangers.{is_at, enough}
+use Rattle.acl_nfs4.proofs.Strangers.{is_at, enough, tried, tried_apart}
 use Rattle.acl_bridge.specs.Comparison.{OfEachTag, IsStranger, GrantAlike, GrantAlikeAt, IsUnlike, PairsSuffice, asks_for, is_of_user}
 use Rattle.acl_bridge.specs.declared.requests.Unlike.{Unlike}
 use Rattle.acl_bridge.specs.Translation.{who_of, is_for_owner, is_for_user, is_for_group, is_for_others, in_class, allowed_by, denied_by, settled_by, translation}
@@ -133,13 +134,14 @@ asked owner uid acl =
     list_any-agree (λ (entry : Triple). is_at uid (needed_uid owner (who_of entry.tag))) (λ (entry : Triple). is_of_user owner uid entry.tag)
     (λ entry. sym (asked_uid owner uid entry.tag)) acl
 
-pub asked_few : (owner n : ℕ) (first second : List Triple)
-    → ((k : ℕ) → k < n → (asks_for owner k first || asks_for owner k second) ≡ true) → n ≤ length first + length second
-asked_few owner n first second each =
+pub asked_few : (owner n : ℕ) (first second : List Triple) → n ≤ 129
+    → ((k : ℕ) → k < n → (asks_for owner (tried k) first || asks_for owner (tried k) second) ≡ true)
+    → n ≤ length first + length second
+asked_few owner n first second few each =
     let both : n ≤ length (first ++ second) =
-    enough (λ (entry : Triple). needed_uid owner (who_of entry.tag)) n (first ++ second)
-    (λ k below. list_any-append (λ (entry : Triple). is_at k (needed_uid owner (who_of entry.tag))) first second
-    ∙ ap₂ (λ a b. a || b) (asked owner k first) (asked owner k second) ∙ each k below) in
+    enough (λ (entry : Triple). needed_uid owner (who_of entry.tag)) tried n (first ++ second) (tried_apart n (omega (arith, few)))
+    (λ k below. list_any-append (λ (entry : Triple). is_at (tried k) (needed_uid owner (who_of entry.tag))) first second
+    ∙ ap₂ (λ a b. a || b) (asked owner (tried k) first) (asked owner (tried k) second) ∙ each k below) in
     omega (arith, both, length-append first second)
 
 pub is_stranger : (owner uid : ℕ) (acl : List Triple) → asks_for owner uid acl ≡ false → IsStranger owner acl uid

@@ -1,6 +1,8 @@
 -- What a POSIX list decides, bit by bit, so that it can be compared with a list of either kind.
-use Rattle.std.specs.Prelude.{◌≡◌, ◌≢◌, ◌≤◌, ◌==◌, ℕ, zero, suc, ◌^◌, Bool, false, not, Some, List, length}
+use Rattle.std.specs.Prelude.{◌≡◌, ◌≢◌, ◌≤◌, ◌⊎◌, ◌==◌, ℕ, zero, suc, ◌+◌, ◌^◌, Bool, false, not, Some, List, [], ◌∷◌, length, if◌then◌else◌}
 use Rattle.std.specs.List.{All, list_any}
+use Rattle.acl_names.specs.Asker.{identity_of}
+use Rattle.acl_names.specs.Bits.{◌∩◌}
 use Rattle.acl_names.specs.Requester.{Identity}
 use Rattle.acl_posix.specs.Access.{grants}
 use Rattle.acl_posix.specs.Entry.{Triple}
@@ -8,8 +10,9 @@ use Rattle.acl_posix.specs.Validity.{IsValid}
 use Rattle.acl_posix.specs.declared.entry.Tag.{Tag}
 use Rattle.acl_posix.specs.declared.entry.Tag.TheVariants.{UserObj, User}
 use Rattle.acl_nfs4.specs.Ace.{Nfsace4}
-use Rattle.acl_nfs4.specs.Comparison.{Decider, DecideAlike, asker_for, decided_by, identity_of, needed_uid}
-use Rattle.acl_nfs4.specs.Mask.{mode_bits, read, write, run}
+use Rattle.acl_nfs4.specs.Comparison.{Decider, DecideAlike, asker_for, decided_by, needed_uid}
+use Rattle.acl_nfs4.specs.Mask.{mask_bits, mask_of, mode_bits, read_data, write_data, execute, read, write, run}
+use Rattle.acl_nfs4.specs.declared.comparison.Difference.{Difference}
 use Rattle.acl_nfs4.specs.declared.who.Who.{Who}
 use Rattle.acl_nfs4.specs.declared.who.Who.TheVariants.{Everyone}
 use Rattle.acl_bridge.specs.Translation.{who_of}
@@ -25,6 +28,10 @@ permission_of _ = run
 -- what a list decides about a file of this owner and this group: a bit as the permission alone that it stands for
 abbrev pub granted_by : List Triple → ℕ → ℕ → Decider
 granted_by acl owner group requester bit = grants acl owner group requester (2 ^ permission_of bit)
+
+-- the bits by which permissions are told, one for each
+abbrev pub permission_bits : ℕ
+permission_bits = 2 ^ read_data + 2 ^ write_data + 2 ^ execute
 
 -- each bit of a file mode is decided as the list decides its permission
 abbrev pub DecidesEachBit : List Triple → List Nfsace4 → Type 0
@@ -60,6 +67,10 @@ IsStranger owner acl uid = All (λ entry. needed_uid owner (who_of entry.tag) �
 abbrev pub GrantAlike : List Triple → List Triple → ℕ → ℕ → ℕ → Identity → Type 0
 GrantAlike first second owner group request requester = grants first owner group requester request ≡ grants second owner group requester request
 
+-- and to everyone
+abbrev pub GrantAlikeToAll : List Triple → List Triple → ℕ → ℕ → ℕ → Type 0
+GrantAlikeToAll first second owner group request = (requester : Identity) → GrantAlike first second owner group request requester
+
 -- and to the asker of these two
 abbrev pub GrantAlikeAt : List Triple → List Triple → ℕ → ℕ → ℕ → ℕ → Who → Who → Type 0
 GrantAlikeAt first second owner group request stranger who other =
@@ -72,9 +83,30 @@ PairsSuffice =
     (first second : List Triple) → IsValid first → IsValid second → (owner group request stranger : ℕ)
     → IsStranger owner first stranger → IsStranger owner second stranger
     → OfEachTag first (λ who. OfEachTag second (λ other. GrantAlikeAt first second owner group request stranger who other))
-    → (requester : Identity) → GrantAlike first second owner group request requester
+    → GrantAlikeToAll first second owner group request
 
 -- one list grants the request to the asker, and the other doesn't
 pub record IsUnlike (first second : List Triple) (owner group request : ℕ) (unlike : Unlike) : Type 0 where
   pub before : grants first owner group (identity_of unlike.asker) request ≡ unlike.before
   pub after : grants second owner group (identity_of unlike.asker) request ≡ not unlike.before
+
+-- the requests of more than one permission, in the order in which they are compared: rw, rx, wx, rwx
+abbrev pub whole_requests : List ℕ
+whole_requests = 6 ∷ 5 ∷ 3 ∷ 7 ∷ []
+
+-- the bits by which a request is told
+abbrev pub told_by : ℕ → ℕ
+told_by request = mask_of request ∩ permission_bits
+
+-- one list grants the asker the request and the other doesn't: it is lost as a whole, or gained
+pub record IsWholeDifference (first second : List Triple) (owner group request : ℕ) (difference : Difference) : Type 0 where
+  pub apart : grants first owner group (identity_of difference.asker) request ≢ grants second owner group (identity_of difference.asker) request
+  pub lost : mask_bits difference.lost ≡ (if grants first owner group (identity_of difference.asker) request then told_by request else 0)
+  pub gained : mask_bits difference.gained ≡ (if grants second owner group (identity_of difference.asker) request then told_by request else 0)
+
+-- the difference is in the first of the requests that isn't granted alike to everyone
+abbrev pub IsFirstDifference : List Triple → List Triple → ℕ → ℕ → List ℕ → Difference → Type 0
+IsFirstDifference first second owner group [] difference = ⊥
+IsFirstDifference first second owner group (request ∷ more) difference =
+    IsWholeDifference first second owner group request difference
+    ⊎ (GrantAlikeToAll first second owner group request × IsFirstDifference first second owner group more difference)

@@ -1,10 +1,12 @@
 -- What a translation keeps of a POSIX access control list.
 use Rattle.std.specs.Prelude.{◌≡◌, ℕ, ◌^◌, ◌≤◌, ◌↔◌, IsTrue, List, length, map}
+use Rattle.acl_names.specs.Bits.{has}
 use Rattle.acl_names.specs.Requester.{Identity}
 use Rattle.acl_posix.specs.Access.{grants, masked}
 use Rattle.acl_posix.specs.Canonical.{IsAcl}
 use Rattle.acl_posix.specs.Entry.{Triple, HavePermissions, perms_of}
 use Rattle.acl_posix.specs.Mode.{Classes, perms_at}
+use Rattle.acl_posix.specs.Perms.{IsPermissions}
 use Rattle.acl_posix.specs.Validity.{IsValid}
 use Rattle.acl_posix.specs.declared.entry.Tag.TheVariants.{UserObj, GroupObj, Mask, Other}
 use Rattle.acl_nfs4.specs.Ace.{Nfsace4}
@@ -52,6 +54,13 @@ TranslationDecidesAlike = (acl : List Triple) → IsValid acl → DecideAlike ac
 
 abbrev pub TranslationGrantsAsMuch : Type 0
 TranslationGrantsAsMuch = (acl : List Triple) → IsValid acl → GrantsAsMuch acl (translation acl)
+
+-- The translation grants a set of permissions exactly where the list grants each of them by itself.
+abbrev pub TranslationGrantsEach : Type 0
+TranslationGrantsEach =
+    (acl : List Triple) → IsValid acl → (owner group : ℕ) (requester : Identity) (perms : ℕ) → IsPermissions perms
+    → Grants (matches owner group requester) (translation acl) (mask_of perms)
+    ↔ ((place : ℕ) → IsTrue (has perms place) → IsTrue (grants acl owner group requester (2 ^ place)))
 
 abbrev pub TranslationShowsTheClasses : Type 0
 TranslationShowsTheClasses =

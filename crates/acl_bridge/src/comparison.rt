@@ -2,12 +2,13 @@
 ghost use Rattle.std.specs.Prelude.{◌≡◌, ◌↔◌, None, IfOk, IfSome};
 ghost use Rattle.acl_nfs4.specs.Comparison.{DecideAlike, IsDifference, decided_by};
 ghost use Rattle.acl_nfs4.specs.Mask.{mask_bits, mode_bits};
-ghost use Rattle.acl_bridge.specs.Comparison.{DecidesEachBit, granted_by};
+ghost use Rattle.acl_bridge.specs.Comparison.{DecidesEachBit, granted_by, permission_bits};
 
 use crate::translation::translate;
 use acl_names::{Gid, Uid};
 use acl_nfs4::{Acl4, Difference, Mask, mask_of};
 use acl_posix::{Acl, Perms};
+use bitflags::Flags;
 use std::alloc::{AllocError, Global};
 
 /// The bits that stand for permissions.
@@ -15,6 +16,13 @@ fn mode_bits() -> Mask
     ensures { mask_bits result ≡ mode_bits }
 {
     mask_of(Perms::READ | Perms::WRITE | Perms::EXECUTE)
+}
+
+/// The bits by which permissions are told, one for each.
+pub(crate) fn permission_bits() -> Mask
+    ensures { mask_bits result ≡ permission_bits }
+{
+    Mask::READ_DATA.union(Mask::WRITE_DATA.union(Mask::EXECUTE))
 }
 
 /// The list as an NFSv4 list, which decides each of these bits as the list decides its permission.
@@ -45,7 +53,8 @@ pub fn difference_from_posix(
 
 /// What two POSIX lists decide differently for a file of this owner and this group, of the permissions one by one: none
 /// exactly where each is granted to the same requesters, of whatever uid and groups; else someone in at most two groups, with
-/// what only the one and what only the other grants. It is refused only for want of memory.
+/// what only the one and what only the other grants. One bit stands for each permission: READ_DATA, WRITE_DATA and EXECUTE. It
+/// is refused only for want of memory.
 pub fn posix_difference(
     alloc: Global,
     first: &Acl,
@@ -53,9 +62,10 @@ pub fn posix_difference(
     owner: Uid,
     group: Gid,
 ) -> Result<Option<Difference>, AllocError>
-    ensures none { IfOk result (λ found. (found ≡ None) ↔ DecideAlike (granted_by first.now owner group) (granted_by second.now owner group) mode_bits) }
-    ensures some { IfOk result (λ found. IfSome found (IsDifference (granted_by first.now owner group) (granted_by second.now owner group) mode_bits)) }
+    ensures none { IfOk result (λ found. (found ≡ None) ↔ DecideAlike (granted_by first.now owner group) (granted_by second.now owner group) permission_bits) }
+    ensures some { IfOk result (λ found. IfSome found (IsDifference (granted_by first.now owner group) (granted_by second.now owner group) permission_bits)) }
 {
+    let before = translated(alloc, first)?;
     let after = translated(alloc, second)?;
-    difference_from_posix(alloc, first, &after, owner, group)
+    Ok(before.difference(&after, owner, group, permission_bits()))
 }

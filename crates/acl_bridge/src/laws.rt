@@ -1,15 +1,17 @@
 //! The laws of a translation, over the definitions alone.
-ghost use Rattle.acl_bridge.specs.TranslationLaws.{TranslationDecidesAlike, TranslationGrantsAsMuch, TranslationShowsTheClasses, TranslationIsShort, FileInheritsTheTranslation, DirectoryHandsItOn};
+ghost use Rattle.acl_bridge.specs.TranslationLaws.{TranslationDecidesAlike, TranslationGrantsAsMuch, TranslationGrantsEach, TranslationShowsTheClasses, TranslationIsShort, FileInheritsTheTranslation, DirectoryHandsItOn};
 
 /// A POSIX access control list and its translation decide alike every requester's each single read, write or execute
 /// permission.
 ///
-/// The translation also grants whatever set of permissions the list grants, shows as its mode what the owner, the file's
-/// group under the mask and the others have, and has at most 125 entries (1003.1e draft 17, section 23; RFC 8881, sections
-/// 6.2.1 and 6.3.2).
+/// The translation grants a set of permissions exactly where the list grants each of them by itself; so it grants whatever
+/// set the list grants, and more where no single entry of the list grants all of it. It shows as its mode what the owner, the
+/// file's group under the mask and the others have, and has at most 125 entries (1003.1e draft 17, section 23; RFC 8881,
+/// sections 6.2.1 and 6.3.2).
 pub fn translation_laws()
     ensures alike { TranslationDecidesAlike }
     ensures as_much { TranslationGrantsAsMuch }
+    ensures each { TranslationGrantsEach }
     ensures mode { TranslationShowsTheClasses }
     ensures short { TranslationIsShort }
 {}

@@ -1,13 +1,12 @@
 //! Comparing POSIX lists for everyone, by whole requests.
 ghost use Rattle.std.specs.Prelude.{◌≡◌, ◌≤◌, ◌↔◌, ◌||◌, None, IfOk, IfSome, MatchOption, length};
-ghost use Rattle.acl_names.specs.Requester.{Identity};
 ghost use Rattle.acl_posix.specs.Perms.{bits_of};
 ghost use Rattle.acl_posix.specs.declared.limits.TheConstants.{MAX_ENTRIES};
-ghost use Rattle.acl_bridge.specs.Comparison.{GrantAlike, GrantAlikeAt, IsStranger, IsUnlike, OfEachTag, PairsSuffice, TwoGroupsSuffice, asks_for, is_of_user};
+ghost use Rattle.acl_bridge.specs.Comparison.{GrantAlikeAt, GrantAlikeToAll, IsStranger, IsUnlike, OfEachTag, PairsSuffice, TwoGroupsSuffice, asks_for, is_of_user};
 
 use crate::passes::who_of;
-use acl_names::{Gid, Uid};
-use acl_nfs4::{Asker, Who};
+use acl_names::{Asker, Gid, NOBODY, Uid};
+use acl_nfs4::{Who, asker_for};
 use acl_posix::{Acl, Entry, Perms, Tag};
 use std::alloc::{AllocError, Global};
 
@@ -57,7 +56,7 @@ fn asks_for(entries: &[Entry], owner: Uid, uid: Uid) -> bool
         .any(|entry| is_of_user(&entry.tag, owner, uid))
 }
 
-/// A user who has no entry: one of the first numbers, since there are fewer entries.
+/// A user who has no entry: one of as many as there are entries, and one more. They are tried from nobody's number downwards.
 fn stranger(first: &[Entry], second: &[Entry], owner: Uid) -> Uid
     requires first { length first.now ≤ MAX_ENTRIES }
     requires second { length second.now ≤ MAX_ENTRIES }
@@ -65,7 +64,7 @@ fn stranger(first: &[Entry], second: &[Entry], owner: Uid) -> Uid
     ensures second { IsStranger owner second.now result }
 {
     for number in 0..129 {
-        if let Some(uid) = Uid::new(number) {
+        if let Some(uid) = Uid::new(NOBODY - number) {
             if !(asks_for(first, owner, uid) || asks_for(second, owner, uid)) {
                 return uid;
             }
@@ -87,7 +86,7 @@ fn unlike_at(
         (GrantAlikeAt first.now second.now asked.now.owner asked.now.group (bits_of asked.now.request) asked.now.stranger who.now other.now)
         (IsUnlike first.now second.now asked.now.owner asked.now.group (bits_of asked.now.request))) }
 {
-    let asker = Asker::for_both(asked.owner, asked.group, asked.stranger, who, other);
+    let asker = asker_for(asked.owner, asked.group, asked.stranger, who, other);
     let requester = asker.requester(alloc)?;
     let before = first.grants(asked.owner, asked.group, &requester, asked.request);
     let after = second.grants(asked.owner, asked.group, &requester, asked.request);
@@ -151,7 +150,7 @@ pub fn request_difference(
     group: Gid,
     request: Perms,
 ) -> Result<Option<Unlike>, AllocError>
-    ensures none { IfOk result (λ found. (found ≡ None) ↔ ((requester : Identity) → GrantAlike first.now second.now owner group (bits_of request) requester)) }
+    ensures none { IfOk result (λ found. (found ≡ None) ↔ GrantAlikeToAll first.now second.now owner group (bits_of request)) }
     ensures some { IfOk result (λ found. IfSome found (IsUnlike first.now second.now owner group (bits_of request))) }
 {
     let asked = Asked {

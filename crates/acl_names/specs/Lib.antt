@@ -3,6 +3,7 @@ pub mod ListText
 pub mod Ids
 pub mod Views
 pub mod Requester
+pub mod Asker
 pub mod Bits
 pub mod Ascending
 pub mod Named

@@ -20,3 +20,6 @@ pub const MAX_ID: u32 = 4_294_967_294;
 
 /// The most digits of an id.
 pub const MAX_DIGITS: usize = 10;
+
+/// The uid that systems give to nobody: where someone is wanted whom no list names, the search begins here.
+pub const NOBODY: u32 = 65534;

@@ -1,4 +1,5 @@
 //! Worked examples.
+mod askers;
 mod directory;
 mod fixture;
 mod refused_growths;

@@ -6,7 +6,8 @@ use Rattle.acl_names.specs.Bits.{has, without, ◌∩◌, ◌∪◌}
 use Rattle.acl_names.proofs.AnyLemmas.{and_false, or_false}
 use Rattle.acl_names.proofs.BitSets.{has-and, has-or, has-without, has-zero, same_bits, no_bits}
 use Rattle.acl_nfs4.specs.Ace.{Nfsace4, decides, is_allow}
-use Rattle.acl_nfs4.specs.Comparison.{Decider, DecideAlike, IsDifference, identity_of}
+use Rattle.acl_names.specs.Asker.{identity_of}
+use Rattle.acl_nfs4.specs.Comparison.{Decider, DecideAlike, IsDifference}
 use Rattle.acl_nfs4.specs.Evaluation.{allows}
 use Rattle.acl_nfs4.specs.Mask.{mask_bits}
 use Rattle.acl_nfs4.specs.declared.comparison.Difference.{Difference}

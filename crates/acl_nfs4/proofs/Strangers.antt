@@ -1,8 +1,9 @@
 -- Of more numbers than there are entries, no entry asks for one.
-use Rattle.std.proofs.Common.{◌≡◌, ◌≢◌, ◌≤◌, ◌+◌, ◌<◌, ◌==◌, ℕ, zero, suc, Bool, true, false, cond, not, ◌&&◌, ◌||◌, refl, sym, ap, ap₂, ◌∙◌, List, [], ◌∷◌, ◌++◌, Option, Some, None, length, length-append, arith}
+use Rattle.std.proofs.Common.{◌≡◌, ◌≢◌, ◌≤◌, ◌+◌, ◌-◌, ◌<◌, ◌==◌, ℕ, zero, suc, Bool, true, false, cond, not, ◌&&◌, ◌||◌, refl, sym, ap, ap₂, ◌∙◌, List, [], ◌∷◌, ◌++◌, Option, Some, None, length, length-append, arith}
 use Rattle.std.specs.List.{list_any, filter}
 use Rattle.std.proofs.lemmas.Bool.{true≢false, eqb-true, eq-eqb, or_parts}
 use Rattle.std.proofs.lemmas.List.Elements.{All-nil, All-cons}
+use Rattle.acl_names.specs.declared.limits.TheConstants.{NOBODY}
 use Rattle.acl_names.proofs.AnyLemmas.{list_any-append, list_any-agree, list_any-filter, list_any-weaken}
 use Rattle.acl_nfs4.specs.Ace.{Nfsace4}
 use Rattle.acl_nfs4.specs.Comparison.{needed_uid, needs_user, asks_for, IsStranger}
@@ -48,16 +49,26 @@ module _ {X : Type 0} where
       go None is = absurd (true≢false (sym is))
       go (Some m) is = differs m is (m == n) refl
 
-  -- where each number below n is that of an element, there are at least n elements
-  pub enough : (f : X → Option ℕ) (n : ℕ) (xs : List X) → ((k : ℕ) → k < n → list_any (λ x. is_at k (f x)) xs ≡ true) → n ≤ length xs
-  enough f zero xs each = omega arith
-  enough f (suc n) xs each =
-      let here : list_any (λ (x : X). is_at n (f x)) xs ≡ true = each n (omega arith) in
-      let dropped = one_fewer (λ (x : X). is_at n (f x)) xs here in
-      let rest : n ≤ length (filter (λ (x : X). not (is_at n (f x))) xs) =
-      enough f n (filter (λ x. not (is_at n (f x))) xs)
-      (λ k below. others_stay f k n (λ e. let same : k ≡ n = e in absurd (omega arith)) xs (each k (omega arith))) in
+  -- where each of n numbers that differ is that of an element, there are at least n elements
+  pub enough : (f : X → Option ℕ) (numbers : ℕ → ℕ) (n : ℕ) (xs : List X)
+      → ((j k : ℕ) → j < k → k < n → numbers j ≢ numbers k)
+      → ((k : ℕ) → k < n → list_any (λ x. is_at (numbers k) (f x)) xs ≡ true) → n ≤ length xs
+  enough f numbers zero xs apart each = omega arith
+  enough f numbers (suc n) xs apart each =
+      let here : list_any (λ (x : X). is_at (numbers n) (f x)) xs ≡ true = each n (omega arith) in
+      let dropped = one_fewer (λ (x : X). is_at (numbers n) (f x)) xs here in
+      let rest : n ≤ length (filter (λ (x : X). not (is_at (numbers n) (f x))) xs) =
+      enough f numbers n (filter (λ x. not (is_at (numbers n) (f x))) xs)
+      (λ j k before below. apart j k before (omega (arith, below)))
+      (λ k below. others_stay f (numbers k) (numbers n) (apart k n below (omega arith)) xs (each k (omega (arith, below)))) in
       omega (arith, dropped, rest)
+
+-- the first users that are tried as strangers, counted from nobody downwards
+abbrev pub tried : ℕ → ℕ
+tried number = NOBODY - number
+
+pub tried_apart : (n : ℕ) → n ≤ 257 → (j k : ℕ) → j < k → k < n → tried j ≢ tried k
+tried_apart n few j k before below same = let e : 65534 - j ≡ 65534 - k = same in absurd (omega (arith, few, before, below, e))
 
 -- who asks for a user asks for that user's uid
 asked_uid : (owner uid : ℕ) (who : Who) → needs_user owner uid who ≡ is_at uid (needed_uid owner who)
@@ -73,13 +84,14 @@ asked owner uid aces =
     (λ ace. sym (asked_uid owner uid ace.who)) aces
 
 -- two lists can't ask for more users than they have entries
-pub asked_few : (owner n : ℕ) (first second : List Nfsace4)
-    → ((k : ℕ) → k < n → (asks_for owner k first || asks_for owner k second) ≡ true) → n ≤ length first + length second
-asked_few owner n first second each =
+pub asked_few : (owner n : ℕ) (first second : List Nfsace4) → n ≤ 257
+    → ((k : ℕ) → k < n → (asks_for owner (tried k) first || asks_for owner (tried k) second) ≡ true)
+    → n ≤ length first + length second
+asked_few owner n first second few each =
     let both : n ≤ length (first ++ second) =
-    enough (λ (ace : Nfsace4). needed_uid owner ace.who) n (first ++ second)
-    (λ k below. list_any-append (λ (ace : Nfsace4). is_at k (needed_uid owner ace.who)) first second
-    ∙ ap₂ (λ a b. a || b) (asked owner k first) (asked owner k second) ∙ each k below) in
+    enough (λ (ace : Nfsace4). needed_uid owner ace.who) tried n (first ++ second) (tried_apart n few)
+    (λ k below. list_any-append (λ (ace : Nfsace4). is_at (tried k) (needed_uid owner ace.who)) first second
+    ∙ ap₂ (λ a b. a || b) (asked owner (tried k) first) (asked owner (tried k) second) ∙ each k below) in
     omega (arith, both, length-append first second)
 
 -- one whom no entry asks for is a stranger

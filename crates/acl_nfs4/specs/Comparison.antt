@@ -1,13 +1,13 @@
 -- Whether two lists decide alike for everyone, and whom one has to ask to know it.
 use Rattle.std.specs.Prelude.{◌≡◌, ◌≢◌, ◌≤◌, ◌==◌, ℕ, Bool, false, not, ◌&&◌, IsTrue, Option, Some, None, option_to_list, unwrap_or, List, ◌++◌, length}
 use Rattle.std.specs.List.{All, list_any}
+use Rattle.acl_names.specs.Asker.{identity_of}
 use Rattle.acl_names.specs.Bits.{has, ◌∪◌}
 use Rattle.acl_names.specs.Requester.{Identity}
 use Rattle.acl_nfs4.specs.Ace.{Nfsace4}
 use Rattle.acl_nfs4.specs.Evaluation.{allows}
 use Rattle.acl_nfs4.specs.Mask.{mask_bits}
 use Rattle.acl_nfs4.specs.Who.{matches}
-use Rattle.acl_nfs4.specs.declared.comparison.Asker.{Asker}
 use Rattle.acl_nfs4.specs.declared.comparison.Difference.{Difference}
 use Rattle.acl_nfs4.specs.declared.who.Who.{Who}
 use Rattle.acl_nfs4.specs.declared.who.Who.TheVariants.{Owner, Group, Everyone, User, NamedGroup}
@@ -63,7 +63,7 @@ needs_user owner uid _ = false
 abbrev pub asks_for : ℕ → ℕ → List Nfsace4 → Bool
 asks_for owner uid aces = list_any (λ ace. needs_user owner uid ace.who) aces
 
--- no entry asks for this user
+-- No entry asks for this user. Any such user may come as the stranger.
 abbrev pub IsStranger : ℕ → List Nfsace4 → ℕ → Type 0
 IsStranger owner aces uid = All (λ ace. needed_uid owner ace.who ≢ Some uid) aces
 
@@ -85,10 +85,6 @@ TwoGroupsSuffice =
     (first second : List Nfsace4) (owner group bits : ℕ)
     → ((requester : Identity) → length requester.gids ≤ 2 → AlikeFor first second owner group bits requester)
     → DecideAlike (decided_by first owner group) (decided_by second owner group) bits
-
--- the requester that an asker is
-abbrev pub identity_of : Asker → Identity
-identity_of asker = record { uid = asker.uid; gids = option_to_list asker.gid ++ option_to_list asker.other_gid }
 
 -- of these bits, the asker loses those that are granted only before and gains those that are granted only after, and there is
 -- one

@@ -1,29 +1,18 @@
+//! Whether two lists decide alike for everyone.
 ghost use Rattle.std.specs.Prelude.{◌≡◌, ◌≤◌, ◌↔◌, ◌&&◌, ◌||◌, ℕ, None, IfOk, IfSome, MatchOption, length, ◌==◌, option_to_list};
 ghost use Rattle.std.specs.List.{list_any};
+ghost use Rattle.acl_names.specs.Asker.{identity_of};
 ghost use Rattle.acl_names.specs.Bits.{has};
-ghost use Rattle.acl_names.specs.Requester.{is_in_group};
 ghost use Rattle.acl_nfs4.specs.Ace.{decides};
-ghost use Rattle.acl_nfs4.specs.Comparison.{AlikeAt, DecideAlike, IsDifference, IsStranger, OfEachWho, PairsSuffice, TwoGroupsSuffice, asker_for, asks_for, decided_by, identity_of, needed_gid, needed_uid, needs_user};
+ghost use Rattle.acl_nfs4.specs.Comparison.{AlikeAt, DecideAlike, IsDifference, IsStranger, OfEachWho, PairsSuffice, TwoGroupsSuffice, asker_for, asks_for, decided_by, needed_gid, needed_uid, needs_user};
 ghost use Rattle.acl_nfs4.specs.Evaluation.{allows};
 ghost use Rattle.acl_nfs4.specs.Mask.{mask_bits};
 ghost use Rattle.acl_nfs4.specs.Who.{matches};
 
 use crate::limits::MAX_ACES;
 use crate::{Ace, Acl4, Mask, Who};
-use acl_names::{Gid, Requester, Uid};
+use acl_names::{Asker, Gid, NOBODY, Uid};
 use bitflags::Flags as FlagSet;
-use std::alloc::{AllocError, Global};
-
-/// Someone who asks for access and is in at most two groups.
-#[derive(Clone, Copy, Debug, PartialEq, Eq)]
-pub struct Asker {
-    /// Who asks.
-    pub uid: Uid,
-    /// A group of the asker.
-    pub gid: Option<Gid>,
-    /// Another.
-    pub other_gid: Option<Gid>,
-}
 
 /// For whom two lists decide differently, and what.
 #[derive(Clone, Copy, Debug, PartialEq, Eq)]
@@ -94,75 +83,42 @@ impl Who {
     }
 }
 
-/// Whether it is this group.
-fn is_gid(own: Option<Gid>, gid: Gid) -> bool
-    ensures { result ≡ list_any (λ one. one == gid) (option_to_list own) }
+/// One to whom entries about both apply, if they apply to anybody at once: the stranger, where neither asks for a user.
+pub fn asker_for(owner: Uid, group: Gid, stranger: Uid, who: &Who, other: &Who) -> Asker
+    ensures { identity_of result ≡ asker_for owner group stranger who.now other.now }
 {
-    match own {
-        Some(one) => one == gid,
-        None => false,
+    let uid = match who.needed_uid(owner) {
+        Some(uid) => uid,
+        None => match other.needed_uid(owner) {
+            Some(uid) => uid,
+            None => stranger,
+        },
+    };
+    Asker {
+        uid,
+        gid: who.needed_gid(group),
+        other_gid: other.needed_gid(group),
     }
 }
 
-impl Asker {
-    /// One to whom entries about both apply, if they apply to anybody at once: a stranger, where neither asks for a user.
-    pub fn for_both(owner: Uid, group: Gid, stranger: Uid, who: &Who, other: &Who) -> Asker
-        ensures { identity_of result ≡ asker_for owner group stranger who.now other.now }
-    {
-        let uid = match who.needed_uid(owner) {
-            Some(uid) => uid,
-            None => match other.needed_uid(owner) {
-                Some(uid) => uid,
-                None => stranger,
-            },
-        };
-        Asker {
-            uid,
-            gid: who.needed_gid(group),
-            other_gid: other.needed_gid(group),
-        }
+/// Whether the asker is one of those whom the who is about.
+fn is_one_of(asker: &Asker, owner: Uid, group: Gid, who: &Who) -> bool
+    ensures { result ≡ matches owner group (identity_of asker.now) who.now }
+{
+    match *who {
+        Who::Owner => asker.uid == owner,
+        Who::Group => asker.is_in_group(group),
+        Who::Everyone => true,
+        Who::User(uid) => asker.uid == uid,
+        Who::NamedGroup(gid) => asker.is_in_group(gid),
     }
+}
 
-    /// The asker as a requester, to be asked of any list.
-    pub fn requester(&self, alloc: Global) -> Result<Requester, AllocError>
-        ensures { IfOk result (λ requester. requester ≡ identity_of self.now) }
-    {
-        let mut gids = Vec::new(alloc);
-        if let Some(gid) = self.gid {
-            gids.push(gid)?;
-        }
-        if let Some(gid) = self.other_gid {
-            gids.push(gid)?;
-        }
-        Ok(Requester::new(self.uid, gids))
-    }
-
-    /// Whether the asker is in this group.
-    fn is_in_group(&self, gid: Gid) -> bool
-        ensures { result ≡ is_in_group (identity_of self.now) gid }
-    {
-        is_gid(self.gid, gid) || is_gid(self.other_gid, gid)
-    }
-
-    /// Whether the asker is one of those whom the who is about.
-    fn is_one_of(&self, owner: Uid, group: Gid, who: &Who) -> bool
-        ensures { result ≡ matches owner group (identity_of self.now) who.now }
-    {
-        match *who {
-            Who::Owner => self.uid == owner,
-            Who::Group => self.is_in_group(group),
-            Who::Everyone => true,
-            Who::User(uid) => self.uid == uid,
-            Who::NamedGroup(gid) => self.is_in_group(gid),
-        }
-    }
-
-    /// Whether the entry decides about the asker.
-    fn is_concerned(&self, owner: Uid, group: Gid, ace: &Ace) -> bool
-        ensures { result ≡ (decides ace.now && matches owner group (identity_of self.now) ace.now.who) }
-    {
-        ace.decides() && self.is_one_of(owner, group, &ace.who())
-    }
+/// Whether the entry decides about the asker.
+fn is_concerned(asker: &Asker, owner: Uid, group: Gid, ace: &Ace) -> bool
+    ensures { result ≡ (decides ace.now && matches owner group (identity_of asker.now) ace.now.who) }
+{
+    ace.decides() && is_one_of(asker, owner, group, &ace.who())
 }
 
 /// Those of the bits that the entries allow the asker. It goes down the list once, until no bit is open.
@@ -175,7 +131,7 @@ fn allowed_to(aces: &[Ace], owner: Uid, group: Gid, asker: &Asker, bits: Mask) -
         if open.is_empty() {
             return allowed;
         }
-        if asker.is_concerned(owner, group, ace) {
+        if is_concerned(asker, owner, group, ace) {
             if ace.kind().is_allow() {
                 allowed = allowed.union(open.intersection(ace.mask()));
             }
@@ -192,7 +148,8 @@ fn asks_for(aces: &[Ace], owner: Uid, uid: Uid) -> bool
     aces.iter().any(|ace| ace.who().needs_user(owner, uid))
 }
 
-/// A user for whom no entry asks: one of the first numbers, since there are fewer entries.
+/// A user for whom no entry asks. Each of the entries asks for one user at most, so one of as many and one more is free. They
+/// are tried from nobody's number downwards: the low numbers are those of people and of root, and a stranger is none of them.
 fn stranger(first: &[Ace], second: &[Ace], owner: Uid) -> Uid
     requires first { length first.now ≤ MAX_ACES }
     requires second { length second.now ≤ MAX_ACES }
@@ -200,7 +157,7 @@ fn stranger(first: &[Ace], second: &[Ace], owner: Uid) -> Uid
     ensures second { IsStranger owner second.now result }
 {
     for number in 0..257 {
-        if let Some(uid) = Uid::new(number) {
+        if let Some(uid) = Uid::new(NOBODY - number) {
             if !(asks_for(first, owner, uid) || asks_for(second, owner, uid)) {
                 return uid;
             }
@@ -221,7 +178,7 @@ fn difference_at(
         (AlikeAt first.now second.now question.now.owner question.now.group (mask_bits question.now.bits) question.now.stranger who.now other.now)
         (IsDifference (decided_by first.now question.now.owner question.now.group) (decided_by second.now question.now.owner question.now.group) (mask_bits question.now.bits)) }
 {
-    let asker = Asker::for_both(
+    let asker = asker_for(
         question.owner,
         question.group,
         question.stranger,

@@ -124,8 +124,9 @@ pub(crate) fn read_flags(text: &[u8]) -> Option<Flags>
     }
 }
 
-/// Appends the letters of the mask.
-pub(crate) fn push_mask(mask: Mask, out: &mut Vec<u8>) -> Result<(), AllocError>
+/// Appends the letters of the mask's bits, in the order `rwaxdDtTnNcCoy`. It is refused only for want of memory, and what was
+/// there stays then.
+pub fn push_mask(mask: Mask, out: &mut Vec<u8>) -> Result<(), AllocError>
     ensures text { OnOk result (out.new.items ≡ out.old.items ++ letters_text mask_table (mask_bits mask)) }
     ensures kept { take (length out.old.items) out.new.items ≡ out.old.items }
 {

@@ -23,10 +23,10 @@ mod who;
 
 pub use ace::{Ace, AceType};
 pub use acl::{AceFault, Acl4};
-pub use comparison::{Asker, Difference, comparison_laws};
+pub use comparison::{Difference, asker_for, comparison_laws};
 pub use flags::Flags;
 pub use inheritance::Kind;
-pub use letters::{letters_are_told_apart, read_letters};
+pub use letters::{letters_are_told_apart, push_mask, read_letters};
 pub use limits::MAX_ACES;
 pub use mask::{Mask, mask_of};
 pub use mode_change::Fault4;

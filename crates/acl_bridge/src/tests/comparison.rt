@@ -1,8 +1,11 @@
 //! Lists compared for everyone: the file is alice's, whose uid is 1000, and the group's staff.
 use crate::tests::fixture::{aces, acl, directory};
-use crate::{Unlike, difference_from_posix, posix_difference, request_difference, translate};
-use acl_names::{Gid, Requester, Uid};
-use acl_nfs4::{Asker, Difference, mask_of, read_letters};
+use crate::{
+    Unlike, difference_from_posix, posix_difference, request_difference, translate,
+    whole_request_difference,
+};
+use acl_names::{Asker, Gid, Requester, Uid};
+use acl_nfs4::{Difference, mask_of, read_letters};
 use acl_posix::{Perms, read_perms};
 use std::alloc::Global;
 use std::test::Fail;
@@ -111,7 +114,7 @@ fn others_gain(rt: HostRuntime) -> Result<(), Fail> {
     let alloc = rt.alloc();
     assert_eq!(rt;
         posix(alloc, "u::rw,g::r,o::-", "u::rw,g::r,g:ops:-,m::r,o::r")?,
-        told(0, 0, 0, "", "r")?
+        told(65534, 0, 0, "", "r")?
     );
     Ok(())
 }
@@ -122,7 +125,7 @@ fn only_members_of_both_groups_gain(rt: HostRuntime) -> Result<(), Fail> {
     let alloc = rt.alloc();
     assert_eq!(rt;
         posix(alloc, "u::-,g::-,o::r", "u::-,g::-,g:ops:r,m::r,o::r")?,
-        told(0, 50, 60, "", "r")?
+        told(65534, 50, 60, "", "r")?
     );
     Ok(())
 }
@@ -182,7 +185,10 @@ fn three_groups_do_not(rt: HostRuntime) -> Result<(), Fail> {
 /// In 63 and 61 one may write within a file but not behind its end: bit by bit the lists differ already for two groups.
 #[test]
 fn two_groups_gain_a_bit(rt: HostRuntime) -> Result<(), Fail> {
-    assert_eq!(rt; mixed(rt.alloc(), KEPT, MOVED)?, told(0, 63, 61, "", "w")?);
+    assert_eq!(rt;
+        mixed(rt.alloc(), KEPT, MOVED)?,
+        told(65534, 63, 61, "", "w")?
+    );
     Ok(())
 }
 
@@ -205,5 +211,50 @@ fn reading_and_writing_at_once(rt: HostRuntime) -> Result<(), Fail> {
     assert!(rt; !found.before);
     assert_eq!(rt; found.asker.gid, Gid::new(50));
     assert_eq!(rt; found.asker.other_gid, Gid::new(60));
+    Ok(())
+}
+
+/// What two POSIX lists decide differently of the requests of more than one permission.
+fn whole(alloc: Global, first: &str, second: &str) -> Result<Option<Difference>, Fail> {
+    let names = directory(alloc)?;
+    let before = acl(alloc, &names, first)?;
+    let after = acl(alloc, &names, second)?;
+    Ok(whole_request_difference(alloc, &before, &after, alice()?, staff()?)?)
+}
+
+/// Two entries are about the file's group, staff: its own and a named one. Its members may read and write by turns either way,
+/// but at once only where one entry grants both.
+#[test]
+fn whole_requests_are_lost_and_gained(rt: HostRuntime) -> Result<(), Fail> {
+    let joined = "u::-,g::rw,o::-";
+    let divided = "u::-,g::r,g:staff:w,m::rw,o::-";
+    assert_eq!(rt; posix(rt.alloc(), joined, divided)?, None);
+    assert_eq!(rt; whole(rt.alloc(), joined, joined)?, None);
+    assert_eq!(rt;
+        whole(rt.alloc(), joined, divided)?,
+        told(65534, 50, 50, "rw", "")?
+    );
+    assert_eq!(rt;
+        whole(rt.alloc(), divided, joined)?,
+        told(65534, 50, 50, "", "rw")?
+    );
+    Ok(())
+}
+
+/// Of the requests that differ the first is told, in the order rw, rx, wx, rwx.
+#[test]
+fn the_first_whole_request_is_told(rt: HostRuntime) -> Result<(), Fail> {
+    assert_eq!(rt;
+        whole(rt.alloc(), "u::rx,g::-,o::-", "u::rwx,g::-,o::-")?,
+        told(1000, 0, 0, "", "rw")?
+    );
+    assert_eq!(rt;
+        whole(rt.alloc(), "u::rx,g::-,o::-", "u::r,g::-,o::-")?,
+        told(1000, 0, 0, "rx", "")?
+    );
+    assert_eq!(rt;
+        whole(rt.alloc(), "u::w,g::-,o::-", "u::wx,g::-,o::-")?,
+        told(1000, 0, 0, "", "wx")?
+    );
     Ok(())
 }

@@ -5,7 +5,7 @@
 //! how many refusals it was told of: one up to the last growth that it asks for, and none from then on. The parts of a
 //! directory grow before the call that is looked at, so a refusal among them is told by the part.
 use crate::tests::fixture::{groups, user, users};
-use crate::{Directory, SetupFault, Uid, push_id};
+use crate::{Asker, Directory, Gid, SetupFault, Uid, push_id};
 use std::alloc::Global;
 use std::test::Fail;
 
@@ -83,6 +83,26 @@ fn requester_under_a_refused_growth(rt: HostRuntime) -> Result<(), Fail> {
         Err(_) => {
             told.one_more();
             directory.requester(rt.alloc(), bob)?
+        }
+    };
+    assert_eq!(rt; requester.gids().len(), 2);
+    println!(rt; "refusals: {}", told.refusals)?;
+    Ok(())
+}
+
+#[test]
+fn asker_under_a_refused_growth(rt: HostRuntime) -> Result<(), Fail> {
+    let mut told = Told { refusals: 0 };
+    let asker = Asker {
+        uid: Uid::new(1001).ok_or("uid")?,
+        gid: Gid::new(50),
+        other_gid: Gid::new(60),
+    };
+    let requester = match asker.requester(rt.alloc()) {
+        Ok(requester) => requester,
+        Err(_) => {
+            told.one_more();
+            asker.requester(rt.alloc())?
         }
     };
     assert_eq!(rt; requester.gids().len(), 2);

@@ -1,6 +1,6 @@
 use crate::tests::fixture::{acl, directory};
-use crate::{Asker, Difference, Mask, read_letters};
-use acl_names::{Gid, Uid};
+use crate::{Difference, read_letters};
+use acl_names::{Asker, Gid, Uid};
 use std::alloc::Global;
 use std::test::Fail;
 
@@ -71,17 +71,26 @@ fn someone_in_two_groups(rt: HostRuntime) -> Result<(), Fail> {
             "D:g:guest:r,A:g:ops:r",
             "r"
         ),
-        Some(told(0, 60, 70, "r", ""))
+        Some(told(65534, 60, 70, "r", ""))
     );
     Ok(())
 }
 
 #[test]
 fn a_stranger(rt: HostRuntime) -> Result<(), Fail> {
-    // Root has the uid 0, so the first stranger is 1.
+    // Nobody, who has the number 65534, is the first to be tried.
     assert_eq!(rt;
         between(rt.alloc(), "D::root:r,A::EVERYONE@:r", "D::root:r", "r"),
-        Some(told(1, 0, 0, "r", ""))
+        Some(told(65534, 0, 0, "r", ""))
+    );
+    assert_eq!(rt;
+        between(
+            rt.alloc(),
+            "D::65534:r,D::65533:r,A::EVERYONE@:r",
+            "D::65534:r",
+            "r"
+        ),
+        Some(told(65532, 0, 0, "r", ""))
     );
     Ok(())
 }

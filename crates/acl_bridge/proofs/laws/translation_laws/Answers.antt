@@ -1,4 +1,4 @@
-use Rattle.acl_bridge.proofs.Alike.{translation_decides_alike, translation_grants_as_much}
+use Rattle.acl_bridge.proofs.Alike.{translation_decides_alike, translation_grants_as_much, translation_grants_each}
 use Rattle.acl_bridge.proofs.Short.{short_translation}
 use Rattle.acl_bridge.proofs.Shown.{mode_of-translation}
 use Rattle.acl_bridge.proofs.laws.translation_laws.Goals as goal
@@ -8,6 +8,9 @@ returns-clause-alike c = translation_decides_alike
 
 pub returns-clause-as_much : goal.returns-clause-as_much
 returns-clause-as_much c = translation_grants_as_much
+
+pub returns-clause-each : goal.returns-clause-each
+returns-clause-each c = translation_grants_each
 
 pub returns-clause-mode : goal.returns-clause-mode
 returns-clause-mode c = mode_of-translation

@@ -6,11 +6,11 @@ use Rattle.acl_bridge.proofs.requests.stranger.Goals as goal
 pub returns-clause-first : goal.returns-clause-first
 returns-clause-first c =
     let few : c.loop-number.number ≤ length c.args.first.now + length c.args.second.now =
-    asked_few c.args.owner c.loop-number.number c.args.first.now c.args.second.now c.loop-number.invariant in
+    asked_few c.args.owner c.loop-number.number c.args.first.now c.args.second.now (omega arith) c.loop-number.invariant in
     absurd (omega (arith, few))
 
 pub returns-clause-second : goal.returns-clause-second
 returns-clause-second c =
     let few : c.loop-number.number ≤ length c.args.first.now + length c.args.second.now =
-    asked_few c.args.owner c.loop-number.number c.args.first.now c.args.second.now c.loop-number.invariant in
+    asked_few c.args.owner c.loop-number.number c.args.first.now c.args.second.now (omega arith) c.loop-number.invariant in
     absurd (omega (arith, few))

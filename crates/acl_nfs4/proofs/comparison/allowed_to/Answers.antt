@@ -2,7 +2,7 @@ use Rattle.std.proofs.Common.{◌≡◌, ◌∙◌, ◌+◌, sym, ap, subst, dro
 use Rattle.std.proofs.lemmas.Bool.{eqb-true}
 use Rattle.acl_names.specs.Bits.{without, ◌∩◌, ◌∪◌}
 use Rattle.acl_nfs4.specs.Ace.{Nfsace4, is_allow}
-use Rattle.acl_nfs4.specs.Comparison.{identity_of}
+use Rattle.acl_names.specs.Asker.{identity_of}
 use Rattle.acl_nfs4.specs.Who.{matches}
 use Rattle.acl_nfs4.specs.Mask.{mask_bits}
 use Rattle.acl_nfs4.proofs.AllowedBits.{AreFound, AreFound-all, AreFound-skip, AreFound-allow, AreFound-deny, AreFound-none, AreFound-step}

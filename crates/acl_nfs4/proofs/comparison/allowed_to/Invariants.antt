@@ -1,5 +1,5 @@
 use Rattle.std.proofs.Common.{drop}
-use Rattle.acl_nfs4.specs.Comparison.{identity_of}
+use Rattle.acl_names.specs.Asker.{identity_of}
 use Rattle.acl_nfs4.specs.Mask.{mask_bits}
 use Rattle.acl_nfs4.specs.Who.{matches}
 use Rattle.acl_nfs4.proofs.AllowedBits.{AreFound}

@@ -1,7 +1,7 @@
 use Rattle.std.proofs.Common.{◌≢◌, ◌∙◌, sym, ap, ℕ, ap₂}
 use Rattle.std.proofs.lemmas.Bool.{true≢false, eq-eqb}
 use Rattle.acl_names.specs.Bits.{◌∪◌}
-use Rattle.acl_nfs4.specs.Comparison.{identity_of}
+use Rattle.acl_names.specs.Asker.{identity_of}
 use Rattle.acl_names.specs.Bits.{has}
 use Rattle.acl_nfs4.specs.Mask.{mask_bits}
 use Rattle.acl_nfs4.specs.Who.{matches}
@@ -10,7 +10,7 @@ use Rattle.acl_nfs4.proofs.comparison.difference_at.Goals as goal
 
 pub returns : goal.returns
 returns c =
-    let applies = matches c.args.question.now.owner c.args.question.now.group (identity_of c.for_both-asker.result) in
+    let applies = matches c.args.question.now.owner c.args.question.now.group (identity_of c.asker_for-asker.result) in
     let before : ℕ = mask_bits c.allowed_to-before.result in
     let after : ℕ = mask_bits c.allowed_to-after.result in
     let bits : ℕ = mask_bits c.args.question.now.bits in

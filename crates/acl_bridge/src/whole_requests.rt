@@ -1,0 +1,107 @@
+//! Comparing POSIX lists for everyone, by the requests of more than one permission.
+ghost use Rattle.std.specs.Prelude.{◌≡◌, IfOk, MatchOption, map};
+ghost use Rattle.std.specs.List.{AllByRecursion};
+ghost use Rattle.acl_names.specs.Bits.{◌∩◌};
+ghost use Rattle.acl_nfs4.specs.Mask.{mask_bits};
+ghost use Rattle.acl_posix.specs.Perms.{bits_of};
+ghost use Rattle.acl_bridge.specs.Comparison.{GrantAlikeToAll, IsFirstDifference, IsWholeDifference, told_by, whole_requests};
+
+use crate::comparison::permission_bits;
+use crate::requests::request_difference;
+use acl_names::{Gid, Uid};
+use acl_nfs4::{Difference, Mask, mask_of};
+use acl_posix::{Acl, Perms};
+use bitflags::Flags;
+use std::alloc::{AllocError, Global};
+
+/// The requests, in the order in which they are compared: rw, rx, wx, rwx.
+fn whole_requests() -> [Perms; 4]
+    ensures { map bits_of result ≡ whole_requests }
+{
+    [
+        Perms::READ | Perms::WRITE,
+        Perms::READ | Perms::EXECUTE,
+        Perms::WRITE | Perms::EXECUTE,
+        Perms::READ | Perms::WRITE | Perms::EXECUTE,
+    ]
+}
+
+/// The bits by which a request is told.
+fn told_by(request: Perms) -> Mask
+    ensures { mask_bits result ≡ told_by (bits_of request) }
+{
+    mask_of(request).intersection(permission_bits())
+}
+
+/// To whom the lists grant one request differently.
+fn difference_in(
+    alloc: Global,
+    first: &Acl,
+    second: &Acl,
+    owner: Uid,
+    group: Gid,
+    request: Perms,
+) -> Result<Option<Difference>, AllocError>
+    ensures { IfOk result (λ found. MatchOption found
+        (GrantAlikeToAll first.now second.now owner group (bits_of request))
+        (IsWholeDifference first.now second.now owner group (bits_of request))) }
+{
+    let Some(unlike) = request_difference(alloc, first, second, owner, group, request)? else {
+        return Ok(None);
+    };
+    let told = told_by(request);
+    Ok(Some(if unlike.before {
+        Difference {
+            asker: unlike.asker,
+            lost: told,
+            gained: Mask::empty(),
+        }
+    } else {
+        Difference {
+            asker: unlike.asker,
+            lost: Mask::empty(),
+            gained: told,
+        }
+    }))
+}
+
+/// To whom the lists grant the first of the requests differently that they don't grant alike to everyone.
+fn first_difference(
+    alloc: Global,
+    first: &Acl,
+    second: &Acl,
+    owner: Uid,
+    group: Gid,
+    requests: &[Perms],
+) -> Result<Option<Difference>, AllocError>
+    ensures { IfOk result (λ found. MatchOption found
+        (AllByRecursion (GrantAlikeToAll first.now second.now owner group) (map bits_of requests.now))
+        (IsFirstDifference first.now second.now owner group (map bits_of requests.now))) }
+{
+    for request in requests {
+        if let Some(difference) = difference_in(alloc, first, second, owner, group, *request)? {
+            return Ok(Some(difference));
+        }
+    }
+    Ok(None)
+}
+
+/// What two POSIX lists decide differently for a file of this owner and this group, of the requests of more than one
+/// permission: none exactly where each is granted as a whole to the same requesters, of whatever uid and groups; else someone
+/// in at most two groups, who loses or gains the first that isn't, in the order rw, rx, wx, rwx. Lists that decide each single
+/// permission alike may differ so, since one entry has to grant the whole of a request. One bit stands for each permission:
+/// READ_DATA, WRITE_DATA and EXECUTE. It is refused only for want of memory.
+pub fn whole_request_difference(
+    alloc: Global,
+    first: &Acl,
+    second: &Acl,
+    owner: Uid,
+    group: Gid,
+) -> Result<Option<Difference>, AllocError>
+    ensures { IfOk result (λ found. MatchOption found
+        (AllByRecursion (GrantAlikeToAll first.now second.now owner group) whole_requests)
+        (IsFirstDifference first.now second.now owner group whole_requests)) }
+{
+    let requests = whole_requests();
+    first_difference(alloc, first, second, owner, group, &requests)
+}
