@@ -3,3 +3,14 @@ pub mod CommandLemmas
 pub mod AclLemmas
 pub mod OutcomeLemmas
 pub mod AskLemmas
+pub mod Working
+pub mod Limiting
+pub mod Taking
+pub mod Places
+pub mod Settling
+pub mod Gathering
+pub mod Turning
+pub mod ServedRounds
+pub mod ReportingRounds
+pub mod TextLengths
+pub mod SessionLemmas

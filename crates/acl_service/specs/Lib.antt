@@ -8,3 +8,15 @@ pub mod Outcome
 pub mod Ask
 pub mod Runs
 pub mod Served
+pub mod ErrorLimit
+pub mod RunReport
+pub mod Workers
+pub mod Taking
+pub mod Threads
+pub mod Rounds
+pub mod Turns
+pub mod RoundsState
+pub mod Sessions
+pub mod Cursor
+pub mod Told
+pub mod Headline

@@ -3,16 +3,22 @@
 
 mod decide_command;
 mod fault;
+mod headline;
 mod input;
 mod one;
+mod runs;
 mod served;
+mod sessions;
 mod words;
 
 pub use decide_command::{decide, words_ask_what_they_give};
 pub use fault::RunFault;
+pub use headline::{journal_explains_every_answer, one_session_is_served_as_alone};
 pub use input::{CapFault, read_capped};
 pub use one::{OneFault, run_one};
+pub use runs::{Gate, OpenGate, ServeFault};
 pub use served::Served;
+pub use sessions::{Report, serve, serve_rounds};
 pub use words::{WordsFault, words_of};
 
 #[cfg(test)]

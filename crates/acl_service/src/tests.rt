@@ -1,6 +1,10 @@
 mod decide;
 mod fixture;
+mod gates;
 mod input;
 mod one;
 mod refused_growths;
+mod rounds;
+mod serve;
+mod texts;
 mod words;
