@@ -30,6 +30,7 @@ use Rattle.acl_posix.specs.declared.reading.PieceFault.TheVariants as entry
 use Rattle.acl_tree.specs.Path.{is_path}
 use Rattle.acl_tree.specs.declared.faults.LineFault.{LineFault}
 use Rattle.acl_tree.specs.declared.faults.LineFault.TheVariants.{Syntax, BadPath, BadMode, BadPerms, UnknownName, BadAcl, InvalidAcl, TooMany, InheritOnly}
+use Rattle.acl_lang.specs.Bytes.{digit_0, digit_7}
 use Rattle.acl_lang.specs.Refusals.{Asked}
 
 -- P: a path
@@ -44,7 +45,7 @@ kind_of text =
 
 -- an octal digit, as the permissions that it stands for
 abbrev pub octal : ℕ → Option ℕ
-octal byte = if nat_le 48 byte && nat_le byte 55 then Some (byte - 48) else None
+octal byte = if nat_le digit_0 byte && nat_le byte digit_7 then Some (byte - digit_0) else None
 
 abbrev pub classes : Option ℕ → Option ℕ → Option ℕ → Asked Classes
 classes (Some user) (Some group) (Some other) = Ok (record { user = user; group = group; other = other })
@@ -53,7 +54,7 @@ classes _ _ _ = Err BadMode
 -- OOO: three octal digits, before which a 0 may stand
 abbrev pub mode_of : List ℕ → Asked Classes
 mode_of (user ∷ group ∷ other ∷ []) = classes (octal user) (octal group) (octal other)
-mode_of (first ∷ user ∷ group ∷ other ∷ []) = if first == 48 then classes (octal user) (octal group) (octal other) else Err BadMode
+mode_of (first ∷ user ∷ group ∷ other ∷ []) = if first == digit_0 then classes (octal user) (octal group) (octal other) else Err BadMode
 mode_of _ = Err BadMode
 
 -- USER: a user's name, or a decimal

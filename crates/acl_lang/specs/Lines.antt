@@ -5,6 +5,7 @@ use Rattle.acl_names.specs.Pieces.{trim}
 use Rattle.acl_tree.specs.declared.faults.LineFault.TheVariants.{LineTooLong}
 use Rattle.acl_tree.specs.declared.request.Request.{Request}
 use Rattle.acl_tree.specs.declared.request.Request.TheVariants.{Bad}
+use Rattle.acl_lang.specs.Bytes.{hash}
 use Rattle.acl_lang.specs.Commands.{asked_by}
 use Rattle.acl_lang.specs.Refusals.{Asked}
 use Rattle.acl_lang.specs.declared.limits.TheConstants.{MAX_LINE_LEN}
@@ -19,7 +20,7 @@ request_of (Err fault) = Bad fault
 -- a line without its blanks: an empty one, and one that begins with '#', give nothing
 abbrev pub line_of_trimmed : Known → List ℕ → Line
 line_of_trimmed known [] = Nothing
-line_of_trimmed known (byte ∷ bytes) = if byte == 35 then Nothing else Command (request_of (asked_by known (byte ∷ bytes)))
+line_of_trimmed known (byte ∷ bytes) = if byte == hash then Nothing else Command (request_of (asked_by known (byte ∷ bytes)))
 
 -- what a line gives; one that is too long is a fault before all else
 abbrev pub line_of : Known → List ℕ → Line

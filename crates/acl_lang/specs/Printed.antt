@@ -20,6 +20,7 @@ use Rattle.acl_tree.specs.declared.reply.Reply.TheVariants.{Done, Node, Granted,
 use Rattle.acl_tree.specs.declared.faults.TreeFault.{TreeFault}
 use Rattle.acl_tree.specs.declared.faults.TreeFault.TheVariants as tree
 use Rattle.acl_tree.specs.declared.reply.View.{View}
+use Rattle.acl_lang.specs.Bytes.{digit_0, newline, space}
 use Rattle.acl_lang.specs.declared.answer.Answer.{Answer}
 
 -- the word of a fault
@@ -48,7 +49,7 @@ tree_fault_word tree.TooMany = codes "too-many"
 
 -- `error CODE WORD`
 abbrev pub error_text : ℕ → List ℕ → List ℕ
-error_text code word = codes "error " ++ (decimal code ++ 32 ∷ (word ++ 10 ∷ []))
+error_text code word = codes "error " ++ (decimal code ++ space ∷ (word ++ newline ∷ []))
 
 abbrev pub kind_text : Kind → List ℕ
 kind_text File = codes "file"
@@ -56,7 +57,7 @@ kind_text Dir = codes "dir"
 
 -- three octal digits
 abbrev pub mode_text : Classes → List ℕ
-mode_text mode = (48 + mode.user) ∷ (48 + mode.group) ∷ (48 + mode.other) ∷ []
+mode_text mode = (digit_0 + mode.user) ∷ (digit_0 + mode.group) ∷ (digit_0 + mode.other) ∷ []
 
 abbrev pub style_text : NodeAcl → List ℕ
 style_text (Posix access default) = codes "posix"
@@ -67,29 +68,34 @@ abbrev pub below_text : Known → Option (List Triple) → List ℕ
 below_text known None = []
 below_text known (Some default) = default_text known (perms_of Mask default) default
 
+-- an access list, with the permissions that its mask leaves
+abbrev pub access_text : Known → List Triple → List ℕ
+access_text known access = effective_text known (perms_of Mask access) access
+
 -- a list of either style, one entry a line
 abbrev pub acl_text : Known → NodeAcl → List ℕ
-acl_text known (Posix access default) = effective_text known (perms_of Mask access) access ++ below_text known default
+acl_text known (Posix access default) = access_text known access ++ below_text known default
 acl_text known (Nfs4 acl) = aces_text known acl
 
 -- `OWNER GROUP`, each a name or a decimal
 abbrev pub owners_text : Known → ℕ → ℕ → List ℕ
-owners_text known owner group = id_text (user_name known) owner ++ 32 ∷ id_text (group_name known) group
+owners_text known owner group = id_text (user_name known) owner ++ space ∷ id_text (group_name known) group
 
 -- `get PATH KIND OWNER GROUP MODE STYLE`
 abbrev pub head_text : Known → View → List ℕ
-head_text known view = join_with_byte 32
+head_text known view = join_with_byte space
     (codes "get" ∷ view.path ∷ kind_text view.kind ∷ owners_text known view.owner view.group ∷ mode_text view.mode ∷ style_text view.acl ∷ [])
 
 -- and then the list
 abbrev pub view_text : Known → View → List ℕ
-view_text known view = head_text known view ++ 10 ∷ acl_text known view.acl
+view_text known view = head_text known view ++ newline ∷ acl_text known view.acl
 
 abbrev pub reply_text : Known → Reply → List ℕ
-reply_text known Done = codes "ok" ++ 10 ∷ []
-reply_text known Granted = codes "granted" ++ 10 ∷ []
-reply_text known Denied = codes "denied" ++ 10 ∷ []
+reply_text known Done = codes "ok" ++ newline ∷ []
+reply_text known Granted = codes "granted" ++ newline ∷ []
+reply_text known Denied = codes "denied" ++ newline ∷ []
 reply_text known (Node view) = view_text known view
+-- (10 is a newline)
 reply_text known (Translated acl) = codes "translated" ++ 10 ∷ aces_text known acl
 reply_text known (TranslatedBoth access inherit) = codes "translated" ++ 10 ∷ (aces_text known access ++ aces_text known inherit)
 reply_text known (Refused fault) = error_text (tree_fault_number fault) (tree_fault_word fault)
@@ -97,7 +103,7 @@ reply_text known (Fault fault) = error_text (line_fault_number fault) (line_faul
 
 -- the number of the line in decimal, and the reply
 abbrev pub answer_text : Known → Answer → List ℕ
-answer_text known answer = decimal answer.line ++ 32 ∷ reply_text known answer.reply
+answer_text known answer = decimal answer.line ++ space ∷ reply_text known answer.reply
 
 -- answers in order
 abbrev pub printed : Known → List Answer → List ℕ

@@ -1,25 +1,40 @@
 //! Answers, and how they are printed.
 
-ghost use Rattle.std.specs.Prelude.{◌≡◌, ◌++◌, ◌∷◌, [], ◌+◌, ◌<◌, length, take, codes, OnOk, OnErr};
+ghost use Rattle.std.specs.Prelude.{◌≡◌, ◌++◌, ◌∷◌, [], ◌+◌, ◌<◌, ◌≤◌, length, take, codes, OnOk, OnErr};
 ghost use Rattle.acl_posix.specs.Perms.{bits_of};
+ghost use Rattle.acl_lang.specs.Bytes.{space};
 ghost use Rattle.acl_lang.specs.Printed.{acl_text, answer_text, below_text, error_text, head_text, kind_text, line_fault_word, mode_text, owners_text, reply_text, style_text, tree_fault_word, view_text};
 
-use acl_names::{Directory, Gid, Uid, push_id};
-use acl_nfs4::Kind;
-use acl_posix::{Acl, Mode};
-use acl_tree::{LineFault, NodeAcl, Reply, TreeFault, View};
+use acl_names::{Directory, Gid, MAX_DOMAIN_LEN, Uid, push_id};
+use acl_nfs4::{Acl4, Kind, MAX_ACES};
+use acl_posix::{Acl, MAX_ENTRIES, Mode};
+use acl_tree::{LineFault, MAX_PATH_LEN, NodeAcl, Reply, TreeFault, View};
 use bitflags::Flags;
 use std::alloc::AllocError;
+
+/// The most bytes of an answer of one line: the number of the line, and a fault's code and word.
+const MAX_SHORT_ANSWER: usize = 40;
+
+/// The most bytes of the line of a view beside its path: the number of the line, words, two names, and a mode.
+const MAX_HEAD: usize = 100;
+
+/// The most bytes of an entry's line: `default:`, a word, a name, permissions and a mark, with what stands between them.
+const MAX_ENTRY_LINE: usize = 66;
+
+/// The most bytes of an ACE's line beside the domain: a type, flags, a name and letters, with what stands between them.
+const MAX_ACE_LINE: usize = 60;
 
 /// A reply with the number of the line that it answers.
 #[derive(Debug, Drop)]
 pub struct Answer {
+    /// The number of the request's line, from 1.
     pub line: u32,
+    /// What the tree answered.
     pub reply: Reply,
 }
 
-/// Appends the answer: the number of its line, and the reply, on one line or, with lists, on several. For want of memory
-/// `out` is as it was.
+/// Appends the answer: the number of its line, and the reply, on one line or, with lists, on several. It asks for all the
+/// room at once, so that `out` grows once at the most. When memory runs out, `out` is as it was.
 pub fn render(answer: &Answer, directory: &Directory, out: &mut Vec<u8>) -> Result<(), AllocError>
     ensures text { OnOk result (out.new.items ≡ out.old.items ++ answer_text directory.now answer.now) }
     ensures unchanged { OnErr result (out.new.items ≡ out.old.items) }
@@ -36,9 +51,50 @@ fn push_answer(answer: &Answer, directory: &Directory, out: &mut Vec<u8>) -> Res
     ensures text { OnOk result (out.new.items ≡ out.old.items ++ answer_text directory.now answer.now) }
     ensures kept { take (length out.old.items) out.new.items ≡ out.old.items }
 {
+    out.reserve(room_for(&answer.reply, directory))?;
     push_id(None, answer.line, out)?;
     out.extend_from_slice(b" ")?;
     push_reply(&answer.reply, directory, out)
+}
+
+/// How many bytes the answer may have at the most.
+fn room_for(reply: &Reply, directory: &Directory) -> usize {
+    match reply {
+        Reply::Node(view) => {
+            let path_len = view.path.as_bytes().len().min(MAX_PATH_LEN);
+            MAX_HEAD + path_len + room_for_acl(&view.acl, directory)
+        }
+        Reply::Translated(acl) => MAX_SHORT_ANSWER + room_for_aces(acl, directory),
+        Reply::TranslatedBoth { access, inherit } => {
+            MAX_SHORT_ANSWER + room_for_aces(access, directory) + room_for_aces(inherit, directory)
+        }
+        _ => MAX_SHORT_ANSWER,
+    }
+}
+
+fn room_for_acl(acl: &NodeAcl, directory: &Directory) -> usize
+    ensures { result ≤ 65536 }
+{
+    match acl {
+        NodeAcl::Posix { access, default } => {
+            let entries = entry_count(access) + default.as_ref().map_or(0, |acl| entry_count(acl));
+            entries * MAX_ENTRY_LINE
+        }
+        NodeAcl::Nfs4 { acl } => room_for_aces(acl, directory),
+    }
+}
+
+fn entry_count(acl: &Acl) -> usize
+    ensures { result ≤ MAX_ENTRIES }
+{
+    acl.entries().len().min(MAX_ENTRIES)
+}
+
+fn room_for_aces(acl: &Acl4, directory: &Directory) -> usize
+    ensures { result ≤ 65536 }
+{
+    let domain_len = directory.domain().len().min(MAX_DOMAIN_LEN);
+    acl.aces().len().min(MAX_ACES) * (MAX_ACE_LINE + domain_len)
 }
 
 fn push_reply(reply: &Reply, directory: &Directory, out: &mut Vec<u8>) -> Result<(), AllocError>
@@ -129,7 +185,7 @@ fn push_head(view: &View, directory: &Directory, out: &mut Vec<u8>) -> Result<()
 
 /// Appends `get PATH KIND` and a blank.
 fn push_what(view: &View, out: &mut Vec<u8>) -> Result<(), AllocError>
-    ensures text { OnOk result (out.new.items ≡ out.old.items ++ (codes "get " ++ (view.now.path ++ 32 ∷ (kind_text view.now.kind ++ 32 ∷ [])))) }
+    ensures text { OnOk result (out.new.items ≡ out.old.items ++ (codes "get " ++ (view.now.path ++ space ∷ (kind_text view.now.kind ++ space ∷ [])))) }
     ensures kept { take (length out.old.items) out.new.items ≡ out.old.items }
 {
     out.extend_from_slice(b"get ")?;
@@ -141,7 +197,7 @@ fn push_what(view: &View, out: &mut Vec<u8>) -> Result<(), AllocError>
 
 /// Appends a blank and `MODE STYLE`.
 fn push_how(view: &View, out: &mut Vec<u8>) -> Result<(), AllocError>
-    ensures text { OnOk result (out.new.items ≡ out.old.items ++ (32 ∷ mode_text view.now.mode ++ 32 ∷ style_text view.now.acl)) }
+    ensures text { OnOk result (out.new.items ≡ out.old.items ++ (space ∷ mode_text view.now.mode ++ space ∷ style_text view.now.acl)) }
     ensures kept { take (length out.old.items) out.new.items ≡ out.old.items }
 {
     out.extend_from_slice(b" ")?;

@@ -1,4 +1,5 @@
 //! Worked examples.
+mod examples;
 mod fixture;
 mod hostile;
 mod lines;
