@@ -5,3 +5,10 @@ pub mod AclLemmas
 pub mod OutcomeLemmas
 pub mod OrderLemmas
 pub mod AskLemmas
+pub mod FieldLemmas
+pub mod AcesLemmas
+pub mod CompareLineLemmas
+pub mod CompareLemmas
+pub mod SameEntries
+pub mod DifferenceLemmas
+pub mod ComparedLemmas

@@ -9,5 +9,10 @@ pub mod Question
 pub mod InOrder
 pub mod Outcome
 pub mod Ask
+pub mod CompareLine
+pub mod Compared
+pub mod Comparing
+pub mod Differences
+pub mod CompareOutcome
 pub mod Runs
 pub mod Served

@@ -5,6 +5,14 @@ use Rattle.acl_names.specs.Steps.{◌>>=◌}
 use Rattle.acl_service.specs.declared.decide_command.fault.FieldFault.{FieldFault}
 use Rattle.acl_service.specs.declared.decide_command.fault.FieldFault.TheVariants.{TooMany}
 
+-- what is read, with the fault that it is in a field
+abbrev pub field_result : {A F : Type 0} → (F → FieldFault) → Result A F → Result A FieldFault
+field_result as_field (Ok value) = Ok value
+field_result as_field (Err fault) = Err (as_field fault)
+
+abbrev pub in_field : {A F : Type 0} → (F → FieldFault) → (Text → Result A F) → Text → Result A FieldFault
+in_field as_field read text = field_result as_field (read text)
+
 -- each text read
 abbrev pub each_read : {A : Type 0} → (Text → Result A FieldFault) → List Text → Result (List A) FieldFault
 each_read read [] = Ok []

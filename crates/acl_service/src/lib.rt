@@ -1,6 +1,7 @@
 //! What the program does, over any words, readers and writers: bytes and words of its input, and its commands.
 #![tactic(auto)]
 
+mod compare_command;
 mod decide_command;
 mod fault;
 mod input;
@@ -8,6 +9,7 @@ mod one;
 mod served;
 mod words;
 
+pub use compare_command::compare;
 pub use decide_command::{decide, entries_in_order_are_their_list, words_ask_what_they_give};
 pub use fault::RunFault;
 pub use input::{CapFault, read_capped};
