@@ -14,3 +14,8 @@ pub mod ServedRounds
 pub mod ReportingRounds
 pub mod TextLengths
 pub mod SessionLemmas
+pub mod AcesLemmas
+pub mod CompareLineLemmas
+pub mod CompareLemmas
+pub mod DifferenceLemmas
+pub mod ComparedLemmas

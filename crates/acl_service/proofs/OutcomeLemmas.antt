@@ -21,7 +21,7 @@ outcome_of-refused words (Field fault) (taken, is) ended = rw (taken, is) refl
 outcome_of-refused words (Usage error) refused ended = outcome_by-usage (fault_of decide_line words) words refused
 outcome_of-refused words (Run fault) is ended = absurd (ended refl)
 
-Appends-nothing : (old new : Option (List ℕ)) → Keeps old new → Appends old new []
+pub Appends-nothing : (old new : Option (List ℕ)) → Keeps old new → Appends old new []
 Appends-nothing None new kept = tt
 Appends-nothing (Some bytes) None kept = kept
 Appends-nothing (Some bytes) (Some after) kept = kept ∙ sym (append-nil bytes)

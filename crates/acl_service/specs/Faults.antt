@@ -3,6 +3,8 @@ use Rattle.std.specs.Prelude.{◌≡◌, ◌++◌, ◌∷◌, [], ℕ, List, Opt
 use Rattle.clap.specs.Words.{Text, kind_of}
 use Rattle.clap.specs.declared.error.Error.{Error}
 use Rattle.clap.specs.declared.error.kind.ErrorKind.TheVariants.{OutOfMemory}
+use Rattle.acl_nfs4.specs.declared.acl.AceFault.{AceFault}
+use Rattle.acl_nfs4.specs.declared.acl.AceFault.TheVariants as aces
 use Rattle.acl_posix.specs.declared.acl.Invalid.{Invalid}
 use Rattle.acl_posix.specs.declared.acl.Invalid.TheVariants as invalid
 use Rattle.acl_posix.specs.declared.entries.TextFault.{TextFault}
@@ -14,7 +16,7 @@ use Rattle.acl_service.specs.declared.fault.RunFault.TheVariants.{Memory, Output
 use Rattle.acl_service.specs.declared.decide_command.fault.DecideFault.{DecideFault}
 use Rattle.acl_service.specs.declared.decide_command.fault.DecideFault.TheVariants.{Field, Usage, Run}
 use Rattle.acl_service.specs.declared.decide_command.fault.FieldFault.{FieldFault}
-use Rattle.acl_service.specs.declared.decide_command.fault.FieldFault.TheVariants.{BadId, TooMany, BadPerms, BadAcl, UnknownName, InvalidAcl}
+use Rattle.acl_service.specs.declared.decide_command.fault.FieldFault.TheVariants.{BadId, TooMany, BadPerms, BadAcl, UnknownName, InvalidAcl, BadKind, InheritOnly}
 
 abbrev pub run_fault_words : RunFault → List ℕ
 run_fault_words Memory = codes "memory"
@@ -27,6 +29,8 @@ field_fault_words BadPerms = codes "bad-perms"
 field_fault_words BadAcl = codes "bad-acl"
 field_fault_words UnknownName = codes "unknown-name"
 field_fault_words InvalidAcl = codes "invalid-acl"
+field_fault_words BadKind = codes "bad-kind"
+field_fault_words InheritOnly = codes "inherit-only"
 
 -- the line of a fault, where it isn't the parser's
 abbrev pub fault_line : DecideFault → Option (List ℕ)
@@ -66,6 +70,13 @@ fault_of_text text.Syntax = Field BadAcl
 fault_of_text text.UnknownName = Field UnknownName
 fault_of_text text.TooMany = Field TooMany
 fault_of_text text.Memory = Run Memory
+
+abbrev pub fault_of_aces : AceFault → DecideFault
+fault_of_aces aces.Syntax = Field BadAcl
+fault_of_aces aces.UnknownName = Field UnknownName
+fault_of_aces aces.TooMany = Field TooMany
+fault_of_aces aces.InheritOnly = Field InheritOnly
+fault_of_aces aces.Memory = Run Memory
 
 abbrev pub fault_of_invalid : Invalid → DecideFault
 fault_of_invalid invalid.Missing = Field InvalidAcl

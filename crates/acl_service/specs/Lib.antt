@@ -6,6 +6,11 @@ pub mod Asked
 pub mod Question
 pub mod Outcome
 pub mod Ask
+pub mod CompareLine
+pub mod Compared
+pub mod Comparing
+pub mod Differences
+pub mod CompareOutcome
 pub mod Runs
 pub mod Served
 pub mod ErrorLimit

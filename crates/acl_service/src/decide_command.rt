@@ -8,11 +8,11 @@ ghost use Rattle.acl_service.specs.Faults.{IsFaultOf, failed_write};
 ghost use Rattle.acl_service.specs.Outcome.{EndsAs, answer_text, outcome_of};
 ghost use Rattle.acl_service.specs.Question.{Asks};
 
-mod acl;
-mod command_line;
-mod fault;
+pub(crate) mod acl;
+pub(crate) mod command_line;
+pub(crate) mod fault;
 mod ids;
-mod question;
+pub(crate) mod question;
 mod translation;
 
 use crate::RunFault;

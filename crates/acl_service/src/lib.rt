@@ -1,6 +1,7 @@
 //! What the program does, over any words, readers and writers: bytes and words of its input, and its commands.
 #![tactic(auto)]
 
+mod compare_command;
 mod decide_command;
 mod fault;
 mod headline;
@@ -11,6 +12,7 @@ mod served;
 mod sessions;
 mod words;
 
+pub use compare_command::compare;
 pub use decide_command::{decide, words_ask_what_they_give};
 pub use fault::RunFault;
 pub use headline::{journal_explains_every_answer, one_session_is_served_as_alone};

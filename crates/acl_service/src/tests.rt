@@ -1,3 +1,4 @@
+mod compare;
 mod decide;
 mod fixture;
 mod gates;

@@ -9,7 +9,7 @@ use acl_posix::{Acl, Entries, read_entries};
 use std::alloc::{AllocError, Global};
 
 /// A directory that knows no user and no group.
-pub(super) fn empty_directory(alloc: Global) -> Result<Directory, AllocError>
+pub(crate) fn empty_directory(alloc: Global) -> Result<Directory, AllocError>
     ensures { IfOk result (λ directory. directory ≡ nobody) }
 {
     let domain = String::from_str(alloc, "local")?;
@@ -39,7 +39,7 @@ fn accept(entries: Entries) -> Result<Acl, DecideFault>
 }
 
 /// The access control list that a text spells.
-pub(super) fn read_acl(alloc: Global, text: &str) -> Result<Acl, DecideFault>
+pub(crate) fn read_acl(alloc: Global, text: &str) -> Result<Acl, DecideFault>
     ensures read { IfOk result (λ acl. acl_of text.now ≡ Ok acl) }
     ensures refused { IfErr result (Explains (acl_of text.now)) }
 {

@@ -3,6 +3,7 @@ ghost use Rattle.std.specs.Prelude.{◌≡◌, Some, IfSome, OnOk};
 ghost use Rattle.std.specs.Io.KnownBytes.{Appends};
 
 use crate::RunFault;
+use acl_nfs4::AceFault;
 use acl_posix::{Invalid, TextFault};
 use clap::error::ErrorKind;
 use std::alloc::{AllocError, AllocFailed};
@@ -11,7 +12,7 @@ use thiserror::Error;
 
 /// A field of the words that doesn't read. It is shown by the words that follow `aclctl: ` on the fault line.
 #[derive(Clone, Copy, Debug, PartialEq, Eq, Error)]
-pub(super) enum FieldFault {
+pub(crate) enum FieldFault {
     /// An id is no decimal.
     BadId,
     /// There are more than 32 groups, or more than 64 entries.
@@ -22,6 +23,10 @@ pub(super) enum FieldFault {
     UnknownName,
     /// The entries are no access control list.
     InvalidAcl,
+    /// No kind of list has this name.
+    BadKind,
+    /// An entry has an effect neither where it stands nor below.
+    InheritOnly,
 }
 
 impl fmt::Display for FieldFault {
@@ -37,13 +42,15 @@ impl fmt::Display for FieldFault {
             FieldFault::BadAcl => "bad-acl",
             FieldFault::UnknownName => "unknown-name",
             FieldFault::InvalidAcl => "invalid-acl",
+            FieldFault::BadKind => "bad-kind",
+            FieldFault::InheritOnly => "inherit-only",
         })
     }
 }
 
 /// Why there is no answer.
 #[derive(Debug, Drop)]
-pub(super) enum DecideFault {
+pub(crate) enum DecideFault {
     /// A field doesn't read.
     Field(FieldFault),
     /// The parser of command lines refuses the words, or was asked for help.
@@ -77,7 +84,7 @@ impl DecideFault {
     }
 
     /// Writes the line of the fault, if that can be done, and returns the exit status.
-    pub(super) fn report<E: io::Write>(&self, err: &mut E) -> u8
+    pub(crate) fn report<E: io::Write>(&self, err: &mut E) -> u8
         ensures { result ≡ status_of self.now }
     {
         let _ = self.write_line(err);
@@ -139,6 +146,22 @@ impl From<TextFault> for DecideFault {
             TextFault::UnknownName => DecideFault::Field(FieldFault::UnknownName),
             TextFault::TooMany => DecideFault::Field(FieldFault::TooMany),
             TextFault::Memory => DecideFault::Run(RunFault::Memory),
+        }
+    }
+}
+
+impl From<AceFault> for DecideFault {
+    ghost use Rattle.acl_service.specs.Faults.{fault_of_aces};
+
+    ghost from_gives = { λ text becomes. becomes ≡ fault_of_aces text };
+
+    fn from(fault: AceFault) -> DecideFault {
+        match fault {
+            AceFault::Syntax => DecideFault::Field(FieldFault::BadAcl),
+            AceFault::UnknownName => DecideFault::Field(FieldFault::UnknownName),
+            AceFault::TooMany => DecideFault::Field(FieldFault::TooMany),
+            AceFault::InheritOnly => DecideFault::Field(FieldFault::InheritOnly),
+            AceFault::Memory => DecideFault::Run(RunFault::Memory),
         }
     }
 }

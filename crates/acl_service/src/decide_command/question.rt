@@ -39,21 +39,21 @@ impl Question {
 }
 
 /// The text that the words give for a name.
-fn text_field<'a>(matches: &ArgMatches<'a>, name: &str) -> Option<&'a str>
+pub(crate) fn text_field<'a>(matches: &ArgMatches<'a>, name: &str) -> Option<&'a str>
     ensures { option_map (λ text. text.now) result ≡ first_of name.now (rows_of (found_of matches.now)) }
 {
     matches.get_str(name)
 }
 
 /// The user of a name.
-fn uid_field(matches: &ArgMatches<'_>, name: &str) -> Result<Uid, FieldFault>
+pub(crate) fn uid_field(matches: &ArgMatches<'_>, name: &str) -> Result<Uid, FieldFault>
     ensures { result ≡ id_in name.now (rows_of (found_of matches.now)) }
 {
     read_uid(text_field(matches, name).ok_or(FieldFault::BadId)?)
 }
 
 /// The group of a name.
-fn gid_field(matches: &ArgMatches<'_>, name: &str) -> Result<Gid, FieldFault>
+pub(crate) fn gid_field(matches: &ArgMatches<'_>, name: &str) -> Result<Gid, FieldFault>
     ensures { result ≡ id_in name.now (rows_of (found_of matches.now)) }
 {
     read_gid(text_field(matches, name).ok_or(FieldFault::BadId)?)

@@ -6,7 +6,7 @@
 use crate::tests::fixture::{directory, tree};
 use crate::tests::texts::{has_output, serve_texts, serve_texts_in_rounds};
 use crate::{
-    CapFault, OneFault, OpenGate, Report, ServeFault, WordsFault, decide, read_capped, run_one,
+    CapFault, OneFault, OpenGate, Report, ServeFault, WordsFault, compare, decide, read_capped, run_one,
     words_of,
 };
 use acl_names::Directory;
@@ -29,12 +29,28 @@ const ASKED_NFS4: [&str; 13] = [
     "--perms", "r", LIST,
 ];
 
+/// POSIX lists that grant each permission alike, and not reading with writing: so both are translated, and then asked about whole
+/// requests.
+const COMPARED: [&str; 9] = [
+    "compare",
+    "--owner",
+    "1000",
+    "--group",
+    "50",
+    "posix",
+    "u::-,g::rw,o::-",
+    "posix",
+    "u::-,g::r,g:50:w,m::rw,o::-",
+];
+
+const DIFFER: &str = "differ\nrequester 65534 50\nlost rw\ngained -\n";
+
 const GRANTED: &str = "granted\n";
 
 const GRANTED_NFS4: &str =
     "granted\nA::OWNER@:rwa\nD::OWNER@:x\nA::7:r\nD::7:wax\nA::8:r\nD::8:wax\nA::9:r\nD::9:wax\nA::10:r\nD::10:wax\nA::GROUP@:r\nA:g:60:r\nA:g:70:r\nA:g:80:r\nD::GROUP@:wax\nD:g:60:wax\nD:g:70:wax\nD:g:80:wax\n";
 
-/// How `decide` ended.
+/// How a command ended.
 #[derive(Clone, Copy, Debug, PartialEq, Eq)]
 enum Ending {
     /// With its answer, and nothing else.
@@ -51,7 +67,11 @@ fn ask(alloc: Global, words: &[&str], answer: &str) -> Ending {
     let mut faults = [0; 32];
     let mut out = lines.as_mut_slice();
     let mut err = faults.as_mut_slice();
-    let status = decide(alloc, words, &mut out, &mut err);
+    let status = if words.first() == Some(&"compare") {
+        compare(alloc, words, &mut out, &mut err)
+    } else {
+        decide(alloc, words, &mut out, &mut err)
+    };
     let (room, fault_room) = (out.len(), err.len());
     let written = room.checked_add(answer.len()) == Some(512);
     let answered = lines.starts_with(answer.as_bytes());
@@ -84,6 +104,14 @@ fn decide_under_a_refused_growth(rt: HostRuntime) -> Result<(), Fail> {
 #[test]
 fn decide_with_the_translation_under_a_refused_growth(rt: HostRuntime) -> Result<(), Fail> {
     let (ended, refusals) = ask_again(rt.alloc(), ASKED_NFS4.as_slice(), GRANTED_NFS4);
+    assert_eq!(rt; ended, Ending::Answered);
+    println!(rt; "refusals: {refusals}")?;
+    Ok(())
+}
+
+#[test]
+fn compare_under_a_refused_growth(rt: HostRuntime) -> Result<(), Fail> {
+    let (ended, refusals) = ask_again(rt.alloc(), COMPARED.as_slice(), DIFFER);
     assert_eq!(rt; ended, Ending::Answered);
     println!(rt; "refusals: {refusals}")?;
     Ok(())
