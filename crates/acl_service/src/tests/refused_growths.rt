@@ -6,8 +6,8 @@
 use crate::tests::fixture::{directory, tree};
 use crate::tests::texts::{has_output, serve_texts, serve_texts_in_rounds};
 use crate::{
-    CapFault, OneFault, OpenGate, Report, ServeFault, WordsFault, compare, decide, read_capped, run_one,
-    words_of,
+    CapFault, OneFault, OpenGate, Report, ServeFault, WordsFault, compare, decide, read_capped,
+    run_one, words_of,
 };
 use acl_names::Directory;
 use std::alloc::Global;
