@@ -4,10 +4,12 @@
 //! `rt try --test --fail-alloc N` refuses the growth N of a test. Each test here passes whichever growth that is, and prints
 //! how many refusals it was told of: one up to the last growth that it asks for, and none from then on.
 use crate::tests::fixture::{acl, directory};
-use crate::{Answer, Line, Requests, read_line, read_text, render};
-use acl_names::Directory;
-use acl_posix::Acl;
-use acl_tree::{Boxed, NodeAcl, Path, Reply, Request, View};
+use crate::{Answer, Line, Numbered, Requests, read_line, read_text, render};
+use acl_names::{Directory, Gid, Uid};
+use acl_nfs4::{Ace, AceType, Acl4, Flags as AceFlags, Kind, Mask, Who};
+use acl_posix::{Acl, Entry, Mode, Perms, Tag};
+use acl_tree::{Boxed, LineFault, NodeAcl, Path, Reply, Request, View};
+use bitflags::Flags;
 use std::alloc::Global;
 use std::test::Fail;
 
@@ -16,6 +18,10 @@ const LONG: &str = "u::rw,u:1:r,u:2:r,u:3:r,u:4:r,u:5:r,u:6:r,u:7:r,u:bob:rw,g::
 
 const TEXT: &[u8] =
     b"# lists\nset /a access u::rw,u:1:r,u:2:r,u:3:r,u:4:r,u:5:r,u:6:r,u:7:r,u:bob:rw,g::r,m::r,o::-\n\nchmod /a 6\nget /a\nset /a nfs4 A:f:1:r,A:f:2:r,A:f:3:r,A:f:4:r,A:f:5:r,A:f:6:r,A:f:7:r,A:f:8:r,A:f:9:r,A:f:10:r,A:f:11:r,A:f:12:r,A:f:13:r,A:f:14:r,A:f:15:r,A:f:16:r,A:f:17:r";
+
+/// The view of the render's test.
+const SHOWN: &[u8] =
+    b"1 get /d dir alice staff 640 posix\nuser::rw-\nuser:1:r--\nuser:2:r--\nuser:3:r--\nuser:4:r--\nuser:5:r--\nuser:6:r--\nuser:7:r--\nuser:bob:rw-\t#effective:r--\ngroup::r--\nmask::r--\nother::---\ndefault:user::rw-\ndefault:user:1:r--\ndefault:user:2:r--\ndefault:user:3:r--\ndefault:user:4:r--\ndefault:user:5:r--\ndefault:user:6:r--\ndefault:user:7:r--\ndefault:user:bob:rw-\t#effective:r--\ndefault:group::r--\ndefault:mask::r--\ndefault:other::---\n";
 
 /// How many refusals a test was told of.
 #[derive(Clone, Copy)]
@@ -52,6 +58,93 @@ fn long_acl(alloc: Global, told: &mut Told) -> Result<Acl, Fail> {
     }
 }
 
+/// Whether the entry names the user, with these permissions.
+fn is_user(entry: &Entry, uid: u32, perms: Perms) -> bool {
+    match Uid::new(uid) {
+        Some(uid) => entry.tag == Tag::User(uid) && entry.perms == perms,
+        None => false,
+    }
+}
+
+/// Whether the list is the long one, entry for entry.
+fn is_long(list: &Acl) -> bool {
+    match list.entries() {
+        [
+            owner,
+            first,
+            second,
+            third,
+            fourth,
+            fifth,
+            sixth,
+            seventh,
+            bob,
+            group,
+            mask,
+            other,
+        ] => {
+            let both = Perms::READ | Perms::WRITE;
+            let users = [first, second, third, fourth, fifth, sixth, seventh];
+            let mut uid: u32 = 0;
+            for user in users {
+                uid = uid.saturating_add(1);
+                if !is_user(user, uid, Perms::READ) {
+                    return false;
+                }
+            }
+            owner.tag == Tag::UserObj
+                && owner.perms == both
+                && is_user(bob, 1001, both)
+                && group.tag == Tag::GroupObj
+                && group.perms == Perms::READ
+                && mask.tag == Tag::Mask
+                && mask.perms == Perms::READ
+                && other.tag == Tag::Other
+                && other.perms == Perms::empty()
+        }
+        _ => false,
+    }
+}
+
+/// Whether the entry lets the user read, and files below take it over.
+fn is_reader(ace: &Ace, uid: u32) -> bool {
+    match (ace.who(), Uid::new(uid)) {
+        (Who::User(who), Some(uid)) => {
+            who == uid
+                && ace.kind() == AceType::Allow
+                && ace.flags() == AceFlags::FILE_INHERIT
+                && ace.mask() == Mask::READ_DATA
+        }
+        _ => false,
+    }
+}
+
+/// Whether the list is that of the text: users 1 to 17.
+fn is_long4(list: &Acl4) -> bool {
+    let mut uid: u32 = 0;
+    for ace in list.aces() {
+        uid = uid.saturating_add(1);
+        if !is_reader(ace, uid) {
+            return false;
+        }
+    }
+    uid == 17
+}
+
+/// Whether the request is the text's on the line.
+fn is_of_text(numbered: &Numbered, line: u32) -> bool {
+    if numbered.line != line {
+        return false;
+    }
+    match (&numbered.request, line) {
+        (Request::SetAccess(path, list), 2) => path.as_bytes() == b"/a".as_slice() && is_long(list),
+        (Request::Bad(fault), 4) => *fault == LineFault::BadMode,
+        (Request::Get(path), 5) => path.as_bytes() == b"/a".as_slice(),
+        (Request::SetNfs4(path, list), 6) => path.as_bytes() == b"/a".as_slice() && is_long4(list),
+        _ => false,
+    }
+}
+
 #[test]
 fn read_line_under_a_refused_growth(rt: HostRuntime) -> Result<(), Fail> {
     let mut told = Told { refusals: 0 };
@@ -63,7 +156,13 @@ fn read_line_under_a_refused_growth(rt: HostRuntime) -> Result<(), Fail> {
         told.one_more();
         read = read_line(rt.alloc(), line, &names);
     }
-    assert!(rt; matches!(&read, Ok(Line::Command(Request::SetDefault(_, Some(_))))));
+    match &read {
+        Ok(Line::Command(Request::SetDefault(path, Some(list)))) => {
+            assert_eq!(rt; path.as_bytes(), b"/a".as_slice());
+            assert!(rt; is_long(list));
+        }
+        _ => return Err(Fail::from("no default list")),
+    }
     println!(rt; "refusals: {}", told.refusals)?;
     Ok(())
 }
@@ -79,7 +178,15 @@ fn read_text_under_a_refused_growth(rt: HostRuntime) -> Result<(), Fail> {
             read_text(rt.alloc(), TEXT, &names)?
         }
     };
-    assert_eq!(rt; requests.len(), 4);
+    match requests.as_slice() {
+        [first, second, third, fourth] => {
+            assert!(rt; is_of_text(first, 2));
+            assert!(rt; is_of_text(second, 4));
+            assert!(rt; is_of_text(third, 5));
+            assert!(rt; is_of_text(fourth, 6));
+        }
+        _ => return Err(Fail::from("other than four requests")),
+    }
     println!(rt; "refusals: {}", told.refusals)?;
     Ok(())
 }
@@ -96,7 +203,7 @@ fn requests_under_a_refused_growth(rt: HostRuntime) -> Result<(), Fail> {
             next = requests.next(rt.alloc());
         }
         let numbered = next?.ok_or("a request")?;
-        assert_eq!(rt; numbered.line, line);
+        assert!(rt; is_of_text(&numbered, line));
     }
     assert!(rt; requests.next(rt.alloc())?.is_none());
     println!(rt; "refusals: {}", told.refusals)?;
@@ -118,10 +225,10 @@ fn view(alloc: Global, told: &mut Told) -> Result<View, Fail> {
     };
     Ok(View {
         path,
-        kind: acl_nfs4::Kind::Dir,
-        owner: acl_names::Uid::new(1000).ok_or("uid")?,
-        group: acl_names::Gid::new(50).ok_or("gid")?,
-        mode: acl_posix::Mode::from_bits(0o640).ok_or("mode")?,
+        kind: Kind::Dir,
+        owner: Uid::new(1000).ok_or("uid")?,
+        group: Gid::new(50).ok_or("gid")?,
+        mode: Mode::from_bits(0o640).ok_or("mode")?,
         acl: NodeAcl::Posix {
             access,
             default: Some(default),
@@ -154,14 +261,7 @@ fn render_under_a_refused_growth(rt: HostRuntime) -> Result<(), Fail> {
         assert_eq!(rt; out.len(), 0);
         render(&answer, &names, &mut out)?;
     }
-    assert!(rt;
-        out.as_slice()
-            .starts_with(b"1 get /d dir alice staff 640 posix\nuser::rw-\n")
-    );
-    assert!(rt;
-        out.as_slice()
-            .ends_with(b"default:mask::r--\ndefault:other::---\n")
-    );
+    assert_eq!(rt; out.as_slice(), SHOWN);
     println!(rt; "refusals: {}", told.refusals)?;
     Ok(())
 }
