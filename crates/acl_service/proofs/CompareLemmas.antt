@@ -1,16 +1,25 @@
--- What the words of `compare` come to where they are refused.
-use Rattle.std.proofs.Common.{◌≡◌, ◌≢◌, ◌∙◌, [], ◌∷◌, ℕ, List, Option, Some, None, ap, refl, sym, subst, append-nil, Err}
-use Rattle.std.specs.Prelude.{Result}
+-- What the words of `compare` come to.
+use Rattle.std.proofs.Common.{◌≡◌, ◌≢◌, ◌∙◌, [], ◌∷◌, ℕ, List, Option, Some, None, ap, refl, sym, subst, append-nil, Ok, Err}
+use Rattle.std.specs.Prelude.{IsOkAnd, Result}
 use Rattle.std.specs.Io.KnownBytes.{Appends, Keeps}
 use Rattle.clap.specs.Words.{Kinds, Text, fault_of}
 use Rattle.acl_service.specs.Compared.{Compared, compared_by}
 use Rattle.acl_service.specs.CompareLine.{compare_line}
 use Rattle.acl_service.specs.CompareOutcome.{EndsAsCompared, EndsBy, EndsByReading, IsCompareFaultOf}
+use Rattle.acl_service.specs.Differences.{Answers}
 use Rattle.acl_service.specs.Faults.{failed_write, status_of}
 use Rattle.acl_service.specs.Outcome.{EndsAs}
 use Rattle.acl_service.specs.declared.decide_command.fault.DecideFault.{DecideFault}
 use Rattle.acl_service.specs.declared.decide_command.fault.DecideFault.TheVariants.{Field, Usage, Run}
 use Rattle.acl_service.proofs.OutcomeLemmas.{Appends-nothing}
+
+-- what is written of lists that read answers
+pub answered : (words : List Text) (old new : Option (List ℕ)) (compared : Compared) (text : List ℕ) → compared_by words ≡ Ok compared
+    → Answers compared text → Appends old new text
+    → IsOkAnd (compared_by words) (λ compared. (text : List ℕ) × Answers compared text × Appends old new text)
+answered words old new compared text is answers appended =
+    subst (λ (reading : Result Compared _). IsOkAnd reading (λ compared. (text : List ℕ) × Answers compared text × Appends old new text)) (sym is)
+    (text, answers, appended)
 
 module _ (words : List Text) (old new : Option (List ℕ)) (status : ℕ) where
   refused_by : (kinds : Kinds) → ¬ (kinds ≡ []) → EndsAs (record { status = 2; text = [] }) old new status → EndsBy kinds words old new status
