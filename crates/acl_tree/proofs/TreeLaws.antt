@@ -5,7 +5,7 @@ use Rattle.std.proofs.lemmas.Option.{none-some}
 use Rattle.std.specs.Ordering.{nat_cmp}
 use Rattle.std.specs.Cmp.Lexicographic.{slice_cmp, nat_list_cmp_total}
 use Rattle.std.specs.FinMap as map
-use Rattle.std.specs.FinMap.{get-empty, get-insert, len-empty, len-insert}
+use Rattle.std.specs.FinMap.{get-empty, len-empty, len-insert}
 use Rattle.acl_names.specs.Directory.{Known}
 use Rattle.acl_posix.specs.Mode.{Classes}
 use Rattle.acl_nfs4.specs.declared.inheritance.Kind.TheVariants.{Dir}
@@ -18,7 +18,7 @@ use Rattle.acl_tree.specs.Commands.{root_alone}
 use Rattle.acl_tree.specs.NodeAcls.{root_acl}
 use Rattle.acl_tree.specs.Path.{is_path, parent}
 use Rattle.acl_tree.specs.Requests.{NamesAPath, path_of}
-use Rattle.acl_tree.specs.Shape.{IsDirectory, KeepsKindAndOwners, KeepsNodes, IsSameAt, NodesLieInDirectories, NodesAreAtPaths, IsWithinLimit}
+use Rattle.acl_tree.specs.Shape.{IsDirectory, KeepsKindAndOwners, KeepsNodes, NodesLieInDirectories, NodesAreAtPaths, IsWithinLimit}
 use Rattle.acl_tree.specs.Tree.{Nodes, NodesUnderUmask}
 use Rattle.acl_tree.specs.TreeLaws.{after_all, IsMadeByCommands, FilesNeverHaveADefault, ParentsAreDirectories, TreesAreWithinTheLimit, TreesHavePathsAlone, TheUmaskStays, NodesStay, OtherCommandsLeaveANode}
 use Rattle.acl_tree.proofs.CommandLaws.{keeps_the_umask}

@@ -1,7 +1,7 @@
 //! The access control lists of a node, of either style.
 ghost use Rattle.std.specs.Prelude.{◌≡◌, IfOk};
 ghost use Rattle.acl_names.specs.Bits.{without};
-ghost use Rattle.acl_posix.specs.Perms.{bits_of, IsPermissions};
+ghost use Rattle.acl_posix.specs.Perms.{bits_of};
 ghost use Rattle.acl_nfs4.specs.Mask.{mask_bits};
 ghost use Rattle.acl_tree.specs.NodeAcls.{acl_at_creation, acl_with_mode, beyond_umask, default_below, grants4, list_grants, mode_shown, root_acl};
 ghost use Rattle.acl_tree.specs.Refusals.{Answers, Changes};
