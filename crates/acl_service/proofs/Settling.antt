@@ -1,18 +1,16 @@
 -- Both sides of a run together: what each session submitted and polled is the journal's.
-use Rattle.std.specs.Prelude.{◌≡◌, ◌⊎◌, ℕ, zero, suc, ◌<◌, ◌≤◌, Bool, true, false, List, [], ◌∷◌, ◌++◌, length, map, refl, Option, Some, None, if◌then◌else◌, ◌==◌, ◌||◌}
+use Rattle.std.specs.Prelude.{◌≡◌, ◌⊎◌, ℕ, suc, ◌<◌, ◌≤◌, Bool, true, false, List, [], ◌∷◌, ◌++◌, length, refl, Option, Some, None, if◌then◌else◌, ◌==◌}
 use Rattle.std.specs.List.{AllByRecursion, flat_map}
 use Rattle.std.specs.declared.vec.Vec.{Vec}
 use Rattle.std.specs.declared.alloc.Global.{Global}
 use Rattle.std.proofs.Common.{ap, sym, ◌∙◌, subst, append_assoc, append-nil, length-append, arith, get_or, inl, inr}
-use Rattle.std.proofs.lemmas.Bool.{eq-eqb, ne_eqb}
-use Rattle.std.proofs.lemmas.Bool.Decides.{eqb_tells}
 use Rattle.std.proofs.lemmas.List.{nil_from_length, get_or-map}
 use mathlib.Core.List.{IsPrefix}
 use Rattle.acl_broker.specs.Journal.{items_from, state_after, answers_to}
 use Rattle.acl_broker.specs.Lanes.{fresh_lane}
-use Rattle.acl_broker.specs.Points.{Point, BrokerState, StandsAt, is_among}
+use Rattle.acl_broker.specs.Points.{Point, BrokerState, StandsAt}
 use Rattle.acl_broker.specs.Brokers.{IsPointOf}
-use Rattle.acl_broker.specs.Ends.{AreEndsOf, sent_by, polled_by, is_closed}
+use Rattle.acl_broker.specs.Ends.{AreEndsOf, sent_by, polled_by}
 use Rattle.acl_broker.specs.Takers.{TakerState, Keeps}
 use Rattle.acl_broker.specs.declared.end.End.{End}
 use Rattle.acl_broker.specs.declared.taker_side.TakerSide.{TakerSide}

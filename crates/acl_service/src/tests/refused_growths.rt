@@ -167,8 +167,9 @@ fn run(alloc: Global, names: &Directory) -> Ending {
     let mut out = lines.as_mut_slice();
     let ran = run_one(alloc, names, tree, SESSION.as_bytes(), &mut out);
     let room = out.len();
+    let written = &lines[..1024usize.saturating_sub(room)];
     match ran {
-        Ok(_) if lines[..1024 - room].ends_with(LAST_ANSWERS.as_bytes()) => Ending::Answered,
+        Ok(_) if written.ends_with(LAST_ANSWERS.as_bytes()) => Ending::Answered,
         Err(OneFault::Memory) if room == 1024 => Ending::Memory,
         _ => Ending::Other,
     }

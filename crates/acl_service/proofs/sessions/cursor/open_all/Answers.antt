@@ -1,4 +1,4 @@
-use Rattle.std.proofs.Common.{◌≡◌, ◌+◌, ◌<◌, ◌≤◌, ◌++◌, ◌∷◌, [], List, ℕ, length, map, take, sym, ap, ◌∙◌, arith, rules, vec_items, vec_len, get_or, Vec, Global}
+use Rattle.std.proofs.Common.{◌≡◌, ◌+◌, ◌<◌, ◌++◌, ◌∷◌, [], List, ℕ, length, map, take, sym, ap, ◌∙◌, arith, rules, vec_items, vec_len, get_or, Vec, Global}
 use Rattle.std.proofs.lemmas.List.{map-append, map_more, get_or_read}
 use Rattle.acl_lang.specs.Texts.{requests_of}
 use Rattle.acl_lang.specs.declared.text.Numbered.{Numbered}
