@@ -27,7 +27,8 @@ const HELP: &str = "
 usage: aclctl COMMAND [OPTION].. [WORD]..
 
 commands:
-  decide  tells whether an access control list grants a request
+  decide   tells whether an access control list grants a request
+  compare  tells whether anybody gains or loses access between two lists
 
 aclctl COMMAND --help tells the options of a command. Without any words, they
 are read from standard input, one a line, the command first.

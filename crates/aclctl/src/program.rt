@@ -1,12 +1,11 @@
 //! The program: its words, and the command that the first of them names.
 ghost use Rattle.std.specs.Prelude.{◌≡◌, ◌≢◌, ◌≤◌, [], map, IfSome};
 ghost use Rattle.std.specs.String.{string_bytes};
-ghost use Rattle.acl_service.specs.Outcome.{EndsAs};
-ghost use Rattle.aclctl.specs.Program.{EndsFrom, program_outcome};
+ghost use Rattle.aclctl.specs.Program.{EndsAsWords, EndsFrom};
 
 use crate::fault::ProgramFault;
 use crate::input::command_words;
-use acl_service::decide;
+use acl_service::{compare, decide};
 use std::alloc::Global;
 use std::convert::AsStr;
 use std::io::{Read, Write};
@@ -22,10 +21,11 @@ pub fn run_command<S: AsStr, W: Write, E: Write>(
 
     // Unless memory runs out or a write fails.
     ensures ended { result ≢ 3
-        → EndsAs (program_outcome (map S.text words.now)) (W.contents out.old) (W.contents out.new) result }
+        → EndsAsWords (map S.text words.now) (W.contents out.old) (W.contents out.new) result }
 {
     match words.first() {
         Some(first) if first.as_str() == "decide" => decide(alloc, words, out, err),
+        Some(first) if first.as_str() == "compare" => compare(alloc, words, out, err),
         _ => ProgramFault::NoCommand.report(err),
     }
 }
@@ -42,7 +42,7 @@ pub fn run<R: Read, W: Write, E: Write>(
 
     // Unless memory runs out or a write fails.
     ensures given { given.items ≢ [] → result ≢ 3
-        → EndsAs (program_outcome (map string_bytes given.items)) (W.contents out.old) (W.contents out.new) result }
+        → EndsAsWords (map string_bytes given.items) (W.contents out.old) (W.contents out.new) result }
     ensures read { given.items ≡ [] → result ≢ 3 → IfSome (R.remaining reader.old)
         (λ bytes. EndsFrom bytes (W.contents out.old) (W.contents out.new) result) }
 {

@@ -71,6 +71,42 @@ fn words_are_those_given_or_those_of_the_reader(rt: HostRuntime) -> Result<(), F
     Ok(())
 }
 
+/// The words of `compare`, for a file of 1000 and the group 50.
+fn compared<'a>(first: [&'a str; 2], second: [&'a str; 2]) -> [&'a str; 9] {
+    [
+        "compare", "--owner", "1000", "--group", "50", first[0], first[1], second[0], second[1],
+    ]
+}
+
+#[test]
+fn compares_two_lists(rt: HostRuntime) {
+    for (first, second, text) in [
+        (
+            ["posix", "u::rw,g::r,o::-"],
+            [
+                "nfs4",
+                "A::OWNER@:rwa,D::OWNER@:x,A::GROUP@:r,D::GROUP@:wax",
+            ],
+            "alike\n",
+        ),
+        (
+            ["posix", "u::-,g::-,o::r"],
+            ["posix", "u::-,g::-,g:60:r,m::r,o::r"],
+            "differ\nrequester 65534 50,60\nlost -\ngained r\n",
+        ),
+    ] {
+        let words = compared(first, second);
+        let mut out = Vec::new(rt.alloc());
+        let mut err = Vec::new(rt.alloc());
+        assert_eq!(rt;
+            run_command(rt.alloc(), words.as_slice(), &mut out, &mut err),
+            0
+        );
+        assert_eq!(rt; out.as_slice(), text.as_bytes());
+        assert!(rt; err.is_empty());
+    }
+}
+
 #[test]
 fn first_word_names_no_command(rt: HostRuntime) -> Result<(), Fail> {
     for words in [
