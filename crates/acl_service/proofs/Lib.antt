@@ -5,3 +5,4 @@ pub mod AclLemmas
 pub mod OutcomeLemmas
 pub mod OrderLemmas
 pub mod AskLemmas
+pub mod SetupLemmas

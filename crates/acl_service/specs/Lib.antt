@@ -11,3 +11,8 @@ pub mod Outcome
 pub mod Ask
 pub mod Runs
 pub mod Served
+pub mod SetupTable
+pub mod Setup
+pub mod Shown
+pub mod Opened
+pub mod SetupFaults

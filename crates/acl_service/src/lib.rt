@@ -6,6 +6,7 @@ mod fault;
 mod input;
 mod one;
 mod served;
+mod setup;
 mod words;
 
 pub use decide_command::{decide, entries_in_order_are_their_list, words_ask_what_they_give};
@@ -13,6 +14,7 @@ pub use fault::RunFault;
 pub use input::{CapFault, read_capped};
 pub use one::{OneFault, run_one};
 pub use served::Served;
+pub use setup::{SetupError, read_setup};
 pub use words::{WordsFault, words_of};
 
 #[cfg(test)]

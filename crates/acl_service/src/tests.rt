@@ -3,4 +3,5 @@ mod fixture;
 mod input;
 mod one;
 mod refused_growths;
+mod setup;
 mod words;
