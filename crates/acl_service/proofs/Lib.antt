@@ -6,3 +6,14 @@ pub mod OutcomeLemmas
 pub mod OrderLemmas
 pub mod AskLemmas
 pub mod SetupLemmas
+pub mod Working
+pub mod Limiting
+pub mod Taking
+pub mod Places
+pub mod Settling
+pub mod Gathering
+pub mod Turning
+pub mod ServedRounds
+pub mod ReportingRounds
+pub mod TextLengths
+pub mod SessionLemmas

@@ -16,3 +16,15 @@ pub mod Setup
 pub mod Shown
 pub mod Opened
 pub mod SetupFaults
+pub mod ErrorLimit
+pub mod RunReport
+pub mod Workers
+pub mod Taking
+pub mod Threads
+pub mod Rounds
+pub mod Turns
+pub mod RoundsState
+pub mod Sessions
+pub mod Cursor
+pub mod Told
+pub mod Headline

@@ -3,17 +3,23 @@
 
 mod decide_command;
 mod fault;
+mod headline;
 mod input;
 mod one;
+mod runs;
 mod served;
+mod sessions;
 mod setup;
 mod words;
 
 pub use decide_command::{decide, entries_in_order_are_their_list, words_ask_what_they_give};
 pub use fault::RunFault;
+pub use headline::{journal_explains_every_answer, one_session_is_served_as_alone};
 pub use input::{CapFault, read_capped};
 pub use one::{OneFault, run_one};
+pub use runs::{Gate, OpenGate, ServeFault};
 pub use served::Served;
+pub use sessions::{Report, serve, serve_rounds};
 pub use setup::{SetupError, read_setup};
 pub use words::{WordsFault, words_of};
 

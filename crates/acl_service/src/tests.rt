@@ -1,7 +1,11 @@
 mod decide;
 mod fixture;
+mod gates;
 mod input;
 mod one;
 mod refused_growths;
+mod rounds;
+mod serve;
 mod setup;
+mod texts;
 mod words;

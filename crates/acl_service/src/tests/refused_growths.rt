@@ -4,11 +4,18 @@
 //! `rt try --test --fail-alloc N` refuses the growth N of a test. Each test here passes whichever growth that is, and prints
 //! how many refusals it was told of: one up to the last growth that it asks for, and none from then on.
 use crate::tests::fixture::{directory, tree};
-use crate::{CapFault, OneFault, WordsFault, decide, read_capped, run_one, words_of};
+use crate::tests::texts::{has_output, serve_texts, serve_texts_in_rounds};
+use crate::{
+    CapFault, OneFault, OpenGate, Report, ServeFault, WordsFault, decide, read_capped, run_one,
+    words_of,
+};
 use acl_names::Directory;
 use std::alloc::Global;
 use std::io::{self, Read};
+use std::sync::Wait;
 use std::test::Fail;
+use std::thread::Threads;
+use std::time::Clock;
 
 const LIST: &str = "u::rw,u:7:r,u:8:r,u:9:r,u:10:r,g::r,g:60:r,g:70:r,g:80:r,m::r,o::-";
 
@@ -152,6 +159,66 @@ fn run_one_under_a_refused_growth(rt: HostRuntime) -> Result<(), Fail> {
     if ended == Ending::Memory {
         refusals = refusals.saturating_add(1);
         ended = run(rt.alloc(), &names);
+    }
+    assert_eq!(rt; ended, Ending::Answered);
+    println!(rt; "refusals: {refusals}")?;
+    Ok(())
+}
+
+/// Sessions that create, set a long list and show it, and one with a faulty line.
+const SESSIONS: [&str; 2] = [
+    "create dir /d alice 755\nset /d default u::rwx,u:1:r,u:2:r,u:3:r,u:4:r,u:5:r,u:6:r,g::r,m::r,o::-\ntranslate /d\n",
+    "get /\nx\n",
+];
+
+const SECOND_OUTPUT: &str =
+    "1 get / dir root root 755 posix\nuser::rwx\ngroup::r-x\nother::r-x\n2 error 1 syntax\n";
+
+/// How a run of the sessions ended. A thread that can't be started is one of the ends of want of memory.
+fn ending_of(ran: Option<Result<Report, ServeFault>>) -> Ending {
+    match ran {
+        Some(Ok(report)) if report.journal.len() == 5 && has_output(&report, 1, SECOND_OUTPUT) => {
+            Ending::Answered
+        }
+        None | Some(Err(ServeFault::Memory | ServeFault::ThreadRefused)) => Ending::Memory,
+        Some(_) => Ending::Other,
+    }
+}
+
+fn run_in_rounds(alloc: Global) -> Ending {
+    match tree(alloc) {
+        Some(tree) => ending_of(serve_texts_in_rounds(alloc, tree, SESSIONS.as_slice())),
+        None => Ending::Memory,
+    }
+}
+
+#[test]
+fn serve_rounds_under_a_refused_growth(rt: HostRuntime) -> Result<(), Fail> {
+    let mut refusals = 0;
+    let mut ended = run_in_rounds(rt.alloc());
+    if ended == Ending::Memory {
+        refusals = 1;
+        ended = run_in_rounds(rt.alloc());
+    }
+    assert_eq!(rt; ended, Ending::Answered);
+    println!(rt; "refusals: {refusals}")?;
+    Ok(())
+}
+
+fn run_in_threads<R: Threads + Wait + Clock + Sync>(rt: &R, alloc: Global) -> Ending {
+    match tree(alloc) {
+        Some(tree) => ending_of(serve_texts(rt, alloc, &OpenGate, tree, SESSIONS.as_slice(), None)),
+        None => Ending::Memory,
+    }
+}
+
+#[test]
+fn serve_under_a_refused_growth(rt: HostRuntime) -> Result<(), Fail> {
+    let mut refusals = 0;
+    let mut ended = run_in_threads(&rt, rt.alloc());
+    if ended == Ending::Memory {
+        refusals = 1;
+        ended = run_in_threads(&rt, rt.alloc());
     }
     assert_eq!(rt; ended, Ending::Answered);
     println!(rt; "refusals: {refusals}")?;

@@ -1,0 +1,93 @@
+-- What a run over the service comes to on its tree.
+use Rattle.std.specs.Prelude.{◌≡◌, ℕ, ◌<◌, List, [], ◌∷◌, length, map, refl, Option, None, if◌then◌else◌, ◌==◌}
+use Rattle.std.specs.List.{AllByRecursion, flat_map}
+use Rattle.std.specs.declared.vec.Vec.{Vec}
+use Rattle.std.specs.declared.alloc.Global.{Global}
+use Rattle.std.proofs.Common.{ap, sym, ◌∙◌, subst, arith, get_or}
+use Rattle.std.proofs.lemmas.Bool.{eq-eqb}
+use Rattle.std.proofs.lemmas.List.{get_or-map, length-map}
+use Rattle.acl_broker.specs.Journal.{items_from, state_after, answers_to}
+use Rattle.acl_broker.specs.declared.steps.JournalEntry.{JournalEntry}
+use Rattle.acl_names.specs.Directory.{Known}
+use Rattle.acl_tree.specs.Tree.{NodesUnderUmask}
+use Rattle.acl_lang.specs.Printed.{answer_text, printed}
+use Rattle.acl_lang.specs.Texts.{requests_of}
+use Rattle.acl_lang.specs.declared.answer.Answer.{Answer}
+use Rattle.acl_lang.specs.declared.text.Numbered.{Numbered}
+use Rattle.acl_service.specs.ErrorLimit.{IsServedUpTo}
+use Rattle.acl_service.specs.RunReport.{IsReport}
+use Rattle.acl_service.specs.Runs.{answer_to, answers_of, tree_after, tree_after_one}
+use Rattle.acl_service.specs.Served.{next_served, reply_served}
+use Rattle.acl_service.specs.Sessions.{ExplainsSessions, IsServedAlone, answers_in, is_error, requests_of_each, tree_after_journal}
+use Rattle.acl_service.specs.Told.{told}
+use Rattle.acl_service.specs.declared.runs.report.RunReport.{RunReport}
+use Rattle.acl_service.specs.declared.served.Served.{Served}
+use Rattle.acl_service.specs.declared.sessions.report.Report.{Report}
+
+-- the service answers as its tree does
+pub served_answers : (session : ℕ) (served : Served) (journal : List (JournalEntry Numbered)) → answers_to next_served reply_served session served journal ≡ answers_in served.directory.now served.tree journal session
+served_answers session served [] = refl
+served_answers session served (entry ∷ journal) =
+    ap (λ answers. if entry.session == session then reply_served served entry.item ∷ answers else answers) (served_answers session (next_served served entry.item) journal)
+
+-- and its tree is the journal's result
+pub served_tree : (served : Served) (journal : List (JournalEntry Numbered)) → (state_after next_served served journal).tree ≡ tree_after_journal served.directory.now served.tree journal
+served_tree served [] = refl
+served_tree served (entry ∷ journal) = served_tree (next_served served entry.item) journal
+
+-- what is told of a run explains its sessions
+pub explains : (served : Served) (limit : Option ℕ) (texts : List (Vec ℕ Global)) (run : RunReport Served Numbered Answer)
+    → IsReport next_served reply_served (answer_text served.directory.now) is_error served limit (requests_of_each served.directory.now texts) run
+    → ExplainsSessions served.directory.now served.tree limit texts (told run)
+explains served limit texts run is =
+    let known = served.directory.now in
+    let journal = run.journal.items in
+    let wanted = requests_of_each known texts in
+    let count : length wanted ≡ length texts = length-map texts (λ text. requests_of known text.items) in
+    let within = λ (session : ℕ) (below : session < length texts). subst (λ n. session < n) (sym count) below in
+    record {
+      entries = subst (λ n. AllByRecursion (λ entry. entry.session < n) journal) count is.known;
+      served = λ session none below.
+          subst (λ requests. IsServedUpTo is_error limit requests (items_from session journal) (answers_in known served.tree journal session)) (get_or-map (λ text. requests_of known text.items) texts session none [] below)
+          (subst (λ answers. IsServedUpTo is_error limit (get_or wanted session []) (items_from session journal) answers) (served_answers session served journal) (is.served session [] (within session below)));
+      answered = is.answered ∙ count;
+      answers = λ session none below. is.answers session none (within session below) ∙ served_answers session served journal;
+      outputs_are = is.printed ∙ count;
+      outputs = λ session none below. is.outputs session none (within session below) ∙ ap (λ answers. flat_map (answer_text known) answers) (served_answers session served journal);
+      result = ap (λ state. state.tree) is.state ∙ served_tree served journal;
+    }
+
+-- the same, of the report, where the run is of sessions that want the texts' requests
+pub explained : (served : Served) (limit : Option ℕ) (texts : List (Vec ℕ Global)) (wanted : List (List Numbered)) (run : RunReport Served Numbered Answer) (report : Report)
+    → wanted ≡ requests_of_each served.directory.now texts → report ≡ told run
+    → IsReport next_served reply_served (answer_text served.directory.now) is_error served limit wanted run
+    → ExplainsSessions served.directory.now served.tree limit texts report
+explained served limit texts wanted run report wanted_are is_told is =
+    subst (λ report. ExplainsSessions served.directory.now served.tree limit texts report) (sym is_told)
+    (explains served limit texts run (subst (λ wanted. IsReport next_served reply_served (answer_text served.directory.now) is_error served limit wanted run) wanted_are is))
+
+-- a journal of one session has its items and no others
+alone_items : (journal : List (JournalEntry Numbered)) → AllByRecursion (λ entry. entry.session < 1) journal → map (λ entry. entry.item) journal ≡ items_from 0 journal
+alone_items [] own = refl
+alone_items (entry ∷ journal) own =
+    ap (λ items. entry.item ∷ items) (alone_items journal own.1)
+    ∙ ap (λ test. if test then entry.item ∷ items_from 0 journal else items_from 0 journal) (sym (eq-eqb entry.session 0 (omega (arith, own.0))))
+
+-- and answers them one after the other
+alone_answers : (known : Known) (tree : NodesUnderUmask) (journal : List (JournalEntry Numbered)) → AllByRecursion (λ entry. entry.session < 1) journal → answers_in known tree journal 0 ≡ answers_of known tree (map (λ entry. entry.item) journal)
+alone_answers known tree [] own = refl
+alone_answers known tree (entry ∷ journal) own =
+    let more = answers_in known (tree_after_one known tree entry.item) journal 0 in
+    ap (λ test. if test then answer_to known tree entry.item ∷ more else more) (eq-eqb entry.session 0 (omega (arith, own.0)))
+    ∙ ap (λ answers. answer_to known tree entry.item ∷ answers) (alone_answers known (tree_after_one known tree entry.item) journal own.1)
+
+-- so a run of one session comes to what the session comes to alone
+pub served_alone : (known : Known) (tree : NodesUnderUmask) (text : Vec ℕ Global) (report : Report) → ExplainsSessions known tree None (text ∷ []) report → IsServedAlone known tree text.items report
+served_alone known tree text report is =
+    let journal = report.journal.items in
+    let requests : map (λ entry. entry.item) journal ≡ requests_of known text.items = alone_items journal is.entries ∙ is.served 0 text (omega arith) in
+    record {
+      output = λ none.
+          is.outputs 0 none (omega arith) ∙ ap (λ answers. printed known answers) (alone_answers known tree journal is.entries ∙ ap (λ items. answers_of known tree items) requests);
+      result = is.result ∙ ap (λ items. tree_after known tree items) requests;
+    }

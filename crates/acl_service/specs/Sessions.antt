@@ -1,0 +1,67 @@
+-- What is reported of sessions that worked on one tree.
+use Rattle.std.specs.Prelude.{◌≡◌, ℕ, ◌<◌, Bool, true, false, List, length, map, slice_index_or, Option}
+use Rattle.std.specs.List.{AllByRecursion}
+use Rattle.std.specs.declared.vec.Vec.{Vec}
+use Rattle.std.specs.declared.alloc.Global.{Global}
+use Rattle.acl_names.specs.Directory.{Known}
+use Rattle.acl_tree.specs.Tree.{NodesUnderUmask}
+use Rattle.acl_tree.specs.declared.reply.Reply.{Reply}
+use Rattle.acl_tree.specs.declared.reply.Reply.TheVariants.{Done, Node, Granted, Denied, Translated, TranslatedBoth, Refused, Fault}
+use Rattle.acl_lang.specs.Printed.{printed}
+use Rattle.acl_lang.specs.Texts.{requests_of}
+use Rattle.acl_lang.specs.declared.answer.Answer.{Answer}
+use Rattle.acl_lang.specs.declared.text.Numbered.{Numbered}
+use Rattle.acl_broker.specs.Journal.{items_from, answers_to}
+use Rattle.acl_broker.specs.declared.steps.JournalEntry.{JournalEntry}
+use Rattle.acl_service.specs.ErrorLimit.{IsServedUpTo}
+use Rattle.acl_service.specs.Runs.{answer_to, session_text, tree_after, tree_after_one}
+use Rattle.acl_service.specs.declared.sessions.report.Report.{Report}
+
+-- a command that was refused, or a line that was none
+abbrev pub is_error_reply : Reply → Bool
+is_error_reply Done = false
+is_error_reply (Node view) = false
+is_error_reply Granted = false
+is_error_reply Denied = false
+is_error_reply (Translated acl) = false
+is_error_reply (TranslatedBoth access inherit) = false
+is_error_reply (Refused fault) = true
+is_error_reply (Fault fault) = true
+
+abbrev pub is_error : Answer → Bool
+is_error answer = is_error_reply answer.reply
+
+-- the requests of each text
+abbrev pub requests_of_each : Known → List (Vec ℕ Global) → List (List Numbered)
+requests_of_each known texts = map (λ text. requests_of known text.items) texts
+
+-- the answers to a session's entries in a journal, each by the tree at its place
+abbrev pub answers_in : Known → NodesUnderUmask → List (JournalEntry Numbered) → ℕ → List Answer
+answers_in known tree journal session = answers_to (tree_after_one known) (answer_to known) session tree journal
+
+-- the tree that a journal leads to
+abbrev pub tree_after_journal : Known → NodesUnderUmask → List (JournalEntry Numbered) → NodesUnderUmask
+tree_after_journal known tree journal = tree_after known tree (map (λ entry. entry.item) journal)
+
+-- the report of sessions with these texts that began with this tree
+pub record ExplainsSessions (known : Known) (tree : NodesUnderUmask) (limit : Option ℕ) (texts : List (Vec ℕ Global)) (report : Report) : Type 0 where
+  -- each entry is of a session that has a text,
+  pub entries : AllByRecursion (λ entry. entry.session < length texts) report.journal.items
+  -- the journal has the whole of each text's requests, up to the session's last error that is allowed,
+  pub served : (session : ℕ) (none : Vec ℕ Global) → session < length texts
+      → IsServedUpTo is_error limit (requests_of known (slice_index_or texts session none).items) (items_from session report.journal.items) (answers_in known tree report.journal.items session)
+  -- a session's answers are the journal's to it,
+  pub answered : length report.answers.items ≡ length texts
+  pub answers : (session : ℕ) (none : Vec Answer Global) → session < length texts
+      → (slice_index_or report.answers.items session none).items ≡ answers_in known tree report.journal.items session
+  -- its output is what is printed of them,
+  pub outputs_are : length report.outputs.items ≡ length texts
+  pub outputs : (session : ℕ) (none : Vec ℕ Global) → session < length texts
+      → (slice_index_or report.outputs.items session none).items ≡ printed known (answers_in known tree report.journal.items session)
+  -- and the tree is the journal's result
+  pub result : report.tree ≡ tree_after_journal known tree report.journal.items
+
+-- a run of one session comes to what the session comes to alone
+pub record IsServedAlone (known : Known) (tree : NodesUnderUmask) (text : List ℕ) (report : Report) : Type 0 where
+  pub output : (none : Vec ℕ Global) → (slice_index_or report.outputs.items 0 none).items ≡ session_text known tree text
+  pub result : report.tree ≡ tree_after known tree (requests_of known text)
