@@ -17,3 +17,5 @@ pub mod ServedRounds
 pub mod ReportingRounds
 pub mod TextLengths
 pub mod SessionLemmas
+pub mod PrintLemmas
+pub mod FileLemmas

@@ -28,3 +28,7 @@ pub mod Sessions
 pub mod Cursor
 pub mod Told
 pub mod Headline
+pub mod RunFaults
+pub mod RunText
+pub mod RunTexts
+pub mod RunWords
