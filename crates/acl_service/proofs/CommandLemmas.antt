@@ -6,6 +6,7 @@ use Rattle.clap.specs.declared.error.Error.{Error}
 use Rattle.clap.specs.declared.error.kind.ErrorKind.TheVariants.{OutOfMemory}
 use Rattle.clap.specs.declared.parser.matches.ArgMatches.{ArgMatches}
 use Rattle.acl_service.specs.CommandLine.{decide_line}
+use Rattle.acl_service.specs.RunWords.{run_line}
 use Rattle.clap.specs.declared.builder.arg.Arg.{Arg}
 use Rattle.clap.specs.declared.builder.command.Command.{Command}
 
@@ -13,27 +14,35 @@ use Rattle.clap.specs.declared.builder.command.Command.{Command}
 pub app_of-arg : {app : App} {rule : Rule} (old new : Command) (arg : Arg) → AddsArg old arg new → arg.global ≡ false → app_of old ≡ app → rule_of arg ≡ rule → app_of new ≡ with_rule app rule
 app_of-arg old new arg added local is_app is_rule = added.shape local ∙ ap₂ with_rule is_app is_rule
 
-decide_line-simple : is_simple decide_line ≡ true
+pub decide_line-simple : is_simple decide_line ≡ true
 unfolding clap_on_literals decide_line
 decide_line-simple = refl
 
-decide_line-free : is_simple_and_free decide_line ≡ true
+pub decide_line-free : is_simple_and_free decide_line ≡ true
 unfolding clap_on_literals decide_line
 decide_line-free = refl
 
-module _ (app : App) (words : List Text) (is : app ≡ decide_line) where
+pub run_line-simple : is_simple run_line ≡ true
+unfolding clap_on_literals run_line
+run_line-simple = refl
+
+pub run_line-free : is_simple_and_free run_line ≡ true
+unfolding clap_on_literals run_line
+run_line-free = refl
+
+module _ (line app : App) (words : List Text) (is : app ≡ line) where
   -- what the parser says of the command as it was built, of the known command
-  pub FailsBy-decide_line : {T : Type 0} (r : Result T Error) → (is_simple_and_free app ≡ true → FailsBy (fault_of app words) r) → FailsBy (fault_of decide_line words) r
-  FailsBy-decide_line r fails =
-      subst (λ (a : App). is_simple_and_free a ≡ true → FailsBy (fault_of a words) r) is fails decide_line-free
+  pub FailsBy-line : {T : Type 0} (r : Result T Error) → is_simple_and_free line ≡ true → (is_simple_and_free app ≡ true → FailsBy (fault_of app words) r) → FailsBy (fault_of line words) r
+  FailsBy-line r free fails =
+      subst (λ (a : App). is_simple_and_free a ≡ true → FailsBy (fault_of a words) r) is fails free
 
-  HasMatchesOf-decide_line : (m : ArgMatches) → HasMatchesOf app words m → rows_of (found_of m) ≡ matches_of decide_line words
-  HasMatchesOf-decide_line m has =
-      (subst (λ (a : App). is_simple a ≡ true → (rows_of (found_of m) ≡ matches_of a words) × (subcommand_rows_of m ≡ subcommand_of a words)) is has decide_line-simple).0
+  HasMatchesOf-line : (m : ArgMatches) → is_simple line ≡ true → HasMatchesOf app words m → rows_of (found_of m) ≡ matches_of line words
+  HasMatchesOf-line m simple has =
+      (subst (λ (a : App). is_simple a ≡ true → (rows_of (found_of m) ≡ matches_of a words) × (subcommand_rows_of m ≡ subcommand_of a words)) is has simple).0
 
-  pub IfOk-matches : (r : Result ArgMatches Error) → IfOk r (HasMatchesOf app words) → IfOk r (λ m. rows_of (found_of m) ≡ matches_of decide_line words)
-  IfOk-matches (Ok m) has = HasMatchesOf-decide_line m has
-  IfOk-matches (Err e) has = tt
+  pub IfOk-matches : (r : Result ArgMatches Error) → is_simple line ≡ true → IfOk r (HasMatchesOf app words) → IfOk r (λ m. rows_of (found_of m) ≡ matches_of line words)
+  IfOk-matches (Ok m) simple has = HasMatchesOf-line m simple has
+  IfOk-matches (Err e) simple has = tt
 
 pub FailsBy-ok : {T : Type 0} (kinds : Kinds) (r : Result T Error) → FailsBy kinds r → OnOk r (kinds ≡ [])
 FailsBy-ok kinds (Ok t) none = none

@@ -3,6 +3,7 @@ pub mod CommandLemmas
 pub mod AclLemmas
 pub mod OutcomeLemmas
 pub mod AskLemmas
+pub mod SetupLemmas
 pub mod Working
 pub mod Limiting
 pub mod Taking
@@ -19,3 +20,5 @@ pub mod CompareLineLemmas
 pub mod CompareLemmas
 pub mod DifferenceLemmas
 pub mod ComparedLemmas
+pub mod PrintLemmas
+pub mod FileLemmas

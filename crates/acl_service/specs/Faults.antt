@@ -11,16 +11,12 @@ use Rattle.acl_posix.specs.declared.entries.TextFault.{TextFault}
 use Rattle.acl_posix.specs.declared.entries.TextFault.TheVariants as text
 use Rattle.acl_service.specs.Asked.{asked_by}
 use Rattle.acl_service.specs.CommandLine.{TakesWords}
-use Rattle.acl_service.specs.declared.fault.RunFault.{RunFault}
-use Rattle.acl_service.specs.declared.fault.RunFault.TheVariants.{Memory, Output}
+use Rattle.acl_service.specs.RunFaults.{run_fault_words}
+use Rattle.acl_service.specs.declared.fault.RunFault.TheVariants.{Memory, Output, Stopped, NoThread}
 use Rattle.acl_service.specs.declared.decide_command.fault.DecideFault.{DecideFault}
 use Rattle.acl_service.specs.declared.decide_command.fault.DecideFault.TheVariants.{Field, Usage, Run}
 use Rattle.acl_service.specs.declared.decide_command.fault.FieldFault.{FieldFault}
 use Rattle.acl_service.specs.declared.decide_command.fault.FieldFault.TheVariants.{BadId, TooMany, BadPerms, BadAcl, UnknownName, InvalidAcl, BadKind, InheritOnly}
-
-abbrev pub run_fault_words : RunFault → List ℕ
-run_fault_words Memory = codes "memory"
-run_fault_words Output = codes "output"
 
 abbrev pub field_fault_words : FieldFault → List ℕ
 field_fault_words BadId = codes "bad-id"
@@ -50,6 +46,8 @@ BecomesFault error (Field fault) = ⊥
 BecomesFault error (Usage same) = (same ≡ error) × (kind_of error ≡ OutOfMemory → ⊥)
 BecomesFault error (Run Memory) = kind_of error ≡ OutOfMemory
 BecomesFault error (Run Output) = ⊥
+BecomesFault error (Run Stopped) = ⊥
+BecomesFault error (Run NoThread) = ⊥
 
 -- the fault is that of the reading, or want of memory
 abbrev pub Explains : {A : Type 0} → Result A FieldFault → DecideFault → Type 0
@@ -57,6 +55,8 @@ Explains reading (Field fault) = reading ≡ Err fault
 Explains reading (Usage error) = ⊥
 Explains reading (Run Memory) = ⊤
 Explains reading (Run Output) = ⊥
+Explains reading (Run Stopped) = ⊥
+Explains reading (Run NoThread) = ⊥
 
 abbrev pub want_of_memory : DecideFault
 want_of_memory = Run Memory
@@ -90,3 +90,5 @@ IsFaultOf words (Field fault) = TakesWords words × (asked_by words ≡ Err faul
 IsFaultOf words (Usage error) = ¬ TakesWords words
 IsFaultOf words (Run Memory) = ⊤
 IsFaultOf words (Run Output) = TakesWords words × IsOk (asked_by words)
+IsFaultOf words (Run Stopped) = ⊥
+IsFaultOf words (Run NoThread) = ⊥

@@ -13,6 +13,11 @@ pub mod Differences
 pub mod CompareOutcome
 pub mod Runs
 pub mod Served
+pub mod SetupTable
+pub mod Setup
+pub mod Shown
+pub mod Opened
+pub mod SetupFaults
 pub mod ErrorLimit
 pub mod RunReport
 pub mod Workers
@@ -25,3 +30,7 @@ pub mod Sessions
 pub mod Cursor
 pub mod Told
 pub mod Headline
+pub mod RunFaults
+pub mod RunText
+pub mod RunTexts
+pub mod RunWords

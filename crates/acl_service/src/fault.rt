@@ -9,18 +9,24 @@ use thiserror::Error;
 pub enum RunFault {
     /// Memory ran out.
     Memory,
+    /// A request was stopped by the gate.
+    Stopped,
+    /// A thread couldn't be started.
+    NoThread,
     /// The answer couldn't be written.
     Output,
 }
 
 impl fmt::Display for RunFault {
-    ghost use Rattle.acl_service.specs.Faults.{run_fault_words};
+    ghost use Rattle.acl_service.specs.RunFaults.{run_fault_words};
 
     ghost output = { λ fault. Some (run_fault_words fault) };
 
     fn fmt<W: fmt::Write>(&self, f: &mut fmt::Formatter<W>) -> fmt::Result {
         f.write_str(match self {
             RunFault::Memory => "memory",
+            RunFault::Stopped => "stopped",
+            RunFault::NoThread => "no thread",
             RunFault::Output => "output",
         })
     }

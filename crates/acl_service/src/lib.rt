@@ -7,9 +7,12 @@ mod fault;
 mod headline;
 mod input;
 mod one;
+mod options;
+mod run_command;
 mod runs;
 mod served;
 mod sessions;
+mod setup;
 mod words;
 
 pub use compare_command::compare;
@@ -18,9 +21,11 @@ pub use fault::RunFault;
 pub use headline::{journal_explains_every_answer, one_session_is_served_as_alone};
 pub use input::{CapFault, read_capped};
 pub use one::{OneFault, run_one};
+pub use run_command::{OpenFiles, run, run_texts};
 pub use runs::{Gate, OpenGate, ServeFault};
 pub use served::Served;
 pub use sessions::{Report, serve, serve_rounds};
+pub use setup::{SetupError, read_setup};
 pub use words::{WordsFault, words_of};
 
 #[cfg(test)]

@@ -6,6 +6,8 @@ mod input;
 mod one;
 mod refused_growths;
 mod rounds;
+mod run_texts;
 mod serve;
+mod setup;
 mod texts;
 mod words;

@@ -1,14 +1,20 @@
 -- What the program comes to.
-use Rattle.std.specs.Prelude.{ℕ, ◌⊎◌, List, [], ◌∷◌, Option, Some, None, codes, if◌then◌else◌}
+use Rattle.std.specs.Prelude.{◌≡◌, ◌≤◌, ℕ, ◌⊎◌, List, [], ◌∷◌, Option, Some, None, codes, if◌then◌else◌}
+use Rattle.std.specs.Io.KnownBytes.{IsAtEnd, Keeps}
 use Rattle.std.specs.Str.{bytes_eq}
 use Rattle.acl_service.specs.CompareOutcome.{EndsAsCompared}
 use Rattle.acl_service.specs.Outcome.{EndsAs, Outcome, outcome_of}
+use Rattle.acl_service.specs.RunWords.{RunsWords, run_rows}
 use Rattle.aclctl.specs.Fault.{status_of}
 use Rattle.aclctl.specs.Input.{AreWordsOf, IsInputFault}
 use Rattle.aclctl.specs.declared.fault.ProgramFault.{ProgramFault}
 use Rattle.aclctl.specs.declared.fault.ProgramFault.TheVariants.{NoCommand}
 
--- the exit status of a fault, and nothing for the output
+-- what is told of each file, by its name
+abbrev pub Files : Type 0
+Files = List ℕ → Option (List ℕ)
+
+-- what is refused for a fault: its exit status, and nothing for the output
 abbrev pub refusal : ProgramFault → Outcome
 refusal fault = record { status = status_of fault; text = [] }
 
@@ -16,26 +22,35 @@ refusal fault = record { status = status_of fault; text = [] }
 pub data Command : Type 0 where
   Decide : Command
   Compare : Command
+  Run : Command
 
 -- the command of this name
 abbrev pub command_of : List ℕ → Option Command
 command_of name =
     if bytes_eq name (codes "decide") then Some Decide
-    else (if bytes_eq name (codes "compare") then Some Compare else None)
+    else (if bytes_eq name (codes "compare") then Some Compare
+    else (if bytes_eq name (codes "run") then Some Run else None))
 
--- a run ended as these words of the command come to
-abbrev pub EndsAsCommand : Option Command → List (List ℕ) → Option (List ℕ) → Option (List ℕ) → ℕ → Type 0
-EndsAsCommand (Some Decide) words old new status = EndsAs (outcome_of words) old new status
-EndsAsCommand (Some Compare) words old new status = EndsAsCompared words old new status
-EndsAsCommand None words old new status = EndsAs (refusal NoCommand) old new status
+-- sessions ended so: with their outputs, or with nothing written where they were refused
+pub record EndsAsRun (files : Files) (input : Option (List ℕ)) (words : List (List ℕ)) (old new : Option (List ℕ)) (status : ℕ) : Type 0 where
+  pub printed : status ≡ 0 → RunsWords files input (run_rows words) old new
+  pub silent : 1 ≤ status → status ≤ 2 → Keeps old new
+
+-- with these files and this standard input, a run ended as these words of the command come to
+abbrev pub EndsAsCommand : Files → Option (List ℕ) → Option Command → List (List ℕ) → Option (List ℕ) → Option (List ℕ) → ℕ → Type 0
+EndsAsCommand files input (Some Decide) words old new status = EndsAs (outcome_of words) old new status
+EndsAsCommand files input (Some Compare) words old new status = EndsAsCompared words old new status
+EndsAsCommand files input (Some Run) words old new status = EndsAsRun files input words old new status
+EndsAsCommand files input None words old new status = EndsAs (refusal NoCommand) old new status
 
 -- by the command that the first of the words names
-abbrev pub EndsAsWords : List (List ℕ) → Option (List ℕ) → Option (List ℕ) → ℕ → Type 0
-EndsAsWords [] old new status = EndsAs (refusal NoCommand) old new status
-EndsAsWords (first ∷ more) old new status = EndsAsCommand (command_of first) (first ∷ more) old new status
+abbrev pub EndsAsWords : Files → Option (List ℕ) → List (List ℕ) → Option (List ℕ) → Option (List ℕ) → ℕ → Type 0
+EndsAsWords files input [] old new status = EndsAs (refusal NoCommand) old new status
+EndsAsWords files input (first ∷ more) old new status = EndsAsCommand files input (command_of first) (first ∷ more) old new status
 
--- with these bytes on standard input, a run ended as their words come to, or was refused for a fault of the bytes or of
--- reading them
-abbrev pub EndsFrom : List ℕ → Option (List ℕ) → Option (List ℕ) → ℕ → Type 0
-EndsFrom bytes old new status = ((words : List (List ℕ)) × AreWordsOf bytes words × EndsAsWords words old new status)
+-- with these bytes on standard input, a run ended as their words come to, with nothing left there; or it was refused for a
+-- fault of the bytes or of reading them
+abbrev pub EndsFrom : Files → List ℕ → Option (List ℕ) → Option (List ℕ) → ℕ → Type 0
+EndsFrom files bytes old new status =
+    ((words : List (List ℕ)) × (rest : Option (List ℕ)) × IsAtEnd rest × AreWordsOf bytes words × EndsAsWords files rest words old new status)
     ⊎ ((fault : ProgramFault) × IsInputFault fault bytes × EndsAs (refusal fault) old new status)

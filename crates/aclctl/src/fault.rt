@@ -29,6 +29,7 @@ usage: aclctl COMMAND [OPTION].. [WORD]..
 commands:
   decide   tells whether an access control list grants a request
   compare  tells whether anybody gains or loses access between two lists
+  run      lets sessions work on one tree at the same time, and prints their answers
 
 aclctl COMMAND --help tells the options of a command. Without any words, they
 are read from standard input, one a line, the command first.

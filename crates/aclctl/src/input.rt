@@ -1,5 +1,6 @@
 //! The words of the program: those that it is given, or else those of standard input.
-ghost use Rattle.std.specs.Prelude.{◌≡◌, ◌≢◌, [], map, IfErr, IfOk, IfSome, IsOkAnd};
+ghost use Rattle.std.specs.Prelude.{◌≡◌, ◌≢◌, [], map, IfErr, IfOk, IfSome, IsOkAnd, OnOk};
+ghost use Rattle.std.specs.Io.KnownBytes.{IsAtEnd};
 ghost use Rattle.std.specs.String.{string_bytes};
 ghost use Rattle.aclctl.specs.Input.{AreWordsOf, IsInputFault};
 
@@ -18,10 +19,12 @@ pub fn command_words<R: Read>(
     reader: &mut R,
 ) -> Result<Vec<String>, ProgramFault>
     ensures given { given.items ≢ [] → IsOkAnd result (λ words. words.items ≡ given.items) }
+    ensures untouched { given.items ≢ [] → reader.new ≡ reader.old }
 
     // Of a reader that tells its bytes.
     ensures read { given.items ≡ [] → IfOk result (λ words. IfSome (R.remaining reader.old)
         (λ bytes. AreWordsOf bytes (map string_bytes words.items))) }
+    ensures ended { given.items ≡ [] → OnOk result (IsAtEnd (R.remaining reader.new)) }
     ensures refused { IfErr result (λ fault. IfSome (R.remaining reader.old) (IsInputFault fault)) }
 {
     if !given.is_empty() {

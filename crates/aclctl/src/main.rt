@@ -5,9 +5,29 @@ mod fault;
 mod input;
 mod program;
 
+use acl_service::OpenFiles;
 use fault::ProgramFault;
-use std::env;
+use std::fs::File;
 use std::process::ExitCode;
+use std::{env, io};
+
+/// The files of the system.
+#[derive(Clone, Copy)]
+struct Disk<'a> {
+    rt: &'a HostRuntime,
+}
+
+impl<'a> OpenFiles for Disk<'a> {
+    ghost use Rattle.std.specs.Prelude.{None};
+
+    type File = File;
+
+    ghost bytes_of = { λ _ _. None };
+
+    fn open(&self, name: &str) -> io::Result<File> {
+        File::open(self.rt, name)
+    }
+}
 
 /// The words of the command line, without the program's name.
 fn given_words(rt: &HostRuntime) -> Result<Vec<String>, ProgramFault> {
@@ -17,7 +37,9 @@ fn given_words(rt: &HostRuntime) -> Result<Vec<String>, ProgramFault> {
 fn main(rt: HostRuntime) -> ExitCode {
     let status = match given_words(&rt) {
         Ok(given) => program::run(
+            &rt,
             rt.alloc(),
+            &Disk { rt: &rt },
             given,
             &mut rt.stdin(),
             &mut rt.stdout(),

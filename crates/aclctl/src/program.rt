@@ -5,49 +5,74 @@ ghost use Rattle.aclctl.specs.Program.{EndsAsWords, EndsFrom};
 
 use crate::fault::ProgramFault;
 use crate::input::command_words;
-use acl_service::{compare, decide};
+use acl_service::{OpenFiles, compare, decide};
 use std::alloc::Global;
 use std::convert::AsStr;
 use std::io::{Read, Write};
+use std::sync::Wait;
+use std::thread::Threads;
+use std::time::Clock;
 
 /// Runs the command that the first word names, and returns the exit status.
-pub fn run_command<S: AsStr, W: Write, E: Write>(
+pub fn run_command<R, F, S, I, W, E>(
+    rt: &R,
     alloc: Global,
+    files: &F,
     words: &[S],
+    input: &mut I,
     out: &mut W,
     err: &mut E,
 ) -> u8
+where
+    R: Threads + Wait + Clock + Sync,
+    F: OpenFiles,
+    S: AsStr,
+    I: Read,
+    W: Write,
+    E: Write,
     ensures statuses { result ≤ 3 }
 
-    // Unless memory runs out or a write fails.
-    ensures ended { result ≢ 3
-        → EndsAsWords (map S.text words.now) (W.contents out.old) (W.contents out.new) result }
+    // Unless memory runs out, a thread is refused or a write fails.
+    ensures ended { result ≢ 3 → EndsAsWords (F.bytes_of files.now) (I.remaining input.old) (map S.text words.now)
+        (W.contents out.old) (W.contents out.new) result }
 {
     match words.first() {
         Some(first) if first.as_str() == "decide" => decide(alloc, words, out, err),
         Some(first) if first.as_str() == "compare" => compare(alloc, words, out, err),
+        Some(first) if first.as_str() == "run" => {
+            acl_service::run(rt, alloc, files, words, input, out, err)
+        }
         _ => ProgramFault::NoCommand.report(err),
     }
 }
 
 /// Runs the command of the words given, or where there are none of those that the reader has, and returns the exit status.
-pub fn run<R: Read, W: Write, E: Write>(
+pub fn run<R, F, I, W, E>(
+    rt: &R,
     alloc: Global,
+    files: &F,
     given: Vec<String>,
-    reader: &mut R,
+    reader: &mut I,
     out: &mut W,
     err: &mut E,
 ) -> u8
+where
+    R: Threads + Wait + Clock + Sync,
+    F: OpenFiles,
+    I: Read,
+    W: Write,
+    E: Write,
     ensures statuses { result ≤ 3 }
 
-    // Unless memory runs out or a write fails.
+    // Unless memory runs out, a thread is refused or a write fails.
     ensures given { given.items ≢ [] → result ≢ 3
-        → EndsAsWords (map string_bytes given.items) (W.contents out.old) (W.contents out.new) result }
-    ensures read { given.items ≡ [] → result ≢ 3 → IfSome (R.remaining reader.old)
-        (λ bytes. EndsFrom bytes (W.contents out.old) (W.contents out.new) result) }
+        → EndsAsWords (F.bytes_of files.now) (I.remaining reader.old) (map string_bytes given.items)
+        (W.contents out.old) (W.contents out.new) result }
+    ensures read { given.items ≡ [] → result ≢ 3 → IfSome (I.remaining reader.old)
+        (λ bytes. EndsFrom (F.bytes_of files.now) bytes (W.contents out.old) (W.contents out.new) result) }
 {
     match command_words(alloc, given, reader) {
-        Ok(words) => run_command(alloc, words.as_slice(), out, err),
+        Ok(words) => run_command(rt, alloc, files, words.as_slice(), reader, out, err),
         Err(fault) => fault.report(err),
     }
 }

@@ -1,4 +1,5 @@
 use crate::program::{run, run_command};
+use acl_service::OpenFiles;
 use std::alloc::{AllocError, Global};
 use std::io::{self, Read, Write};
 use std::test::Fail;
@@ -41,6 +42,45 @@ impl Write for Broken {
     }
 }
 
+/// A file whose bytes are at hand.
+#[derive(Drop)]
+struct Sheet<'a> {
+    left: &'a [u8],
+}
+
+impl<'a> Read for Sheet<'a> {
+    fn read(&mut self, buffer: &mut [u8]) -> io::Result<usize> {
+        self.left.read(buffer)
+    }
+}
+
+/// Files by their names.
+#[derive(Clone, Copy)]
+struct Shelf<'a> {
+    files: &'a [(&'a str, &'a str)],
+}
+
+impl<'a> OpenFiles for Shelf<'a> {
+    ghost use Rattle.std.specs.Prelude.{None};
+
+    type File = Sheet<'a>;
+
+    ghost bytes_of = { λ _ _. None };
+
+    fn open(&self, name: &str) -> io::Result<Sheet<'a>> {
+        for file in self.files {
+            if file.0 == name {
+                return Ok(Sheet {
+                    left: file.1.as_bytes(),
+                });
+            }
+        }
+        Err(io::Error::from(io::ErrorKind::NotFound))
+    }
+}
+
+const EMPTY: Shelf<'static> = Shelf { files: &[] };
+
 fn owned(alloc: Global, words: &[&str]) -> Result<Vec<String>, AllocError> {
     let mut all = Vec::new(alloc);
     for word in words {
@@ -54,11 +94,24 @@ fn words_are_those_given_or_those_of_the_reader(rt: HostRuntime) -> Result<(), F
     let given = owned(rt.alloc(), ASKED.as_slice())?;
     let mut out = Vec::new(rt.alloc());
     let mut err = Vec::new(rt.alloc());
-    assert_eq!(rt; run(rt.alloc(), given, &mut Broken, &mut out, &mut err), 0);
+    assert_eq!(rt;
+        run(
+            &rt,
+            rt.alloc(),
+            &EMPTY,
+            given,
+            &mut Broken,
+            &mut out,
+            &mut err
+        ),
+        0
+    );
     let mut lines = ASKED_LINES.as_bytes();
     assert_eq!(rt;
         run(
+            &rt,
             rt.alloc(),
+            &EMPTY,
             Vec::new(rt.alloc()),
             &mut lines,
             &mut out,
@@ -113,12 +166,23 @@ fn first_word_names_no_command(rt: HostRuntime) -> Result<(), Fail> {
         ["--help"].as_slice(),
         ["Decide"].as_slice(),
         ["", "decide"].as_slice(),
-        ["run"].as_slice(),
+        ["runs"].as_slice(),
     ] {
         let given = owned(rt.alloc(), words)?;
         let mut out = Vec::new(rt.alloc());
         let mut err = Vec::new(rt.alloc());
-        assert_eq!(rt; run(rt.alloc(), given, &mut Broken, &mut out, &mut err), 2);
+        assert_eq!(rt;
+            run(
+                &rt,
+                rt.alloc(),
+                &EMPTY,
+                given,
+                &mut Broken,
+                &mut out,
+                &mut err
+            ),
+            2
+        );
         assert!(rt; err.starts_with(b"aclctl: no command\n\nusage: aclctl COMMAND".as_slice()));
         assert!(rt; out.is_empty());
     }
@@ -126,28 +190,28 @@ fn first_word_names_no_command(rt: HostRuntime) -> Result<(), Fail> {
 }
 
 /// What the program says of bytes on standard input that are no words.
-fn refusal<R: Read>(alloc: Global, reader: &mut R, out: &mut Vec<u8>, err: &mut Vec<u8>) -> u8 {
-    run(alloc, Vec::new(alloc), reader, out, err)
+fn refusal<R: Read>(rt: &HostRuntime, reader: &mut R, out: &mut Vec<u8>, err: &mut Vec<u8>) -> u8 {
+    run(
+        rt,
+        rt.alloc(),
+        &EMPTY,
+        Vec::new(rt.alloc()),
+        reader,
+        out,
+        err,
+    )
 }
 
 #[test]
 fn standard_input_is_refused(rt: HostRuntime) {
     let mut out = Vec::new(rt.alloc());
     let mut err = Vec::new(rt.alloc());
+    assert_eq!(rt; refusal(&rt, &mut io::repeat(b'x'), &mut out, &mut err), 2);
     assert_eq!(rt;
-        refusal(rt.alloc(), &mut io::repeat(b'x'), &mut out, &mut err),
+        refusal(&rt, &mut b"decide\n\xff".as_slice(), &mut out, &mut err),
         2
     );
-    assert_eq!(rt;
-        refusal(
-            rt.alloc(),
-            &mut b"decide\n\xff".as_slice(),
-            &mut out,
-            &mut err
-        ),
-        2
-    );
-    assert_eq!(rt; refusal(rt.alloc(), &mut Broken, &mut out, &mut err), 1);
+    assert_eq!(rt; refusal(&rt, &mut Broken, &mut out, &mut err), 1);
     let lines = b"aclctl: too many words\naclctl: bad words\naclctl: cannot read -\n";
     assert_eq!(rt; err.as_slice(), lines.as_slice());
     assert!(rt; out.is_empty());
@@ -162,19 +226,13 @@ fn words_on_standard_input_take_65_536_bytes(rt: HostRuntime) -> Result<(), Fail
         let text = vec![in rt.alloc(); b'x'; count]?;
         let mut out = Vec::new(rt.alloc());
         let mut err = Vec::new(rt.alloc());
-        assert_eq!(rt;
-            refusal(rt.alloc(), &mut text.as_slice(), &mut out, &mut err),
-            2
-        );
+        assert_eq!(rt; refusal(&rt, &mut text.as_slice(), &mut out, &mut err), 2);
         assert!(rt; err.starts_with(line));
     }
     // No input at all has no word.
     let mut out = Vec::new(rt.alloc());
     let mut err = Vec::new(rt.alloc());
-    assert_eq!(rt;
-        refusal(rt.alloc(), &mut b"".as_slice(), &mut out, &mut err),
-        2
-    );
+    assert_eq!(rt; refusal(&rt, &mut b"".as_slice(), &mut out, &mut err), 2);
     assert!(rt; err.starts_with(b"aclctl: no command\n".as_slice()));
     Ok(())
 }
@@ -183,13 +241,110 @@ fn words_on_standard_input_take_65_536_bytes(rt: HostRuntime) -> Result<(), Fail
 fn failed_writes(rt: HostRuntime) {
     let mut err = Vec::new(rt.alloc());
     assert_eq!(rt;
-        run_command(rt.alloc(), ASKED.as_slice(), &mut Broken, &mut err),
+        run_command(
+            &rt,
+            rt.alloc(),
+            &EMPTY,
+            ASKED.as_slice(),
+            &mut Broken,
+            &mut Broken,
+            &mut err
+        ),
         3
     );
     assert_eq!(rt; err.as_slice(), b"aclctl: run: output\n".as_slice());
     // A fault while writing to standard error changes no status.
     assert_eq!(rt;
-        run_command(rt.alloc(), ["--help"].as_slice(), &mut Broken, &mut Broken),
+        run_command(
+            &rt,
+            rt.alloc(),
+            &EMPTY,
+            ["--help"].as_slice(),
+            &mut Broken,
+            &mut Broken,
+            &mut Broken
+        ),
         2
     );
+}
+
+const SETUP: &str =
+    "domain = \"a\"\numask = \"022\"\nroot = { owner = \"al\", group = \"staff\", mode = \"755\", style = \"posix\" }\nuser = [ { name = \"al\", uid = 7, groups = [\"staff\"] } ]\ngroup = [ { name = \"staff\", gid = 50 } ]\n";
+
+#[test]
+fn sessions_of_files_and_of_standard_input(rt: HostRuntime) -> Result<(), Fail> {
+    let shelf = Shelf {
+        files: &[("s", SETUP), ("one", "get /\n")],
+    };
+    let mut out = Vec::new(rt.alloc());
+    let mut err = Vec::new(rt.alloc());
+    let words = ["run", "--setup", "s", "one", "-"].as_slice();
+    let mut input = b"check / al w\n".as_slice();
+    assert_eq!(rt;
+        run_command(
+            &rt,
+            rt.alloc(),
+            &shelf,
+            words,
+            &mut input,
+            &mut out,
+            &mut err
+        ),
+        0
+    );
+    let wanted =
+        "session 0\n1 get / dir al staff 755 posix\nuser::rwx\ngroup::r-x\nother::r-x\nsession 1\n1 granted\n";
+    assert_eq!(rt; out.as_slice(), wanted.as_bytes());
+    assert!(rt; err.is_empty());
+    Ok(())
+}
+
+#[test]
+fn files_that_are_refused(rt: HostRuntime) -> Result<(), Fail> {
+    let shelf = Shelf {
+        files: &[("s", SETUP), ("one", "get /\n")],
+    };
+    for (words, status, line) in [
+        (
+            ["run", "--setup", "none", "one"].as_slice(),
+            1,
+            "aclctl: cannot read none\n",
+        ),
+        (
+            ["run", "--setup", "s", "one", "two"].as_slice(),
+            1,
+            "aclctl: cannot read two\n",
+        ),
+        (
+            ["run", "--setup", "s", "-"].as_slice(),
+            1,
+            "aclctl: cannot read -\n",
+        ),
+        (
+            ["run", "--setup", "s", "-", "-"].as_slice(),
+            2,
+            "aclctl: - is given twice\n",
+        ),
+        (
+            ["run", "--setup", "one", "one"].as_slice(),
+            1,
+            "aclctl: setup: not toml\n",
+        ),
+    ] {
+        let mut out = Vec::new(rt.alloc());
+        let mut err = Vec::new(rt.alloc());
+        let ended = run_command(
+            &rt,
+            rt.alloc(),
+            &shelf,
+            words,
+            &mut Broken,
+            &mut out,
+            &mut err,
+        );
+        assert_eq!(rt; ended, status);
+        assert!(rt; out.is_empty());
+        assert_eq!(rt; err.as_slice(), line.as_bytes());
+    }
+    Ok(())
 }

@@ -3,7 +3,7 @@ ghost use Rattle.std.specs.Prelude.{◌≡◌, IfErr, IfOk, OnOk, map};
 ghost use Rattle.clap.specs.Words.{app_of, found_of, kind_of, matches_of, rows_of};
 ghost use Rattle.acl_service.specs.CompareLine.{TakesCompareWords, compare_line};
 
-use crate::decide_command::command_line::{required_option, required_word};
+use crate::options::{required_option, required_word};
 use clap::error::ErrorKind;
 use clap::{ArgMatches, Command, Error};
 use std::alloc::{AllocError, Global};

@@ -9,7 +9,8 @@ ghost use Rattle.acl_service.specs.Faults.{Explains};
 
 use super::list::{AnyAcl, read_kind, read_list};
 use crate::decide_command::fault::{DecideFault, FieldFault};
-use crate::decide_command::question::{gid_field, text_field, uid_field};
+use crate::decide_command::question::{gid_field, uid_field};
+use crate::options::text_field;
 use acl_bridge::{difference_from_posix, posix_difference, whole_request_difference};
 use acl_names::{Gid, Uid};
 use acl_nfs4::{Acl4, Difference, Mask};

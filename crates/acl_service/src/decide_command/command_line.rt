@@ -1,10 +1,11 @@
 //! The words of `decide`, as the parser of command lines takes them.
-ghost use Rattle.std.specs.Prelude.{◌≡◌, IfErr, IfOk, OnOk, map, false};
-ghost use Rattle.clap.specs.Words.{app_of, found_of, kind_of, matches_of, rows_of, rule_of};
-ghost use Rattle.acl_service.specs.CommandLine.{TakesWords, decide_line, flag, optional_option, required_option, required_word};
+ghost use Rattle.std.specs.Prelude.{◌≡◌, IfErr, IfOk, OnOk, map};
+ghost use Rattle.clap.specs.Words.{app_of, found_of, kind_of, matches_of, rows_of};
+ghost use Rattle.acl_service.specs.CommandLine.{TakesWords, decide_line};
 
+use crate::options::{flag, optional_option, required_option, required_word};
 use clap::error::ErrorKind;
-use clap::{Arg, ArgAction, ArgMatches, Command, Error};
+use clap::{ArgMatches, Command, Error};
 use std::alloc::{AllocError, Global};
 use std::convert::AsStr;
 
@@ -38,37 +39,6 @@ fn decide_command<'a>(alloc: Global) -> Result<Command<'a>, AllocError>
             "text",
             "The access control list, as u::rw,g::r,o::-. One that begins with - follows a word --",
         ))
-}
-
-pub(crate) fn required_option<'a>(alloc: Global, name: &'a str, help: &'a str) -> Arg<'a>
-    ensures rule { rule_of result ≡ required_option name.entry.now }
-    ensures local { result.global ≡ false }
-{
-    optional_option(alloc, name, help).required(true)
-}
-
-fn optional_option<'a>(alloc: Global, name: &'a str, help: &'a str) -> Arg<'a>
-    ensures rule { rule_of result ≡ optional_option name.entry.now }
-    ensures local { result.global ≡ false }
-{
-    Arg::new(alloc, name).long(name).help(help)
-}
-
-fn flag<'a>(alloc: Global, name: &'a str, help: &'a str) -> Arg<'a>
-    ensures rule { rule_of result ≡ flag name.entry.now }
-    ensures local { result.global ≡ false }
-{
-    Arg::new(alloc, name)
-        .long(name)
-        .action(ArgAction::SetTrue)
-        .help(help)
-}
-
-pub(crate) fn required_word<'a>(alloc: Global, name: &'a str, help: &'a str) -> Arg<'a>
-    ensures rule { rule_of result ≡ required_word name.entry.now }
-    ensures local { result.global ≡ false }
-{
-    Arg::new(alloc, name).required(true).help(help)
 }
 
 /// What the parser finds in the words of `decide`, of which the first is the command's name.

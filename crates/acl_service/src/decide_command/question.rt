@@ -1,14 +1,15 @@
 //! What the words of `decide` ask.
-ghost use Rattle.std.specs.Prelude.{◌≡◌, codes, option_map, Ok, Err, IfErr, IfOk, IsOkAnd};
-ghost use Rattle.clap.specs.Words.{first_of, found_of, rows_of};
+ghost use Rattle.std.specs.Prelude.{◌≡◌, codes, Ok, Err, IfErr, IfOk, IsOkAnd};
+ghost use Rattle.clap.specs.Words.{found_of, rows_of};
 ghost use Rattle.acl_posix.specs.Perms.{bits_of};
-ghost use Rattle.acl_service.specs.Asked.{acl_in, asked_in, flag_in, gids_in, id_in, perms_in};
+ghost use Rattle.acl_service.specs.Asked.{acl_in, asked_in, gids_in, id_in, perms_in};
 ghost use Rattle.acl_service.specs.Faults.{Explains};
 ghost use Rattle.acl_service.specs.Question.{Asks};
 
 use super::acl::read_acl;
 use super::fault::{DecideFault, FieldFault};
 use super::ids::{read_gid, read_gids, read_uid};
+use crate::options::{flag_field, text_field};
 use acl_names::{Gid, Requester, Uid};
 use acl_posix::{Acl, Perms, read_perms};
 use clap::ArgMatches;
@@ -36,13 +37,6 @@ impl Question {
         self.acl
             .grants(self.owner, self.group, &self.requester, self.request)
     }
-}
-
-/// The text that the words give for a name.
-pub(crate) fn text_field<'a>(matches: &ArgMatches<'a>, name: &str) -> Option<&'a str>
-    ensures { option_map (λ text. text.now) result ≡ first_of name.now (rows_of (found_of matches.now)) }
-{
-    matches.get_str(name)
 }
 
 /// The user of a name.
@@ -88,16 +82,6 @@ fn acl_field(alloc: Global, matches: &ArgMatches<'_>) -> Result<Acl, DecideFault
         alloc,
         text_field(matches, "text").ok_or(FieldFault::BadAcl)?,
     )
-}
-
-/// Whether a flag is set.
-fn flag_field(matches: &ArgMatches<'_>, name: &str) -> bool
-    ensures { result ≡ flag_in name.now (rows_of (found_of matches.now)) }
-{
-    match text_field(matches, name) {
-        Some(text) => text == "true",
-        None => false,
-    }
 }
 
 /// What the words ask, their fields read in order.

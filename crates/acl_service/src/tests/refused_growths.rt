@@ -4,13 +4,14 @@
 //! `rt try --test --fail-alloc N` refuses the growth N of a test. Each test here passes whichever growth that is, and prints
 //! how many refusals it was told of: one up to the last growth that it asks for, and none from then on.
 use crate::tests::fixture::{directory, tree};
+use crate::tests::setup::SETUP;
 use crate::tests::texts::{has_output, serve_texts, serve_texts_in_rounds};
 use crate::{
-    CapFault, OneFault, OpenGate, Report, ServeFault, WordsFault, compare, decide, read_capped,
-    run_one, words_of,
+    CapFault, OneFault, OpenGate, Report, ServeFault, SetupError, WordsFault, compare, decide,
+    read_capped, read_setup, run_one, run_texts, words_of,
 };
 use acl_names::Directory;
-use std::alloc::Global;
+use std::alloc::{AllocError, Global};
 use std::io::{self, Read};
 use std::sync::Wait;
 use std::test::Fail;
@@ -248,6 +249,75 @@ fn serve_under_a_refused_growth(rt: HostRuntime) -> Result<(), Fail> {
     if ended == Ending::Memory {
         refusals = 1;
         ended = run_in_threads(&rt, rt.alloc());
+    }
+    assert_eq!(rt; ended, Ending::Answered);
+    println!(rt; "refusals: {refusals}")?;
+    Ok(())
+}
+
+#[test]
+fn read_setup_under_a_refused_growth(rt: HostRuntime) -> Result<(), Fail> {
+    let mut refusals = 0;
+    let mut opened = read_setup(rt.alloc(), SETUP.as_bytes());
+    if let Err(SetupError::Memory) = opened {
+        refusals = 1;
+        opened = read_setup(rt.alloc(), SETUP.as_bytes());
+    }
+    let (directory, tree) = opened.ok().ok_or("refused without cause")?;
+    assert_eq!(rt; directory.domain(), "example.org");
+    assert_eq!(rt; tree.len(), 1);
+    println!(rt; "refusals: {refusals}")?;
+    Ok(())
+}
+
+/// One session with its journal, where both writers have room enough without any memory of their own.
+fn print_journal<R: Threads + Wait + Clock + Sync>(
+    rt: &R,
+    alloc: Global,
+    texts: &[Vec<u8>],
+) -> Ending {
+    let mut lines = [0; 1024];
+    let mut faults = [0; 64];
+    let mut out = lines.as_mut_slice();
+    let mut err = faults.as_mut_slice();
+    let setup = SETUP.as_bytes();
+    let status = run_texts(
+        rt, alloc, &OpenGate, setup, texts, true, None, &mut out, &mut err,
+    );
+    let (room, fault_room) = (out.len(), err.len());
+    let answered = lines[..1024 - room].ends_with(
+        b"2 error 1 syntax\njournal\n0 1\n0 2\n".as_slice(),
+    );
+    let memory = faults.starts_with(b"aclctl: run: memory\n".as_slice())
+        || faults.starts_with(b"aclctl: run: no thread\n".as_slice());
+    if (status, fault_room, answered) == (0, 64, true) {
+        Ending::Answered
+    } else if (status, room, memory) == (3, 1024, true) {
+        Ending::Memory
+    } else {
+        Ending::Other
+    }
+}
+
+fn one_text(alloc: Global) -> Result<Vec<Vec<u8>>, AllocError> {
+    let mut texts = Vec::new(alloc);
+    texts.push(Vec::from_slice(alloc, b"get /\nx\n")?)?;
+    Ok(texts)
+}
+
+#[test]
+fn run_texts_under_a_refused_growth(rt: HostRuntime) -> Result<(), Fail> {
+    let mut refusals: u32 = 0;
+    let mut texts = one_text(rt.alloc());
+    if texts.is_err() {
+        refusals = 1;
+        texts = one_text(rt.alloc());
+    }
+    let texts = texts?;
+    let mut ended = print_journal(&rt, rt.alloc(), texts.as_slice());
+    if ended == Ending::Memory {
+        refusals = refusals.saturating_add(1);
+        ended = print_journal(&rt, rt.alloc(), texts.as_slice());
     }
     assert_eq!(rt; ended, Ending::Answered);
     println!(rt; "refusals: {refusals}")?;

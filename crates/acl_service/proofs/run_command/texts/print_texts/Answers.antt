@@ -1,0 +1,33 @@
+use Rattle.std.proofs.Common.{◌≡◌, ◌∷◌, [], None, false, inl, inr, refl, rules}
+use Rattle.std.specs.Io.KnownBytes.{Appends}
+use Rattle.std.proofs.lemmas.Result.{on_ok_weaker}
+use Rattle.acl_service.specs.Opened.{Opens}
+use Rattle.acl_service.specs.Runs.{session_text}
+use Rattle.acl_service.proofs.PrintLemmas.{only_one}
+use Rattle.acl_service.proofs.run_command.texts.print_texts.Goals as goal
+
+pub returns-in-len1-clause-printed : goal.returns-in-len1-clause-printed
+returns-in-len1-clause-printed g c =
+    let known = c.in_ok-directory.directory in
+    let tree = c.in_ok-directory.tree in
+    let text = c.text-item.result in
+    let opened : Opens c.args.setup.now known tree = c.in_ok-directory.ensures.opened in
+    let only : c.args.texts.now ≡ text ∷ [] = only_one c.args.texts.now text (search rules) (search rules) (search rules) in
+    let no_journal : c.args.options.journal ≡ false = search rules in
+    let no_limit : c.args.options.max_errors ≡ None = search rules in
+    on_ok_weaker c.print_session.result (λ written. record {
+      printed = session_text known tree text.items;
+      prints = record { known = known; tree = tree; opened = opened; is = inl (record { text = text; only = only; no_journal = no_journal; no_limit = no_limit; is = refl }) };
+      written = search (rules, written);
+    }) c.print_session.ensures.printed
+
+pub returns-clause-printed : goal.returns-clause-printed
+returns-clause-printed g c =
+    let known = c.in_ok-directory.directory in
+    let tree = c.in_ok-directory.tree in
+    let opened : Opens c.args.setup.now known tree = c.in_ok-directory.ensures.opened in
+    on_ok_weaker c.print_sessions.result (λ grown. record {
+      printed = grown.printed;
+      prints = record { known = known; tree = tree; opened = opened; is = inr grown.is };
+      written = grown.written;
+    }) c.print_sessions.ensures.printed

@@ -1,0 +1,153 @@
+//! The command `run`.
+ghost use Rattle.std.specs.Prelude.{◌≡◌, ◌≢◌, ◌<◌, ◌≤◌, ◌↔◌, All, Some, length, map};
+ghost use Rattle.std.specs.Io.KnownBytes.{Keeps};
+ghost use Rattle.clap.specs.Words.{found_of, rows_of};
+ghost use Rattle.acl_lang.specs.declared.limits.TheConstants.{MAX_TEXT_LEN};
+ghost use Rattle.acl_broker.specs.declared.limits.TheConstants.{SESSIONS};
+ghost use Rattle.acl_service.specs.RunFaults.{RefusesSetup};
+ghost use Rattle.acl_service.specs.RunTexts.{GrowsByRun};
+ghost use Rattle.acl_service.specs.RunWords.{RunTakes, RunsWords, run_rows};
+
+mod command_line;
+mod fault;
+mod files;
+mod printing;
+mod texts;
+mod usage;
+
+use crate::options::flag_field;
+use crate::runs::{Gate, OpenGate};
+use clap::ArgMatches;
+use command_line::{limit_field, parse, session_fields, setup_field};
+pub use files::OpenFiles;
+use files::{FilesFault, read_texts};
+use std::alloc::Global;
+use std::convert::AsStr;
+use std::io::{Read, Write};
+use std::sync::Wait;
+use std::thread::Threads;
+use std::time::Clock;
+use texts::{Options, print_texts};
+use usage::report_usage;
+
+/// Runs sessions with these texts over the directory and the tree that the setup opens, and writes what they print to `out`.
+/// Of one session that is its output. Of more, each output stands behind a line `session K`, from 0 in the order of the
+/// texts. With `journal` there follow the line `journal` and, for each command in the order in which they took effect, a
+/// line `K N`: its session and its line's number. With `max_errors` of K, a session ends at its K-th answer that is an error.
+/// A single session of which neither is asked runs without threads.
+///
+/// Nothing is written before the run has ended. What is wrong goes to `err` in one line; a fault while writing there changes
+/// nothing.
+///
+/// It returns the exit status: 0 with the outputs; 1 where the setup is refused; 2 for more than 64 texts, before the setup
+/// is read; and 3 where memory runs out, the gate stops the run, a thread can't be started or `out` can't be written.
+///
+/// There is at least one text, each text has at most 1,048,576 bytes, and an error limit is at least 1.
+pub fn run_texts<R: Threads + Wait + Clock + Sync, G: Gate, W: Write, E: Write>(
+    rt: &R,
+    alloc: Global,
+    gate: &G,
+    setup: &[u8],
+    texts: &[Vec<u8>],
+    journal: bool,
+    max_errors: Option<u32>,
+    out: &mut W,
+    err: &mut E,
+) -> u8
+    requires count { 1 ≤ length texts.now }
+    requires short { All (λ text. length text.items ≤ MAX_TEXT_LEN) texts.now }
+    requires some { max_errors ≢ Some 0 }
+    ensures statuses { result ≤ 3 }
+    ensures printed { result ≡ 0 → GrowsByRun setup.now texts.now journal max_errors (W.contents out.old) (W.contents out.new) }
+    ensures refused_setup { result ≡ 1 → RefusesSetup setup.now }
+    ensures too_many { (result ≡ 2) ↔ (SESSIONS < length texts.now) }
+
+    // Nothing is written where the run is refused.
+    ensures silent { 1 ≤ result → result ≤ 2 → Keeps (W.contents out.old) (W.contents out.new) }
+{
+    let options = Options {
+        journal,
+        max_errors,
+    };
+    match print_texts(rt, alloc, gate, setup, texts, options, out) {
+        Ok(()) => 0,
+        Err(fault) => fault.report(err),
+    }
+}
+
+/// Runs the sessions of files. The words are those of the command, its name first: `run --setup FILE [--journal]
+/// [--max-errors K] SESSION..`. A SESSION `-` is what `input` has, and may stand once. `files` opens the others: the setup
+/// first and then the sessions, each of at most 1,048,576 bytes. All are read before the run begins, which is that of
+/// `run_texts`, and what they print goes to `out`. What is wrong goes to `err`, and so does help; a fault while writing there
+/// changes nothing.
+///
+/// It returns the exit status: 0 with the outputs; 1 where a file can't be opened or read or is too long, or the setup is
+/// refused; 2 where the parser of command lines refuses the words, or there are more than 64 sessions or two of them `-`,
+/// before any file is opened; and 3 where memory runs out, a thread can't be started or `out` can't be written.
+pub fn run<R, F, S, I, W, E>(
+    rt: &R,
+    alloc: Global,
+    files: &F,
+    words: &[S],
+    input: &mut I,
+    out: &mut W,
+    err: &mut E,
+) -> u8
+where
+    R: Threads + Wait + Clock + Sync,
+    F: OpenFiles,
+    S: AsStr,
+    I: Read,
+    W: Write,
+    E: Write,
+    ensures statuses { result ≤ 3 }
+    ensures taken { result ≡ 0 → RunTakes (map S.text words.now) }
+    ensures printed { result ≡ 0 → RunsWords (F.bytes_of files.now) (I.remaining input.old) (run_rows (map S.text words.now)) (W.contents out.old) (W.contents out.new) }
+
+    // Nothing is written where the words, a file or the setup are refused.
+    ensures silent { 1 ≤ result → result ≤ 2 → Keeps (W.contents out.old) (W.contents out.new) }
+{
+    match parse(alloc, words) {
+        Ok(matches) => run_files(rt, alloc, files, &matches, input, out, err),
+        Err(error) => report_usage(&error, err),
+    }
+}
+
+/// Reads the files that the words name, and runs their sessions.
+fn run_files<R, F, I, W, E>(
+    rt: &R,
+    alloc: Global,
+    files: &F,
+    matches: &ArgMatches<'_>,
+    input: &mut I,
+    out: &mut W,
+    err: &mut E,
+) -> u8
+where
+    R: Threads + Wait + Clock + Sync,
+    F: OpenFiles,
+    I: Read,
+    W: Write,
+    E: Write,
+    ensures statuses { result ≤ 3 }
+    ensures printed { result ≡ 0 → RunsWords (F.bytes_of files.now) (I.remaining input.old) (rows_of (found_of matches.now)) (W.contents out.old) (W.contents out.new) }
+    ensures silent { 1 ≤ result → result ≤ 2 → Keeps (W.contents out.old) (W.contents out.new) }
+{
+    let Some(names) = session_fields(matches) else {
+        return FilesFault::SessionCount.report(err);
+    };
+    match read_texts(alloc, files, input, setup_field(matches), names) {
+        Ok(texts) => run_texts(
+            rt,
+            alloc,
+            &OpenGate,
+            texts.setup.as_slice(),
+            texts.sessions.as_slice(),
+            flag_field(matches, "journal"),
+            limit_field(matches),
+            out,
+            err,
+        ),
+        Err(fault) => fault.report(err),
+    }
+}

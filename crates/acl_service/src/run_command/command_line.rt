@@ -1,0 +1,98 @@
+//! The words of `run`, as the parser of command lines takes them.
+ghost use Rattle.std.specs.Prelude.{◌≡◌, ◌≢◌, IfErr, IfOk, OnOk, Some, codes, false, map, option_map};
+ghost use Rattle.clap.specs.Words.{all_of, app_of, found_of, kind_of, rows_of, rule_of};
+ghost use Rattle.acl_service.specs.RunWords.{RunTakes, limit_option, run_line, run_rows, session_words, setup_in};
+
+use crate::options::{flag, optional_option, required_option, required_word, text_field};
+use clap::builder::ValueParser;
+use clap::error::ErrorKind;
+use clap::{Arg, ArgMatches, Command, Error};
+use std::alloc::{AllocError, Global};
+use std::convert::AsStr;
+
+/// What a setup and a session look like.
+const FILES: &str = "A setup is a TOML file:
+  domain = \"example.org\"
+  umask = \"022\"
+  root = { owner = \"alice\", group = \"staff\", mode = \"755\", style = \"posix\" }
+  user = [ { name = \"alice\", uid = 1000, groups = [\"staff\"] } ]
+  group = [ { name = \"staff\", gid = 50 } ]
+A session has a command a line, and each answer tells its line's number:
+  create dir /plans alice 750
+  set /plans access u::rwx,u:1001:rx,g::rx,m::rx,o::-
+  check /plans alice rw
+The commands are get, set, chmod, create, check, check4 and translate.";
+
+/// The command line of `run`.
+fn run_command<'a>(alloc: Global) -> Result<Command<'a>, AllocError>
+    ensures { IfOk result (λ command. app_of command ≡ run_line) }
+{
+    Command::new(alloc, "run")
+        .bin_name("aclctl run")?
+        .about("Lets sessions work on one tree at the same time, and prints their answers.")
+        .after_help(FILES)
+        .arg(required_option(
+            alloc,
+            "setup",
+            "The file that says who there is, and with which root the tree starts",
+        ))?
+        .arg(flag(
+            alloc,
+            "journal",
+            "Prints the order in which the commands took effect: session and line of each",
+        ))?
+        .arg(limit_option(alloc))?
+        .arg(session_words(alloc))
+}
+
+fn limit_option<'a>(alloc: Global) -> Arg<'a>
+    ensures rule { rule_of result ≡ limit_option }
+    ensures local { result.global ≡ false }
+{
+    let help = "Ends a session at its error of this number, 1 to 65535";
+    optional_option(alloc, "max-errors", help).value_parser(ValueParser::Unsigned(1, 65_535))
+}
+
+fn session_words<'a>(alloc: Global) -> Arg<'a>
+    ensures rule { rule_of result ≡ session_words }
+    ensures local { result.global ≡ false }
+{
+    let help = "A file with a session's commands, or - for standard input; at most 64";
+    required_word(alloc, "session", help).num_args(1usize..)
+}
+
+/// What the parser finds in the words of `run`, of which the first is the command's name.
+pub(super) fn parse<'a, S: AsStr>(alloc: Global, words: &'a [S]) -> Result<ArgMatches<'a>, Error>
+    ensures taken { OnOk result (RunTakes (map S.text words.entry.now)) }
+    ensures fields { IfOk result (λ matches. rows_of (found_of matches)
+        ≡ run_rows (map S.text words.entry.now)) }
+    ensures refused { IfErr result (λ error. RunTakes (map S.text words.entry.now)
+        → kind_of error ≡ ErrorKind.OutOfMemory) }
+{
+    run_command(alloc)?.try_get_matches_from(words)
+}
+
+/// The name of the setup's file.
+#[tactic(auto, unfolding(crate::specs::RunWords::setup_in))]
+pub(super) fn setup_field<'a>(matches: &ArgMatches<'a>) -> &'a str
+    ensures { result.now ≡ setup_in (rows_of (found_of matches.now)) }
+{
+    text_field(matches, "setup").unwrap_or("")
+}
+
+/// The names of the sessions' files.
+pub(super) fn session_fields<'m, 'a>(matches: &'m ArgMatches<'a>) -> Option<&'m [&'a str]>
+    ensures { option_map (λ names. map (λ name. name.now) names.now) result ≡ all_of (codes "session") (rows_of (found_of matches.now)) }
+{
+    matches.get_strs("session")
+}
+
+/// How many errors end a session. The parser lets only 1 to 65535 through.
+pub(super) fn limit_field(matches: &ArgMatches<'_>) -> Option<u32>
+    ensures { result ≢ Some 0 }
+{
+    match matches.get_one::<u32>("max-errors") {
+        Some(0) => None,
+        limit => limit,
+    }
+}

@@ -1,0 +1,122 @@
+//! Sessions whose texts are at hand.
+ghost use Rattle.std.specs.Prelude.{◌≡◌, ◌≢◌, ◌≤◌, All, IfErr, OnOk, Some, length, map};
+ghost use Rattle.std.specs.Io.KnownBytes.{Appends, Keeps};
+ghost use Rattle.acl_lang.specs.declared.limits.TheConstants.{MAX_TEXT_LEN};
+ghost use Rattle.acl_broker.specs.declared.limits.TheConstants.{SESSIONS};
+ghost use Rattle.acl_service.specs.RunFaults.{IsRunFault, IsTextsFault, lost_output};
+ghost use Rattle.acl_service.specs.RunText.{run_text};
+ghost use Rattle.acl_service.specs.RunTexts.{GrowsByReport, GrowsByRun};
+ghost use Rattle.acl_service.specs.Runs.{session_text};
+
+use super::fault::TextsFault;
+use super::printing::{print_journal, write_outputs};
+use crate::runs::Gate;
+use crate::{Report, read_setup, run_one, serve};
+use acl_broker::SESSIONS;
+use acl_names::Directory;
+use acl_tree::Tree;
+use std::alloc::Global;
+use std::io::Write;
+use std::sync::Wait;
+use std::thread::Threads;
+use std::time::Clock;
+
+/// What is asked of a run besides the outputs.
+#[derive(Clone, Copy)]
+pub(super) struct Options {
+    /// Whether the journal is printed.
+    pub journal: bool,
+    /// How many errors end a session, if any number does.
+    pub max_errors: Option<u32>,
+}
+
+/// Writes the outputs of a report, and behind them its journal where that is asked for. All that takes memory comes first.
+fn print_report<W: Write>(
+    alloc: Global,
+    report: &Report,
+    journal: bool,
+    out: &mut W,
+) -> Result<(), TextsFault>
+    ensures printed { OnOk result (Appends (W.contents out.old) (W.contents out.new)
+        (run_text journal report.now.journal.items (map (λ output. output.items) report.now.outputs.items))) }
+    ensures silent { IfErr result (λ fault. fault ≢ lost_output → Keeps (W.contents out.old) (W.contents out.new)) }
+    ensures fault { IfErr result IsRunFault }
+{
+    let entries = if journal {
+        print_journal(alloc, report.journal.as_slice())?
+    } else {
+        Vec::new(alloc)
+    };
+    write_outputs(report.outputs.as_slice(), out)?;
+    out.write_all(entries.as_slice())?;
+    Ok(())
+}
+
+/// Runs one session by itself, and writes its output.
+fn print_session<W: Write>(
+    alloc: Global,
+    directory: &Directory,
+    tree: Tree,
+    text: &[u8],
+    out: &mut W,
+) -> Result<(), TextsFault>
+    requires { length text.now ≤ MAX_TEXT_LEN }
+    ensures printed { OnOk result (Appends (W.contents out.old) (W.contents out.new) (session_text directory.now tree text.now)) }
+    ensures silent { IfErr result (λ fault. fault ≢ lost_output → Keeps (W.contents out.old) (W.contents out.new)) }
+    ensures fault { IfErr result IsRunFault }
+{
+    run_one(alloc, directory, tree, text, out)?;
+    Ok(())
+}
+
+/// Runs all sessions at the same time, and writes what is reported of them.
+fn print_sessions<R: Threads + Wait + Clock + Sync, G: Gate, W: Write>(
+    rt: &R,
+    alloc: Global,
+    gate: &G,
+    directory: &Directory,
+    tree: Tree,
+    texts: &[Vec<u8>],
+    options: Options,
+    out: &mut W,
+) -> Result<(), TextsFault>
+    requires count { (1 ≤ length texts.now) × (length texts.now ≤ SESSIONS) }
+    requires short { All (λ text. length text.items ≤ MAX_TEXT_LEN) texts.now }
+    requires some { options.max_errors ≢ Some 0 }
+    ensures printed { OnOk result (GrowsByReport directory.now tree texts.now options.journal options.max_errors (W.contents out.old) (W.contents out.new)) }
+    ensures silent { IfErr result (λ fault. fault ≢ lost_output → Keeps (W.contents out.old) (W.contents out.new)) }
+    ensures fault { IfErr result IsRunFault }
+{
+    let report = serve(rt, alloc, gate, directory, tree, texts, options.max_errors)?;
+    print_report(alloc, &report, options.journal, out)
+}
+
+/// Runs the sessions over what the setup opens, and writes what they print.
+pub(super) fn print_texts<R: Threads + Wait + Clock + Sync, G: Gate, W: Write>(
+    rt: &R,
+    alloc: Global,
+    gate: &G,
+    setup: &[u8],
+    texts: &[Vec<u8>],
+    options: Options,
+    out: &mut W,
+) -> Result<(), TextsFault>
+    requires count { 1 ≤ length texts.now }
+    requires short { All (λ text. length text.items ≤ MAX_TEXT_LEN) texts.now }
+    requires some { options.max_errors ≢ Some 0 }
+    ensures few { OnOk result (length texts.now ≤ SESSIONS) }
+    ensures printed { OnOk result (GrowsByRun setup.now texts.now options.journal options.max_errors (W.contents out.old) (W.contents out.new)) }
+    ensures silent { IfErr result (λ fault. fault ≢ lost_output → Keeps (W.contents out.old) (W.contents out.new)) }
+    ensures refused { IfErr result (IsTextsFault setup.now (length texts.now)) }
+{
+    if texts.len() > SESSIONS as usize {
+        return Err(TextsFault::TooManySessions);
+    }
+    let (directory, tree) = read_setup(alloc, setup)?;
+    match texts {
+        [text] if !options.journal && options.max_errors.is_none() => {
+            print_session(alloc, &directory, tree, text.as_slice(), out)
+        }
+        _ => print_sessions(rt, alloc, gate, &directory, tree, texts, options, out),
+    }
+}
