@@ -44,8 +44,8 @@ fn count_requests(alloc: Global, text: &[u8], names: &Directory) -> Option<u64> 
     }
     let mut count: u64 = 0;
     let mut requests = Requests::new(text, names);
-    while let Some(_) = requests.next(alloc).ok()? {
-        count = count.wrapping_add(1);
+    while let Some(numbered) = requests.next(alloc).ok()? {
+        count = count.wrapping_add(u64::from(numbered.line > 0));
     }
     Some(count)
 }
