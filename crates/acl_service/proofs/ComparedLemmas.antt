@@ -11,7 +11,7 @@ use Rattle.acl_service.specs.declared.compare_command.list.AnyAcl.{AnyAcl}
 use Rattle.acl_service.specs.declared.decide_command.fault.DecideFault.{DecideFault}
 use Rattle.acl_service.specs.declared.decide_command.fault.DecideFault.TheVariants.{Field, Usage, Run}
 use Rattle.acl_service.specs.declared.decide_command.fault.FieldFault.{FieldFault}
-use Rattle.acl_service.specs.declared.fault.RunFault.TheVariants.{Memory, Output}
+use Rattle.acl_service.specs.declared.fault.RunFault.TheVariants.{Memory, NoThread, Output, Stopped}
 
 -- the fields, each as it reads
 abbrev fields : Result ℕ FieldFault → Result ℕ FieldFault → Result AnyAcl FieldFault → Result AnyAcl FieldFault → Result Compared FieldFault
@@ -26,6 +26,8 @@ module _ (owner group : ℕ) (first : AnyAcl) where
   last_explains s (Usage error) is = absurd is
   last_explains s (Run Memory) is = tt
   last_explains s (Run Output) is = absurd is
+  last_explains s (Run Stopped) is = absurd is
+  last_explains s (Run NoThread) is = absurd is
 
   module _ (rows : List Row) (is_owner : id_in (codes "owner") rows ≡ Ok owner) (is_group : id_in (codes "group") rows ≡ Ok group)
       (is_first : list_in (codes "kind") (codes "text") rows ≡ Ok first) where

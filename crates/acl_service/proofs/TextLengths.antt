@@ -3,9 +3,9 @@ use Rattle.std.proofs.Common.{ℕ, ◌+◌, ◌≤◌, List, [], ◌∷◌, leng
 use Rattle.std.proofs.lemmas.List.Splits.{length-slice_split}
 use Rattle.std.proofs.lemmas.List.Sums.{count_by-le-length}
 use Rattle.acl_names.specs.Directory.{Known}
-use Rattle.acl_names.specs.Pieces.{parts}
+use Rattle.acl_names.specs.Pieces.{lines_of, parts, without_empty_last}
 use Rattle.acl_lang.specs.Lines.{line_of}
-use Rattle.acl_lang.specs.Texts.{lines_of, numbered, requests_from, requests_of, without_empty_last}
+use Rattle.acl_lang.specs.Texts.{numbered, requests_from, requests_of}
 use Rattle.acl_lang.specs.declared.line.Line.{Line}
 use Rattle.acl_lang.specs.declared.line.Line.TheVariants.{Nothing, Command}
 

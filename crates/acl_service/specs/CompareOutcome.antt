@@ -8,7 +8,7 @@ use Rattle.acl_service.specs.Outcome.{EndsAs}
 use Rattle.acl_service.specs.declared.decide_command.fault.DecideFault.{DecideFault}
 use Rattle.acl_service.specs.declared.decide_command.fault.DecideFault.TheVariants.{Field, Usage, Run}
 use Rattle.acl_service.specs.declared.decide_command.fault.FieldFault.{FieldFault}
-use Rattle.acl_service.specs.declared.fault.RunFault.TheVariants.{Memory, Output}
+use Rattle.acl_service.specs.declared.fault.RunFault.TheVariants.{Memory, NoThread, Output, Stopped}
 
 -- the words are refused for this: where the parser takes them, for the first field that doesn't read
 abbrev pub IsCompareFaultOf : List Text → DecideFault → Type 0
@@ -16,6 +16,8 @@ IsCompareFaultOf words (Field fault) = TakesCompareWords words × (compared_by w
 IsCompareFaultOf words (Usage error) = ¬ TakesCompareWords words
 IsCompareFaultOf words (Run Memory) = ⊤
 IsCompareFaultOf words (Run Output) = TakesCompareWords words × IsOk (compared_by words)
+IsCompareFaultOf words (Run Stopped) = ⊥
+IsCompareFaultOf words (Run NoThread) = ⊥
 
 -- an answer, or the fault of a field
 abbrev pub EndsByReading : Result Compared FieldFault → Option (List ℕ) → Option (List ℕ) → ℕ → Type 0

@@ -1,5 +1,5 @@
 //! The command `compare`.
-ghost use Rattle.std.specs.Prelude.{◌≢◌, ◌≤◌, ℕ, List, map, IfErr, IfOk, IsOkAnd, OnOk};
+ghost use Rattle.std.specs.Prelude.{◌≡◌, ◌≢◌, ◌≤◌, ℕ, List, map, IfErr, IfOk, IsOkAnd, OnOk};
 ghost use Rattle.std.specs.Io.KnownBytes.{Appends, Keeps};
 ghost use Rattle.acl_service.specs.CompareLine.{TakesCompareWords};
 ghost use Rattle.acl_service.specs.CompareOutcome.{EndsAsCompared, IsCompareFaultOf};
@@ -20,6 +20,15 @@ use std::convert::AsStr;
 use std::io::Write;
 use text::answer_text;
 
+/// Writes the text of an answer.
+fn write_text<W: Write>(text: &[u8], out: &mut W) -> Result<(), DecideFault>
+    ensures written { OnOk result (Appends (W.contents out.old) (W.contents out.new) text.now) }
+    ensures fault { IfErr result (λ fault. fault ≡ failed_write) }
+{
+    out.write_all(text)
+        .map_err(|_| DecideFault::Run(RunFault::Output))
+}
+
 /// Writes what the lists of the words decide differently.
 fn answer<S: AsStr, W: Write>(alloc: Global, words: &[S], out: &mut W) -> Result<(), DecideFault>
     ensures taken { OnOk result (TakesCompareWords (map S.text words.now)) }
@@ -31,8 +40,7 @@ fn answer<S: AsStr, W: Write>(alloc: Global, words: &[S], out: &mut W) -> Result
     let matches = command_line::parse(alloc, words)?;
     let comparison = read_comparison(alloc, &matches)?;
     let text = answer_text(alloc, &comparison)?;
-    out.write_all(text.as_slice())
-        .map_err(|_| DecideFault::Run(RunFault::Output))
+    write_text(text.as_slice(), out)
 }
 
 /// Tells whether anybody at all gains or loses access where one access control list takes the place of another. The words are

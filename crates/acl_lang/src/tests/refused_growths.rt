@@ -108,15 +108,16 @@ fn is_long(list: &Acl) -> bool {
 
 /// Whether the entry lets the user read, and files below take it over.
 fn is_reader(ace: &Ace, uid: u32) -> bool {
-    match (ace.who(), Uid::new(uid)) {
-        (Who::User(who), Some(uid)) => {
-            who == uid
-                && ace.kind() == AceType::Allow
-                && ace.flags() == AceFlags::FILE_INHERIT
-                && ace.mask() == Mask::READ_DATA
-        }
-        _ => false,
-    }
+    let Some(uid) = Uid::new(uid) else {
+        return false;
+    };
+    let reader = Ace::new(
+        AceType::Allow,
+        AceFlags::FILE_INHERIT,
+        Who::User(uid),
+        Mask::READ_DATA,
+    );
+    *ace == reader
 }
 
 /// Whether the list is that of the text: users 1 to 17.

@@ -1,8 +1,8 @@
 //! The files of a run.
-ghost use Rattle.std.specs.Prelude.{◌≡◌, ◌≤◌, ℕ, All, List, Option, IfOk, IfSome, length, map};
+ghost use Rattle.std.specs.Prelude.{◌≡◌, ◌≤◌, ℕ, All, List, Option, Some, IfOk, IfSome, length, map};
 ghost use Rattle.acl_broker.specs.declared.limits.TheConstants.{SESSIONS};
 ghost use Rattle.acl_lang.specs.declared.limits.TheConstants.{MAX_TEXT_LEN};
-ghost use Rattle.acl_service.specs.RunWords.{AreTold, IsTold};
+ghost use Rattle.acl_service.specs.RunWords.{AreTold, IsTold, session_told};
 
 use crate::{CapFault, RunFault, read_capped};
 use acl_broker::SESSIONS;
@@ -123,6 +123,26 @@ fn read_input<'a, I: Read>(
     }
 }
 
+/// The text of a session: of `-` what standard input gave, which it gives once, and else what the file of the name has.
+fn read_session<'a, F: OpenFiles>(
+    alloc: Global,
+    files: &F,
+    name: &'a str,
+    given: &mut Option<Vec<u8>>,
+) -> Result<Vec<u8>, FilesFault<'a>>
+    requires { IfSome given.old (λ bytes. length bytes.items ≤ MAX_TEXT_LEN) }
+    ensures capped { IfOk result (λ text. length text.items ≤ MAX_TEXT_LEN) }
+    ensures told { IfOk result (λ text. (told : Option (List ℕ)) → IfSome given.old (λ bytes. IsTold told bytes.items)
+        → IsTold (session_told (F.bytes_of files.now) told name.entry.now) text.items) }
+    ensures left { IfSome given.new (λ bytes. given.old ≡ Some bytes) }
+{
+    if name == INPUT {
+        given.take().ok_or(FilesFault::InputTwice)
+    } else {
+        read_file(alloc, files, name)
+    }
+}
+
 /// The texts of the sessions of these names, of which one may be that of standard input.
 fn read_sessions<'a, F: OpenFiles>(
     alloc: Global,
@@ -141,11 +161,7 @@ fn read_sessions<'a, F: OpenFiles>(
         return Err(FilesFault::Memory);
     };
     for name in names {
-        let text = if *name == INPUT {
-            given.take().ok_or(FilesFault::InputTwice)?
-        } else {
-            read_file(alloc, files, *name)?
-        };
+        let text = read_session(alloc, files, *name, &mut given)?;
         texts.push_reserved(text);
     }
     Ok(texts)
