@@ -3,11 +3,8 @@
 //!
 //! `rt try --test --fail-alloc N` refuses the growth N of a test. Each test here passes whichever growth that is, and prints
 //! how many refusals it was told of: one up to the last growth that it asks for, and none from then on.
-use crate::{
-    difference_from_posix, posix_difference, request_difference, translate, translate_default,
-    whole_request_difference,
-};
-use acl_names::{Gid, Uid};
+use crate::{translate, translate_default};
+use acl_names::Uid;
 use acl_posix::{Acl, Entries, Entry, Perms, Tag, TextFault};
 use std::alloc::Global;
 use std::test::*;
@@ -81,101 +78,6 @@ fn translate_default_under_a_refused_growth(rt: HostRuntime) -> Result<(), Fail>
         }
     };
     assert_eq!(rt; aces.aces().len(), 125);
-    println!(rt; "refusals: {}", told.refusals)?;
-    Ok(())
-}
-
-/// Alice, who owns the file, and its group.
-fn owner_and_group() -> Result<(Uid, Gid), Fail> {
-    Ok((Uid::new(1000).ok_or("uid")?, Gid::new(50).ok_or("gid")?))
-}
-
-/// The longest list and its translation decide alike.
-#[test]
-fn difference_from_posix_under_a_refused_growth(rt: HostRuntime) -> Result<(), Fail> {
-    let mut told = Told { refusals: 0 };
-    let list = longest(rt.alloc(), &mut told)?;
-    let aces = match translate(rt.alloc(), &list) {
-        Ok(aces) => aces,
-        Err(_) => {
-            told.one_more();
-            translate(rt.alloc(), &list)?
-        }
-    };
-    let (owner, group) = owner_and_group()?;
-    let found = match difference_from_posix(rt.alloc(), &list, &aces, owner, group) {
-        Ok(found) => found,
-        Err(_) => {
-            told.one_more();
-            difference_from_posix(rt.alloc(), &list, &aces, owner, group)?
-        }
-    };
-    assert!(rt; found.is_none());
-    println!(rt; "refusals: {}", told.refusals)?;
-    Ok(())
-}
-
-#[test]
-fn posix_difference_under_a_refused_growth(rt: HostRuntime) -> Result<(), Fail> {
-    let mut told = Told { refusals: 0 };
-    let list = longest(rt.alloc(), &mut told)?;
-    let (owner, group) = owner_and_group()?;
-    let found = match posix_difference(rt.alloc(), &list, &list, owner, group) {
-        Ok(found) => found,
-        Err(_) => {
-            told.one_more();
-            posix_difference(rt.alloc(), &list, &list, owner, group)?
-        }
-    };
-    assert!(rt; found.is_none());
-    println!(rt; "refusals: {}", told.refusals)?;
-    Ok(())
-}
-
-/// A list in which the owner may do this, and the file's group and the others may read.
-fn short(alloc: Global, owner: Perms, told: &mut Told) -> Result<Acl, Fail> {
-    let mut entries = Entries::new(alloc);
-    entries.push(Entry {
-        tag: Tag::UserObj,
-        perms: owner,
-    })?;
-    push(&mut entries, Tag::GroupObj, told)?;
-    push(&mut entries, Tag::Other, told)?;
-    Ok(Acl::new(entries).ok().ok_or("a valid list")?)
-}
-
-/// Of two short lists each asker with a group takes a growth.
-#[test]
-fn request_difference_under_a_refused_growth(rt: HostRuntime) -> Result<(), Fail> {
-    let mut told = Told { refusals: 0 };
-    let first = short(rt.alloc(), Perms::READ, &mut told)?;
-    let (owner, group) = owner_and_group()?;
-    let found = match request_difference(rt.alloc(), &first, &first, owner, group, Perms::READ) {
-        Ok(found) => found,
-        Err(_) => {
-            told.one_more();
-            request_difference(rt.alloc(), &first, &first, owner, group, Perms::READ)?
-        }
-    };
-    assert!(rt; found.is_none());
-    println!(rt; "refusals: {}", told.refusals)?;
-    Ok(())
-}
-
-#[test]
-fn whole_request_difference_under_a_refused_growth(rt: HostRuntime) -> Result<(), Fail> {
-    let mut told = Told { refusals: 0 };
-    let first = short(rt.alloc(), Perms::READ, &mut told)?;
-    let second = short(rt.alloc(), Perms::WRITE, &mut told)?;
-    let (owner, group) = owner_and_group()?;
-    let found = match whole_request_difference(rt.alloc(), &first, &second, owner, group) {
-        Ok(found) => found,
-        Err(_) => {
-            told.one_more();
-            whole_request_difference(rt.alloc(), &first, &second, owner, group)?
-        }
-    };
-    assert!(rt; found.is_none());
     println!(rt; "refusals: {}", told.refusals)?;
     Ok(())
 }
