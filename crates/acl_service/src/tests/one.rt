@@ -1,5 +1,6 @@
 use crate::tests::fixture::{directory, tree};
 use crate::{OneFault, run_one};
+use acl_lang::MAX_TEXT_LEN;
 use acl_tree::Path;
 use std::alloc::Global;
 use std::io::{self, Write};
@@ -21,6 +22,9 @@ impl Write for Broken {
 
 /// Whether a session of the text prints this.
 fn prints(alloc: Global, text: &str, answers: &str) -> Option<bool> {
+    if text.len() > MAX_TEXT_LEN {
+        return None;
+    }
     let names = directory(alloc)?;
     let tree = tree(alloc)?;
     let mut lines = [0; 1024];

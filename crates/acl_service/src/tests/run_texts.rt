@@ -1,6 +1,8 @@
-ghost use Rattle.std.specs.Prelude.{◌≤◌, ◌≢◌, All, Some, length};
+//! Runs of texts: what goes to the output and to standard error.
+ghost use Rattle.std.specs.Prelude.{◌≢◌, Some};
 
 use crate::tests::setup::SETUP;
+use crate::tests::texts::are_short;
 use crate::{Gate, OpenGate, run_texts};
 use std::alloc::Global;
 use std::io::{self, Write};
@@ -61,13 +63,17 @@ fn run<R: Threads + Wait + Clock + Sync, G: Gate>(
     journal: bool,
     max_errors: Option<u32>,
 ) -> Result<(u8, Vec<u8>, Vec<u8>), Fail>
-    requires count { 1 ≤ length given.now }
-    requires short { All (λ text. length text.now ≤ 1048576) given.now }
-    requires some { max_errors ≢ Some 0 }
+    requires { max_errors ≢ Some 0 }
 {
     let mut texts = Vec::new(alloc);
     for text in given {
         texts.push(Vec::from_slice(alloc, text.as_bytes())?)?;
+    }
+    if texts.is_empty() {
+        return Err("no texts".into());
+    }
+    if !are_short(&texts) {
+        return Err("texts that are too long".into());
     }
     let mut out = Vec::new(alloc);
     let mut err = Vec::new(alloc);

@@ -30,7 +30,7 @@ fn are_few(texts: &[Vec<u8>]) -> bool
 }
 
 /// Whether none of the texts is too long.
-fn are_short(texts: &[Vec<u8>]) -> bool
+pub fn are_short(texts: &[Vec<u8>]) -> bool
     ensures { OnTrue result (All (λ text. length text.items ≤ MAX_TEXT_LEN) texts.now) }
 {
     texts.iter().all(|text| text.len() <= MAX_TEXT_LEN)
