@@ -2,7 +2,10 @@ use crate::program::{run, run_command};
 use acl_service::OpenFiles;
 use std::alloc::{AllocError, Global};
 use std::io::{self, Read, Write};
+use std::sync::Wait;
 use std::test::Fail;
+use std::thread::Threads;
+use std::time::Clock;
 
 const ASKED: [&str; 12] = [
     "decide",
@@ -152,7 +155,15 @@ fn compares_two_lists(rt: HostRuntime) {
         let mut out = Vec::new(rt.alloc());
         let mut err = Vec::new(rt.alloc());
         assert_eq!(rt;
-            run_command(rt.alloc(), words.as_slice(), &mut out, &mut err),
+            run_command(
+                &rt,
+                rt.alloc(),
+                &EMPTY,
+                words.as_slice(),
+                &mut Broken,
+                &mut out,
+                &mut err
+            ),
             0
         );
         assert_eq!(rt; out.as_slice(), text.as_bytes());
@@ -190,28 +201,38 @@ fn first_word_names_no_command(rt: HostRuntime) -> Result<(), Fail> {
 }
 
 /// What the program says of bytes on standard input that are no words.
-fn refusal<R: Read>(rt: &HostRuntime, reader: &mut R, out: &mut Vec<u8>, err: &mut Vec<u8>) -> u8 {
-    run(
-        rt,
-        rt.alloc(),
-        &EMPTY,
-        Vec::new(rt.alloc()),
-        reader,
-        out,
-        err,
-    )
+fn refusal<R: Threads + Wait + Clock + Sync, I: Read>(
+    rt: &R,
+    alloc: Global,
+    reader: &mut I,
+    out: &mut Vec<u8>,
+    err: &mut Vec<u8>,
+) -> u8 {
+    run(rt, alloc, &EMPTY, Vec::new(alloc), reader, out, err)
 }
 
 #[test]
 fn standard_input_is_refused(rt: HostRuntime) {
     let mut out = Vec::new(rt.alloc());
     let mut err = Vec::new(rt.alloc());
-    assert_eq!(rt; refusal(&rt, &mut io::repeat(b'x'), &mut out, &mut err), 2);
     assert_eq!(rt;
-        refusal(&rt, &mut b"decide\n\xff".as_slice(), &mut out, &mut err),
+        refusal(&rt, rt.alloc(), &mut io::repeat(b'x'), &mut out, &mut err),
         2
     );
-    assert_eq!(rt; refusal(&rt, &mut Broken, &mut out, &mut err), 1);
+    assert_eq!(rt;
+        refusal(
+            &rt,
+            rt.alloc(),
+            &mut b"decide\n\xff".as_slice(),
+            &mut out,
+            &mut err
+        ),
+        2
+    );
+    assert_eq!(rt;
+        refusal(&rt, rt.alloc(), &mut Broken, &mut out, &mut err),
+        1
+    );
     let lines = b"aclctl: too many words\naclctl: bad words\naclctl: cannot read -\n";
     assert_eq!(rt; err.as_slice(), lines.as_slice());
     assert!(rt; out.is_empty());
@@ -226,13 +247,19 @@ fn words_on_standard_input_take_65_536_bytes(rt: HostRuntime) -> Result<(), Fail
         let text = vec![in rt.alloc(); b'x'; count]?;
         let mut out = Vec::new(rt.alloc());
         let mut err = Vec::new(rt.alloc());
-        assert_eq!(rt; refusal(&rt, &mut text.as_slice(), &mut out, &mut err), 2);
+        assert_eq!(rt;
+            refusal(&rt, rt.alloc(), &mut text.as_slice(), &mut out, &mut err),
+            2
+        );
         assert!(rt; err.starts_with(line));
     }
     // No input at all has no word.
     let mut out = Vec::new(rt.alloc());
     let mut err = Vec::new(rt.alloc());
-    assert_eq!(rt; refusal(&rt, &mut b"".as_slice(), &mut out, &mut err), 2);
+    assert_eq!(rt;
+        refusal(&rt, rt.alloc(), &mut b"".as_slice(), &mut out, &mut err),
+        2
+    );
     assert!(rt; err.starts_with(b"aclctl: no command\n".as_slice()));
     Ok(())
 }
