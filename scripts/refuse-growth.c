@@ -3,11 +3,14 @@
  * take memory, and lets the one fail whose number is in the environment as REFUSED_GROWTH (none, if it is 0). How many
  * were made is written at the end to the file GROWTHS_FILE, if that is set.
  */
+#define _GNU_SOURCE
 #include <errno.h>
 #include <stdatomic.h>
 #include <stddef.h>
 #include <stdio.h>
 #include <stdlib.h>
+#include <sys/syscall.h>
+#include <unistd.h>
 
 void *__libc_malloc(size_t size);
 void *__libc_realloc(void *old, size_t size);
@@ -34,6 +37,14 @@ __attribute__((destructor)) static void end(void)
         fprintf(file, "%ld\n", (long)growths);
         fclose(file);
     }
+}
+
+/* A program with threads ends so. */
+void _exit(int status)
+{
+    end();
+    for (;;)
+        syscall(SYS_exit_group, status);
 }
 
 static int is_refused(void)
