@@ -14,13 +14,13 @@ use Rattle.acl_lang.specs.Printed.{answer_text, printed}
 use Rattle.acl_lang.specs.Texts.{requests_of}
 use Rattle.acl_lang.specs.declared.answer.Answer.{Answer}
 use Rattle.acl_lang.specs.declared.text.Numbered.{Numbered}
-use Rattle.acl_service.specs.ErrorLimit.{IsServedUpTo}
-use Rattle.acl_service.specs.RunReport.{IsReport}
+use Rattle.acl_runs.specs.ErrorLimit.{IsServedUpTo}
+use Rattle.acl_runs.specs.RunReport.{IsReport}
 use Rattle.acl_service.specs.Runs.{answer_to, answers_of, tree_after, tree_after_one}
 use Rattle.acl_service.specs.Served.{next_served, reply_served}
 use Rattle.acl_service.specs.Sessions.{ExplainsSessions, IsServedAlone, answers_in, is_error, requests_of_each, tree_after_journal}
 use Rattle.acl_service.specs.Told.{told}
-use Rattle.acl_service.specs.declared.runs.report.RunReport.{RunReport}
+use Rattle.acl_runs.specs.declared.report.RunReport.{RunReport}
 use Rattle.acl_service.specs.declared.served.Served.{Served}
 use Rattle.acl_service.specs.declared.sessions.report.Report.{Report}
 

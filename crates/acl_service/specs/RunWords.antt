@@ -5,8 +5,8 @@ use Rattle.std.specs.declared.alloc.Global.{Global}
 use Rattle.clap.specs.Words.{App, Row, Rule, Text, all_of, fault_of, first_of, matches_of, new_app, new_rule, with_rule}
 use Rattle.clap.specs.declared.builder.range.ValueRange.{ValueRange}
 use Rattle.clap.specs.declared.builder.value_parser.ValueParser.TheVariants.{Unsigned}
-use Rattle.acl_service.specs.Asked.{flag_in}
-use Rattle.acl_service.specs.CommandLine.{flag, optional_option, required_option, required_word}
+use Rattle.acl_queries.specs.Asked.{flag_in}
+use Rattle.acl_queries.specs.CommandLine.{flag, optional_option, required_option, required_word}
 use Rattle.acl_service.specs.RunTexts.{GrowsByRun}
 use Rattle.acl_service.specs.declared.run_command.files.FilesFault.{FilesFault}
 use Rattle.acl_service.specs.declared.run_command.files.FilesFault.TheVariants.{SessionCount, InputTwice, CannotRead, Memory}

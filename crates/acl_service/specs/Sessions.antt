@@ -13,7 +13,7 @@ use Rattle.acl_lang.specs.declared.answer.Answer.{Answer}
 use Rattle.acl_lang.specs.declared.text.Numbered.{Numbered}
 use Rattle.acl_broker.specs.Journal.{items_from, answers_to}
 use Rattle.acl_broker.specs.declared.steps.JournalEntry.{JournalEntry}
-use Rattle.acl_service.specs.ErrorLimit.{IsServedUpTo}
+use Rattle.acl_runs.specs.ErrorLimit.{IsServedUpTo}
 use Rattle.acl_service.specs.Runs.{answer_to, session_text, tree_after, tree_after_one}
 use Rattle.acl_service.specs.declared.sessions.report.Report.{Report}
 

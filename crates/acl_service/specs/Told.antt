@@ -1,7 +1,7 @@
 -- What a run over the tree tells of its sessions.
 use Rattle.acl_lang.specs.declared.answer.Answer.{Answer}
 use Rattle.acl_lang.specs.declared.text.Numbered.{Numbered}
-use Rattle.acl_service.specs.declared.runs.report.RunReport.{RunReport}
+use Rattle.acl_runs.specs.declared.report.RunReport.{RunReport}
 use Rattle.acl_service.specs.declared.served.Served.{Served}
 use Rattle.acl_service.specs.declared.sessions.report.Report.{Report}
 

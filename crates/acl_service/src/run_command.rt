@@ -4,7 +4,7 @@ ghost use Rattle.std.specs.Io.KnownBytes.{Keeps};
 ghost use Rattle.clap.specs.Words.{found_of, rows_of};
 ghost use Rattle.acl_lang.specs.declared.limits.TheConstants.{MAX_TEXT_LEN};
 ghost use Rattle.acl_broker.specs.declared.limits.TheConstants.{SESSIONS};
-ghost use Rattle.acl_service.specs.RunFaults.{RefusesSetup};
+ghost use Rattle.acl_service.specs.TextsFaults.{RefusesSetup};
 ghost use Rattle.acl_service.specs.RunTexts.{GrowsByRun};
 ghost use Rattle.acl_service.specs.RunWords.{RunTakes, RunsWords, run_rows};
 
@@ -15,8 +15,8 @@ mod printing;
 mod texts;
 mod usage;
 
-use crate::options::flag_field;
-use crate::runs::{Gate, OpenGate};
+use acl_queries::options::flag_field;
+use acl_runs::{Gate, OpenGate};
 use clap::ArgMatches;
 use command_line::{limit_field, parse, session_fields, setup_field};
 pub use files::OpenFiles;

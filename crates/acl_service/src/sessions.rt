@@ -2,7 +2,7 @@
 ghost use Rattle.std.specs.Prelude.{◌≡◌, ◌≢◌, ◌≤◌, All, IfErr, IfOk, None, Some, length};
 ghost use Rattle.acl_broker.specs.declared.limits.TheConstants.{SESSIONS};
 ghost use Rattle.acl_lang.specs.declared.limits.TheConstants.{MAX_TEXT_LEN};
-ghost use Rattle.acl_service.specs.Rounds.{AreRounds};
+ghost use Rattle.acl_runs.specs.Rounds.{AreRounds};
 ghost use Rattle.acl_service.specs.Sessions.{ExplainsSessions, requests_of_each};
 
 mod cursor;
@@ -10,7 +10,7 @@ mod printer;
 mod report;
 
 use crate::Served;
-use crate::runs::{Gate, ServeFault, serve_in_rounds, serve_sessions};
+use acl_runs::{Gate, ServeFault, serve_in_rounds, serve_sessions};
 use acl_names::Directory;
 use acl_tree::Tree;
 use cursor::open_all;

@@ -1,8 +1,5 @@
-mod compare;
-mod decide;
 mod fixture;
 mod gates;
-mod input;
 mod one;
 mod refused_growths;
 mod rounds;
@@ -10,4 +7,3 @@ mod run_texts;
 mod serve;
 mod setup;
 mod texts;
-mod words;

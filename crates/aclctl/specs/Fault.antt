@@ -1,9 +1,9 @@
 -- The lines and the exit statuses of the program's faults.
 use Rattle.std.specs.Prelude.{ℕ, List, ◌++◌, ◌∷◌, [], codes}
-use Rattle.acl_service.specs.declared.input.CapFault.{CapFault}
-use Rattle.acl_service.specs.declared.input.CapFault.TheVariants as cap
-use Rattle.acl_service.specs.declared.words.WordsFault.{WordsFault}
-use Rattle.acl_service.specs.declared.words.WordsFault.TheVariants as words
+use Rattle.acl_queries.specs.declared.input.CapFault.{CapFault}
+use Rattle.acl_queries.specs.declared.input.CapFault.TheVariants as cap
+use Rattle.acl_queries.specs.declared.words.WordsFault.{WordsFault}
+use Rattle.acl_queries.specs.declared.words.WordsFault.TheVariants as words
 use Rattle.aclctl.specs.declared.fault.ProgramFault.{ProgramFault}
 use Rattle.aclctl.specs.declared.fault.ProgramFault.TheVariants.{CannotRead, TooManyWords, BadWords, NoCommand, Memory}
 

@@ -2,8 +2,8 @@
 use Rattle.std.specs.Prelude.{◌≡◌, ◌≤◌, ℕ, ◌⊎◌, List, [], ◌∷◌, Option, Some, None, codes, if◌then◌else◌}
 use Rattle.std.specs.Io.KnownBytes.{IsAtEnd, Keeps}
 use Rattle.std.specs.Str.{bytes_eq}
-use Rattle.acl_service.specs.CompareOutcome.{EndsAsCompared}
-use Rattle.acl_service.specs.Outcome.{EndsAs, Outcome, outcome_of}
+use Rattle.acl_queries.specs.CompareOutcome.{EndsAsCompared}
+use Rattle.acl_queries.specs.Outcome.{EndsAs, Outcome, outcome_of}
 use Rattle.acl_service.specs.RunWords.{RunsWords, run_rows}
 use Rattle.aclctl.specs.Fault.{status_of}
 use Rattle.aclctl.specs.Input.{AreWordsOf, IsInputFault}

@@ -3,7 +3,7 @@ ghost use Rattle.std.specs.Prelude.{◌≡◌, ◌≢◌, IfErr, IfOk, OnOk, Som
 ghost use Rattle.clap.specs.Words.{all_of, app_of, found_of, kind_of, rows_of, rule_of};
 ghost use Rattle.acl_service.specs.RunWords.{RunTakes, limit_option, run_line, run_rows, session_words, setup_in};
 
-use crate::options::{flag, optional_option, required_option, required_word, text_field};
+use acl_queries::options::{flag, optional_option, required_option, required_word, text_field};
 use clap::builder::ValueParser;
 use clap::error::ErrorKind;
 use clap::{Arg, ArgMatches, Command, Error};

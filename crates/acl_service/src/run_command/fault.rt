@@ -2,7 +2,7 @@
 ghost use Rattle.std.specs.Prelude.{◌≡◌, OnOk, Some};
 ghost use Rattle.std.specs.Io.KnownBytes.{Appends};
 
-use crate::runs::ServeFault;
+use acl_runs::ServeFault;
 use crate::{OneFault, RunFault, SetupError};
 use std::alloc::AllocError;
 use std::{fmt, io};
@@ -19,7 +19,7 @@ pub(super) enum TextsFault {
 }
 
 impl fmt::Display for TextsFault {
-    ghost use Rattle.acl_service.specs.RunFaults.{texts_fault_words};
+    ghost use Rattle.acl_service.specs.TextsFaults.{texts_fault_words};
 
     ghost output = { λ fault. Some (texts_fault_words fault) };
 
@@ -33,7 +33,7 @@ impl fmt::Display for TextsFault {
 }
 
 impl TextsFault {
-    ghost use Rattle.acl_service.specs.RunFaults.{texts_fault_line, texts_status};
+    ghost use Rattle.acl_service.specs.TextsFaults.{texts_fault_line, texts_status};
 
     /// The exit status.
     fn status(self) -> u8
@@ -62,7 +62,7 @@ impl TextsFault {
 }
 
 impl From<SetupError> for TextsFault {
-    ghost use Rattle.acl_service.specs.RunFaults.{fault_of_setup};
+    ghost use Rattle.acl_service.specs.TextsFaults.{fault_of_setup};
 
     ghost from_gives = { λ error becomes. becomes ≡ fault_of_setup error };
 
@@ -75,7 +75,7 @@ impl From<SetupError> for TextsFault {
 }
 
 impl From<OneFault> for TextsFault {
-    ghost use Rattle.acl_service.specs.RunFaults.{fault_of_one};
+    ghost use Rattle.acl_service.specs.TextsFaults.{fault_of_one};
 
     ghost from_gives = { λ fault becomes. becomes ≡ fault_of_one fault };
 
@@ -88,7 +88,7 @@ impl From<OneFault> for TextsFault {
 }
 
 impl From<ServeFault> for TextsFault {
-    ghost use Rattle.acl_service.specs.RunFaults.{fault_of_serve};
+    ghost use Rattle.acl_service.specs.TextsFaults.{fault_of_serve};
 
     ghost from_gives = { λ fault becomes. becomes ≡ fault_of_serve fault };
 
@@ -102,7 +102,7 @@ impl From<ServeFault> for TextsFault {
 }
 
 impl From<AllocError> for TextsFault {
-    ghost use Rattle.acl_service.specs.RunFaults.{fault_of_one};
+    ghost use Rattle.acl_service.specs.TextsFaults.{fault_of_one};
     ghost use Rattle.acl_service.specs.declared.one.OneFault.TheVariants.{Memory};
 
     ghost from_gives = { λ _ becomes. becomes ≡ fault_of_one Memory };
@@ -114,7 +114,7 @@ impl From<AllocError> for TextsFault {
 
 /// Only writing the output gives one.
 impl From<io::Error> for TextsFault {
-    ghost use Rattle.acl_service.specs.RunFaults.{lost_output};
+    ghost use Rattle.acl_service.specs.TextsFaults.{lost_output};
 
     ghost from_gives = { λ _ becomes. becomes ≡ lost_output };
 

@@ -3,14 +3,14 @@ ghost use Rattle.std.specs.Prelude.{◌≡◌, ◌≢◌, ◌≤◌, All, IfErr,
 ghost use Rattle.std.specs.Io.KnownBytes.{Appends, Keeps};
 ghost use Rattle.acl_lang.specs.declared.limits.TheConstants.{MAX_TEXT_LEN};
 ghost use Rattle.acl_broker.specs.declared.limits.TheConstants.{SESSIONS};
-ghost use Rattle.acl_service.specs.RunFaults.{IsRunFault, IsTextsFault, lost_output};
+ghost use Rattle.acl_service.specs.TextsFaults.{IsRunFault, IsTextsFault, lost_output};
 ghost use Rattle.acl_service.specs.RunText.{run_text};
 ghost use Rattle.acl_service.specs.RunTexts.{GrowsByReport, GrowsByRun};
 ghost use Rattle.acl_service.specs.Runs.{session_text};
 
 use super::fault::TextsFault;
 use super::printing::{print_journal, write_outputs};
-use crate::runs::Gate;
+use acl_runs::Gate;
 use crate::{Report, read_setup, run_one, serve};
 use acl_broker::SESSIONS;
 use acl_names::Directory;

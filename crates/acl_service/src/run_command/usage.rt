@@ -2,7 +2,7 @@
 ghost use Rattle.std.specs.Prelude.{◌≡◌, ◌≢◌, ◌≤◌};
 ghost use Rattle.clap.specs.Words.{kind_of};
 
-use crate::RunFault;
+use acl_queries::RunFault;
 use clap::error::ErrorKind;
 use std::io::Write;
 

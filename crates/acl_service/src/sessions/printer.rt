@@ -2,7 +2,7 @@
 ghost use Rattle.std.specs.Prelude.{◌≡◌};
 ghost use Rattle.acl_service.specs.Sessions.{is_error};
 
-use crate::runs::Replies;
+use acl_runs::Replies;
 use acl_lang::{Answer, render};
 use acl_names::Directory;
 use acl_tree::Reply;

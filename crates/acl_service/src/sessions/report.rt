@@ -3,7 +3,7 @@ ghost use Rattle.std.specs.Prelude.{◌≡◌};
 ghost use Rattle.acl_service.specs.Told.{told};
 
 use crate::Served;
-use crate::runs::RunReport;
+use acl_runs::RunReport;
 use acl_broker::JournalEntry;
 use acl_lang::{Answer, Numbered};
 use acl_tree::Tree;

@@ -1,7 +1,7 @@
 use Rattle.std.proofs.Common.{◌≡◌, ◌∙◌, ℕ, Bool, List, Option, Some, [], ap, codes, map, subst, sym, refl, Vec, Global}
 use Rattle.std.specs.Prelude.{option_map, unwrap_or}
 use Rattle.clap.specs.Words.{Text, all_of, found_of, rows_of}
-use Rattle.acl_service.specs.Asked.{flag_in}
+use Rattle.acl_queries.specs.Asked.{flag_in}
 use Rattle.acl_service.specs.RunTexts.{GrowsByRun}
 use Rattle.acl_service.specs.RunWords.{AreTold, IsTold, RunsWords, sessions_in}
 use Rattle.acl_service.proofs.run_command.run_files.Goals as goal

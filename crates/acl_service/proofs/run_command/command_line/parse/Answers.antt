@@ -1,4 +1,5 @@
-use Rattle.acl_service.proofs.CommandLemmas.{FailsBy-err, FailsBy-line, FailsBy-ok, IfOk-matches, run_line-free, run_line-simple}
+use Rattle.acl_queries.proofs.CommandLemmas.{FailsBy-err, FailsBy-line, FailsBy-ok, IfOk-matches}
+use Rattle.acl_service.proofs.RunLineLemmas.{run_line-free, run_line-simple}
 use Rattle.acl_service.specs.RunWords.{run_line, run_rows}
 use Rattle.acl_service.proofs.run_command.command_line.parse.Goals as goal
 

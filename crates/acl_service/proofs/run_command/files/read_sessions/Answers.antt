@@ -3,7 +3,7 @@ use Rattle.clap.specs.Words.{Text}
 use Rattle.acl_lang.specs.declared.limits.TheConstants.{MAX_TEXT_LEN}
 use Rattle.acl_service.specs.RunWords.{AreTold, IsTold}
 use Rattle.acl_service.proofs.FileLemmas.{AreTold-more, left-again, left-holds, map-take_more}
-use Rattle.acl_service.proofs.Places.{each_after_push}
+use Rattle.acl_runs.proofs.PlaceLemmas.{each_after_push}
 use Rattle.acl_service.proofs.run_command.files.read_sessions.Goals as goal
 
 pub loop-name-preserved : goal.loop-name-preserved

@@ -3,7 +3,7 @@ use Rattle.std.proofs.lemmas.List.{map-append, map_more, get_or_read}
 use Rattle.acl_lang.specs.Texts.{requests_of}
 use Rattle.acl_lang.specs.declared.text.Numbered.{Numbered}
 use Rattle.acl_service.specs.Cursor.{rest_of}
-use Rattle.acl_service.proofs.Places.{each_after_push}
+use Rattle.acl_runs.proofs.PlaceLemmas.{each_after_push}
 use Rattle.acl_service.proofs.TextLengths.{few_requests}
 use Rattle.acl_service.proofs.sessions.cursor.open_all.Goals as goal
 

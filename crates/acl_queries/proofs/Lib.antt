@@ -1,0 +1,11 @@
+pub mod OutputLemmas
+pub mod LineLemmas
+pub mod CommandLemmas
+pub mod AclLemmas
+pub mod OutcomeLemmas
+pub mod AskLemmas
+pub mod AcesLemmas
+pub mod CompareLineLemmas
+pub mod CompareLemmas
+pub mod DifferenceLemmas
+pub mod ComparedLemmas

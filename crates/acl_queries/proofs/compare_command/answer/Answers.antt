@@ -1,0 +1,17 @@
+use Rattle.std.proofs.Common.{rules, ◌≡◌, Ok, map, subst}
+use Rattle.std.specs.Io.KnownBytes.{Appends}
+use Rattle.acl_queries.specs.Compared.{compared_by}
+use Rattle.acl_queries.specs.Comparing.{compared}
+use Rattle.acl_queries.proofs.CompareLemmas.{answered}
+use Rattle.acl_queries.proofs.compare_command.answer.Goals as goal
+
+pub returns-clause-answered : goal.returns-clause-answered
+returns-clause-answered g c =
+    let words = map g.S.AsStr.text c.args.words.now in
+    let old = g.W.Write.contents c.args.out.now in
+    let new = g.W.Write.contents c.write_text.new.out in
+    let asked = compared c.in_ok-comparison.comparison in
+    let is : compared_by words ≡ Ok asked = search rules in
+    let appended : Appends old new c.as_slice.result.now = search rules in
+    answered words (Appends old new) asked c.in_ok-text.text.items is c.in_ok-text.ensures
+    (subst (Appends old new) c.as_slice.ensures.value appended)

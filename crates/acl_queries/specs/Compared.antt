@@ -1,0 +1,72 @@
+-- Which lists the words of `compare` give, read field by field.
+use Rattle.std.specs.Prelude.{ℕ, List, Result, Ok, Err, codes, if◌then◌else◌}
+use Rattle.std.specs.Str.{bytes_eq}
+use Rattle.clap.specs.Words.{Text, Row, first_of, matches_of}
+use Rattle.acl_names.specs.Pieces.{pieces}
+use Rattle.acl_names.specs.ReadList.{at_most_read}
+use Rattle.acl_names.specs.Steps.{◌>>=◌, or_fault}
+use Rattle.acl_nfs4.specs.Ace.{Nfsace4}
+use Rattle.acl_nfs4.specs.AceText.{piece_value}
+use Rattle.acl_nfs4.specs.declared.limits.TheConstants.{MAX_ACES}
+use Rattle.acl_nfs4.specs.declared.reading.PieceFault.{PieceFault}
+use Rattle.acl_nfs4.specs.declared.reading.PieceFault.TheVariants as piece
+use Rattle.acl_queries.specs.AclText.{acl_of, nobody}
+use Rattle.acl_queries.specs.Asked.{id_in}
+use Rattle.acl_queries.specs.CompareLine.{compare_line}
+use Rattle.acl_queries.specs.declared.compare_command.list.AnyAcl.{AnyAcl}
+use Rattle.acl_queries.specs.declared.compare_command.list.AnyAcl.TheVariants as list
+use Rattle.acl_queries.specs.declared.compare_command.list.Kind.{Kind}
+use Rattle.acl_queries.specs.declared.compare_command.list.Kind.TheVariants as kind
+use Rattle.acl_queries.specs.declared.decide_command.fault.FieldFault.{FieldFault}
+use Rattle.acl_queries.specs.declared.decide_command.fault.FieldFault.TheVariants.{BadAcl, BadKind, InheritOnly, TooMany, UnknownName}
+
+-- a faulty piece of an NFSv4 list, as the fault of the field
+abbrev pub ace_fault : PieceFault → FieldFault
+ace_fault piece.Syntax = BadAcl
+ace_fault piece.UnknownName = UnknownName
+ace_fault piece.InheritOnly = InheritOnly
+
+abbrev pub as_ace : Result Nfsace4 PieceFault → Result Nfsace4 FieldFault
+as_ace (Ok ace) = Ok ace
+as_ace (Err fault) = Err (ace_fault fault)
+
+-- the entries of the NFSv4 list that a text spells, at most 128
+abbrev pub aces_of : Text → Result (List Nfsace4) FieldFault
+aces_of text = at_most_read TooMany MAX_ACES (λ piece. as_ace (piece_value nobody piece)) (pieces text)
+
+-- the kind of list that has this name
+abbrev pub kind_of : Text → Result Kind FieldFault
+kind_of text =
+    if bytes_eq text (codes "posix") then Ok kind.Posix
+    else (if bytes_eq text (codes "nfs4") then Ok kind.Nfs4 else Err BadKind)
+
+-- the list of this kind that a text spells
+abbrev pub list_of : Kind → Text → Result AnyAcl FieldFault
+list_of kind.Posix text = acl_of text >>= (λ acl. Ok (list.Posix acl))
+list_of kind.Nfs4 text = aces_of text >>= (λ aces. Ok (list.Nfs4 aces))
+
+-- two lists, compared for a file of this owner and this group
+pub record Compared : Type 0 where
+  pub owner : ℕ
+  pub group : ℕ
+  pub first : AnyAcl
+  pub second : AnyAcl
+
+-- the fields of a list by name: its kind, and then its text
+abbrev pub list_in : Text → Text → List Row → Result AnyAcl FieldFault
+list_in kind_name text_name rows = do
+  kind ← or_fault BadKind (first_of kind_name rows) >>= kind_of
+  or_fault BadAcl (first_of text_name rows) >>= list_of kind
+
+-- what is compared, or the fault of the first field that doesn't read, in this order
+unfoldable pub compared_in : List Row → Result Compared FieldFault
+compared_in rows = do
+  owner ← id_in (codes "owner") rows
+  group ← id_in (codes "group") rows
+  first ← list_in (codes "kind") (codes "text") rows
+  second ← list_in (codes "other-kind") (codes "other-text") rows
+  Ok (record { owner = owner; group = group; first = first; second = second })
+
+-- what the words compare, where the parser finds no fault in them
+abbrev pub compared_by : List Text → Result Compared FieldFault
+compared_by words = compared_in (matches_of compare_line words)

@@ -1,0 +1,13 @@
+-- What a comparison compares.
+use Rattle.std.specs.Prelude.{ℕ}
+use Rattle.acl_queries.specs.Compared.{Compared}
+use Rattle.acl_queries.specs.declared.compare_command.comparison.Comparison.{Comparison}
+use Rattle.acl_queries.specs.declared.compare_command.list.AnyAcl.{AnyAcl}
+
+-- two lists for a file of this owner and this group
+abbrev pub between : ℕ → ℕ → AnyAcl → AnyAcl → Compared
+between owner group first second = record { owner = owner; group = group; first = first; second = second }
+
+-- what the comparison compares
+abbrev pub compared : Comparison → Compared
+compared comparison = between comparison.owner comparison.group comparison.first comparison.second

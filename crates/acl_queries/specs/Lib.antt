@@ -1,0 +1,15 @@
+pub mod Input
+pub mod Output
+pub mod CommandLine
+pub mod RunFaults
+pub mod Faults
+pub mod AclText
+pub mod Asked
+pub mod Question
+pub mod Outcome
+pub mod Ask
+pub mod CompareLine
+pub mod Compared
+pub mod Comparing
+pub mod Differences
+pub mod CompareOutcome

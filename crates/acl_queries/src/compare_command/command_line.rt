@@ -1,0 +1,42 @@
+//! The words of `compare`, as the parser of command lines takes them.
+ghost use Rattle.std.specs.Prelude.{◌≡◌, IfErr, IfOk, OnOk, map};
+ghost use Rattle.clap.specs.Words.{app_of, found_of, kind_of, matches_of, rows_of};
+ghost use Rattle.acl_queries.specs.CompareLine.{TakesCompareWords, compare_line};
+
+use crate::options::{required_option, required_word};
+use clap::error::ErrorKind;
+use clap::{ArgMatches, Command, Error};
+use std::alloc::{AllocError, Global};
+use std::convert::AsStr;
+
+/// The command line of `compare`. No value has a parser: what a field may be is for its reader to say.
+fn compare_command<'a>(alloc: Global) -> Result<Command<'a>, AllocError>
+    ensures { IfOk result (λ command. app_of command ≡ compare_line) }
+{
+    Command::new(alloc, "compare")
+        .bin_name("aclctl compare")?
+        .about(
+            "Tells whether anybody gains or loses access between two access control lists: `alike`, or who does and what.",
+        )
+        .arg(required_option(alloc, "owner", "The uid of the file's owner"))?
+        .arg(required_option(alloc, "group", "The gid of the file's group"))?
+        .arg(required_word(alloc, "kind", "The kind of the first list: posix or nfs4"))?
+        .arg(required_word(
+            alloc,
+            "text",
+            "The first access control list, as u::rw,g::r,o::- or A::OWNER@:rwa",
+        ))?
+        .arg(required_word(alloc, "other-kind", "The kind of the second list"))?
+        .arg(required_word(alloc, "other-text", "The second access control list"))
+}
+
+/// What the parser finds in the words of `compare`, of which the first is the command's name.
+pub(super) fn parse<'a, S: AsStr>(alloc: Global, words: &'a [S]) -> Result<ArgMatches<'a>, Error>
+    ensures taken { OnOk result (TakesCompareWords (map S.text words.entry.now)) }
+    ensures fields { IfOk result (λ matches. rows_of (found_of matches)
+        ≡ matches_of compare_line (map S.text words.entry.now)) }
+    ensures refused { IfErr result (λ error. TakesCompareWords (map S.text words.entry.now)
+        → kind_of error ≡ ErrorKind.OutOfMemory) }
+{
+    compare_command(alloc)?.try_get_matches_from(words)
+}

@@ -1,0 +1,161 @@
+//! What the words of `compare` ask, and the answer.
+ghost use Rattle.std.specs.Prelude.{◌≡◌, codes, IfErr, IfOk, MatchOption, Ok};
+ghost use Rattle.clap.specs.Words.{found_of, rows_of};
+ghost use Rattle.acl_queries.specs.Compared.{compared_in, list_in};
+ghost use Rattle.acl_queries.specs.declared.compare_command.list.AnyAcl.TheVariants as list;
+ghost use Rattle.acl_queries.specs.Comparing.{between, compared};
+ghost use Rattle.acl_queries.specs.Differences.{AreAlike, Differ};
+ghost use Rattle.acl_queries.specs.Faults.{Explains};
+
+use super::list::{AnyAcl, read_kind, read_list};
+use crate::decide_command::fault::{DecideFault, FieldFault};
+use crate::decide_command::question::{gid_field, uid_field};
+use crate::options::text_field;
+use acl_bridge::{difference_from_posix, posix_difference, whole_request_difference};
+use acl_names::{Gid, Uid};
+use acl_nfs4::{Acl4, Difference, Mask};
+use acl_posix::Acl;
+use bitflags::Flags;
+use clap::ArgMatches;
+use std::alloc::{AllocError, Global};
+
+/// Two lists, compared for a file of this owner and this group.
+#[derive(Drop)]
+pub(super) struct Comparison {
+    pub owner: Uid,
+    pub group: Gid,
+    pub first: AnyAcl,
+    pub second: AnyAcl,
+}
+
+/// A difference as it is in the other direction.
+fn swapped(difference: Difference) -> Difference
+    ensures { result ≡ record { asker = difference.asker; lost = difference.gained; gained = difference.lost } }
+{
+    Difference {
+        asker: difference.asker,
+        lost: difference.gained,
+        gained: difference.lost,
+    }
+}
+
+/// What two POSIX lists decide differently: of the permissions by themselves, or else of the requests of several.
+fn between_posix_lists(
+    alloc: Global,
+    first: &Acl,
+    second: &Acl,
+    owner: Uid,
+    group: Gid,
+) -> Result<Option<Difference>, AllocError>
+    ensures { IfOk result (λ found. MatchOption found
+        (AreAlike (between owner group (list.Posix first.now) (list.Posix second.now)))
+        (Differ (between owner group (list.Posix first.now) (list.Posix second.now)))) }
+{
+    match posix_difference(alloc, first, second, owner, group)? {
+        Some(difference) => Ok(Some(difference)),
+        None => whole_request_difference(alloc, first, second, owner, group),
+    }
+}
+
+/// What an NFSv4 list and a POSIX list decide differently.
+fn towards_posix(
+    alloc: Global,
+    first: &Acl4,
+    second: &Acl,
+    owner: Uid,
+    group: Gid,
+) -> Result<Option<Difference>, AllocError>
+    ensures { IfOk result (λ found. MatchOption found
+        (AreAlike (between owner group (list.Nfs4 first.now) (list.Posix second.now)))
+        (Differ (between owner group (list.Nfs4 first.now) (list.Posix second.now)))) }
+{
+    match difference_from_posix(alloc, second, first, owner, group)? {
+        Some(difference) => Ok(Some(swapped(difference))),
+        None => Ok(None),
+    }
+}
+
+/// What a POSIX list and an NFSv4 list decide differently.
+fn from_posix(
+    alloc: Global,
+    first: &Acl,
+    second: &Acl4,
+    owner: Uid,
+    group: Gid,
+) -> Result<Option<Difference>, AllocError>
+    ensures { IfOk result (λ found. MatchOption found
+        (AreAlike (between owner group (list.Posix first.now) (list.Nfs4 second.now)))
+        (Differ (between owner group (list.Posix first.now) (list.Nfs4 second.now)))) }
+{
+    difference_from_posix(alloc, first, second, owner, group)
+}
+
+/// What two NFSv4 lists decide differently.
+fn between_nfs4_lists(first: &Acl4, second: &Acl4, owner: Uid, group: Gid) -> Option<Difference>
+    ensures { MatchOption result
+        (AreAlike (between owner group (list.Nfs4 first.now) (list.Nfs4 second.now)))
+        (Differ (between owner group (list.Nfs4 first.now) (list.Nfs4 second.now))) }
+{
+    first.difference(second, owner, group, Mask::all())
+}
+
+impl Comparison {
+    /// What the lists decide differently, for whom; none where they decide alike for everyone.
+    pub(super) fn difference(&self, alloc: Global) -> Result<Option<Difference>, AllocError>
+        ensures { IfOk result (λ found. MatchOption found (AreAlike (compared self.now)) (Differ (compared self.now))) }
+    {
+        match (&self.first, &self.second) {
+            (AnyAcl::Posix(first), AnyAcl::Posix(second)) => {
+                between_posix_lists(alloc, first, second, self.owner, self.group)
+            }
+            (AnyAcl::Posix(first), AnyAcl::Nfs4(second)) => {
+                from_posix(alloc, first, second, self.owner, self.group)
+            }
+            (AnyAcl::Nfs4(first), AnyAcl::Posix(second)) => {
+                towards_posix(alloc, first, second, self.owner, self.group)
+            }
+            (AnyAcl::Nfs4(first), AnyAcl::Nfs4(second)) => {
+                Ok(between_nfs4_lists(first, second, self.owner, self.group))
+            }
+        }
+    }
+}
+
+/// The list whose kind and text have these names.
+fn list_field(
+    alloc: Global,
+    matches: &ArgMatches<'_>,
+    kind_name: &str,
+    text_name: &str,
+) -> Result<AnyAcl, DecideFault>
+    ensures read { IfOk result (λ acl. list_in kind_name.now text_name.now (rows_of (found_of matches.now)) ≡ Ok acl) }
+    ensures refused { IfErr result (Explains (list_in kind_name.now text_name.now (rows_of (found_of matches.now)))) }
+{
+    let kind = read_kind(text_field(matches, kind_name).ok_or(FieldFault::BadKind)?)?;
+    read_list(
+        alloc,
+        kind,
+        text_field(matches, text_name).ok_or(FieldFault::BadAcl)?,
+    )
+}
+
+/// What the words compare, their fields read in order.
+#[tactic(auto, unfolding(crate::specs::Compared::compared_in))]
+pub(super) fn read_comparison(
+    alloc: Global,
+    matches: &ArgMatches<'_>,
+) -> Result<Comparison, DecideFault>
+    ensures read { IfOk result (λ comparison. compared_in (rows_of (found_of matches.now)) ≡ Ok (compared comparison)) }
+    ensures refused { IfErr result (Explains (compared_in (rows_of (found_of matches.now)))) }
+{
+    let owner = uid_field(matches, "owner")?;
+    let group = gid_field(matches, "group")?;
+    let first = list_field(alloc, matches, "kind", "text")?;
+    let second = list_field(alloc, matches, "other-kind", "other-text")?;
+    Ok(Comparison {
+        owner,
+        group,
+        first,
+        second,
+    })
+}

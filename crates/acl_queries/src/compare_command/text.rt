@@ -1,0 +1,79 @@
+//! The text that `compare` answers with.
+ghost use Rattle.std.specs.Prelude.{◌≡◌, ◌++◌, IfOk, OnOk};
+ghost use Rattle.acl_nfs4.specs.Mask.{mask_bits};
+ghost use Rattle.acl_queries.specs.Comparing.{compared};
+ghost use Rattle.acl_queries.specs.Differences.{Answers, bits_text, difference_text, gids_text, told_text};
+
+use super::comparison::Comparison;
+use acl_names::{Gid, push_id};
+use acl_nfs4::{Difference, Mask, push_mask};
+use bitflags::Flags;
+use std::alloc::{AllocError, Global};
+
+/// Appends the groups of who asks.
+fn push_gids(gid: Option<Gid>, other_gid: Option<Gid>, out: &mut Vec<u8>) -> Result<(), AllocError>
+    ensures { OnOk result (out.new.items ≡ out.old.items ++ gids_text gid other_gid) }
+{
+    match (gid, other_gid) {
+        (None, None) => out.push(b'-')?,
+        (Some(gid), None) => push_id(None, gid.value(), out)?,
+        (None, Some(gid)) => push_id(None, gid.value(), out)?,
+        (Some(gid), Some(other)) => {
+            push_id(None, gid.value(), out)?;
+            if gid != other {
+                out.push(b',')?;
+                push_id(None, other.value(), out)?;
+            }
+        }
+    }
+    Ok(())
+}
+
+/// Appends the letters of the bits.
+fn push_bits(bits: Mask, out: &mut Vec<u8>) -> Result<(), AllocError>
+    ensures { OnOk result (out.new.items ≡ out.old.items ++ bits_text (mask_bits bits)) }
+{
+    if bits.is_empty() {
+        out.push(b'-')?;
+        return Ok(());
+    }
+    push_mask(bits, out)
+}
+
+/// Appends the lines that tell of a difference.
+fn push_difference(difference: &Difference, out: &mut Vec<u8>) -> Result<(), AllocError>
+    ensures { OnOk result (out.new.items ≡ out.old.items ++ difference_text difference.now) }
+{
+    out.extend_from_slice("differ\nrequester ".as_bytes())?;
+    push_id(None, difference.asker.uid.value(), out)?;
+    out.push(b' ')?;
+    push_gids(difference.asker.gid, difference.asker.other_gid, out)?;
+    out.extend_from_slice("\nlost ".as_bytes())?;
+    push_bits(difference.lost, out)?;
+    out.extend_from_slice("\ngained ".as_bytes())?;
+    push_bits(difference.gained, out)?;
+    out.push(b'\n')?;
+    Ok(())
+}
+
+/// The text for a difference that was found, if any.
+fn told_text(alloc: Global, found: Option<Difference>) -> Result<Vec<u8>, AllocError>
+    ensures { IfOk result (λ text. text.items ≡ told_text found) }
+{
+    let mut text = Vec::new(alloc);
+    match found {
+        Some(difference) => push_difference(&difference, &mut text)?,
+        None => text.extend_from_slice("alike\n".as_bytes())?,
+    }
+    Ok(text)
+}
+
+/// The text that answers.
+pub(super) fn answer_text(alloc: Global, comparison: &Comparison) -> Result<Vec<u8>, AllocError>
+    ensures { IfOk result (λ text. Answers (compared comparison.now) text.items) }
+{
+    match comparison.difference(alloc) {
+        Ok(found) => told_text(alloc, found),
+        Err(refused) => Err(refused),
+    }
+}

@@ -1,0 +1,110 @@
+//! What the words of `decide` ask.
+ghost use Rattle.std.specs.Prelude.{◌≡◌, codes, Ok, Err, IfErr, IfOk, IsOkAnd};
+ghost use Rattle.clap.specs.Words.{found_of, rows_of};
+ghost use Rattle.acl_posix.specs.Perms.{bits_of};
+ghost use Rattle.acl_queries.specs.Asked.{acl_in, asked_in, gids_in, id_in, perms_in};
+ghost use Rattle.acl_queries.specs.Faults.{Explains};
+ghost use Rattle.acl_queries.specs.Question.{Asks};
+
+use super::acl::read_acl;
+use super::fault::{DecideFault, FieldFault};
+use super::ids::{read_gid, read_gids, read_uid};
+use crate::options::{flag_field, text_field};
+use acl_names::{Gid, Requester, Uid};
+use acl_posix::{Acl, Perms, read_perms};
+use clap::ArgMatches;
+use std::alloc::Global;
+
+/// Whether who asks may do what is requested with a file; and, with `nfs4`, what its access control list translates to.
+#[derive(Drop)]
+pub(super) struct Question {
+    pub owner: Uid,
+    pub group: Gid,
+    pub requester: Requester,
+    pub request: Perms,
+    pub acl: Acl,
+    pub nfs4: bool,
+}
+
+impl Question {
+    ghost use Rattle.acl_queries.specs.Asked.{Asked};
+    ghost use Rattle.acl_queries.specs.Outcome.{is_granted};
+
+    /// The answer.
+    pub(super) fn is_granted(&self) -> bool
+        ensures { (asked : Asked) → Asks self.now asked → result ≡ is_granted asked }
+    {
+        self.acl
+            .grants(self.owner, self.group, &self.requester, self.request)
+    }
+}
+
+/// The user of a name.
+pub(crate) fn uid_field(matches: &ArgMatches<'_>, name: &str) -> Result<Uid, FieldFault>
+    ensures { result ≡ id_in name.now (rows_of (found_of matches.now)) }
+{
+    read_uid(text_field(matches, name).ok_or(FieldFault::BadId)?)
+}
+
+/// The group of a name.
+pub(crate) fn gid_field(matches: &ArgMatches<'_>, name: &str) -> Result<Gid, FieldFault>
+    ensures { result ≡ id_in name.now (rows_of (found_of matches.now)) }
+{
+    read_gid(text_field(matches, name).ok_or(FieldFault::BadId)?)
+}
+
+/// The groups of who asks; none where the words don't tell.
+fn gids_field(alloc: Global, matches: &ArgMatches<'_>) -> Result<Vec<Gid>, DecideFault>
+    ensures read { IfOk result (λ gids. gids_in (rows_of (found_of matches.now)) ≡ Ok gids.items) }
+    ensures refused { IfErr result (Explains (gids_in (rows_of (found_of matches.now)))) }
+{
+    match text_field(matches, "gids") {
+        Some(text) => read_gids(alloc, text),
+        None => Ok(Vec::new(alloc)),
+    }
+}
+
+/// What is requested.
+fn perms_field(matches: &ArgMatches<'_>) -> Result<Perms, FieldFault>
+    ensures read { IfOk result (λ perms. perms_in (rows_of (found_of matches.now)) ≡ Ok (bits_of perms)) }
+    ensures refused { IfErr result (λ fault. perms_in (rows_of (found_of matches.now)) ≡ Err fault) }
+{
+    let text = text_field(matches, "perms").ok_or(FieldFault::BadPerms)?;
+    read_perms(text.as_bytes()).ok_or(FieldFault::BadPerms)
+}
+
+/// The file's access control list.
+fn acl_field(alloc: Global, matches: &ArgMatches<'_>) -> Result<Acl, DecideFault>
+    ensures read { IfOk result (λ acl. acl_in (rows_of (found_of matches.now)) ≡ Ok acl) }
+    ensures refused { IfErr result (Explains (acl_in (rows_of (found_of matches.now)))) }
+{
+    read_acl(
+        alloc,
+        text_field(matches, "text").ok_or(FieldFault::BadAcl)?,
+    )
+}
+
+/// What the words ask, their fields read in order.
+#[tactic(auto, unfolding(crate::specs::Asked::asked_in))]
+pub(super) fn read_question(
+    alloc: Global,
+    matches: &ArgMatches<'_>,
+) -> Result<Question, DecideFault>
+    ensures read { IfOk result (λ question. IsOkAnd (asked_in (rows_of (found_of matches.now))) (Asks question)) }
+    ensures refused { IfErr result (Explains (asked_in (rows_of (found_of matches.now)))) }
+{
+    let owner = uid_field(matches, "owner")?;
+    let group = gid_field(matches, "group")?;
+    let uid = uid_field(matches, "uid")?;
+    let gids = gids_field(alloc, matches)?;
+    let request = perms_field(matches)?;
+    let acl = acl_field(alloc, matches)?;
+    Ok(Question {
+        owner,
+        group,
+        requester: Requester::new(uid, gids),
+        request,
+        acl,
+        nfs4: flag_field(matches, "nfs4"),
+    })
+}

@@ -1,0 +1,20 @@
+//! The translation that `decide --nfs4` shows.
+ghost use Rattle.std.specs.Prelude.{◌≡◌, ◌++◌, OnOk};
+ghost use Rattle.acl_queries.specs.Outcome.{translation_text};
+
+use super::acl::empty_directory;
+use acl_bridge::translate;
+use acl_posix::Acl;
+use std::alloc::{AllocError, Global};
+
+/// Appends the entries of the NFSv4 list that an access control list translates to, one a line, with ids in decimal.
+pub(super) fn print_translation(
+    alloc: Global,
+    acl: &Acl,
+    out: &mut Vec<u8>,
+) -> Result<(), AllocError>
+    ensures { OnOk result (out.new.items ≡ out.old.items ++ translation_text acl.now) }
+{
+    let directory = empty_directory(alloc)?;
+    translate(alloc, acl)?.print_aces(&directory, out)
+}

@@ -1,0 +1,5 @@
+mod compare;
+mod decide;
+mod input;
+mod refused_growths;
+mod words;

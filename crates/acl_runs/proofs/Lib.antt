@@ -1,0 +1,9 @@
+pub mod WorkerLemmas
+pub mod LimitLemmas
+pub mod TakingLemmas
+pub mod PlaceLemmas
+pub mod SettlingLemmas
+pub mod GatheringLemmas
+pub mod TurnLemmas
+pub mod RoundLemmas
+pub mod RoundsReportLemmas

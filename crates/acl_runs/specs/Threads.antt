@@ -1,0 +1,96 @@
+-- What a run with all its workers does.
+use Rattle.std.specs.Prelude.{◌≡◌, ◌≢◌, ℕ, ◌<◌, ◌≤◌, ◌^◌, Bool, false, List, [], All, length, vec_len, vec_capacity, slice_index_or, Option, Some}
+use Rattle.std.specs.declared.vec.Vec.{Vec}
+use Rattle.std.specs.declared.alloc.Global.{Global}
+use Rattle.std.specs.declared.result.Result.{Result}
+use Rattle.std.specs.declared.thread.PromisedHandle.{PromisedHandle}
+use Rattle.acl_broker.specs.Ends.{AreEndsOf, sent_by, polled_by, is_closed}
+use Rattle.acl_broker.specs.Takers.{TakerState, Keeps, view}
+use Rattle.acl_broker.specs.declared.end.End.{End}
+use Rattle.acl_broker.specs.declared.end.End.TheVariants.{Open}
+use Rattle.acl_broker.specs.declared.taker_side.TakerSide.{TakerSide}
+use Rattle.acl_runs.specs.RunReport.{IsReport}
+use Rattle.acl_runs.specs.Taking.{AreLimited, StartsWith}
+use Rattle.acl_runs.specs.declared.serving.Begun.{Begun}
+use Rattle.acl_broker.specs.declared.limits.TheConstants.{SESSIONS}
+use Rattle.acl_runs.specs.declared.limits.Limits.{Limits}
+use Rattle.acl_runs.specs.declared.report.RunReport.{RunReport}
+use Rattle.acl_runs.specs.Workers.{IsServed, IsFinished}
+use Rattle.acl_runs.specs.declared.worker.Finished.{Finished}
+use Rattle.acl_runs.specs.declared.workers.Serves.{Serves}
+use Rattle.acl_runs.specs.declared.workers.Gathered.{Gathered}
+use Rattle.acl_runs.specs.declared.stop.ServeFault.{ServeFault}
+
+module _ {I R : Type 0} where
+  -- each of these ends is open, and nothing was submitted or polled by it
+  abbrev pub AreFresh : List (End I R) → Type 0
+  AreFresh ends = (session : ℕ) (end : End I R) → session < length ends
+      → (is_closed (slice_index_or ends session end) ≡ false) × (sent_by (slice_index_or ends session end) ≡ []) × (polled_by (slice_index_or ends session end) ≡ [])
+
+module _ {State I R : Type 0} where
+  -- what a run begins with: for each of so many sessions an open end of which nothing was submitted or polled, and their taker, which has taken nothing
+  pub record IsReady (sessions : ℕ) (ends : List (End I R)) (taker : TakerState State I R) : Type 0 where
+    pub count : length ends ≡ sessions
+    pub pairs : AreEndsOf ends taker.sides
+    pub fresh : AreFresh ends
+    pub journal : taker.journal ≡ []
+    pub live : (session : ℕ) (side : TakerSide I R) → session < length taker.sides → (slice_index_or taker.sides session side).cancelled ≡ false
+
+-- what a run begins with for these sessions
+pub record IsBegun {C State I R : Type 0} (rest : C → List I) (limit : Option ℕ) (sessions : List C) (begun : Begun State I R) : Type 0 where
+  pub ready : IsReady (length sessions) begun.ends.items (view begun.taker)
+  pub limits : StartsWith limit (length sessions) begun.limits
+  pub many : length sessions ≤ SESSIONS
+  pub few : All (λ session. length (rest session) < 2 ^ 32) sessions
+  pub some : limit ≢ Some 0
+
+-- the handle of a worker
+abbrev pub Handle : Type 0 → Type 0 → Type 0 → Type 0 → Type 0
+Handle C P I R = PromisedHandle (Result (Finished I R) ServeFault) (Serves C P I R)
+
+module _ {C P I R : Type 0} where
+  -- the worker was started with this end and these requests
+  pub record IsStarted (replies : P) (max_errors : Option ℕ) (end : End I R) (requests : C) (worker : Handle C P I R) : Type 0 where
+    pub start : Open worker.promise.start.value ≡ end
+    pub requests_are : worker.promise.requests.value ≡ requests
+    pub replies_are : worker.promise.replies.now ≡ replies
+    pub max_errors_is : worker.promise.max_errors ≡ max_errors
+
+  -- a worker for each session, each with its own end and its own requests
+  pub record AreStarted (replies : P) (max_errors : Option ℕ) (ends : List (End I R)) (sessions : List C) (workers : List (Handle C P I R)) : Type 0 where
+    pub count : length workers ≡ length sessions
+    pub each : (session : ℕ) (end : End I R) (requests : C) (worker : Handle C P I R) → session < length sessions → IsStarted replies max_errors (slice_index_or ends session end) (slice_index_or sessions session requests) (slice_index_or workers session worker)
+
+  module _ (rest : C → List I) (text : P → R → List ℕ) (is_error : R → Bool) where
+    -- what the worker's promise says of what it hands on
+    abbrev pub IsKept : Handle C P I R → End I R → List R → List ℕ → Type 0
+    IsKept worker end answers output = IsFinished (text worker.promise.replies.now) is_error worker.promise.start.value worker.promise.max_errors (rest worker.promise.requests.value) end answers output
+
+    -- each place has what the worker of that place handed on
+    pub record AreGathered (workers : List (Handle C P I R)) (gathered : Gathered I R) : Type 0 where
+      pub ends : length gathered.ends.items ≡ length workers
+      pub answers : length gathered.answers.items ≡ length workers
+      pub outputs : length gathered.outputs.items ≡ length workers
+      pub each : (session : ℕ) (worker : Handle C P I R) (end : End I R) (answers : Vec R Global) (output : Vec ℕ Global) → session < length workers
+          → IsKept (slice_index_or workers session worker) (slice_index_or gathered.ends.items session end) (slice_index_or gathered.answers.items session answers).items (slice_index_or gathered.outputs.items session output).items
+
+module _ {I R : Type 0} where
+  -- nothing is there, and room for so many
+  pub record HasRoom (count : ℕ) (gathered : Gathered I R) : Type 0 where
+    pub ends : (vec_len gathered.ends ≡ 0) × (count ≤ vec_capacity gathered.ends)
+    pub answers : (vec_len gathered.answers ≡ 0) × (count ≤ vec_capacity gathered.answers)
+    pub outputs : (vec_len gathered.outputs ≡ 0) × (count ≤ vec_capacity gathered.outputs)
+
+  -- each place has the end, answers and output of a session that is served
+  pub record AreServed (text : R → List ℕ) (is_error : R → Bool) (limit : Option ℕ) (wanted : List (List I)) (gathered : Gathered I R) : Type 0 where
+    pub ends : length gathered.ends.items ≡ length wanted
+    pub answers : length gathered.answers.items ≡ length wanted
+    pub outputs : length gathered.outputs.items ≡ length wanted
+    pub each : (session : ℕ) (none : List I) (end : End I R) (answers : Vec R Global) (output : Vec ℕ Global) → session < length wanted
+        → IsServed text is_error limit (slice_index_or wanted session none) (slice_index_or gathered.ends.items session end) (slice_index_or gathered.answers.items session answers).items (slice_index_or gathered.outputs.items session output).items
+
+-- the report of a run in which each session was served, whatever opening state its taker keeps
+abbrev pub Settles : {State I R : Type 0} → (State → I → State) → (State → I → R) → TakerState State I R → Gathered I R → RunReport State I R → Type 0
+Settles {State} {I} {R} next reply taker gathered report =
+    (text : R → List ℕ) (is_error : R → Bool) (opening : State) (limit : Option ℕ) (limits : Limits) (wanted : List (List I))
+    → Keeps next reply opening taker → AreLimited is_error limit limits taker.sides → AreServed text is_error limit wanted gathered → IsReport next reply text is_error opening limit wanted report

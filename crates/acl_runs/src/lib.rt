@@ -1,0 +1,31 @@
+//! Runs of sessions over any service: each session's requests go through a broker into one journal, and what is answered is
+//! printed for each session. What a session's requests are, how replies are printed and which of them are errors is told by
+//! two traits.
+#![tactic(auto)]
+
+mod gate;
+mod idle;
+mod limits;
+mod printed;
+mod replies;
+mod report;
+mod requests;
+mod rounds;
+mod serving;
+mod stop;
+mod taking;
+mod worker;
+mod workers;
+
+pub use gate::{Gate, OpenGate};
+pub(crate) use idle::Idle;
+pub(crate) use limits::Limits;
+pub(crate) use printed::Printed;
+pub use replies::Replies;
+pub use report::RunReport;
+pub use requests::Requests;
+pub use rounds::serve_in_rounds;
+pub use serving::serve_sessions;
+pub use stop::ServeFault;
+pub(crate) use stop::Stop;
+pub(crate) use worker::{Finished, Setting, work};

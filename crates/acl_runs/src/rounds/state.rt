@@ -1,0 +1,78 @@
+//! A run in rounds as it stands: how it begins, and what it reports.
+ghost use Rattle.std.specs.Prelude.{◌≡◌, ◌<◌, [], length, map, IfOk};
+ghost use Rattle.acl_runs.specs.RoundsState.{HasBegun, IsReported};
+
+use crate::{Requests, RunReport};
+use acl_broker::{JournalEntry, Service};
+use std::alloc::{AllocError, Global};
+
+/// A session with what it was answered.
+#[derive(Drop)]
+pub(crate) struct Progress<C, A> {
+    pub(crate) requests: C,
+    pub(crate) answers: Vec<A>,
+    pub(crate) output: Vec<u8>,
+}
+
+/// All sessions with the service and the journal.
+#[derive(Drop)]
+pub(crate) struct Run<C, S, I, A> {
+    pub(crate) service: S,
+    pub(crate) journal: Vec<JournalEntry<I>>,
+    pub(crate) sessions: Vec<Progress<C, A>>,
+}
+
+/// All sessions, to which nothing was answered yet.
+pub(crate) fn begin_all<S: Service + Drop, C: Requests<Request = S::Request> + Drop>(
+    alloc: Global,
+    service: S,
+    sessions: Vec<C>,
+) -> Result<Run<C, S, S::Request, S::Reply>, AllocError>
+where
+    S::Request: Drop,
+    S::Reply: Drop,
+    ensures { IfOk result (HasBegun C.rest service sessions.items) }
+{
+    let mut begun = Vec::with_capacity(alloc, sessions.len())?;
+    for requests in sessions {
+        begun.push_reserved(Progress {
+            requests,
+            answers: Vec::new(alloc),
+            output: Vec::new(alloc),
+        });
+    }
+    Ok(Run {
+        service,
+        journal: Vec::new(alloc),
+        sessions: begun,
+    })
+}
+
+/// What each session was answered, with the journal and the service.
+pub(crate) fn report_all<S: Service + Drop, C: Requests<Request = S::Request> + Drop>(
+    alloc: Global,
+    run: Run<C, S, S::Request, S::Reply>,
+) -> Result<RunReport<S>, AllocError>
+where
+    S::Request: Drop,
+    S::Reply: Drop,
+    ensures { IfOk result (IsReported run) }
+{
+    let Run {
+        service,
+        journal,
+        sessions,
+    } = run;
+    let mut answers = Vec::with_capacity(alloc, sessions.len())?;
+    let mut outputs = Vec::with_capacity(alloc, sessions.len())?;
+    for progress in sessions {
+        answers.push_reserved(progress.answers);
+        outputs.push_reserved(progress.output);
+    }
+    Ok(RunReport {
+        journal,
+        answers,
+        outputs,
+        service,
+    })
+}

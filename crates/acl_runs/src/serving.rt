@@ -1,0 +1,166 @@
+//! All sessions in threads of their own.
+ghost use Rattle.std.specs.Prelude.{◌≡◌, ◌≢◌, ◌<◌, ◌≤◌, ◌^◌, All, length, map, Some, IfOk};
+ghost use Rattle.acl_broker.specs.Ends.{AreEndsOf};
+ghost use Rattle.acl_broker.specs.Takers.{view, Keeps};
+ghost use Rattle.acl_broker.specs.declared.limits.TheConstants.{SESSIONS};
+ghost use Rattle.acl_runs.specs.RunReport.{IsReport};
+ghost use Rattle.acl_runs.specs.Threads.{IsBegun, Settles};
+
+use crate::taking::take_turns;
+use crate::workers::{Gathered, join_workers, start_workers};
+use crate::{Gate, Limits, Replies, Requests, RunReport, ServeFault, Setting, Stop};
+use acl_broker::{Broker, End, Service, Taker};
+use std::alloc::{AllocError, Global};
+use std::sync::Wait;
+use std::thread;
+use std::thread::{Scope, Threads};
+use std::time::Clock;
+
+/// Serves each session by a worker in a thread of its own, while this thread takes the requests of all into one journal and
+/// delivers the answers. A worker asks the gate before it submits a request, and tells it of each answer that it has printed.
+///
+/// With so many errors allowed, a session is cancelled at its last one: no request of it enters the journal after that.
+pub fn serve_sessions<R, G, P, S, C>(
+    rt: &R,
+    alloc: Global,
+    gate: &G,
+    replies: &P,
+    service: S,
+    sessions: Vec<C>,
+    max_errors: Option<u32>,
+) -> Result<RunReport<S>, ServeFault>
+where
+    R: Threads + Wait + Clock + Sync,
+    G: Gate,
+    P: Replies<Reply = S::Reply>,
+    S: Service + Drop,
+    C: Requests<Request = S::Request> + Send + Drop,
+    S::Request: Send + Drop,
+    S::Reply: Send + Drop,
+    requires count { (1 ≤ length sessions.items) × (length sessions.items ≤ SESSIONS) }
+    requires few { All (λ session. length (C.rest session) < 2 ^ 32) sessions.items }
+    requires some { max_errors ≢ Some 0 }
+    ensures { IfOk result (IsReport S.next S.reply (P.text replies.now) P.is_error service max_errors (map C.rest sessions.items)) }
+{
+    let Ok(begun) = begin(alloc, &sessions, service, max_errors) else {
+        return Err(ServeFault::Memory);
+    };
+    let stop = Stop::new();
+    let stop = &stop;
+    thread::scope(
+        thread::scope_env(),
+        rt,
+        |scope| -> Result<RunReport<S>, ServeFault>
+            requires { IsBegun C.rest max_errors sessions.items begun }
+            ensures { IfOk result (λ report. (opening : S) → Keeps S.next S.reply opening (view begun.taker) → IsReport S.next S.reply (P.text replies.entry.now) P.is_error opening max_errors (map C.rest sessions.items) report) }
+        {
+            let setting = Setting {
+                rt,
+                alloc,
+                gate,
+                replies,
+                max_errors,
+                stop,
+            };
+            run_workers(scope, &setting, sessions, begun)
+        },
+    )
+}
+
+/// What a run begins with.
+#[derive(Drop)]
+struct Begun<S: Service> {
+    ends: Vec<End<S::Request, S::Reply>>,
+    taker: Taker<S>,
+    limits: Limits,
+}
+
+/// The ends of these sessions and their taker, to which nothing was submitted yet, and the errors allowed to each.
+fn begin<S: Service + Drop, C: Requests<Request = S::Request>>(
+    alloc: Global,
+    sessions: &Vec<C>,
+    service: S,
+    max_errors: Option<u32>,
+) -> Result<Begun<S>, AllocError>
+where
+    S::Request: Drop,
+    S::Reply: Drop,
+    requires count { (1 ≤ length sessions.now.items) × (length sessions.now.items ≤ SESSIONS) }
+    requires few { All (λ session. length (C.rest session) < 2 ^ 32) sessions.now.items }
+    requires some { max_errors ≢ Some 0 }
+    ensures begun { IfOk result (IsBegun C.rest max_errors sessions.now.items) }
+    ensures keeps { IfOk result (λ begun. Keeps S.next S.reply service (view begun.taker)) }
+{
+    let count = sessions.len() as u32;
+    let limits = Limits::new(alloc, count, max_errors)?;
+    let Ok(broker) = Broker::open(alloc, count, service) else {
+        return Err(AllocError);
+    };
+    let (ends, taker) = broker.split();
+    Ok(Begun {
+        ends,
+        taker,
+        limits,
+    })
+}
+
+/// Starts the workers, takes until all sessions have ended, joins the workers and ties both sides together.
+fn run_workers<'s, E, R, G, P, S, C>(
+    scope: &Scope<'s, E>,
+    setting: &Setting<'s, R, G, P>,
+    sessions: Vec<C>,
+    begun: Begun<S>,
+) -> Result<RunReport<S>, ServeFault>
+where
+    R: Threads + Wait + Clock + Sync + 's,
+    G: Gate + 's,
+    P: Replies<Reply = S::Reply> + 's,
+    S: Service + Drop,
+    C: Requests<Request = S::Request> + Send + Drop + 's,
+    S::Request: Send + Drop + 's,
+    S::Reply: Send + Drop + 's,
+    requires { IsBegun C.rest setting.now.max_errors sessions.items begun }
+    ensures { IfOk result (λ report. (opening : S) → Keeps S.next S.reply opening (view begun.taker) → IsReport S.next S.reply (P.text setting.now.replies.now) P.is_error opening setting.now.max_errors (map C.rest sessions.items) report) }
+{
+    let Begun {
+        ends,
+        mut taker,
+        mut limits,
+    } = begun;
+    let count = sessions.len() as u32;
+    let workers = start_workers(scope, setting, sessions, ends)?;
+    if let Err(fault) = take_turns::<R, P, S>(
+        setting.rt,
+        setting.stop,
+        &mut taker,
+        &mut limits,
+        count,
+    ) {
+        setting.stop.raise(fault);
+        return Err(fault);
+    }
+    let gathered = join_workers(setting.rt, setting.alloc, workers)?;
+    Ok(settle(taker, gathered))
+}
+
+/// Ties both sides together.
+fn settle<S: Service>(taker: Taker<S>, gathered: Gathered<S::Request, S::Reply>) -> RunReport<S>
+where
+    S::Request: Drop,
+    S::Reply: Drop,
+    requires { AreEndsOf gathered.ends.items (view taker).sides }
+    ensures { Settles S.next S.reply (view taker) gathered result }
+{
+    let Gathered {
+        ends,
+        answers,
+        outputs,
+    } = gathered;
+    let (journal, service) = taker.rejoin(ends).into_parts();
+    RunReport {
+        journal,
+        answers,
+        outputs,
+        service,
+    }
+}

@@ -1,6 +1,0 @@
-use Rattle.std.proofs.Common.{◌-◌}
-use Rattle.acl_service.specs.Turns.{WithRoundsLeft}
-use Rattle.acl_service.proofs.runs.rounds.turns.take_rounds.Given as goal
-
-abbrev pub invariant-loop : goal.invariant-loop
-invariant-loop g l = WithRoundsLeft g.C.Requests.rest g.S.Service.next g.S.Service.reply (g.P.Replies.text l.replies) (l.most - l.counter) l.most l.initial.run l.run

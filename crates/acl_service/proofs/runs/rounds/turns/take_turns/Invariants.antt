@@ -1,5 +1,0 @@
-use Rattle.acl_service.specs.Turns.{TurnsOfFirst}
-use Rattle.acl_service.proofs.runs.rounds.turns.take_turns.Given as goal
-
-abbrev pub invariant-loop-session : goal.invariant-loop-session
-invariant-loop-session g l = TurnsOfFirst g.C.Requests.rest g.S.Service.next g.S.Service.reply (g.P.Replies.text l.replies) l.session l.initial.run l.more l.run
