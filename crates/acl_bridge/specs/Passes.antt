@@ -1,4 +1,4 @@
--- The passes over a list that make its translation.
+-- Private steps, which no public clause cites: the passes over a list that make its translation.
 use Rattle.std.specs.Prelude.{ℕ, Bool, List, ◌++◌, Option, map, flat_map, if◌then◌else◌}
 use Rattle.acl_posix.specs.Access.{is_under_mask, masked}
 use Rattle.acl_posix.specs.Entry.{Triple, perms_of}

@@ -1,5 +1,5 @@
 -- What a translation keeps of a POSIX access control list.
-use Rattle.std.specs.Prelude.{◌≡◌, ℕ, ◌^◌, ◌≤◌, ◌↔◌, IsTrue, List, length, map}
+use Rattle.std.specs.Prelude.{◌≡◌, ℕ, ◌^◌, ◌*◌, ◌-◌, ◌≤◌, ◌↔◌, IsTrue, List, length, map}
 use Rattle.acl_names.specs.Bits.{has}
 use Rattle.acl_names.specs.Requester.{Identity}
 use Rattle.acl_posix.specs.Access.{grants, masked}
@@ -8,6 +8,7 @@ use Rattle.acl_posix.specs.Entry.{Triple, HavePermissions, perms_of}
 use Rattle.acl_posix.specs.Mode.{Classes, perms_at}
 use Rattle.acl_posix.specs.Perms.{IsPermissions}
 use Rattle.acl_posix.specs.Validity.{IsValid}
+use Rattle.acl_posix.specs.declared.limits.TheConstants.{MAX_ENTRIES}
 use Rattle.acl_posix.specs.declared.entry.Tag.TheVariants.{UserObj, GroupObj, Mask, Other}
 use Rattle.acl_nfs4.specs.Ace.{Nfsace4}
 use Rattle.acl_nfs4.specs.Evaluation.{Grants, mode_of}
@@ -43,10 +44,9 @@ translated_mode acl = record {
   other = perms_at Other acl;
 }
 
--- how many entries a translation can have: of 64 entries one is the mask, of which none is made, and one the others', of
--- which one is made at most
+-- how many entries a translation can have: two of each entry, but none of the mask and one of the others'
 abbrev pub most_translated : ℕ
-most_translated = 125
+most_translated = 2 * MAX_ENTRIES - 3
 
 -- the laws of a translation
 abbrev pub TranslationDecidesAlike : Type 0

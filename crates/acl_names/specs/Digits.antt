@@ -1,4 +1,4 @@
--- Digits, two at a time.
+-- Private steps, which no public clause cites: digits, two at a time.
 use Rattle.std.specs.Prelude.{ℕ, ◌+◌, ◌/◌, ◌%◌, List, [], ◌∷◌}
 
 -- the two digits of a number below 100

@@ -9,7 +9,9 @@ use std::alloc::AllocError;
 /// A bit and the letter that stands for it.
 #[derive(Clone, Copy, Debug, PartialEq, Eq)]
 pub struct Letter {
+    /// The letter's byte.
     pub letter: u8,
+    /// The bit as a set of this one bit.
     pub bit: u32,
 }
 
@@ -55,7 +57,8 @@ fn bits_of_letter(table: &[Letter], letter: u8) -> u32
     bits
 }
 
-/// Appends the letters of the bits that are set, in the order of the table.
+/// Appends the letters of the bits that are set, in the order of the table. `Err` is want of memory; the letters that
+/// found room stand in `out` then.
 pub fn push_letters(table: &[Letter], bits: u32, out: &mut Vec<u8>) -> Result<(), AllocError>
     ensures text { OnOk result (out.new.items ≡ out.old.items ++ letters_text table.now bits) }
     // What is printed is read as these bits.

@@ -1,4 +1,6 @@
 //! How much a directory may hold, and how long its names may be.
+ghost use Rattle.std.specs.Prelude.{◌≡◌};
+ghost use Rattle.acl_names.specs.declared.limits.TheConstants.{MAX_USERS, MAX_GROUPS, MAX_GROUPS_OF_USER, MAX_NAME_LEN, MAX_DOMAIN_LEN, MAX_ID, MAX_DIGITS, NOBODY};
 
 /// The most users of a directory.
 pub const MAX_USERS: usize = 1024;
@@ -23,3 +25,15 @@ pub const MAX_DIGITS: usize = 10;
 
 /// The uid that systems give to nobody: where someone is wanted whom no list names, the search begins here.
 pub const NOBODY: u32 = 65534;
+
+/// The limits as numbers. There is nothing to run here: it states the law.
+pub fn limits_in_numbers()
+    ensures users { MAX_USERS ≡ 1024 }
+    ensures groups { MAX_GROUPS ≡ 1024 }
+    ensures groups_of_user { MAX_GROUPS_OF_USER ≡ 32 }
+    ensures names { MAX_NAME_LEN ≡ 32 }
+    ensures domains { MAX_DOMAIN_LEN ≡ 255 }
+    ensures ids { MAX_ID ≡ 4294967294 }
+    ensures digits { MAX_DIGITS ≡ 10 }
+    ensures nobody { NOBODY ≡ 65534 }
+{}

@@ -1,4 +1,4 @@
--- The fields of an entry with which a text begins.
+-- Private steps, which no public clause cites: the fields of an entry with which a text begins.
 use Rattle.std.specs.Prelude.{◌≡◌, List, ℕ, [], ◌∷◌, ◌++◌}
 use Rattle.std.specs.List.{join_with_byte}
 use Rattle.acl_names.specs.Plain.{IsField}

@@ -55,7 +55,13 @@ pub struct Ace {
 
 /// An entry that allows the owner nothing: what stands in the places of a list that hold no entry.
 impl Default for Ace {
-    fn default() -> Ace {
+    ghost use Rattle.acl_nfs4.specs.declared.ace.AceType.TheVariants.{Allow};
+    ghost use Rattle.acl_nfs4.specs.declared.who.Who.TheVariants.{Owner};
+
+    /// An entry that allows the owner nothing.
+    fn default() -> Ace
+        ensures { result ≡ record { kind = Allow; flags = 0; who = Owner; mask = 0 } }
+    {
         Ace {
             kind: AceType::Allow,
             flags: Flags::empty(),

@@ -54,7 +54,7 @@ impl Acl4 {
         }
     }
 
-    /// The list with no entries and room for this many, so that it grows once at most.
+    /// The list with no entries and room for this many, so that it grows once at most. `Err` is want of memory.
     pub fn with_capacity(alloc: Global, capacity: usize) -> Result<Acl4, AllocError>
         ensures value { IfOk result (λ acl. acl ≡ []) }
         ensures short { capacity ≤ 16 → IsOk result }
@@ -105,7 +105,7 @@ impl Acl4 {
         self.aces.as_slice()
     }
 
-    /// A list of the same entries.
+    /// A list of the same entries. `Err` is want of memory.
     pub fn try_clone(&self, alloc: Global) -> Result<Acl4, AllocError>
         ensures value { IfOk result (λ acl. acl ≡ self.now) }
         ensures short { length self.now ≤ 16 → IsOk result }

@@ -1,4 +1,4 @@
--- The access check as the draft's list of steps (1003.1e draft 17, section 23): each step's answer, where it applies.
+-- Private steps, which no public clause cites: the answer of each step of the access check, where it applies.
 use Rattle.std.specs.Prelude.{ℕ, Bool, true, ◌&&◌, List, Option, Some, None, if◌then◌else◌}
 use Rattle.std.specs.List.{list_any}
 use Rattle.std.specs.Option.{option_map_or}

@@ -1,4 +1,4 @@
--- An entry with which a text begins, field by field: its word, its qualifier and its permissions.
+-- Private steps, which no public clause cites: an entry with which a text begins, its word, its qualifier and its permissions.
 use Rattle.std.specs.Prelude.{◌≡◌, ℕ, Bool, List, ◌∷◌, ◌++◌, Some, Ok}
 use Rattle.acl_names.specs.Directory.{Known}
 use Rattle.acl_names.specs.Plain.{IsField}

@@ -1,4 +1,4 @@
--- What contracts see of the types of this crate.
+-- Private steps, which no public clause cites: what the types that read entries stand for.
 use Rattle.std.specs.Prelude.{option_map}
 use Rattle.acl_posix.specs.EntryText as text
 use Rattle.acl_posix.specs.declared.reading.Fields.{Fields}

@@ -20,6 +20,7 @@ pub enum Invalid {
     Repeated,
     /// A user or a group is named, and there is no mask.
     NoMask,
+    /// Memory ran out. No call here answers it: the entries are put in order where they stand.
     Memory,
 }
 

@@ -1,4 +1,4 @@
--- What a comparison compares.
+-- Private steps, which no public clause cites: what a comparison compares.
 use Rattle.std.specs.Prelude.{ℕ}
 use Rattle.acl_queries.specs.Compared.{Compared}
 use Rattle.acl_queries.specs.declared.compare_command.comparison.Comparison.{Comparison}

@@ -1,4 +1,4 @@
--- What a question asks.
+-- Private steps, which no public clause cites: what a question asks.
 use Rattle.std.specs.Prelude.{◌≡◌}
 use Rattle.acl_posix.specs.Perms.{bits_of}
 use Rattle.acl_queries.specs.Asked.{Asked}

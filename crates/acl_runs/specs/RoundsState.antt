@@ -1,4 +1,4 @@
--- What a run in rounds begins with, and what it reports.
+-- Private steps, which no public clause cites: what a run in rounds begins with, and what it reports.
 use Rattle.std.specs.Prelude.{◌≡◌, ℕ, ◌<◌, List, [], length, map, slice_index_or}
 use Rattle.std.specs.declared.vec.Vec.{Vec}
 use Rattle.std.specs.declared.alloc.Global.{Global}

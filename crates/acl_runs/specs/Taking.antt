@@ -1,4 +1,4 @@
--- What the taker's thread keeps.
+-- Private steps, which no public clause cites: what the taker's thread keeps.
 use Rattle.std.specs.Prelude.{◌≡◌, ℕ, ◌+◌, ◌-◌, ◌<◌, Bool, true, false, List, [], ◌∷◌, ◌++◌, length, slice_index_or, slice_set, replicate, nat_eq, Option, Some, None}
 use Rattle.acl_broker.specs.TakerSides.{given, outbox}
 use Rattle.acl_broker.specs.Ends.{KeepEnds}

@@ -1,4 +1,4 @@
--- What a turn does.
+-- Private steps, which no public clause cites: what a turn does.
 use Rattle.std.specs.Prelude.{◌≡◌, ℕ, Bool, false, List, [], ◌∷◌, ◌++◌, length, map, take, drop, slice_index_or, slice_set, Option, Some, None}
 use Rattle.std.specs.List.{AllByRecursion}
 use Rattle.acl_runs.specs.Rounds.{entries_of, heads, rounds, Answered}

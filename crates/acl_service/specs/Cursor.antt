@@ -1,4 +1,4 @@
--- The texts of sessions as they are read.
+-- Private steps, which no public clause cites: the texts of sessions as they are read.
 use Rattle.std.specs.Prelude.{List}
 use Rattle.acl_lang.specs.declared.text.Numbered.{Numbered}
 use Rattle.acl_service.specs.declared.sessions.cursor.Cursor.{Cursor}

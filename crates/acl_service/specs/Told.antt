@@ -1,4 +1,4 @@
--- What a run over the tree tells of its sessions.
+-- Private steps, which no public clause cites: what a run over the tree tells of its sessions.
 use Rattle.acl_lang.specs.declared.answer.Answer.{Answer}
 use Rattle.acl_lang.specs.declared.text.Numbered.{Numbered}
 use Rattle.acl_runs.specs.declared.report.RunReport.{RunReport}

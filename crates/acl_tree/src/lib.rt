@@ -18,7 +18,7 @@ mod tree;
 pub use boxed::Boxed;
 pub use faults::{LineFault, TreeFault};
 pub use laws::{command_laws, mask_laws, tree_laws};
-pub use limits::{MAX_COMPONENT_LEN, MAX_NODES, MAX_PATH_LEN};
+pub use limits::{MAX_COMPONENT_LEN, MAX_NODES, MAX_PATH_LEN, limits_in_numbers};
 pub use node::Node;
 pub use node_acl::{NodeAcl, Style};
 pub use path::{Path, PathFault};

@@ -18,7 +18,8 @@ impl Acl {
     /// Whether the requester may do all of what is requested with a file of this owner and this group: the access check of
     /// 1003.1e draft 17, section 23. The owner's entry decides for the owner, else the user's own entry, else the entries
     /// for the file's group and for groups by their ids of which the requester is in some: one of them must have all of the
-    /// request. Else the others' entry decides. It takes no memory.
+    /// request. Else the others' entry decides. Where there is a mask, the entries for users, the file's group and groups give no
+    /// more than the mask has. It takes no memory.
     pub fn grants(&self, owner: Uid, group: Gid, requester: &Requester, request: Perms) -> bool
         ensures value { result ≡ grants self.now owner group requester.now (bits_of request) }
 

@@ -119,7 +119,8 @@ impl Acl {
     }
 
     /// The access control list of a new file with this mode, under a default access control list (1003.1e draft 17, section
-    /// 23): the default list, its entries for the owner, the group class and the others met with the mode's bits.
+    /// 23): the default list, its entries for the owner, the group class and the others met with the mode's bits. `Err` is
+    /// want of memory, of which up to 8 entries take none.
     pub fn at_creation(alloc: Global, default: &Acl, mode: Mode) -> Result<Acl, AllocError>
         ensures value { IfOk result (λ acl. acl ≡ at_creation default.now mode) }
         ensures short { length default.now ≤ 8 → IsOk result }
