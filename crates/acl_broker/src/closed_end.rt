@@ -1,15 +1,18 @@
 //! The end of a session that is closed.
-ghost use Rattle.std.specs.Prelude.{◌≡◌};
-ghost use Rattle.rtrb.specs.Ring.{producer_capacity};
+ghost use Rattle.std.specs.Prelude.{◌≡◌, true};
+ghost use Rattle.rtrb.specs.Ring.{sent, producer_capacity};
+ghost use Rattle.acl_broker.specs.Entries.{has_end_mark};
 ghost use Rattle.acl_broker.specs.declared.limits.TheConstants.{SLOTS};
 
 use crate::SessionSide;
 
-/// The end of a session that has closed: it submits no more, and polls what is still owed. No call waits.
+/// The end of a session that has closed: its end mark was pushed, it submits no more, and it polls what is still owed. No
+/// call waits.
 #[derive(Drop)]
 pub struct ClosedEnd<I, R> {
     pub(crate) session: u32,
     pub(crate) side: SessionSide<I, R>,
+    ghost marked: { has_end_mark (sent side.entries) ≡ true },
     ghost slots: { producer_capacity side.entries ≡ SLOTS },
 }
 

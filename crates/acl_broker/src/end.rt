@@ -13,7 +13,7 @@ impl<I: Drop, R: Drop> End<I, R> {
     ghost use Rattle.std.specs.Prelude.{◌≡◌, ◌++◌, [], true, OnOk, OnErr, IfNone, option_to_list};
     ghost use Rattle.acl_broker.specs.Lanes.{IsPaired, submitted, handed, submit_answer};
     ghost use Rattle.acl_broker.specs.Ends.{IsSamePair, EndSeen, lane_of, side_of, is_closed};
-    ghost use Rattle.acl_broker.specs.TakerSides.{known_waiting, known_in_ring, received_items};
+    ghost use Rattle.acl_broker.specs.TakerSides.{known_waiting, known_in_ring, received_items, AnswerMoves};
     ghost use Rattle.acl_broker.specs.SessionSides as session_side;
 
     /// Accepts an item, unless the session is closed or cancelled, or as many items wait as a lane holds.
@@ -54,6 +54,7 @@ impl<I: Drop, R: Drop> End<I, R> {
         ensures given { (lane_of self.old taker.old).owed ≡ option_to_list result ++ (lane_of self.new taker.new).owed }
         ensures kept { lane_of self.new taker.new ≡ handed (lane_of self.old taker.old) result (lane_of self.new taker.new).owed }
         ensures none { IfNone result ((lane_of self.old taker.old).owed ≡ []) }
+        ensures moves { AnswerMoves result taker.old taker.new }
     {
         match self {
             End::Open(open) => lane::answer(&mut open.side, taker),

@@ -141,6 +141,30 @@ fn outbox_beyond_the_ring(rt: HostRuntime) -> Result<(), Fail> {
     Ok(())
 }
 
+/// Neither `rejoin` nor `split` delivers; a local answer delivers itself alone, and only where the ring is empty.
+#[test]
+fn outbox_stays_over_rejoin_and_split(rt: HostRuntime) -> Result<(), Fail> {
+    let mut halves = Halves::split(open_broker(rt.alloc(), 1)?)?;
+    for item in 1..4_u16 {
+        assert_eq!(rt; halves.submit(item), Ok(()));
+        assert_eq!(rt; halves.take(), Ok(item as usize - 1));
+    }
+    assert!(rt; halves.deliver(0));
+    let halves = Halves::split(halves.rejoin(rt.alloc())?)?;
+    assert_eq!(rt; halves.taker.owed(0), 2);
+
+    let mut broker = halves.rejoin(rt.alloc())?;
+    assert_eq!(rt; broker.answer(0), reply_to(0, 1));
+    let halves = Halves::split(broker)?;
+    assert_eq!(rt; halves.taker.owed(0), 2);
+
+    let mut broker = halves.rejoin(rt.alloc())?;
+    assert_eq!(rt; broker.answer(0), reply_to(1, 2));
+    let halves = Halves::split(broker)?;
+    assert_eq!(rt; halves.taker.owed(0), 1);
+    Ok(())
+}
+
 #[test]
 fn hand_that_wants_memory_stays_first(rt: HostRuntime) -> Result<(), Fail> {
     let mut halves = Halves::split(open_broker(rt.alloc(), 1)?)?;
