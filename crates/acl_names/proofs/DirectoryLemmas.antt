@@ -1,7 +1,7 @@
 -- The order of the users and of the groups plays no part in what is wrong with them and in what is found.
-use Rattle.std.proofs.Common.{◌≡◌, ◌∙◌, ℕ, ◌==◌, Bool, true, false, cond, not, nat_lt, nat_eq, ◌||◌, Option, Some, None, List, [], length, get_or, refl, sym, ap, inl, inr, find, option_map, is_none}
+use Rattle.std.proofs.Common.{◌≡◌, ◌∙◌, ℕ, ◌==◌, Bool, true, false, cond, not, nat_lt, nat_eq, ◌||◌, ◌<◌, Option, Some, None, List, [], length, get_or, arith, refl, sym, ap, inl, inr, find, option_map, is_none}
 use Rattle.std.specs.Cmp.Lexicographic.{slice_cmp}
-use Rattle.std.specs.List.{Contains, list_any, filter_map}
+use Rattle.std.specs.List.{Contains, list_any, filter_map, slice_get}
 use Rattle.std.specs.List.Sorted.{IsPermutation}
 use Rattle.std.specs.Option.{option_and_then, option_map_or}
 use Rattle.std.specs.Ordering.{nat_cmp}
@@ -11,13 +11,17 @@ use Rattle.std.proofs.lemmas.Bool.Decides.{Decides-eqb}
 use Rattle.std.proofs.lemmas.Slice.Eq.{bytes_eq-Decides}
 use Rattle.std.proofs.lemmas.Cmp.{nat_cmp_total, nat_list_cmp_total}
 use Rattle.std.proofs.lemmas.List.Sorted.{length_permutation, list_any-IsPermutation}
+use Rattle.std.proofs.lemmas.List.{length-map}
+use Rattle.std.proofs.lemmas.Option.{slice_get-map}
 use Rattle.acl_names.specs.Ascending.{repeats}
-use Rattle.acl_names.specs.Directory.{KnownUser, KnownGroup, Known, AnswersAs, IsRefusedFor, TellsNamesApart, fault_of, is_too_many, has_bad_name, repeats_name, repeats_id, has_unknown_group, user_named, group_named, user_with, group_with, groups_of, gid_of, first_of}
+use Rattle.acl_names.specs.Directory.{KnownUser, KnownGroup, Known, AnswersAs, IsDirectory, IsRefusedFor, TellsNamesApart, as_requester, requester_of, fault_of, is_too_many, has_bad_name, repeats_name, repeats_id, has_unknown_group, user_named, group_named, user_with, group_with, groups_of, gid_of, first_of}
 use Rattle.acl_names.specs.Ids.{ReadBack, has_name_shape, has_domain_shape}
 use Rattle.acl_names.specs.declared.directory.SetupFault.{SetupFault}
 use Rattle.acl_names.specs.declared.directory.SetupFault.TheVariants.{BadName, RepeatedName, RepeatedId, UnknownGroup, TooMany, Memory}
 use Rattle.acl_names.proofs.AnyLemmas.{list_any-agree}
 use Rattle.acl_names.proofs.AscendingLemmas.{Contains-find, any_false, find-distinct, find-permutation, first_or_none, get_or-within, repeats-permutation, slice_get-within}
+use Rattle.acl_names.specs.Requester.{Identity}
+use Rattle.acl_names.proofs.Indexes.{place_found, none_found}
 use Rattle.acl_names.proofs.Keys.{same_id, same_name}
 use Rattle.acl_names.proofs.MapLemmas.{filter_map-agree}
 
@@ -218,3 +222,49 @@ tells_names_apart known faultless =
       users = read_back (λ (user : KnownUser). user.name) (λ user. user.uid) known.users names.0 shapes.1;
       groups = read_back (λ (group : KnownGroup). group.name) (λ group. group.gid) known.groups names.1 shapes_both.1;
     }
+
+-- where nothing is wrong, no name stands twice
+pub no_name_twice : (known : Known) → fault_of known ≡ None
+    → (repeats bytes_eq (λ user. user.name) known.users ≡ false) × (repeats bytes_eq (λ group. group.name) known.groups ≡ false)
+unfolding first_of_tests
+no_name_twice known faultless =
+    let none = none_wrong (is_too_many known) (has_bad_name known) (repeats_name known) (repeats_id known) (has_unknown_group known) faultless in
+    let both = or_parts (repeats bytes_eq (λ (user : KnownUser). user.name) known.users || repeats bytes_eq (λ (group : KnownGroup). group.name) known.groups)
+    (list_any (λ (user : KnownUser). repeats bytes_eq (λ (name : List ℕ). name) user.groups) known.users) none.0 in
+    or_parts (repeats bytes_eq (λ (user : KnownUser). user.name) known.users) (repeats bytes_eq (λ (group : KnownGroup). group.name) known.groups) both.0
+
+-- the user of a uid asks as the requester of that uid
+asks_as : (known : Known) (uid : ℕ) (user : KnownUser) → user_with known uid ≡ Some user → (user.uid == uid) ≡ true → as_requester known user ≡ requester_of known uid
+asks_as known uid user is same i =
+    record {
+      uid = (Decides-eqb user.uid uid).0 same i;
+      gids = filter_map (gid_of known) (option_map_or (λ (one : KnownUser). one.groups) (sym is i) []);
+    }
+
+found_asks : (known : Known) (uid : ℕ) → option_map (as_requester known) (user_with known uid) ≡ option_map (λ _. requester_of known uid) (user_with known uid)
+found_asks known uid =
+    elim (first_or_none (λ (user : KnownUser). user.uid == uid) known.users) [
+      | inl (user, (is, same)) ↦
+          ap (option_map (as_requester known)) is ∙ ap Some (asks_as known uid user is same) ∙ sym (ap (option_map (λ _. requester_of known uid)) is)
+      | inr none ↦ ap (option_map (as_requester known)) none.0 ∙ sym (ap (option_map (λ _. requester_of known uid)) none.0)
+    ]
+
+-- the requester at the place that is found for a uid is that of the uid
+pub ready_found : (known : Known) (user_places group_places : List (ℕ × ℕ)) (requesters : List Identity) → IsDirectory known user_places group_places requesters
+    → (uid place : ℕ) → Some place ≡ option_map (λ entry. entry.1) (find (λ entry. entry.0 == uid) user_places)
+    → (place < length requesters) × (slice_get requesters place ≡ option_map (λ _. requester_of known uid) (user_with known uid))
+ready_found known user_places group_places requesters is uid place found =
+    let at = place_found (λ user. user.uid) known.users user_places is.user_places_are uid place found in
+    let here : place ≡ at.behind = omega (arith, at.is) in
+    let long : length requesters ≡ length known.users = ap length is.requesters_are ∙ length-map known.users (as_requester known) in (
+      omega (arith, here, long, at.inside),
+      ap (λ all. slice_get all place) is.requesters_are ∙ slice_get-map (as_requester known) known.users place
+          ∙ ap (option_map (as_requester known)) (ap (slice_get known.users) here ∙ sym at.found) ∙ found_asks known uid,
+    )
+
+-- and where none is found, no user has the uid
+pub none_ready : (known : Known) (user_places group_places : List (ℕ × ℕ)) (requesters : List Identity) → IsDirectory known user_places group_places requesters
+    → (uid : ℕ) → None ≡ option_map (λ entry. entry.1) (find (λ entry. entry.0 == uid) user_places)
+    → option_map (λ _. requester_of known uid) (user_with known uid) ≡ None
+none_ready known user_places group_places requesters is uid none =
+    ap (option_map (λ _. requester_of known uid)) (none_found (λ user. user.uid) known.users user_places is.user_places_are uid none)

@@ -1,14 +1,13 @@
 -- The index of members by their ids.
-use Rattle.std.proofs.Common.{◌≡◌, ◌∙◌, ℕ, suc, ◌+◌, ◌<◌, ◌==◌, Bool, true, false, cond, nat_lt, nat_eq, Some, None, Err, List, [], ◌∷◌, ◌||◌, length, get_or, refl, sym, ap, arith, find, map, option_map}
-use Rattle.std.specs.List.{list_any, count_by, slice_get, HoldsAt, enumerate_from, position_from}
-use Rattle.std.specs.List.Sorted.{IsPermutation, IsSortedByKey, IsBinarySearchResult}
-use Rattle.std.specs.declared.cmp.Ordering.TheVariants.{Equal}
+use Rattle.std.proofs.Common.{◌≡◌, ◌∙◌, ℕ, suc, ◌+◌, ◌<◌, ◌==◌, Bool, true, false, cond, nat_lt, nat_eq, Some, None, List, [], ◌∷◌, ◌||◌, length, refl, sym, ap, arith, find, map, option_map}
+use Rattle.std.specs.List.{list_any, count_by, slice_get, enumerate_from, position_from}
+use Rattle.std.specs.List.Sorted.{IsPermutation, IsSortedByKey}
 use Rattle.std.specs.Ordering.{nat_cmp}
 use Rattle.std.proofs.lemmas.Cmp.{nat_cmp_total}
 use Rattle.acl_names.specs.Ascending.{repeats}
 use Rattle.acl_names.specs.Named.{ids_with_places, IsIndexOf}
 use Rattle.acl_names.proofs.AnyLemmas.{list_any-agree}
-use Rattle.acl_names.proofs.AscendingLemmas.{ascending_from_sorted, find-absent, find-permutation, find-searched, repeats-permutation, slice_get-within}
+use Rattle.acl_names.proofs.AscendingLemmas.{ascending_from_sorted, find-permutation, repeats-permutation}
 use Rattle.acl_names.proofs.Counting.{count_by-cons}
 use Rattle.acl_names.proofs.Keys.{same_id}
 
@@ -93,19 +92,12 @@ no_place {X} p n (x ∷ xs) is = go (p x) refl is (no_place p (n + 1) xs)
     go true passes same more = absurd (cc)
     go false fails later more = ap (λ b. cond b (Some x) (find p xs)) fails ∙ more later
 
--- what a search of the index for an id finds is the place of the first member with it
-pub place_found : {X : Type 0} (id_of : X → ℕ) (members : List X) (index : List (ℕ × ℕ)) → IsIndexOf id_of members index → (id at : ℕ)
-    → at < length index → HoldsAt (λ (entry : ℕ × ℕ). nat_cmp entry.0 id ≡ Equal) index at
-    → IsPlaceOf (λ member. id_of member == id) 0 members (get_or index at (0, 0)).1
-place_found id_of members index is id at inside here =
-    let found = find-searched nat_cmp nat_cmp_total (λ (entry : ℕ × ℕ). entry.0) nat_eq same_id index id is.ascends at inside here
-    ∙ slice_get-within index at (0, 0) inside in
-    place_of (λ member. id_of member == id) 0 members (get_or index at (0, 0)).1
-    (sym (is.places id) ∙ ap (option_map (λ (entry : ℕ × ℕ). entry.1)) found)
+-- the place that an index has for an id is that of the first member with it
+pub place_found : {X : Type 0} (id_of : X → ℕ) (members : List X) (index : List (ℕ × ℕ)) → IsIndexOf id_of members index → (id place : ℕ)
+    → Some place ≡ option_map (λ entry. entry.1) (find (λ entry. entry.0 == id) index) → IsPlaceOf (λ member. id_of member == id) 0 members place
+place_found id_of members index is id place found = place_of (λ member. id_of member == id) 0 members place (sym (is.places id) ∙ sym found)
 
--- and where it finds nothing, no member has the id
-pub none_found : {X : Type 0} (id_of : X → ℕ) (members : List X) (index : List (ℕ × ℕ)) → IsIndexOf id_of members index → (id at : ℕ)
-    → IsBinarySearchResult (λ (entry : ℕ × ℕ). nat_cmp entry.0 id) index (Err at) → find (λ member. id_of member == id) members ≡ None
-none_found id_of members index is id at searched =
-    let none = find-absent nat_cmp nat_cmp_total (λ (entry : ℕ × ℕ). entry.0) nat_eq same_id index id is.ascends at searched in
-    no_place (λ member. id_of member == id) 0 members (sym (is.places id) ∙ ap (option_map (λ (entry : ℕ × ℕ). entry.1)) none)
+-- and where it has none, no member has the id
+pub none_found : {X : Type 0} (id_of : X → ℕ) (members : List X) (index : List (ℕ × ℕ)) → IsIndexOf id_of members index → (id : ℕ)
+    → None ≡ option_map (λ entry. entry.1) (find (λ entry. entry.0 == id) index) → find (λ member. id_of member == id) members ≡ None
+none_found id_of members index is id none = no_place (λ member. id_of member == id) 0 members (sym (is.places id) ∙ sym none)

@@ -1,5 +1,5 @@
 -- The users and groups that there are, what is asked of them, and which lists make a directory.
-use Rattle.std.specs.Prelude.{◌≡◌, ℕ, Bool, true, ◌==◌, ◌||◌, not, nat_lt, nat_eq, List, [], ◌∷◌, length, Option, Some, None, is_none, option_map, if◌then◌else◌}
+use Rattle.std.specs.Prelude.{◌≡◌, ℕ, Bool, true, ◌==◌, ◌||◌, not, nat_lt, nat_eq, List, [], ◌∷◌, length, Option, Some, None, is_none, map, option_map, if◌then◌else◌}
 use Rattle.std.specs.List.{find, filter_map, list_any}
 use Rattle.std.specs.Option.{option_and_then, option_map_or}
 use Rattle.std.specs.Str.{bytes_eq}
@@ -67,7 +67,11 @@ first_of (first ∷ more) = Some first
 abbrev pub first_group : Known → ℕ → Option ℕ
 first_group known uid = option_and_then (gid_of known) (first_of (groups_of known uid))
 
--- the user as one who asks: with the gids of the groups
+-- a user as one who asks: with the gids of the groups
+abbrev pub as_requester : Known → KnownUser → Identity
+as_requester known user = record { uid = user.uid; gids = filter_map (gid_of known) user.groups }
+
+-- the user with this uid as one who asks
 abbrev pub requester_of : Known → ℕ → Identity
 requester_of known uid = record { uid = uid; gids = filter_map (gid_of known) (groups_of known uid) }
 
@@ -125,10 +129,12 @@ pub record AnswersAs (known parts : Known) : Type 0 where
   pub first_groups : (uid : ℕ) → first_group known uid ≡ first_group parts uid
   pub requesters : (uid : ℕ) → requester_of known uid ≡ requester_of parts uid
 
--- what every directory is: nothing is wrong with it, its members ascend by their names, and their places are found by their ids
-pub record IsDirectory (known : Known) (user_places group_places : List (ℕ × ℕ)) : Type 0 where
+-- what every directory is: nothing is wrong with it, its members ascend by their names, their places are found by their ids,
+-- and each user is ready made as one who asks
+pub record IsDirectory (known : Known) (user_places group_places : List (ℕ × ℕ)) (requesters : List Identity) : Type 0 where
   pub faultless : fault_of known ≡ None
   pub users : IsAscending (slice_cmp nat_cmp) (λ user. user.name) known.users
   pub groups : IsAscending (slice_cmp nat_cmp) (λ group. group.name) known.groups
   pub user_places_are : IsIndexOf (λ user. user.uid) known.users user_places
   pub group_places_are : IsIndexOf (λ group. group.gid) known.groups group_places
+  pub requesters_are : requesters ≡ map (as_requester known) known.users

@@ -1,7 +1,13 @@
 //! Groups.
 
+ghost use Rattle.std.specs.Prelude.{◌≡◌, find, option_map};
+ghost use Rattle.std.specs.Cmp.Lexicographic.{slice_cmp};
+ghost use Rattle.std.specs.Ordering.{nat_cmp};
+ghost use Rattle.std.specs.Str.{bytes_eq};
+ghost use Rattle.acl_names.specs.Ascending.{IsAscending};
+
 use crate::gid::Gid;
-use crate::named::Named;
+use crate::named::{Named, find_by_name};
 use std::marker::Model;
 
 /// A group: a name and a gid.
@@ -31,5 +37,16 @@ impl Named for Group {
 
     fn id(&self) -> u32 {
         self.gid.value()
+    }
+}
+
+/// The gid of the group with this name, of groups in the order of their names.
+pub(crate) fn gid_named(groups: &[Group], name: &str) -> Option<Gid>
+    requires { IsAscending (slice_cmp nat_cmp) (λ group. group.name) groups.now }
+    ensures { result ≡ option_map (λ group. group.gid) (find (λ group. bytes_eq group.name name.now) groups.now) }
+{
+    match find_by_name(groups, name) {
+        Some(group) => Some(group.gid),
+        None => None,
     }
 }

@@ -1,6 +1,6 @@
 //! Lists of what has a name and an id, in which both are found by binary search.
 
-ghost use Rattle.std.specs.Prelude.{◌≡◌, ◌==◌, ℕ, false, not, nat_eq, List, find, map, length, IfOk, IsTrue};
+ghost use Rattle.std.specs.Prelude.{◌≡◌, ◌==◌, ℕ, false, not, nat_eq, List, find, map, length, option_map, IfOk, IsTrue};
 ghost use Rattle.std.specs.List.{list_any};
 ghost use Rattle.std.specs.List.Sorted.{IsPermutation};
 ghost use Rattle.std.specs.Cmp.Lexicographic.{slice_cmp};
@@ -114,8 +114,19 @@ pub(crate) fn find_by_id<'a, T: Named>(
     requires { IsIndexOf T.id_of members.now index.now }
     ensures { option_copied result ≡ find (λ member. T.id_of member == id) members.now }
 {
+    match place_in(index, id) {
+        Some(place) => Some(&members[place]),
+        None => None,
+    }
+}
+
+/// The place that an index has for this id.
+pub(crate) fn place_in(index: &[(u32, usize)], id: u32) -> Option<usize>
+    requires { IsAscending nat_cmp (λ entry. entry.0) index.now }
+    ensures { result ≡ option_map (λ entry. entry.1) (find (λ entry. entry.0 == id) index.now) }
+{
     match index.binary_search_by_key(&id, |entry| entry.0) {
-        Ok(at) => Some(&members[index[at].1]),
+        Ok(at) => Some(index[at].1),
         Err(_) => None,
     }
 }

@@ -1,15 +1,19 @@
 //! Users.
 
-ghost use Rattle.std.specs.Prelude.{◌≡◌, nat_lt, length, count_by, find, is_none, string_bytes};
+ghost use Rattle.std.specs.Prelude.{◌≡◌, nat_lt, [], length, count_by, find, is_none, option_map, string_bytes, IfOk};
 ghost use Rattle.std.specs.Cmp.Lexicographic.{slice_cmp};
-ghost use Rattle.std.specs.List.{list_any};
+ghost use Rattle.std.specs.List.{filter_map, list_any};
 ghost use Rattle.std.specs.Ordering.{nat_cmp};
 ghost use Rattle.std.specs.Str.{bytes_eq};
 ghost use Rattle.acl_names.specs.Ascending.{repeats, IsAscending};
+ghost use Rattle.acl_names.specs.Directory.{as_requester};
 
-use crate::group::Group;
+use crate::gid::Gid;
+use crate::group::{Group, gid_named};
 use crate::named::{Named, find_by_name};
+use crate::requester::Requester;
 use crate::uid::Uid;
+use std::alloc::{AllocError, Global};
 use std::marker::Model;
 
 /// A user: a name, a uid, and the names of the groups that the user is in, the first group first.
@@ -65,6 +69,28 @@ impl User {
     {
         lacks_group(groups, &self.groups)
     }
+
+    /// The user as one who asks, with the gids of the user's groups among these, which are in the order of their names.
+    pub(crate) fn requester(&self, alloc: Global, groups: &[Group]) -> Result<Requester, AllocError>
+        requires { IsAscending (slice_cmp nat_cmp) (λ group. group.name) groups.now }
+        ensures { IfOk result (λ requester. requester
+            ≡ as_requester (record { domain = []; users = []; groups = groups.now }) self.now) }
+    {
+        let gids = gids_of(alloc, groups, &self.groups)?;
+        Ok(Requester::new(self.uid, gids))
+    }
+}
+
+/// The gids of the groups with these names.
+fn gids_of(alloc: Global, groups: &[Group], names: &[String]) -> Result<Vec<Gid>, AllocError>
+    requires { IsAscending (slice_cmp nat_cmp) (λ group. group.name) groups.now }
+    ensures { IfOk result (λ gids. gids.items ≡ filter_map
+        (λ name. option_map (λ group. group.gid) (find (λ group. bytes_eq group.name (string_bytes name)) groups.now)) names.now) }
+{
+    names
+        .iter()
+        .filter_map(|name| gid_named(groups, name.as_str()))
+        .collect(alloc)
 }
 
 fn repeats_text(texts: &[String]) -> bool

@@ -93,6 +93,24 @@ fn a_requester_has_the_groups_of_its_user(rt: HostRuntime) -> Result<(), Fail> {
 }
 
 #[test]
+fn each_user_is_ready_to_ask(rt: HostRuntime) -> Result<(), Fail> {
+    let directory = made(
+        rt.alloc(),
+        users(rt.alloc()).ok_or("users")?,
+        groups(rt.alloc()).ok_or("groups")?,
+    )?;
+    let bob = Uid::new(1001).ok_or("uid")?;
+    let requester = directory.requester_of(bob).ok_or("requester")?;
+    assert_eq!(rt; requester.uid(), bob);
+    assert_eq!(rt;
+        requester.gids(),
+        [Gid::new(50).ok_or("gid")?, Gid::new(60).ok_or("gid")?].as_slice()
+    );
+    assert!(rt; directory.requester_of(Uid::new(7).ok_or("uid")?).is_none());
+    Ok(())
+}
+
+#[test]
 fn an_empty_directory_is_one(rt: HostRuntime) -> Result<(), Fail> {
     let directory = made(rt.alloc(), Vec::new(rt.alloc()), Vec::new(rt.alloc()))?;
     assert_eq!(rt; directory.uid_of("root"), None);

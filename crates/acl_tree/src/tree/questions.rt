@@ -1,5 +1,6 @@
 //! The commands that ask.
-ghost use Rattle.std.specs.Prelude.{◌≡◌};
+ghost use Rattle.std.specs.Prelude.{◌≡◌, []};
+ghost use Rattle.acl_names.specs.Directory.{requester_of};
 ghost use Rattle.acl_nfs4.specs.Mask.{mask_bits};
 ghost use Rattle.acl_posix.specs.Perms.{bits_of};
 ghost use Rattle.acl_tree.specs.Commands.{get, check, check4, translate, granted};
@@ -9,7 +10,7 @@ use super::Tree;
 use crate::node_acl::grants4;
 use crate::refusal::Refusal;
 use crate::{Boxed, NodeAcl, Path, Reply, TreeFault};
-use acl_names::{Directory, Uid};
+use acl_names::{Directory, Requester, Uid};
 use acl_nfs4::Mask;
 use acl_posix::Perms;
 use std::alloc::Global;
@@ -19,6 +20,17 @@ fn granted(may: bool) -> Reply
     ensures { result ≡ granted may }
 {
     if may { Reply::Granted } else { Reply::Denied }
+}
+
+/// The user with the stranger's uid as one who asks. The stranger, who is in no group, asks where no user has the uid.
+fn asking<'a>(directory: &'a Directory, stranger: &'a Requester) -> &'a Requester
+    requires { stranger.now.gids ≡ [] }
+    ensures { result.now ≡ requester_of directory.now stranger.now.uid }
+{
+    match directory.requester_of(stranger.uid()) {
+        Some(requester) => requester,
+        None => stranger,
+    }
 }
 
 impl Tree {
@@ -31,7 +43,7 @@ impl Tree {
         Ok(Reply::Node(Boxed::new(alloc, view)?))
     }
 
-    /// Whether the list of the node at the path grants the user each of the permissions.
+    /// Whether the list of the node at the path grants the user each of the permissions. It takes no memory.
     pub(super) fn check(
         &self,
         alloc: Global,
@@ -39,15 +51,16 @@ impl Tree {
         path: &Path,
         uid: Uid,
         perms: Perms,
-    ) -> Result<Reply, Refusal>
-        ensures { Answers (check directory.now self.now path.now uid (bits_of perms)) result }
+    ) -> Result<Reply, TreeFault>
+        ensures { result ≡ check directory.now self.now path.now uid (bits_of perms) }
     {
         let node = self.node_at(path.as_bytes())?;
-        let requester = directory.requester(alloc, uid)?;
-        Ok(granted(node.may(&requester, perms)))
+        let stranger = Requester::new(uid, Vec::new(alloc));
+        let requester = asking(directory, &stranger);
+        Ok(granted(node.may(requester, perms)))
     }
 
-    /// Whether the NFSv4 list of the node at the path grants the user each bit of the mask.
+    /// Whether the NFSv4 list of the node at the path grants the user each bit of the mask. It takes no memory.
     pub(super) fn check4(
         &self,
         alloc: Global,
@@ -55,15 +68,16 @@ impl Tree {
         path: &Path,
         uid: Uid,
         mask: Mask,
-    ) -> Result<Reply, Refusal>
-        ensures { Answers (check4 directory.now self.now path.now uid (mask_bits mask)) result }
+    ) -> Result<Reply, TreeFault>
+        ensures { result ≡ check4 directory.now self.now path.now uid (mask_bits mask) }
     {
         let node = self.node_at(path.as_bytes())?;
         let NodeAcl::Nfs4 { acl } = &node.acl else {
-            return Err(Refusal::Fault(TreeFault::WrongStyle));
+            return Err(TreeFault::WrongStyle);
         };
-        let requester = directory.requester(alloc, uid)?;
-        Ok(granted(grants4(acl, node.owner, node.group, &requester, mask)))
+        let stranger = Requester::new(uid, Vec::new(alloc));
+        let requester = asking(directory, &stranger);
+        Ok(granted(grants4(acl, node.owner, node.group, requester, mask)))
     }
 
     /// The POSIX lists of the node at the path as NFSv4 lists.

@@ -1,7 +1,7 @@
-use Rattle.std.proofs.Common.{◌≡◌, ◌∙◌, sym, None}
+use Rattle.std.proofs.Common.{◌≡◌, ◌∙◌, not, sym, ap, None}
 use Rattle.std.specs.String.{string_bytes}
 use Rattle.acl_names.specs.Directory.{Known, fault_of}
-use Rattle.acl_names.proofs.DirectoryLemmas.{answers_alike, fault_of-moved, none_from, refused_for}
+use Rattle.acl_names.proofs.DirectoryLemmas.{answers_alike, fault_of-moved, no_name_twice, none_from, refused_for}
 use Rattle.acl_names.proofs.directory.Directory.from_parts.Goals as goal
 
 pub returns-in-Some-clause-refused : goal.returns-in-Some-clause-refused
@@ -24,6 +24,12 @@ returns-in_default-index_by_id-2-clause-refused c =
     fault_of-moved (string_bytes c.args.domain) c.args.users.items c.sort-user_keys.new.members.items c.args.groups.items c.sort-group_keys.new.members.items
     c.sort-user_keys.ensures.permutation c.sort-group_keys.ensures.permutation ∙ sym found ∙ none_from _ c.in_default.not-Some
 
+pub returns-in_default-requesters-clause-refused : goal.returns-in_default-requesters-clause-refused
+returns-in_default-requesters-clause-refused c =
+    let found = rw (c.deref.ensures, c.deref-2.ensures.value, c.deref-3.ensures.value) at c.first_fault.ensures in
+    fault_of-moved (string_bytes c.args.domain) c.args.users.items c.sort-user_keys.new.members.items c.args.groups.items c.sort-group_keys.new.members.items
+    c.sort-user_keys.ensures.permutation c.sort-group_keys.ensures.permutation ∙ sym found ∙ none_from _ c.in_default.not-Some
+
 pub returns-clause-made : goal.returns-clause-made
 returns-clause-made c =
     let found = rw (c.deref.ensures, c.deref-2.ensures.value, c.deref-3.ensures.value) at c.first_fault.ensures in
@@ -34,3 +40,17 @@ returns-clause-made c =
       answers_alike (string_bytes c.args.domain) c.args.users.items c.sort-user_keys.new.members.items c.args.groups.items c.sort-group_keys.new.members.items
           c.sort-user_keys.ensures.permutation c.sort-group_keys.ensures.permutation faultless,
     )
+
+pub invariant_of-result : goal.invariant_of-result
+invariant_of-result c =
+    let found = rw (c.deref.ensures, c.deref-2.ensures.value, c.deref-3.ensures.value) at c.first_fault.ensures in
+    let faultless = sym found ∙ none_from _ c.in_default.not-Some in
+    let once = no_name_twice (record { domain = string_bytes c.args.domain; users = c.sort-user_keys.new.members.items; groups = c.sort-group_keys.new.members.items }) faultless in
+    record {
+      faultless = faultless;
+      users = c.sort-user_keys.ensures.ascending (c.sort-user_keys.ensures.names ∙ ap not once.0);
+      groups = c.sort-group_keys.ensures.ascending (c.sort-group_keys.ensures.names ∙ ap not once.1);
+      user_places_are = rw c.deref-4.ensures.value at c.in-Ok.ensures;
+      group_places_are = rw c.deref-5.ensures.value at c.in-Ok-index_by_id.ensures;
+      requesters_are = rw (c.deref-6.ensures.value, c.deref-7.ensures.value) at c.in-Ok-requesters.ensures;
+    }
