@@ -8,4 +8,5 @@ mod inheritance;
 mod longest;
 mod mode;
 mod refused_growths;
+mod sizes;
 mod text;

@@ -4,5 +4,6 @@ mod fixture;
 mod hostile;
 mod mode;
 mod refused_growths;
+mod sizes;
 mod text;
 mod validity;

@@ -9,3 +9,4 @@ pub mod CompareLineLemmas
 pub mod CompareLemmas
 pub mod DifferenceLemmas
 pub mod ComparedLemmas
+pub mod ExclusiveLemmas

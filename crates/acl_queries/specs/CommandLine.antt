@@ -3,12 +3,12 @@ use Rattle.std.specs.Prelude.{◌≡◌, List, [], ◌∷◌, Some, true, codes,
 use Rattle.clap.specs.Words.{App, Rule, Text, fault_of, new_app, new_rule, with_rule}
 use Rattle.clap.specs.declared.builder.action.ArgAction.TheVariants.{SetTrue}
 
--- `--name VALUE`, which must be given; and which may be
-abbrev pub required_option : Text → Rule
-required_option name = record (new_rule name) { long = Some name; required = true }
-
+-- `--name VALUE`, which may be given; and which must be
 abbrev pub optional_option : Text → Rule
-optional_option name = record (new_rule name) { long = Some name }
+optional_option name = record (new_rule name) { long = Some name; value_names = 1 }
+
+abbrev pub required_option : Text → Rule
+required_option name = record (optional_option name) { required = true }
 
 -- `--name` alone, which may be given
 abbrev pub flag : Text → Rule
@@ -16,7 +16,7 @@ flag name = record (new_rule name) { long = Some name; action = Some SetTrue }
 
 -- a word that belongs to no option, which must be given
 abbrev pub required_word : Text → Rule
-required_word name = record (new_rule name) { required = true }
+required_word name = record (new_rule name) { value_names = 1; required = true }
 
 -- `decide [--nfs4] --owner N --group N --uid N [--gids N,N..] --perms P TEXT`
 unfoldable pub decide_line : App

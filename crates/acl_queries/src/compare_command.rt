@@ -3,8 +3,9 @@ ghost use Rattle.std.specs.Prelude.{◌≡◌, ◌≢◌, ◌≤◌, ℕ, List, 
 ghost use Rattle.std.specs.Io.KnownBytes.{Appends, Keeps};
 ghost use Rattle.acl_queries.specs.CompareLine.{TakesCompareWords};
 ghost use Rattle.acl_queries.specs.CompareOutcome.{EndsAsCompared, IsCompareFaultOf, IsCutShort};
-ghost use Rattle.acl_queries.specs.Compared.{compared_by};
-ghost use Rattle.acl_queries.specs.Differences.{Answers};
+ghost use Rattle.acl_queries.specs.Compared.{Compared, compared_by};
+ghost use Rattle.acl_queries.specs.Differences.{Answers, AreAlike, Differ};
+ghost use Rattle.acl_nfs4.specs.declared.comparison.Difference.{Difference};
 ghost use Rattle.acl_queries.specs.Faults.{Tells, failed_write};
 ghost use Rattle.acl_queries.specs.Output.{AppendsFront};
 
@@ -73,3 +74,9 @@ pub fn compare<S: AsStr, W: Write, E: Write>(
         Err(fault) => fault.report(err),
     }
 }
+
+/// Lists that decide alike for every requester differ for nobody: of the two answers of `compare` at most one is right. There is
+/// nothing to run here: it states the law.
+pub fn alike_lists_differ_for_nobody()
+    ensures { (compared : Compared) (difference : Difference) → AreAlike compared → Differ compared difference → ⊥ }
+{}

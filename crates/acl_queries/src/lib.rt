@@ -11,7 +11,7 @@ pub mod options;
 mod output;
 mod words;
 
-pub use compare_command::compare;
+pub use compare_command::{alike_lists_differ_for_nobody, compare};
 pub use decide_command::{decide, words_ask_what_they_give};
 pub use fault::RunFault;
 pub use input::{CapFault, read_capped};

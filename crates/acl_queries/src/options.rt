@@ -7,20 +7,26 @@ ghost use Rattle.acl_queries.specs.CommandLine.{flag, optional_option, required_
 use clap::{Arg, ArgAction, ArgMatches};
 use std::alloc::Global;
 
-pub fn required_option<'a>(alloc: Global, name: &'a str, help: &'a str) -> Arg<'a>
+/// An option that has to be given, with what help calls its value.
+pub fn required_option<'a>(alloc: Global, name: &'a str, value: &'a str, help: &'a str) -> Arg<'a>
     ensures rule { rule_of result ≡ required_option name.entry.now }
     ensures local { result.global ≡ false }
 {
-    optional_option(alloc, name, help).required(true)
+    optional_option(alloc, name, value, help).required(true)
 }
 
-pub fn optional_option<'a>(alloc: Global, name: &'a str, help: &'a str) -> Arg<'a>
+/// An option that may be left out, with what help calls its value.
+pub fn optional_option<'a>(alloc: Global, name: &'a str, value: &'a str, help: &'a str) -> Arg<'a>
     ensures rule { rule_of result ≡ optional_option name.entry.now }
     ensures local { result.global ≡ false }
 {
-    Arg::new(alloc, name).long(name).help(help)
+    Arg::new(alloc, name)
+        .long(name)
+        .value_name(value)
+        .help(help)
 }
 
+/// An option without a value.
 pub fn flag<'a>(alloc: Global, name: &'a str, help: &'a str) -> Arg<'a>
     ensures rule { rule_of result ≡ flag name.entry.now }
     ensures local { result.global ≡ false }
@@ -31,11 +37,15 @@ pub fn flag<'a>(alloc: Global, name: &'a str, help: &'a str) -> Arg<'a>
         .help(help)
 }
 
-pub fn required_word<'a>(alloc: Global, name: &'a str, help: &'a str) -> Arg<'a>
+/// A word that belongs to no option and has to be given, with what help calls it.
+pub fn required_word<'a>(alloc: Global, name: &'a str, value: &'a str, help: &'a str) -> Arg<'a>
     ensures rule { rule_of result ≡ required_word name.entry.now }
     ensures local { result.global ≡ false }
 {
-    Arg::new(alloc, name).required(true).help(help)
+    Arg::new(alloc, name)
+        .required(true)
+        .value_name(value)
+        .help(help)
 }
 
 /// The text that the words give for a name.

@@ -1,6 +1,7 @@
 -- What the words of `run` ask, and what comes of it.
-use Rattle.std.specs.Prelude.{◌≡◌, ⊤, ℕ, Bool, List, [], ◌∷◌, Option, Some, None, codes, IfSome, unwrap_or, Vec, fold, if◌then◌else◌}
+use Rattle.std.specs.Prelude.{◌≡◌, ⊤, ℕ, ◌^◌, ◌<◌, Bool, List, [], ◌∷◌, Option, Some, None, codes, IfSome, unwrap_or, Vec, fold, if◌then◌else◌}
 use Rattle.std.specs.Str.{bytes_eq}
+use Rattle.std.specs.Str.Parse.{IsNumeral, digits_value, without_leading_plus}
 use Rattle.std.specs.declared.alloc.Global.{Global}
 use Rattle.clap.specs.Words.{App, Row, Rule, Text, all_of, fault_of, first_of, matches_of, new_app, new_rule, with_rule}
 use Rattle.clap.specs.declared.builder.range.ValueRange.{ValueRange}
@@ -39,6 +40,16 @@ setup_in rows = unwrap_or (first_of (codes "setup") rows) []
 unfoldable pub sessions_in : List Row → List Text
 sessions_in rows = unwrap_or (all_of (codes "session") rows) []
 
+-- the limit is the number that the text of `--max-errors` writes, if the words give one; there is none if it writes no number
+-- from 1, which the parser doesn't let through
+abbrev pub IsLimit : Option Text → Option ℕ → Type 0
+IsLimit None limit = limit ≡ None
+IsLimit (Some text) None = ¬ (IsNumeral 10 (without_leading_plus text) × (0 < digits_value 10 (without_leading_plus text)) × (digits_value 10 (without_leading_plus text) < 2 ^ 32))
+IsLimit (Some text) (Some errors) = errors ≡ digits_value 10 (without_leading_plus text)
+
+abbrev pub HasLimit : List Row → Option ℕ → Type 0
+HasLimit rows limit = IsLimit (first_of (codes "max-errors") rows) limit
+
 -- the bytes are those that are told, where any are
 abbrev pub IsTold : Option (List ℕ) → List ℕ → Type 0
 IsTold told bytes = IfSome told (λ those. bytes ≡ those)
@@ -65,6 +76,7 @@ pub record RunsWords (bytes_of : Text → Option (List ℕ)) (input : Option (Li
   pub setup : List ℕ
   pub texts : List (Vec ℕ Global)
   pub limit : Option ℕ
+  pub limit_is : HasLimit rows limit
   pub setup_is : IsTold (bytes_of (setup_in rows)) setup
   pub texts_are : AreTold bytes_of input (sessions_in rows) texts
   pub grows : GrowsByRun setup texts (flag_in (codes "journal") rows) limit old new

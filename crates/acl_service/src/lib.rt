@@ -10,7 +10,8 @@ mod sessions;
 mod setup;
 
 pub use acl_queries::{
-    CapFault, RunFault, WordsFault, compare, decide, read_capped, words_ask_what_they_give, words_of,
+    CapFault, RunFault, WordsFault, alike_lists_differ_for_nobody, compare, decide, read_capped,
+    words_ask_what_they_give, words_of, write_text,
 };
 pub use acl_runs::{Gate, OpenGate, ServeFault};
 pub use headline::{journal_explains_every_answer, one_session_is_served_as_alone};

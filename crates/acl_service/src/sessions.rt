@@ -10,8 +10,8 @@ mod printer;
 mod report;
 
 use crate::Served;
-use acl_runs::{Gate, ServeFault, serve_in_rounds, serve_sessions};
 use acl_names::Directory;
+use acl_runs::{Gate, ServeFault, serve_in_rounds, serve_sessions};
 use acl_tree::Tree;
 use cursor::open_all;
 use printer::Printer;

@@ -1,5 +1,5 @@
 -- What the program comes to.
-use Rattle.std.specs.Prelude.{◌≡◌, ◌≤◌, ℕ, ◌⊎◌, List, [], ◌∷◌, Option, Some, None, codes, if◌then◌else◌}
+use Rattle.std.specs.Prelude.{◌≡◌, ◌≤◌, ℕ, ◌⊎◌, ◌++◌, List, [], ◌∷◌, Option, Some, None, codes, if◌then◌else◌}
 use Rattle.std.specs.Io.KnownBytes.{IsAtEnd, Keeps}
 use Rattle.std.specs.Str.{bytes_eq}
 use Rattle.acl_queries.specs.CompareOutcome.{EndsAsCompared}
@@ -23,13 +23,21 @@ pub data Command : Type 0 where
   Decide : Command
   Compare : Command
   Run : Command
+  Help : Command
+  Version : Command
 
 -- the command of this name
 abbrev pub command_of : List ℕ → Option Command
 command_of name =
     if bytes_eq name (codes "decide") then Some Decide
     else (if bytes_eq name (codes "compare") then Some Compare
-    else (if bytes_eq name (codes "run") then Some Run else None))
+    else (if bytes_eq name (codes "run") then Some Run
+    else (if bytes_eq name (codes "--help") then Some Help
+    else (if bytes_eq name (codes "--version") then Some Version else None))))
+
+-- what `--version` prints
+abbrev pub version_text : List ℕ
+version_text = codes "aclctl 0.1.0" ++ 10 ∷ []
 
 -- sessions ended so: with their outputs, or with nothing written where they were refused
 pub record EndsAsRun (files : Files) (input : Option (List ℕ)) (words : List (List ℕ)) (old new : Option (List ℕ)) (status : ℕ) : Type 0 where
@@ -41,6 +49,8 @@ abbrev pub EndsAsCommand : Files → Option (List ℕ) → Option Command → Li
 EndsAsCommand files input (Some Decide) words old new status = EndsAs (outcome_of words) old new status
 EndsAsCommand files input (Some Compare) words old new status = EndsAsCompared words old new status
 EndsAsCommand files input (Some Run) words old new status = EndsAsRun files input words old new status
+EndsAsCommand files input (Some Help) words old new status = (text : List ℕ) × EndsAs (record { status = 0; text = text }) old new status
+EndsAsCommand files input (Some Version) words old new status = EndsAs (record { status = 0; text = version_text }) old new status
 EndsAsCommand files input None words old new status = EndsAs (refusal NoCommand) old new status
 
 -- by the command that the first of the words names

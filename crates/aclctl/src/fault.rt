@@ -22,19 +22,6 @@ pub enum ProgramFault {
     Memory,
 }
 
-/// What tells a person how to go on.
-const HELP: &str = "
-usage: aclctl COMMAND [OPTION].. [WORD]..
-
-commands:
-  decide   tells whether an access control list grants a request
-  compare  tells whether anybody gains or loses access between two lists
-  run      lets sessions work on one tree at the same time, and prints their answers
-
-aclctl COMMAND --help tells the options of a command. Without any words, they
-are read from standard input, one a line, the command first.
-";
-
 impl fmt::Display for ProgramFault {
     ghost use Rattle.aclctl.specs.Fault.{fault_words};
 
@@ -72,15 +59,11 @@ impl ProgramFault {
         writeln!(err, "aclctl: {self}")
     }
 
-    /// Writes the line of the fault, and behind it, where no command was named, which there are. It returns the exit status;
-    /// a fault while writing doesn't change it.
+    /// Writes the line of the fault, and returns the exit status; a fault while writing doesn't change it.
     pub fn report<E: io::Write>(self, err: &mut E) -> u8
         ensures { result ≡ status_of self }
     {
         let _ = self.write_line(err);
-        if self == ProgramFault::NoCommand {
-            let _ = err.write_all(HELP.as_bytes());
-        }
         self.status()
     }
 }

@@ -3,7 +3,7 @@ ghost use Rattle.std.specs.Prelude.{◌≡◌, ◌≢◌, ◌≤◌, [], map, If
 ghost use Rattle.std.specs.String.{string_bytes};
 ghost use Rattle.aclctl.specs.Program.{EndsAsWords, EndsFrom};
 
-use crate::fault::ProgramFault;
+use crate::help::{print_help, print_version, report_no_command};
 use crate::input::command_words;
 use acl_service::{OpenFiles, compare, decide};
 use std::alloc::Global;
@@ -42,7 +42,10 @@ where
         Some(first) if first.as_str() == "run" => {
             acl_service::run(rt, alloc, files, words, input, out, err)
         }
-        _ => ProgramFault::NoCommand.report(err),
+        Some(first) if first.as_str() == "--help" => print_help(out, err),
+        Some(first) if first.as_str() == "--version" => print_version(out, err),
+        Some(first) => report_no_command(Some(first.as_str()), err),
+        None => report_no_command(None, err),
     }
 }
 

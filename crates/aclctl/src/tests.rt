@@ -173,11 +173,11 @@ fn compares_two_lists(rt: HostRuntime) {
 
 #[test]
 fn first_word_names_no_command(rt: HostRuntime) -> Result<(), Fail> {
-    for words in [
-        ["--help"].as_slice(),
-        ["Decide"].as_slice(),
-        ["", "decide"].as_slice(),
-        ["runs"].as_slice(),
+    for (words, line) in [
+        (["Decide"].as_slice(), "\"Decide\" names no command\n"),
+        (["", "decide"].as_slice(), "\"\" names no command\n"),
+        (["runs"].as_slice(), "\"runs\" names no command\n"),
+        (["decide\r"].as_slice(), "\"decide\\r\" names no command\n"),
     ] {
         let given = owned(rt.alloc(), words)?;
         let mut out = Vec::new(rt.alloc());
@@ -194,10 +194,36 @@ fn first_word_names_no_command(rt: HostRuntime) -> Result<(), Fail> {
             ),
             2
         );
-        assert!(rt; err.starts_with(b"aclctl: no command\n\nusage: aclctl COMMAND".as_slice()));
+        let text = format!(in rt.alloc(); "aclctl: no command\n{line}\nusage: aclctl COMMAND")?;
+        assert!(rt; err.starts_with(text.as_bytes()));
         assert!(rt; out.is_empty());
     }
     Ok(())
+}
+
+#[test]
+fn help_and_version(rt: HostRuntime) {
+    for (word, start) in [
+        ("--help", "usage: aclctl COMMAND"),
+        ("--version", "aclctl 0.1.0\n"),
+    ] {
+        let mut out = Vec::new(rt.alloc());
+        let mut err = Vec::new(rt.alloc());
+        assert_eq!(rt;
+            run_command(
+                &rt,
+                rt.alloc(),
+                &EMPTY,
+                [word].as_slice(),
+                &mut Broken,
+                &mut out,
+                &mut err
+            ),
+            0
+        );
+        assert!(rt; out.starts_with(start.as_bytes()));
+        assert!(rt; err.is_empty());
+    }
 }
 
 /// What the program says of bytes on standard input that are no words.

@@ -9,6 +9,12 @@ use clap::{ArgMatches, Command, Error};
 use std::alloc::{AllocError, Global};
 use std::convert::AsStr;
 
+/// An example, and what the exit statuses are.
+const EXAMPLE: &str = "For example:
+  aclctl compare --owner 1000 --group 50 posix u::rw,g::r,o::- posix u::rw,g::r,o::r
+Exit status: 0 with an answer, whichever it is; 1 if a field doesn't read; 2 if the words are wrong, and with this help; 3 if
+memory runs out or the answer can't be written.";
+
 /// The command line of `compare`. No value has a parser: what a field may be is for its reader to say.
 fn compare_command<'a>(alloc: Global) -> Result<Command<'a>, AllocError>
     ensures { IfOk result (λ command. app_of command ≡ compare_line) }
@@ -18,16 +24,38 @@ fn compare_command<'a>(alloc: Global) -> Result<Command<'a>, AllocError>
         .about(
             "Tells whether anybody gains or loses access between two access control lists: `alike`, or who does and what.",
         )
-        .arg(required_option(alloc, "owner", "The uid of the file's owner"))?
-        .arg(required_option(alloc, "group", "The gid of the file's group"))?
-        .arg(required_word(alloc, "kind", "The kind of the first list: posix or nfs4"))?
+        .after_help(EXAMPLE)
+        .arg(required_option(
+            alloc,
+            "owner",
+            "N",
+            "The uid, in decimal, of the file's owner",
+        ))?
+        .arg(required_option(
+            alloc,
+            "group",
+            "N",
+            "The gid, in decimal, of the file's group",
+        ))?
+        .arg(required_word(
+            alloc,
+            "kind",
+            "KIND",
+            "The kind of the first list: posix or nfs4",
+        ))?
         .arg(required_word(
             alloc,
             "text",
+            "TEXT",
             "The first access control list, as u::rw,g::r,o::- or A::OWNER@:rwa",
         ))?
-        .arg(required_word(alloc, "other-kind", "The kind of the second list"))?
-        .arg(required_word(alloc, "other-text", "The second access control list"))
+        .arg(required_word(alloc, "other-kind", "KIND", "The kind of the second list"))?
+        .arg(required_word(
+            alloc,
+            "other-text",
+            "TEXT",
+            "The second access control list",
+        ))
 }
 
 /// What the parser finds in the words of `compare`, of which the first is the command's name.

@@ -9,6 +9,12 @@ use clap::{ArgMatches, Command, Error};
 use std::alloc::{AllocError, Global};
 use std::convert::AsStr;
 
+/// An example, and what the exit statuses are.
+const EXAMPLE: &str = "For example:
+  aclctl decide --owner 1000 --group 50 --uid 1001 --gids 50,60 --perms r u::rw,g::r,o::-
+Exit status: 0 with an answer, granted or denied; 1 if a field doesn't read; 2 if the words are wrong, and with this help; 3 if
+memory runs out or the answer can't be written.";
+
 /// The command line of `decide`. No value has a parser: what a field may be is for its reader to say.
 fn decide_command<'a>(alloc: Global) -> Result<Command<'a>, AllocError>
     ensures { IfOk result (λ command. app_of command ≡ decide_line) }
@@ -16,27 +22,41 @@ fn decide_command<'a>(alloc: Global) -> Result<Command<'a>, AllocError>
     Command::new(alloc, "decide")
         .bin_name("aclctl decide")?
         .about("Tells whether an access control list grants a request: `granted` or `denied`.")
+        .after_help(EXAMPLE)
         .arg(flag(
             alloc,
             "nfs4",
             "Prints the translation too: the NFSv4 entries that decide alike, one a line",
         ))?
-        .arg(required_option(alloc, "owner", "The uid of the file's owner"))?
-        .arg(required_option(alloc, "group", "The gid of the file's group"))?
-        .arg(required_option(alloc, "uid", "The uid of who asks"))?
+        .arg(required_option(
+            alloc,
+            "owner",
+            "N",
+            "The uid, in decimal, of the file's owner",
+        ))?
+        .arg(required_option(
+            alloc,
+            "group",
+            "N",
+            "The gid, in decimal, of the file's group",
+        ))?
+        .arg(required_option(alloc, "uid", "N", "The uid of who asks"))?
         .arg(optional_option(
             alloc,
             "gids",
+            "N,N..",
             "The gids of who asks, at most 32, between commas",
         ))?
         .arg(required_option(
             alloc,
             "perms",
+            "P",
             "What is asked for: 1 to 3 of r, w, x and -. One that begins with - follows a =, as --perms=-w-",
         ))?
         .arg(required_word(
             alloc,
             "text",
+            "TEXT",
             "The access control list, as u::rw,g::r,o::-. One that begins with - follows a word --",
         ))
 }

@@ -1,7 +1,7 @@
 //! The words of `run`, as the parser of command lines takes them.
 ghost use Rattle.std.specs.Prelude.{◌≡◌, ◌≢◌, IfErr, IfOk, OnOk, Some, codes, false, map, option_map};
 ghost use Rattle.clap.specs.Words.{all_of, app_of, found_of, kind_of, rows_of, rule_of};
-ghost use Rattle.acl_service.specs.RunWords.{RunTakes, limit_option, run_line, run_rows, session_words, setup_in};
+ghost use Rattle.acl_service.specs.RunWords.{HasLimit, IsLimit, RunTakes, limit_option, run_line, run_rows, session_words, setup_in};
 
 use acl_queries::options::{flag, optional_option, required_option, required_word, text_field};
 use clap::builder::ValueParser;
@@ -34,6 +34,7 @@ fn run_command<'a>(alloc: Global) -> Result<Command<'a>, AllocError>
         .arg(required_option(
             alloc,
             "setup",
+            "FILE",
             "The file that says who there is, and with which root the tree starts",
         ))?
         .arg(flag(
@@ -50,7 +51,7 @@ fn limit_option<'a>(alloc: Global) -> Arg<'a>
     ensures local { result.global ≡ false }
 {
     let help = "Ends a session at its error of this number, 1 to 65535";
-    optional_option(alloc, "max-errors", help).value_parser(ValueParser::Unsigned(1, 65_535))
+    optional_option(alloc, "max-errors", "K", help).value_parser(ValueParser::Unsigned(1, 65_535))
 }
 
 fn session_words<'a>(alloc: Global) -> Arg<'a>
@@ -58,7 +59,7 @@ fn session_words<'a>(alloc: Global) -> Arg<'a>
     ensures local { result.global ≡ false }
 {
     let help = "A file with a session's commands, or - for standard input; at most 64";
-    required_word(alloc, "session", help).num_args(1usize..)
+    required_word(alloc, "session", "SESSION", help).num_args(1usize..)
 }
 
 /// What the parser finds in the words of `run`, of which the first is the command's name.
@@ -87,12 +88,24 @@ pub(super) fn session_fields<'m, 'a>(matches: &'m ArgMatches<'a>) -> Option<&'m 
     matches.get_strs("session")
 }
 
+/// The number of a text, from 1.
+fn read_limit(text: &str) -> Option<u32>
+    ensures some { result ≢ Some 0 }
+    ensures is { IsLimit (Some text.now) result }
+{
+    match text.parse() {
+        Ok(0) | Err(_) => None,
+        Ok(limit) => Some(limit),
+    }
+}
+
 /// How many errors end a session. The parser lets only 1 to 65535 through.
 pub(super) fn limit_field(matches: &ArgMatches<'_>) -> Option<u32>
-    ensures { result ≢ Some 0 }
+    ensures some { result ≢ Some 0 }
+    ensures is { HasLimit (rows_of (found_of matches.now)) result }
 {
-    match matches.get_one::<u32>("max-errors") {
-        Some(0) => None,
-        limit => limit,
+    match text_field(matches, "max-errors") {
+        Some(text) => read_limit(text),
+        None => None,
     }
 }

@@ -2,8 +2,8 @@
 ghost use Rattle.std.specs.Prelude.{◌≡◌, OnOk, Some};
 ghost use Rattle.std.specs.Io.KnownBytes.{Appends};
 
-use acl_runs::ServeFault;
 use crate::{OneFault, RunFault, SetupError};
+use acl_runs::ServeFault;
 use std::alloc::AllocError;
 use std::{fmt, io};
 use thiserror::Error;

@@ -10,10 +10,10 @@ ghost use Rattle.acl_service.specs.Runs.{session_text};
 
 use super::fault::TextsFault;
 use super::printing::{print_journal, write_outputs};
-use acl_runs::Gate;
 use crate::{Report, read_setup, run_one, serve};
 use acl_broker::SESSIONS;
 use acl_names::Directory;
+use acl_runs::Gate;
 use acl_tree::Tree;
 use std::alloc::Global;
 use std::io::Write;

@@ -5,9 +5,9 @@ ghost use Rattle.acl_lang.specs.declared.limits.TheConstants.{MAX_TEXT_LEN};
 ghost use Rattle.acl_service.specs.Cursor.{rest_of};
 ghost use Rattle.acl_service.specs.Sessions.{requests_of_each};
 
-use acl_runs as runs;
 use acl_lang::{MAX_TEXT_LEN, Numbered, Requests};
 use acl_names::Directory;
+use acl_runs as runs;
 use std::alloc::{AllocError, Global};
 
 /// The requests of a session's text that are still to come, read line by line.

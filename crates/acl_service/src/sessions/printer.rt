@@ -2,9 +2,9 @@
 ghost use Rattle.std.specs.Prelude.{◌≡◌};
 ghost use Rattle.acl_service.specs.Sessions.{is_error};
 
-use acl_runs::Replies;
 use acl_lang::{Answer, render};
 use acl_names::Directory;
+use acl_runs::Replies;
 use acl_tree::Reply;
 use std::alloc::AllocError;
 

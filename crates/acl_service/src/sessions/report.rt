@@ -3,9 +3,9 @@ ghost use Rattle.std.specs.Prelude.{◌≡◌};
 ghost use Rattle.acl_service.specs.Told.{told};
 
 use crate::Served;
-use acl_runs::RunReport;
 use acl_broker::JournalEntry;
 use acl_lang::{Answer, Numbered};
+use acl_runs::RunReport;
 use acl_tree::Tree;
 
 /// What came of a run of sessions on one tree. `answers` and `outputs` have a place for each session.

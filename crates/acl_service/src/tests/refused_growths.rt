@@ -6,9 +6,7 @@
 use crate::tests::fixture::{directory, tree};
 use crate::tests::setup::SETUP;
 use crate::tests::texts::{are_short, has_output, serve_texts, serve_texts_in_rounds};
-use crate::{
-    OneFault, OpenGate, Report, ServeFault, SetupError, read_setup, run_one, run_texts,
-};
+use crate::{OneFault, OpenGate, Report, ServeFault, SetupError, read_setup, run_one, run_texts};
 use acl_names::Directory;
 use std::alloc::{AllocError, Global};
 use std::sync::Wait;

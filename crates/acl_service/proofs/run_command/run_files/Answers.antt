@@ -28,6 +28,7 @@ returns-in-Ok-clause-printed g c is_zero =
       setup = setup;
       texts = texts;
       limit = limit;
+      limit_is = c.limit_field.ensures.is;
       setup_is = subst (λ (name : Text). IsTold (bytes_of name) setup) c.setup_field.ensures told.setup;
       texts_are = subst (λ (these : List Text). AreTold bytes_of input these texts) names_are told.sessions;
       grows =

@@ -9,7 +9,7 @@ use Rattle.acl_queries.proofs.compare_command.command_line.compare_command.Goals
 pub returns : goal.returns
 unfolding compare_line
 returns c =
-    let described : app_of c.about.result ≡ new_app (codes "compare") = ap app_of_fields c.about.ensures ∙ ap app_of_fields c.in_ok-bin_name.ensures.0 ∙ c.new.ensures.app in
+    let described : app_of c.after_help.result ≡ new_app (codes "compare") = ap app_of_fields c.after_help.ensures ∙ ap app_of_fields c.about.ensures ∙ ap app_of_fields c.in_ok-bin_name.ensures.0 ∙ c.new.ensures.app in
     let owner = app_of-arg _ c.in_ok-arg.field-0 _ c.in_ok-arg.ensures c.required_option.ensures.local described c.required_option.ensures.rule in
     let group = app_of-arg _ c.in_ok-arg-2.field-0 _ c.in_ok-arg-2.ensures c.required_option-2.ensures.local owner c.required_option-2.ensures.rule in
     let kind = app_of-arg _ c.in_ok-arg-3.field-0 _ c.in_ok-arg-3.ensures c.required_word.ensures.local group c.required_word.ensures.rule in

@@ -1,10 +1,16 @@
-use Rattle.std.proofs.Common.{◌≡◌, ◌∷◌, [], None, false, inl, inr, refl, rules}
+use Rattle.std.specs.Option.{is_some}
+use Rattle.std.proofs.lemmas.Bool.{true≢false}
+use Rattle.std.proofs.Common.{◌≡◌, ◌∷◌, [], ℕ, Option, Some, None, false, inl, inr, refl, rules}
 use Rattle.std.specs.Io.KnownBytes.{Appends}
 use Rattle.std.proofs.lemmas.Result.{on_ok_weaker}
 use Rattle.acl_service.specs.Opened.{Opens}
 use Rattle.acl_service.specs.Runs.{session_text}
 use Rattle.acl_service.proofs.PrintLemmas.{only_one}
 use Rattle.acl_service.proofs.run_command.texts.print_texts.Goals as goal
+
+none_held : (limit : Option ℕ) → is_some limit ≡ false → limit ≡ None
+none_held None none = refl
+none_held (Some errors) none = absurd (true≢false none)
 
 pub returns-in-len1-clause-printed : goal.returns-in-len1-clause-printed
 returns-in-len1-clause-printed g c =
@@ -14,7 +20,7 @@ returns-in-len1-clause-printed g c =
     let opened : Opens c.args.setup.now known tree = c.in_ok-directory.ensures.opened in
     let only : c.args.texts.now ≡ text ∷ [] = only_one c.args.texts.now text (search rules) (search rules) (search rules) in
     let no_journal : c.args.options.journal ≡ false = search rules in
-    let no_limit : c.args.options.max_errors ≡ None = search rules in
+    let no_limit : c.args.options.max_errors ≡ None = none_held c.args.options.max_errors c.if-is_none.ensures in
     on_ok_weaker c.print_session.result (λ written. record {
       printed = session_text known tree text.items;
       prints = record { known = known; tree = tree; opened = opened; is = inl (record { text = text; only = only; no_journal = no_journal; no_limit = no_limit; is = refl }) };

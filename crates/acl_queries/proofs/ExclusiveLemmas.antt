@@ -1,0 +1,54 @@
+-- Lists that decide alike differ for nobody.
+use Rattle.std.proofs.Common.{◌≡◌, ◌∙◌, inl, inr, ℕ, List, [], ◌∷◌, Bool, true, false, ◌&&◌, not, ◌||◌, ap, refl, sym}
+use Rattle.std.specs.Prelude.{IsTrue}
+use Rattle.std.specs.List.{AllByRecursion}
+use Rattle.acl_names.specs.Asker.{identity_of}
+use Rattle.acl_names.specs.Bits.{has, ◌∪◌}
+use Rattle.acl_names.proofs.BitSets.{has-or, no_bits}
+use Rattle.acl_posix.specs.Entry.{Triple}
+use Rattle.acl_nfs4.specs.Comparison.{DecideAlike, Decider, IsDifference}
+use Rattle.acl_nfs4.specs.Mask.{mask_bits}
+use Rattle.acl_nfs4.specs.declared.comparison.Difference.{Difference}
+use Rattle.acl_bridge.specs.Comparison.{GrantAlikeToAll, IsFirstDifference, whole_requests}
+use Rattle.acl_queries.specs.Compared.{Compared}
+use Rattle.acl_queries.specs.Differences.{AreAlike, Differ, RequestsAlike, RequestsDiffer, bits_between, decider_of}
+use Rattle.acl_queries.specs.declared.compare_command.list.AnyAcl.{AnyAcl}
+use Rattle.acl_queries.specs.declared.compare_command.list.AnyAcl.TheVariants.{Posix, Nfs4}
+
+-- one of two that are equal isn't granted alone
+not_one_alone : (asked before after : Bool) → (IsTrue asked → before ≡ after) → (asked && (before && not after)) ≡ false
+not_one_alone false before after alike = refl
+not_one_alone true false after alike = refl
+not_one_alone true true true alike = refl
+not_one_alone true true false alike = alike refl
+
+module _ (before after : Decider) (bits : ℕ) (alike : DecideAlike before after bits) where
+  -- the asker of a difference loses and gains nothing
+  nothing_told : (difference : Difference) → IsDifference before after bits difference → mask_bits difference.lost ∪ mask_bits difference.gained ≡ 0
+  nothing_told difference is =
+      let asker = identity_of difference.asker in
+      no_bits (mask_bits difference.lost ∪ mask_bits difference.gained) (λ bit.
+      has-or (mask_bits difference.lost) (mask_bits difference.gained) bit
+      ∙ ap (λ lost. lost || has (mask_bits difference.gained) bit) (is.lost bit ∙ not_one_alone (has bits bit) (before asker bit) (after asker bit) (alike asker bit))
+      ∙ is.gained bit ∙ not_one_alone (has bits bit) (after asker bit) (before asker bit) (λ asked. sym (alike asker bit asked)))
+
+-- no request differs where each is granted alike
+no_first_difference : (first second : List Triple) (owner group : ℕ) (requests : List ℕ) (difference : Difference)
+    → AllByRecursion (GrantAlikeToAll first second owner group) requests → ¬ IsFirstDifference first second owner group requests difference
+no_first_difference first second owner group [] difference alike never = never
+no_first_difference first second owner group (request ∷ more) difference (here, later) (inl differs) = differs.apart (here (identity_of difference.asker))
+no_first_difference first second owner group (request ∷ more) difference (here, later) (inr (same, differs)) = no_first_difference first second owner group more difference later differs
+
+no_request_differs : (owner group : ℕ) (first second : AnyAcl) (difference : Difference) → RequestsAlike owner group first second → ¬ RequestsDiffer owner group first second difference
+no_request_differs owner group (Posix first) (Posix second) difference alike differs = no_first_difference first second owner group whole_requests difference alike differs
+no_request_differs owner group (Posix first) (Nfs4 second) difference alike never = never
+no_request_differs owner group (Nfs4 first) (Posix second) difference alike never = never
+no_request_differs owner group (Nfs4 first) (Nfs4 second) difference alike never = never
+
+-- lists that decide alike for every requester differ for nobody
+pub differ_for_nobody : (compared : Compared) (difference : Difference) → AreAlike compared → ¬ Differ compared difference
+differ_for_nobody compared difference (bits, requests) (inl is) =
+    is.some (nothing_told (decider_of compared.owner compared.group compared.first) (decider_of compared.owner compared.group compared.second)
+    (bits_between compared.first compared.second) bits difference is)
+differ_for_nobody compared difference (bits, requests) (inr (_, differs)) =
+    no_request_differs compared.owner compared.group compared.first compared.second difference requests differs

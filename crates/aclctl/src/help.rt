@@ -1,0 +1,80 @@
+//! What the program says of itself.
+ghost use Rattle.std.specs.Prelude.{◌≡◌, ◌≢◌, ◌≤◌, ℕ, List};
+ghost use Rattle.acl_queries.specs.Outcome.{EndsAs};
+ghost use Rattle.aclctl.specs.Fault.{status_of};
+ghost use Rattle.aclctl.specs.Program.{version_text};
+ghost use Rattle.aclctl.specs.declared.fault.ProgramFault.TheVariants.{NoCommand};
+
+use crate::fault::ProgramFault;
+use acl_service::{RunFault, write_text};
+use std::io::Write;
+
+/// What tells a person how to go on.
+const HELP: &str = "usage: aclctl COMMAND [OPTION].. [WORD]..
+
+commands:
+  decide     tells whether an access control list grants a request
+  compare    tells whether anybody gains or loses access between two lists
+  run        lets sessions work on one tree at the same time, and prints their answers
+  --help     prints this
+  --version  prints the version
+
+aclctl COMMAND --help tells the options of a command. Without any words, they
+are read from standard input, one a line, the command first.
+
+Users and groups are asked for by their ids, in decimal. For example:
+  aclctl decide --owner 1000 --group 50 --uid 1001 --gids 50,60 --perms r u::rw,g::r,o::-
+
+Exit status: 0 with an answer (granted or denied, alike or differ, a run's
+outputs), 1 if something doesn't read, 2 if the words are wrong, and 3 if memory
+or a thread is lacking or the output can't be written.
+";
+
+/// The most bytes of a word that is shown.
+const MOST_SHOWN: usize = 64;
+
+const VERSION: &str = "aclctl 0.1.0\n";
+
+/// Prints a text, and returns the exit status.
+fn print<W: Write, E: Write>(text: &str, out: &mut W, err: &mut E) -> u8
+    ensures statuses { result ≤ 3 }
+    ensures ended { result ≢ 3 → EndsAs (record { status = 0; text = text.now }) (W.contents out.old) (W.contents out.new) result }
+{
+    if write_text(text.as_bytes(), out).is_err() {
+        let _ = write_text(RunFault::Output.line().as_bytes(), err);
+        return 3;
+    }
+    0
+}
+
+/// Prints what the program's commands are.
+pub fn print_help<W: Write, E: Write>(out: &mut W, err: &mut E) -> u8
+    ensures statuses { result ≤ 3 }
+    ensures ended { result ≢ 3 → (text : List ℕ) × EndsAs (record { status = 0; text = text }) (W.contents out.old) (W.contents out.new) result }
+{
+    print(HELP, out, err)
+}
+
+/// Prints the program's name and its version.
+pub fn print_version<W: Write, E: Write>(out: &mut W, err: &mut E) -> u8
+    ensures statuses { result ≤ 3 }
+    ensures ended { result ≢ 3 → EndsAs (record { status = 0; text = version_text }) (W.contents out.old) (W.contents out.new) result }
+{
+    print(VERSION, out, err)
+}
+
+/// Tells that no command was named, by the word if there is a short one, and which commands there are. It returns the exit status; a
+/// fault while writing doesn't change it.
+pub fn report_no_command<E: Write>(word: Option<&str>, err: &mut E) -> u8
+    ensures { result ≡ status_of NoCommand }
+{
+    let status = ProgramFault::NoCommand.report(err);
+    match word {
+        Some(word) if word.len() <= MOST_SHOWN => {
+            let _ = writeln!(err, "{word:?} names no command");
+        }
+        _ => {}
+    }
+    let _ = write!(err, "\n{HELP}");
+    status
+}
