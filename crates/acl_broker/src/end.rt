@@ -13,7 +13,7 @@ impl<I: Drop, R: Drop> End<I, R> {
     ghost use Rattle.std.specs.Prelude.{◌≡◌, ◌++◌, [], true, OnOk, OnErr, IfNone, option_to_list};
     ghost use Rattle.acl_broker.specs.Lanes.{IsPaired, submitted, handed, submit_answer};
     ghost use Rattle.acl_broker.specs.Ends.{IsSamePair, EndSeen, lane_of, side_of, is_closed};
-    ghost use Rattle.acl_broker.specs.TakerSides.{known_waiting, known_in_ring, received_items, AnswerMoves};
+    ghost use Rattle.acl_broker.specs.TakerSides.{known_waiting, known_in_ring, received_items, IsUnmoved, AnswerMoves};
     ghost use Rattle.acl_broker.specs.SessionSides as session_side;
 
     /// Accepts an item, unless the session is closed or cancelled, or as many items wait as a lane holds.
@@ -28,6 +28,7 @@ impl<I: Drop, R: Drop> End<I, R> {
         ensures answer { result ≡ submit_answer taker.old.closed taker.old.cancelled (lane_of self.old taker.old).waiting item }
         ensures ok { OnOk result (lane_of self.new taker.new ≡ submitted (lane_of self.old taker.old) item) }
         ensures refused { OnErr result (lane_of self.new taker.new ≡ lane_of self.old taker.old) }
+        ensures unmoved { IsUnmoved taker.old taker.new }
     {
         if taker.closed || taker.cancelled {
             return Err(Refused {
@@ -69,6 +70,7 @@ impl<I: Drop, R: Drop> End<I, R> {
         ensures state { lane_of self.new taker.new ≡ lane_of self.old taker.old }
         ensures seen { known_waiting taker.new ≡ (lane_of self.old taker.old).waiting }
         ensures order { received_items taker.new ++ known_in_ring taker.new ≡ session_side.sent (side_of self.new) }
+        ensures unmoved { IsUnmoved taker.old taker.new }
     {
         match self {
             End::Open(open) => lane::look(&mut open.side, taker),
