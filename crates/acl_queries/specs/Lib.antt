@@ -5,7 +5,6 @@ pub mod RunFaults
 pub mod Faults
 pub mod AclText
 pub mod Asked
-pub mod Question
 pub mod Outcome
 pub mod Ask
 pub mod CompareLine

@@ -7,7 +7,6 @@ ghost use Rattle.acl_queries.specs.CommandLine.{TakesWords};
 ghost use Rattle.acl_queries.specs.Faults.{IsFaultOf, Tells, failed_write};
 ghost use Rattle.acl_queries.specs.Outcome.{EndsAs, answer_text, outcome_of};
 ghost use Rattle.acl_queries.specs.Output.{AppendsFront};
-ghost use Rattle.acl_queries.specs.Question.{Asks};
 
 pub(crate) mod acl;
 pub(crate) mod command_line;
@@ -26,7 +25,7 @@ use translation::print_translation;
 
 /// The text that answers: the line, and behind it the translation where it is asked for.
 fn text_for(alloc: Global, question: &Question) -> Result<Vec<u8>, AllocError>
-    ensures { IfOk result (λ text. (asked : Asked) → Asks question.now asked → text.items ≡ answer_text asked) }
+    ensures { IfOk result (λ text. text.items ≡ answer_text question.now) }
 {
     let line = if question.is_granted() {
         "granted\n"

@@ -1,10 +1,9 @@
 //! What the words of `decide` ask.
-ghost use Rattle.std.specs.Prelude.{◌≡◌, codes, Ok, Err, IfErr, IfOk, IsOkAnd};
+ghost use Rattle.std.specs.Prelude.{◌≡◌, codes, Ok, Err, IfErr, IfOk};
 ghost use Rattle.clap.specs.Words.{found_of, rows_of};
 ghost use Rattle.acl_posix.specs.Perms.{bits_of};
 ghost use Rattle.acl_queries.specs.Asked.{acl_in, asked_in, gids_in, id_in, perms_in};
 ghost use Rattle.acl_queries.specs.Faults.{Explains};
-ghost use Rattle.acl_queries.specs.Question.{Asks};
 
 use super::acl::read_acl;
 use super::fault::{DecideFault, FieldFault};
@@ -14,6 +13,7 @@ use acl_names::{Gid, Requester, Uid};
 use acl_posix::{Acl, Perms, read_perms};
 use clap::ArgMatches;
 use std::alloc::Global;
+use std::marker::Model;
 
 /// Whether who asks may do what is requested with a file; and, with `nfs4`, what its access control list translates to.
 #[derive(Drop)]
@@ -26,13 +26,28 @@ pub(super) struct Question {
     pub nfs4: bool,
 }
 
-impl Question {
+impl Model for Question {
+    ghost use Rattle.acl_posix.specs.Perms.{bits_of};
     ghost use Rattle.acl_queries.specs.Asked.{Asked};
+
+    ghost Value = { Asked };
+
+    ghost view = { λ question. record {
+      owner = question.owner;
+      group = question.group;
+      requester = question.requester;
+      request = bits_of question.request;
+      acl = question.acl;
+      nfs4 = question.nfs4;
+    } };
+}
+
+impl Question {
     ghost use Rattle.acl_queries.specs.Outcome.{is_granted};
 
     /// The answer.
     pub(super) fn is_granted(&self) -> bool
-        ensures { (asked : Asked) → Asks self.now asked → result ≡ is_granted asked }
+        ensures { result ≡ is_granted self.now }
     {
         self.acl
             .grants(self.owner, self.group, &self.requester, self.request)
@@ -90,7 +105,7 @@ pub(super) fn read_question(
     alloc: Global,
     matches: &ArgMatches<'_>,
 ) -> Result<Question, DecideFault>
-    ensures read { IfOk result (λ question. IsOkAnd (asked_in (rows_of (found_of matches.now))) (Asks question)) }
+    ensures read { IfOk result (λ question. asked_in (rows_of (found_of matches.now)) ≡ Ok question) }
     ensures refused { IfErr result (Explains (asked_in (rows_of (found_of matches.now)))) }
 {
     let owner = uid_field(matches, "owner")?;
