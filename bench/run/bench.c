@@ -54,7 +54,8 @@ static size_t visit(char *out, int session, unsigned nth, unsigned files, enum k
         end += sprintf(end, "set %s nfs4 A::OWNER@:rwatTcCy,A::%u:rwx,D:g:70001:wa,A:g:60:rx,A::EVERYONE@:rt\n", path, user);
         end += sprintf(end, "check %s %u rw\ncheck4 %s bob rx\nget %s\nchmod %s 640\nget %s\n", path, user, path, path, path, path);
     } else {
-        end += sprintf(end, "set %s access u::rw,u:%u:rw,g::r,m::rw,o::-\n", path, user);
+        const char *set = nth % 2 ? "set %s access user::rw-,user:%u:rw-,group::r--,mask::rw-,other::---\n" : "set %s access u::rw,u:%u:rw,g::r,m::rw,o::-\n";
+        end += sprintf(end, set, path, user);
         end += sprintf(end, "check %s %u rw\nget %s\nchmod %s 640\ncheck %s bob r\n", path, user, path, path, path);
         end += sprintf(end, kind == MIXED ? "translate %s\n" : "get %s\n", path);
     }

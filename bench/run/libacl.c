@@ -335,11 +335,13 @@ static char *answer(char *out, uint64_t number, char *line)
 }
 
 /* Runs the session on a tree of a root alone, and prints its answers; how long they are, or 0 where room runs out. The text is
-   cut into lines in a copy. */
+   cut into lines in a copy. All answers are made first, in a text that grows by doubling, and then copied at once, as run_one
+   does. */
 size_t libacl_prints(const char *text, size_t length, char *printed, size_t room)
 {
-    char *copy = malloc(length + 1), *out = printed;
-    if (!copy) abort();
+    size_t most = 4096, made = 0;
+    char *copy = malloc(length + 1), *answers = malloc(most);
+    if (!copy || !answers) abort();
     memcpy(copy, text, length), copy[length] = 0;
     memset(slots, 0, sizeof slots), node_count = 0;
     add_node("/", 1, 1, 0, 0, 0755);
@@ -348,12 +350,15 @@ size_t libacl_prints(const char *text, size_t length, char *printed, size_t room
         char *end = memchr(line, '\n', copy + length - line);
         if (!end) end = copy + length;
         *end = 0, number++;
-        /* A printed list has at most 8 entries here. */
-        if (printed + room - out < 2048) { out = printed; break; }
+        /* A node has at most 8 entries here, and so an answer at most 2048 bytes. */
+        if (most - made < 2048 && !(answers = realloc(answers, most *= 2))) abort();
+        char *out = answers + made;
         out = end - line > 1024 ? put(put_number(out, number), " error 10 line-too-long\n") : answer(out, number, line);
-        line = end + 1;
+        made = out - answers, line = end + 1;
     }
+    if (made > room) made = 0;
+    memcpy(printed, answers, made);
     for (int i = 0; i < node_count; i++) acl_free(nodes[i].acl), free(nodes[i].path);
-    free(copy);
-    return out - printed;
+    free(copy), free(answers);
+    return made;
 }
