@@ -4,5 +4,6 @@ set -e
 cd "$(dirname "$0")/../.."
 (cd crates/acl_bench && rt lib)
 kit=$(dirname "$(dirname "$(readlink -f "$(command -v rt)")")")
-${CC:-cc} -O2 -o crates/acl_bench/out/bench-nfs4 bench/nfs4/bench.c crates/acl_bench/out/libacl_bench.a "$kit/c/liblibc_c.a"
+wrap=-Wl,--wrap=malloc,--wrap=calloc,--wrap=realloc
+${CC:-cc} -O2 $wrap -o crates/acl_bench/out/bench-nfs4 bench/nfs4/bench.c crates/acl_bench/out/libacl_bench.a "$kit/c/liblibc_c.a"
 exec crates/acl_bench/out/bench-nfs4 "$@"

@@ -9,5 +9,6 @@ if ! echo '#include <sys/acl.h>' | ${CC:-cc} -E - > /dev/null 2>&1; then
 fi
 (cd crates/acl_bench && rt lib)
 kit=$(dirname "$(dirname "$(readlink -f "$(command -v rt)")")")
-${CC:-cc} -O2 -o crates/acl_bench/out/bench bench/posix/bench.c crates/acl_bench/out/libacl_bench.a "$kit/c/liblibc_c.a" -lacl
+wrap=-Wl,--wrap=malloc,--wrap=calloc,--wrap=realloc
+${CC:-cc} -O2 $wrap -o crates/acl_bench/out/bench bench/posix/bench.c crates/acl_bench/out/libacl_bench.a "$kit/c/liblibc_c.a" -lacl
 exec crates/acl_bench/out/bench "$@"

@@ -2,6 +2,12 @@
 //! something. Nothing here is part of the service.
 #![tactic(auto)]
 
+mod allocations;
+mod changes;
+mod comparing;
+mod names;
+mod valid;
+
 use acl_names::{Directory, Gid, Requester, Uid};
 use acl_nfs4::{Acl4, mask_of, read_aces};
 use acl_posix::{Acl, Perms, read_entries};
@@ -25,6 +31,20 @@ fn requester(alloc: Global, uid: u32, gids: &[u32]) -> Option<Requester> {
         own.push(Gid::new(*gid)?).ok()?;
     }
     Some(Requester::new(Uid::new(uid)?, own))
+}
+
+/// How long the output is, which goes to the caller.
+fn copied(out: &Vec<u8>, printed: &mut [u8]) -> Option<usize> {
+    if out.len() > printed.len() {
+        return None;
+    }
+    let mut left = printed.iter_mut();
+    for byte in out.iter() {
+        if let Some(place) = left.next() {
+            *place = *byte;
+        }
+    }
+    Some(out.len())
 }
 
 fn times_read(alloc: Global, text: &[u8], rounds: u32) -> Option<u64> {
@@ -109,16 +129,7 @@ fn print(alloc: Global, text: &[u8], printed: &mut [u8]) -> Option<usize> {
     let acl = acl_of(alloc, text)?;
     let mut out = Vec::new(alloc);
     acl.print_effective(&names, &mut out).ok()?;
-    if out.len() > printed.len() {
-        return None;
-    }
-    let mut left = printed.iter_mut();
-    for byte in out.iter() {
-        if let Some(place) = left.next() {
-            *place = *byte;
-        }
-    }
-    Some(out.len())
+    copied(&out, printed)
 }
 
 /// Reads the text `rounds` times.
@@ -235,16 +246,7 @@ fn print_aces(alloc: Global, text: &[u8], printed: &mut [u8]) -> Option<usize> {
     let acl = aces_of(alloc, text)?;
     let mut out = Vec::new(alloc);
     acl.print_aces(&names, &mut out).ok()?;
-    if out.len() > printed.len() {
-        return None;
-    }
-    let mut left = printed.iter_mut();
-    for byte in out.iter() {
-        if let Some(place) = left.next() {
-            *place = *byte;
-        }
-    }
-    Some(out.len())
+    copied(&out, printed)
 }
 
 /// Reads the text of NFSv4 entries `rounds` times.
