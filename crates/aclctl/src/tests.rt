@@ -312,13 +312,27 @@ fn failed_writes(rt: HostRuntime) {
             &rt,
             rt.alloc(),
             &EMPTY,
-            ["--help"].as_slice(),
+            ["help"].as_slice(),
             &mut Broken,
             &mut Broken,
             &mut Broken
         ),
         2
     );
+    assert_eq!(rt;
+        run_command(
+            &rt,
+            rt.alloc(),
+            &EMPTY,
+            ["--help"].as_slice(),
+            &mut Broken,
+            &mut Broken,
+            &mut err
+        ),
+        3
+    );
+    let lines = b"aclctl: run: output\naclctl: run: output\n";
+    assert_eq!(rt; err.as_slice(), lines.as_slice());
 }
 
 const SETUP: &str =
