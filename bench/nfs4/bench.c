@@ -482,7 +482,7 @@ static void times_changes(int n, int users)
     sprintf(what, "chmod, %d users", users);
     ROW(what);
     free(list.aces);
-    if (n > 64) return;
+    if (n > 64 || users > 8) return;
     make_posix(&posix, text, (n - 4) / 3, n - 4 - (n - 4) / 3, 3000, 6, 5);
     length = strlen(text), theirs = ours = 1e18;
     for (int run = 0; run < RUNS; run++) {
