@@ -408,8 +408,15 @@ static void count_allocations(int lists)
         NO_ALLOCATION("print", n, aces_times_printed_again(text, length, rounds));
         NO_ALLOCATION("check", n, 1 + aces_times_checked(text, length, 3000, 9, gids, 2, rounds));
         NO_ALLOCATION("inherited", n, 1 + aces_times_inherited(text, length, i % 2, rounds));
+        /* What comes of three entries has at most 14. */
+        if (n <= 3) NO_ALLOCATION("mode", n, aces_times_set(text, length, below(512), rounds));
+        struct posix posix;
+        int users = below(3), groups = below(3);
+        make_posix(&posix, text, users, groups, 3000, -1, -1);
+        NO_ALLOCATION("translation", posix.count, 1 + acl_times_translated(text, strlen(text), rounds));
     }
-    printf("%d lists of 1 to 16 entries: no allocation in 1000 rounds each of reading with validity, printing into one output, checks and inheritance\n\n", lists);
+    printf("%d lists of 1 to 16 entries: no allocation in 1000 rounds each of reading with validity, printing into one output, checks and\n"
+           "inheritance, nor of modes of 1 to 3 entries and of translations of 3 to 8\n\n", lists);
 }
 
 static void times(int n)
@@ -482,7 +489,7 @@ static void times_changes(int n, int users)
     sprintf(what, "chmod, %d users", users);
     ROW(what);
     free(list.aces);
-    if (n > 64) return;
+    if (n > 64 || users > 8) return;
     make_posix(&posix, text, (n - 4) / 3, n - 4 - (n - 4) / 3, 3000, 6, 5);
     length = strlen(text), theirs = ours = 1e18;
     for (int run = 0; run < RUNS; run++) {
