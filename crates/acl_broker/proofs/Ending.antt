@@ -8,7 +8,7 @@ use Rattle.acl_broker.specs.Ends.{Each, EndsByClose, EndSeen, AreSeen, AreEndsOf
 use Rattle.acl_broker.specs.declared.end.End.{End}
 use Rattle.acl_broker.specs.declared.end.End.TheVariants.{Open, Closed}
 use Rattle.acl_broker.specs.declared.taker_side.TakerSide.{TakerSide}
-use Rattle.acl_broker.proofs.EntryLemmas.{items_of-append_marked, has_end_mark-append_marked}
+use Rattle.acl_broker.proofs.RingEntries.{items_of-append_marked, has_end_mark-append_marked}
 
 module _ {I R : Type 0} where
   -- an end that has pushed its mark is closed

@@ -11,7 +11,7 @@ use Rattle.acl_broker.specs.declared.steps.StepResult.{StepResult}
 use Rattle.acl_broker.specs.declared.end.End.{End}
 use Rattle.acl_broker.specs.declared.taker_side.TakerSide.{TakerSide}
 use Rattle.acl_broker.proofs.LaneLists.{Lies, lies_at, lane_below, lane_read, lanes_after_side, lanes-set, lanes-set_side, length-lanes}
-use Rattle.acl_broker.proofs.Standing.{Lane, unknown_session}
+use Rattle.acl_broker.proofs.StepsStand.{Lane, unknown_session}
 
 module _ {I R : Type 0} (ends : List (End I R)) (sides : List (TakerSide I R)) (session : ℕ) (side side' : TakerSide I R) where
   -- the taker's side of a lane changed alone

@@ -12,7 +12,7 @@ use Rattle.acl_nfs4.specs.Evaluation.{allows}
 use Rattle.acl_nfs4.specs.Mask.{mask_bits}
 use Rattle.acl_nfs4.specs.declared.comparison.Difference.{Difference}
 use Rattle.acl_nfs4.specs.declared.who.Who.{Who}
-use Rattle.acl_nfs4.proofs.Evaluated.{found, allows-skip, settles}
+use Rattle.acl_nfs4.proofs.EvaluationLoop.{found, allows-skip, settles}
 use Rattle.acl_nfs4.proofs.ListLemmas.{drop-here}
 
 -- those of the bits that the list allows

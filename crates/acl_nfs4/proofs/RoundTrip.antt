@@ -40,7 +40,7 @@ use Rattle.acl_nfs4.specs.declared.who.Who.{Who}
 use Rattle.acl_nfs4.specs.declared.who.Who.TheVariants.{Owner, Group, Everyone, User, NamedGroup}
 use Rattle.acl_nfs4.proofs.LetterLemmas.{flag_table_is, mask_table_is, flags-field, mask-field}
 use Rattle.acl_nfs4.proofs.ReadLemmas.{value_of_parts}
-use Rattle.acl_nfs4.proofs.OneBit.{contains-one, lacks-one}
+use Rattle.acl_nfs4.proofs.MaskBits.{contains-one, lacks-one}
 
 -- ---- bytes of fields
 

@@ -10,7 +10,7 @@ use Rattle.acl_broker.specs.Takers.{TakerState, Keeps, AppendsOne, SameExceptAt,
 use Rattle.acl_broker.specs.declared.steps.TakeRefused.{TakeRefused}
 use Rattle.acl_broker.specs.declared.steps.TakeRefused.TheVariants.{UnknownSession, Empty, Memory}
 use Rattle.acl_broker.specs.declared.taker_side.TakerSide.{TakerSide}
-use Rattle.acl_broker.proofs.Entries.{more_answers}
+use Rattle.acl_broker.proofs.JournalEntries.{more_answers}
 use Rattle.acl_runs.specs.ErrorLimit.{errors_in, EndsAtError}
 use Rattle.acl_runs.specs.Taking.{made, IsLimited, AreLimited}
 use Rattle.acl_runs.specs.declared.limits.Limits.{Limits}

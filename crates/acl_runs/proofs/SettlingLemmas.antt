@@ -15,7 +15,7 @@ use Rattle.acl_broker.specs.Takers.{TakerState, Keeps}
 use Rattle.acl_broker.specs.declared.end.End.{End}
 use Rattle.acl_broker.specs.declared.taker_side.TakerSide.{TakerSide}
 use Rattle.acl_broker.specs.declared.steps.JournalEntry.{JournalEntry}
-use Rattle.acl_broker.proofs.Keeping.{prefix_trans}
+use Rattle.acl_broker.proofs.TakerKeeps.{prefix_trans}
 use Rattle.acl_broker.proofs.RejoinedPoint.{rejoined_point, is_rejoined_point}
 use Rattle.acl_runs.specs.ErrorLimit.{errors_in, UsesUp, EndsAtError, IsServedUpTo}
 use Rattle.acl_runs.specs.RunReport.{IsReport}

@@ -9,7 +9,7 @@ use Rattle.std.proofs.lemmas.Bool.Decides.{eqb_tells}
 use Rattle.std.proofs.lemmas.Grind.{flat_map-append}
 use Rattle.acl_broker.specs.Journal.{state_after, answers_to}
 use Rattle.acl_broker.proofs.Journals.{state_after-append}
-use Rattle.acl_broker.proofs.Entries.{entry_of, more_answers, kept_answers}
+use Rattle.acl_broker.proofs.JournalEntries.{entry_of, more_answers, kept_answers}
 use Rattle.acl_runs.specs.Rounds.{entries_of, heads, rounds, Answered}
 use Rattle.acl_runs.specs.Turns.{rests, Answers, Turns, TurnsOfFirst, Rounds, AllRounds, WithRoundsLeft}
 use Rattle.acl_runs.specs.declared.rounds.state.Progress.{Progress}

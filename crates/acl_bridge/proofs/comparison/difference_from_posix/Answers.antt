@@ -3,7 +3,7 @@ use Rattle.std.specs.Prelude.{IfSome}
 use Rattle.acl_nfs4.specs.Comparison.{DecideAlike, IsDifference, decided_by}
 use Rattle.acl_nfs4.specs.Mask.{mode_bits}
 use Rattle.acl_bridge.specs.Comparison.{granted_by}
-use Rattle.acl_bridge.proofs.Compared.{none_through, some_through}
+use Rattle.acl_bridge.proofs.ComparisonLemmas.{none_through, some_through}
 use Rattle.acl_bridge.proofs.comparison.difference_from_posix.Goals as goal
 
 pub returns-clause-none : goal.returns-clause-none

@@ -2,7 +2,7 @@ use Rattle.std.proofs.Common.{◌≡◌, ◌↔◌, None, subst, ℕ}
 use Rattle.std.specs.Prelude.{IfSome}
 use Rattle.acl_nfs4.specs.Comparison.{DecideAlike, IsDifference, decided_by}
 use Rattle.acl_bridge.specs.Comparison.{granted_by, permission_bits}
-use Rattle.acl_bridge.proofs.Compared.{alike_of_mode, none_through, some_through}
+use Rattle.acl_bridge.proofs.ComparisonLemmas.{alike_of_mode, none_through, some_through}
 use Rattle.acl_bridge.proofs.comparison.posix_difference.Goals as goal
 
 pub returns-clause-none : goal.returns-clause-none

@@ -1,7 +1,7 @@
 use Rattle.acl_bridge.specs.Comparison.{DecidesEachBit}
 use Rattle.acl_bridge.specs.Translation.{translation}
-use Rattle.acl_bridge.proofs.Compared.{translation_decides_each_bit}
-use Rattle.acl_bridge.proofs.Made.{IfOk-is}
+use Rattle.acl_bridge.proofs.ComparisonLemmas.{translation_decides_each_bit}
+use Rattle.acl_bridge.proofs.PassLemmas.{IfOk-is}
 use Rattle.acl_bridge.proofs.comparison.translated.Goals as goal
 
 pub returns : goal.returns

@@ -1,4 +1,4 @@
-use Rattle.acl_bridge.proofs.Defaults.{inherited_by_file, inherited_by_directory}
+use Rattle.acl_bridge.proofs.DefaultTranslation.{inherited_by_file, inherited_by_directory}
 use Rattle.acl_bridge.proofs.laws.default_translation_laws.Goals as goal
 
 pub returns-clause-file : goal.returns-clause-file

@@ -1,6 +1,6 @@
-use Rattle.acl_bridge.proofs.Alike.{translation_decides_alike, translation_grants_as_much, translation_grants_each}
-use Rattle.acl_bridge.proofs.Short.{short_translation}
-use Rattle.acl_bridge.proofs.Shown.{mode_of-translation}
+use Rattle.acl_bridge.proofs.TranslationDecides.{translation_decides_alike, translation_grants_as_much, translation_grants_each}
+use Rattle.acl_bridge.proofs.TranslationLength.{short_translation}
+use Rattle.acl_bridge.proofs.TranslationMode.{mode_of-translation}
 use Rattle.acl_bridge.proofs.laws.translation_laws.Goals as goal
 
 pub returns-clause-alike : goal.returns-clause-alike

@@ -4,7 +4,7 @@ use Rattle.acl_posix.specs.Perms.{bits_of}
 use Rattle.acl_nfs4.specs.Ace.{Nfsace4}
 use Rattle.acl_nfs4.specs.declared.limits.TheConstants.{MAX_ACES}
 use Rattle.acl_bridge.specs.Passes.{is_in, made_from}
-use Rattle.acl_bridge.proofs.Made.{pass-room}
+use Rattle.acl_bridge.proofs.PassLemmas.{pass-room}
 use Rattle.acl_bridge.proofs.passes.append_class.Goals as goal
 
 pub append_entry-requires : goal.append_entry-requires

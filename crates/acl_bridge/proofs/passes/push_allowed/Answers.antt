@@ -1,4 +1,4 @@
-use Rattle.acl_nfs4.proofs.PartLemmas.{mask_of-known}
+use Rattle.acl_nfs4.proofs.ModeChangeParts.{mask_of-known}
 use Rattle.acl_bridge.proofs.passes.push_allowed.Goals as goal
 
 pub push_made-requires-clause-known : goal.push_made-requires-clause-known

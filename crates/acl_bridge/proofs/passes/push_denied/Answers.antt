@@ -1,4 +1,4 @@
-use Rattle.acl_nfs4.proofs.PartLemmas.{rest_of-known}
+use Rattle.acl_nfs4.proofs.ModeChangeParts.{rest_of-known}
 use Rattle.acl_bridge.proofs.passes.push_denied.Goals as goal
 
 pub push_made-requires-clause-known : goal.push_made-requires-clause-known

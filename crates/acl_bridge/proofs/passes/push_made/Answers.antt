@@ -1,7 +1,7 @@
 use Rattle.std.proofs.Common.{◌≡◌, ◌∙◌, sym, subst, List, ap}
 use Rattle.std.specs.Prelude.{OnOk}
 use Rattle.acl_nfs4.specs.Ace.{Nfsace4, is_idle}
-use Rattle.acl_bridge.proofs.Made.{ace_of-effect, is_idle-effect, made-empty, made-full, room-full}
+use Rattle.acl_bridge.proofs.PassLemmas.{ace_of-effect, is_idle-effect, made-empty, made-full, room-full}
 use Rattle.acl_bridge.proofs.passes.push_made.Goals as goal
 
 pub returns-then-is_empty-clause-ok : goal.returns-then-is_empty-clause-ok

@@ -1,5 +1,5 @@
-use Rattle.acl_bridge.proofs.PairsOfEntries.{pairs_suffice_posix}
-use Rattle.acl_bridge.proofs.WholeRequests.{two_groups_suffice_posix}
+use Rattle.acl_bridge.proofs.ComparisonPairs.{pairs_suffice_posix}
+use Rattle.acl_bridge.proofs.ComparisonRequests.{two_groups_suffice_posix}
 use Rattle.acl_bridge.proofs.requests.posix_comparison_laws.Goals as goal
 
 pub returns-clause-pairs : goal.returns-clause-pairs

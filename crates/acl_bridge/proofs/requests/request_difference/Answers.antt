@@ -6,8 +6,8 @@ use Rattle.acl_posix.specs.Perms.{bits_of}
 use Rattle.acl_nfs4.proofs.AllowedBits.{none_exactly}
 use Rattle.acl_bridge.specs.Comparison.{GrantAlike, GrantAlikeAt, IsStranger, IsUnlike, OfEachTag}
 use Rattle.acl_bridge.specs.declared.requests.Unlike.{Unlike}
-use Rattle.acl_bridge.proofs.Compared.{ok_then}
-use Rattle.acl_bridge.proofs.PairsOfEntries.{pairs_suffice_posix, unlike_tells}
+use Rattle.acl_bridge.proofs.ComparisonLemmas.{ok_then}
+use Rattle.acl_bridge.proofs.ComparisonPairs.{pairs_suffice_posix, unlike_tells}
 use Rattle.acl_bridge.proofs.requests.request_difference.Goals as goal
 
 pub returns-clause-none : goal.returns-clause-none

@@ -1,5 +1,5 @@
 use Rattle.std.proofs.Common.{◌≤◌, ◌+◌, length, arith}
-use Rattle.acl_bridge.proofs.PairsOfEntries.{asked_few}
+use Rattle.acl_bridge.proofs.ComparisonPairs.{asked_few}
 use Rattle.acl_bridge.proofs.requests.stranger.Goals as goal
 
 -- after so many numbers there were more that entries ask for than entries

@@ -1,6 +1,6 @@
 use Rattle.std.proofs.Common.{◌≡◌, ℕ, ◌<◌, ◌||◌, true}
 use Rattle.acl_bridge.specs.Comparison.{asks_for}
-use Rattle.acl_nfs4.proofs.Strangers.{tried}
+use Rattle.acl_nfs4.proofs.ComparisonStrangers.{tried}
 use Rattle.acl_bridge.proofs.requests.stranger.Given as goal
 
 -- the entries ask for each user so far

@@ -11,7 +11,7 @@ use Rattle.acl_nfs4.proofs.ListLemmas.{All-take-next}
 use Rattle.acl_bridge.specs.Comparison.{GrantAlikeAt, IsUnlike, OfEachTag}
 use Rattle.acl_bridge.specs.Translation.{who_of}
 use Rattle.acl_bridge.specs.declared.requests.Unlike.{Unlike}
-use Rattle.acl_bridge.proofs.Compared.{ok_then}
+use Rattle.acl_bridge.proofs.ComparisonLemmas.{ok_then}
 use Rattle.acl_bridge.proofs.requests.unlike_for.Goals as goal
 
 pub loop-entry-preserved : goal.loop-entry-preserved

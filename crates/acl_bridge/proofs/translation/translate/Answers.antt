@@ -4,10 +4,10 @@ use Rattle.acl_nfs4.specs.Ace.{Nfsace4}
 use Rattle.acl_nfs4.specs.Evaluation.{mode_of}
 use Rattle.acl_bridge.specs.Translation.{translation}
 use Rattle.acl_bridge.specs.TranslationLaws.{DecideAlike, GrantsAsMuch, translated_mode, most_translated}
-use Rattle.acl_bridge.proofs.Alike.{translation_decides_alike, translation_grants_as_much}
-use Rattle.acl_bridge.proofs.Made.{with_effect-here, IfOk-is}
-use Rattle.acl_bridge.proofs.Short.{short_translation}
-use Rattle.acl_bridge.proofs.Shown.{mode_of-translation}
+use Rattle.acl_bridge.proofs.TranslationDecides.{translation_decides_alike, translation_grants_as_much}
+use Rattle.acl_bridge.proofs.PassLemmas.{with_effect-here, IfOk-is}
+use Rattle.acl_bridge.proofs.TranslationLength.{short_translation}
+use Rattle.acl_bridge.proofs.TranslationMode.{mode_of-translation}
 use Rattle.acl_bridge.proofs.translation.translate.Goals as goal
 
 pub returns-clause-list : goal.returns-clause-list

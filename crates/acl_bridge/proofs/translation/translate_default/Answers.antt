@@ -5,9 +5,9 @@ use Rattle.acl_nfs4.specs.declared.inheritance.Kind.TheVariants.{File, Dir}
 use Rattle.acl_bridge.specs.Translation.{translation, default_translation, with_flags, handed_on}
 use Rattle.acl_bridge.specs.TranslationLaws.{most_translated}
 use Rattle.acl_bridge.specs.declared.passes.Effect.TheVariants.{Below}
-use Rattle.acl_bridge.proofs.Defaults.{inherited_by_file, inherited_by_directory}
-use Rattle.acl_bridge.proofs.Made.{length-with_effect, IfOk-is}
-use Rattle.acl_bridge.proofs.Short.{short_translation}
+use Rattle.acl_bridge.proofs.DefaultTranslation.{inherited_by_file, inherited_by_directory}
+use Rattle.acl_bridge.proofs.PassLemmas.{length-with_effect, IfOk-is}
+use Rattle.acl_bridge.proofs.TranslationLength.{short_translation}
 use Rattle.acl_bridge.proofs.translation.translate_default.Goals as goal
 
 pub returns-clause-file : goal.returns-clause-file

@@ -3,7 +3,7 @@ use Rattle.acl_nfs4.specs.Ace.{Nfsace4}
 use Rattle.acl_bridge.specs.Passes.{made_of}
 use Rattle.acl_bridge.specs.declared.passes.Class.TheVariants.{Owner, Users, Groups, Others}
 use Rattle.acl_bridge.specs.declared.passes.Part.TheVariants.{Allowed, Denied, Settled}
-use Rattle.acl_bridge.proofs.Made.{lengths-doubled, lengths-made, room-left}
+use Rattle.acl_bridge.proofs.PassLemmas.{lengths-doubled, lengths-made, room-left}
 use Rattle.acl_bridge.proofs.translation.translation_for.Goals as goal
 
 pub append_class-requires : goal.append_class-requires

@@ -1,5 +1,5 @@
 use Rattle.std.proofs.Common.{drop}
-use Rattle.acl_bridge.proofs.FirstDifference.{AreLeft}
+use Rattle.acl_bridge.proofs.ComparisonFirst.{AreLeft}
 use Rattle.acl_bridge.proofs.whole_requests.first_difference.Given as goal
 
 -- the requests so far are granted alike to all

@@ -1,4 +1,4 @@
-use Rattle.acl_broker.proofs.Merging.{merges}
+use Rattle.acl_broker.proofs.HeadlineLemmas.{merges}
 use Rattle.acl_broker.proofs.headline.journal_merges_prefixes.Goals as goal
 
 pub returns : goal.returns

@@ -1,4 +1,4 @@
-use Rattle.acl_nfs4.proofs.Compared.{pairs_suffice, two_groups_suffice}
+use Rattle.acl_nfs4.proofs.ComparisonLemmas.{pairs_suffice, two_groups_suffice}
 use Rattle.acl_nfs4.proofs.comparison.comparison_laws.Goals as goal
 
 pub returns-clause-pairs : goal.returns-clause-pairs

@@ -1,5 +1,5 @@
 use Rattle.std.proofs.Common.{◌≤◌, ◌+◌, length, arith}
-use Rattle.acl_nfs4.proofs.Strangers.{asked_few}
+use Rattle.acl_nfs4.proofs.ComparisonStrangers.{asked_few}
 use Rattle.acl_nfs4.proofs.comparison.stranger.Goals as goal
 
 -- after so many numbers there were more that entries ask for than entries

@@ -7,7 +7,7 @@ use Rattle.acl_nfs4.specs.Ace.{Nfsace4, decides, is_allow}
 use Rattle.acl_nfs4.specs.Evaluation.{Grants}
 use Rattle.acl_nfs4.specs.Mask.{mask_bits}
 use Rattle.acl_nfs4.specs.Who.{matches}
-use Rattle.acl_nfs4.proofs.Evaluated.{Grants-step, Grants-skip, Grants-allow, Grants-past, Grants-denied, Grants-end, Grants-nothing, denied-here}
+use Rattle.acl_nfs4.proofs.EvaluationLoop.{Grants-step, Grants-skip, Grants-allow, Grants-past, Grants-denied, Grants-end, Grants-nothing, denied-here}
 use Rattle.acl_nfs4.proofs.evaluation.grants.Goals as goal
 use Rattle.acl_nfs4.proofs.evaluation.grants.Goals.{then-concerns+then-is_allow, then-concerns+else-is_allow+else-intersects, else-concerns}
 

@@ -1,7 +1,7 @@
 use Rattle.std.proofs.Common.{◌∙◌, ap, ap₂, cond, ℕ}
 use Rattle.acl_names.specs.Bits.{◌∪◌}
 use Rattle.acl_nfs4.specs.Mask.{mask_of}
-use Rattle.acl_nfs4.proofs.OneBit.{contains-one}
+use Rattle.acl_nfs4.proofs.MaskBits.{contains-one}
 use Rattle.acl_nfs4.proofs.mask.mask_of.Goals as goal
 
 pub returns : goal.returns

@@ -4,7 +4,7 @@ use Rattle.acl_names.specs.Bits.{without, ◌∩◌, ◌∪◌}
 use Rattle.acl_nfs4.specs.Ace.{Nfsace4, is_allow}
 use Rattle.acl_nfs4.specs.Evaluation.{of_class}
 use Rattle.acl_nfs4.specs.Mask.{mask_bits, mode_bits}
-use Rattle.acl_nfs4.proofs.Evaluated.{IsFound, IsFound-all, IsFound-skip, IsFound-allow, IsFound-deny, IsFound-none, IsFound-step}
+use Rattle.acl_nfs4.proofs.EvaluationLoop.{IsFound, IsFound-all, IsFound-skip, IsFound-allow, IsFound-deny, IsFound-none, IsFound-step}
 use Rattle.acl_nfs4.proofs.mode.allowed_to.Goals as goal
 use Rattle.acl_nfs4.proofs.mode.allowed_to.Goals.{then-tells_mode_of, then-is_allow, else-is_allow, else-tells_mode_of}
 

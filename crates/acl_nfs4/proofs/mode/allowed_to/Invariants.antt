@@ -1,7 +1,7 @@
 use Rattle.std.proofs.Common.{drop}
 use Rattle.acl_nfs4.specs.Evaluation.{of_class}
 use Rattle.acl_nfs4.specs.Mask.{mask_bits}
-use Rattle.acl_nfs4.proofs.Evaluated.{IsFound}
+use Rattle.acl_nfs4.proofs.EvaluationLoop.{IsFound}
 use Rattle.acl_nfs4.proofs.mode.allowed_to.Given as goal
 
 -- a bit of the mode is allowed where it was found to be, or is open and allowed by the entries to come

@@ -1,6 +1,6 @@
 use Rattle.std.proofs.Common.{◌∙◌, sym, ap, ◌&&◌}
 use Rattle.acl_names.specs.Bits.{has}
-use Rattle.acl_nfs4.proofs.OneBit.{contains-one}
+use Rattle.acl_nfs4.proofs.MaskBits.{contains-one}
 use Rattle.acl_nfs4.proofs.mode.allows_writing.Goals as goal
 
 pub returns-then-contains : goal.returns-then-contains

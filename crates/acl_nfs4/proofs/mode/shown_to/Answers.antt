@@ -1,6 +1,6 @@
 use Rattle.std.proofs.Common.{◌∙◌, ap, ap₂, cond, ◌&&◌, refl, ℕ}
 use Rattle.acl_names.specs.Bits.{has, ◌∪◌}
-use Rattle.acl_nfs4.proofs.OneBit.{contains-one}
+use Rattle.acl_nfs4.proofs.MaskBits.{contains-one}
 use Rattle.acl_nfs4.proofs.mode.shown_to.Goals as goal
 
 pub returns : goal.returns

@@ -4,7 +4,7 @@ use Rattle.acl_names.specs.Bits.{◌∪◌}
 use Rattle.acl_nfs4.specs.Ace.{Nfsace4}
 use Rattle.acl_nfs4.specs.Mask.{mask_bits}
 use Rattle.acl_nfs4.specs.ModeChange.{denied_to}
-use Rattle.acl_nfs4.proofs.Denials.{denied_to-step, or-zero}
+use Rattle.acl_nfs4.proofs.ModeChangeDenials.{denied_to-step, or-zero}
 use Rattle.acl_nfs4.proofs.ListLemmas.{drop-here}
 use Rattle.acl_nfs4.proofs.mode_change.denied_to.Goals as goal
 use Rattle.acl_nfs4.proofs.mode_change.denied_to.Goals.{then-denies, else-denies}

@@ -1,7 +1,7 @@
 use Rattle.std.proofs.Common.{◌∙◌, ap, ℕ}
 use Rattle.acl_names.specs.Bits.{without}
 use Rattle.acl_nfs4.specs.Mask.{mask_bits}
-use Rattle.acl_nfs4.proofs.PartLemmas.{denial-known}
+use Rattle.acl_nfs4.proofs.ModeChangeParts.{denial-known}
 use Rattle.acl_nfs4.proofs.mode_change.push_denial.Goals as goal
 
 pub push_plain-requires : goal.push_plain-requires

@@ -6,8 +6,8 @@ use Rattle.acl_nfs4.specs.Ace.{Nfsace4}
 use Rattle.acl_nfs4.specs.ModeChange.{denial_of, denials, named_in, names}
 use Rattle.acl_nfs4.specs.declared.who.Who.{Who}
 use Rattle.acl_nfs4.proofs.ListLemmas.{OnErr-from}
-use Rattle.acl_nfs4.proofs.NamedIn.{made-new, made-again, made-none, made-ahead}
-use Rattle.acl_nfs4.proofs.PartLemmas.{too_long-within}
+use Rattle.acl_nfs4.proofs.ModeChangeNamed.{made-new, made-again, made-none, made-ahead}
+use Rattle.acl_nfs4.proofs.ModeChangeParts.{too_long-within}
 use Rattle.acl_nfs4.proofs.mode_change.push_denials.Goals as goal
 use Rattle.acl_nfs4.proofs.mode_change.push_denials.Goals.{then-names_someone+then-not-any_names+in_ok-push_denial, else-names_someone, else-names_someone-via-then-names_someone+else-not-any_names, else-names_someone-via-else-names_someone}
 

@@ -4,9 +4,9 @@ use Rattle.acl_posix.specs.Perms.{bits_of}
 use Rattle.acl_nfs4.specs.Ace.{Nfsace4, unless_empty}
 use Rattle.acl_nfs4.specs.Acl.{IsTooLong}
 use Rattle.acl_nfs4.specs.ModeChange.{kept_of}
-use Rattle.acl_nfs4.proofs.Kept.{effective_part}
+use Rattle.acl_nfs4.proofs.ModeChangeKept.{effective_part}
 use Rattle.acl_nfs4.proofs.ListLemmas.{OnErr-from}
-use Rattle.acl_nfs4.proofs.PartLemmas.{kept_of-stays, kept_of-parts, kept_of-rest, too_long-within}
+use Rattle.acl_nfs4.proofs.ModeChangeParts.{kept_of-stays, kept_of-parts, kept_of-rest, too_long-within}
 use Rattle.acl_nfs4.proofs.mode_change.push_kept_of.Goals as goal
 use Rattle.acl_nfs4.proofs.mode_change.push_kept_of.Goals.{After-push_unless_empty, After-push_unless_empty-2}
 

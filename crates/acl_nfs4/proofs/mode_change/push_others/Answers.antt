@@ -1,4 +1,4 @@
-use Rattle.acl_nfs4.proofs.PartLemmas.{mask_of-known, rest_of-known}
+use Rattle.acl_nfs4.proofs.ModeChangeParts.{mask_of-known, rest_of-known}
 use Rattle.acl_nfs4.proofs.mode_change.push_others.Goals as goal
 
 pub push_plain-requires : goal.push_plain-requires

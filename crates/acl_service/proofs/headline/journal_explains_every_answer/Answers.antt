@@ -1,6 +1,6 @@
 use Rattle.std.proofs.Common.{refl}
-use Rattle.acl_bridge.proofs.Alike.{translation_decides_alike}
-use Rattle.acl_broker.proofs.Merging.{merges}
+use Rattle.acl_bridge.proofs.TranslationDecides.{translation_decides_alike}
+use Rattle.acl_broker.proofs.HeadlineLemmas.{merges}
 use Rattle.acl_service.specs.Served.{next_served, reply_served}
 use Rattle.acl_service.proofs.headline.journal_explains_every_answer.Goals as goal
 

@@ -3,7 +3,7 @@ use Rattle.acl_names.specs.Bits.{has, without, ◌∩◌}
 use Rattle.acl_nfs4.specs.Ace.{Nfsace4, is_idle}
 use Rattle.acl_nfs4.specs.Flags.{all_flags, inheritance_flags, identifier_group}
 use Rattle.acl_nfs4.proofs.AceLemmas.{within-without}
-use Rattle.acl_nfs4.proofs.PartLemmas.{cleared-group_flag, cleared-effective}
+use Rattle.acl_nfs4.proofs.ModeChangeParts.{cleared-group_flag, cleared-effective}
 use Rattle.acl_nfs4.proofs.ace.Ace.effective_part.Goals as goal
 
 pub with_flags-requires-clause-known : goal.with_flags-requires-clause-known

@@ -2,7 +2,7 @@ use Rattle.std.proofs.Common.{◌≡◌, ◌∙◌, sym, ap, subst, ℕ, ◌&&�
 use Rattle.acl_names.specs.Bits.{has, ◌∩◌, ◌∪◌}
 use Rattle.acl_nfs4.specs.Ace.{is_idle}
 use Rattle.acl_nfs4.specs.Flags.{all_flags, identifier_group}
-use Rattle.acl_nfs4.proofs.PartLemmas.{inherit_only-within, inherit_only-group_flag, inherit_only-effective}
+use Rattle.acl_nfs4.proofs.ModeChangeParts.{inherit_only-within, inherit_only-group_flag, inherit_only-effective}
 use Rattle.acl_nfs4.proofs.ace.Ace.inherited_part.Goals as goal
 
 pub with_flags-requires-clause-known : goal.with_flags-requires-clause-known

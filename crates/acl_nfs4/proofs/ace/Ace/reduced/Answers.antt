@@ -1,4 +1,4 @@
-use Rattle.acl_nfs4.proofs.PartLemmas.{kept_mask-known}
+use Rattle.acl_nfs4.proofs.ModeChangeParts.{kept_mask-known}
 use Rattle.acl_nfs4.proofs.ace.Ace.reduced.Goals as goal
 
 pub with_mask-requires : goal.with_mask-requires

@@ -4,9 +4,9 @@ use Rattle.acl_nfs4.specs.Ace.{Nfsace4}
 use Rattle.acl_nfs4.specs.Evaluation.{mode_of}
 use Rattle.acl_nfs4.specs.ModeChange.{with_mode}
 use Rattle.acl_nfs4.specs.ModeChangeLaws.{GrantsOwner, GrantsGroup, GrantsOthers, LimitsNamed, KeepsAudits, KeepsInheritOnly, InheritsAlike}
-use Rattle.acl_nfs4.proofs.Granted.{grants-owner, grants-group, grants-others, limits-named, mode_of-with_mode}
-use Rattle.acl_nfs4.proofs.Idempotent.{with_mode-twice}
-use Rattle.acl_nfs4.proofs.Rest.{audits-with_mode, inherit_only-with_mode, inherited-with_mode}
+use Rattle.acl_nfs4.proofs.ModeChangeGrants.{grants-owner, grants-group, grants-others, limits-named, mode_of-with_mode}
+use Rattle.acl_nfs4.proofs.ModeChangeTwice.{with_mode-twice}
+use Rattle.acl_nfs4.proofs.ModeChangeLeaves.{audits-with_mode, inherit_only-with_mode, inherited-with_mode}
 use Rattle.acl_nfs4.proofs.acl.Acl4.chmod4.Goals as goal
 use Rattle.acl_nfs4.proofs.acl.Acl4.chmod4.Goals.{Joined-draft}
 

@@ -3,7 +3,7 @@ use Rattle.acl_nfs4.specs.Ace.{Nfsace4}
 use Rattle.acl_nfs4.specs.Comparison.{AlikeAt, DecideAlike, IsDifference, OfEachWho, decided_by}
 use Rattle.acl_nfs4.specs.Mask.{mask_bits}
 use Rattle.acl_nfs4.proofs.AllowedBits.{none_exactly, difference_tells}
-use Rattle.acl_nfs4.proofs.Compared.{pairs_suffice}
+use Rattle.acl_nfs4.proofs.ComparisonLemmas.{pairs_suffice}
 use Rattle.acl_nfs4.proofs.acl.Acl4.difference.Goals as goal
 
 pub returns-clause-none : goal.returns-clause-none

@@ -1,7 +1,7 @@
 use Rattle.std.proofs.Common.{sym, subst, ◌<◌, ℕ}
 use Rattle.acl_nfs4.specs.Evaluation.{of_class}
 use Rattle.acl_nfs4.specs.declared.who.Who.TheVariants.{Owner, Group, Everyone}
-use Rattle.acl_nfs4.proofs.Shown.{shown_to-small}
+use Rattle.acl_nfs4.proofs.EvaluationMode.{shown_to-small}
 use Rattle.acl_nfs4.proofs.acl.Acl4.mode4.Goals as goal
 
 pub invariant_of-result : goal.invariant_of-result

@@ -1,5 +1,5 @@
 use Rattle.std.proofs.Common.{◌∙◌}
-use Rattle.acl_nfs4.proofs.OneBit.{contains-one}
+use Rattle.acl_nfs4.proofs.MaskBits.{contains-one}
 use Rattle.acl_nfs4.proofs.flags.Flags.has_inherit_only.Goals as goal
 
 pub returns : goal.returns

@@ -1,6 +1,6 @@
 use Rattle.std.proofs.Common.{◌++◌, ◌∷◌, [], sym, ap, ◌∙◌, refl, subst}
 use Rattle.std.proofs.lemmas.List.{get_or_default}
-use Rattle.acl_broker.proofs.Entries.{entry_of}
+use Rattle.acl_broker.proofs.JournalEntries.{entry_of}
 use Rattle.acl_runs.specs.Turns.{Answers}
 use Rattle.acl_runs.proofs.TurnLemmas.{turns_some, turns_none}
 use Rattle.acl_runs.proofs.rounds.turns.take_turn.Goals as goal

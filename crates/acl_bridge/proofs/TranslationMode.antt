@@ -16,13 +16,13 @@ use Rattle.acl_posix.specs.declared.entry.Tag.TheVariants.{UserObj, User, GroupO
 use Rattle.acl_nfs4.specs.Evaluation.{shown_to, of_class, mode_of}
 use Rattle.acl_nfs4.specs.declared.who.Who.{Who}
 use Rattle.acl_nfs4.specs.declared.who.Who.TheVariants as whos
-use Rattle.acl_nfs4.proofs.ModeBits.{permission_of}
-use Rattle.acl_nfs4.proofs.Shown.{shown_to-allows}
+use Rattle.acl_nfs4.proofs.MaskOfModes.{permission_of}
+use Rattle.acl_nfs4.proofs.EvaluationMode.{shown_to-allows}
 use Rattle.acl_bridge.specs.Translation.{who_of, is_for_owner, is_for_user, is_for_group, is_for_others, translation}
 use Rattle.acl_bridge.specs.TranslationLaws.{translated_mode}
-use Rattle.acl_bridge.proofs.Alike.{few, owners_alone}
-use Rattle.acl_bridge.proofs.Deciding.{allows-translation, matching, deciding}
-use Rattle.acl_bridge.proofs.Lists.{length-filter, filter_twice, filter_twice-none, the_one, find-passes}
+use Rattle.acl_bridge.proofs.TranslationDecides.{few, owners_alone}
+use Rattle.acl_bridge.proofs.TranslationVerdicts.{allows-translation, matching, deciding}
+use Rattle.acl_bridge.proofs.FilterLemmas.{length-filter, filter_twice, filter_twice-none, the_one, find-passes}
 
 masked-small : (mask : Option ℕ) (perms : ℕ) → perms < 8 → masked mask perms < 8
 masked-small None perms small = small

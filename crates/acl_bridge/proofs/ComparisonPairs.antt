@@ -22,12 +22,12 @@ use Rattle.acl_nfs4.specs.declared.ace.AceType.TheVariants.{Allow, Deny}
 use Rattle.acl_nfs4.specs.declared.who.Who.TheVariants.{Everyone}
 use Rattle.acl_nfs4.specs.Who.{flags_of_who}
 use Rattle.acl_nfs4.specs.declared.who.Who.{Who}
-use Rattle.acl_nfs4.proofs.Compared.{pairs_suffice}
-use Rattle.acl_nfs4.proofs.Strangers.{is_at, enough, tried, tried_apart}
+use Rattle.acl_nfs4.proofs.ComparisonLemmas.{pairs_suffice}
+use Rattle.acl_nfs4.proofs.ComparisonStrangers.{is_at, enough, tried, tried_apart}
 use Rattle.acl_bridge.specs.Comparison.{OfEachTag, IsStranger, GrantAlike, GrantAlikeAt, IsUnlike, PairsSuffice, asks_for, is_of_user}
 use Rattle.acl_bridge.specs.declared.requests.Unlike.{Unlike}
 use Rattle.acl_bridge.specs.Translation.{who_of, is_for_owner, is_for_user, is_for_group, is_for_others, in_class, allowed_by, denied_by, settled_by, translation}
-use Rattle.acl_bridge.proofs.WholeRequests.{as_reading, with_perms, reading, read_as}
+use Rattle.acl_bridge.proofs.ComparisonRequests.{as_reading, with_perms, reading, read_as}
 
 -- ---- what holds of each who that entries stand for holds of each entry of the translation
 

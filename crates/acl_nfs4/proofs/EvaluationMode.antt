@@ -5,7 +5,7 @@ use Rattle.acl_nfs4.specs.Mask.{mode_bits}
 use Rattle.acl_nfs4.specs.Evaluation.{allows, shown_to}
 use Rattle.acl_nfs4.specs.Ace.{Nfsace4}
 use Rattle.acl_nfs4.specs.declared.who.Who.{Who}
-use Rattle.acl_nfs4.proofs.ModeBits.{permission_of}
+use Rattle.acl_nfs4.proofs.MaskOfModes.{permission_of}
 
 abbrev perms_from : Bool → Bool → Bool → Bool → ℕ
 perms_from r w a x = cond r 4 0 ∪ cond (w && a) 2 0 ∪ cond x 1 0

@@ -18,7 +18,7 @@ use Rattle.acl_nfs4.specs.declared.who.Who.{Who}
 use Rattle.acl_nfs4.specs.declared.who.Who.TheVariants.{Owner, Group, Everyone, User, NamedGroup}
 use Rattle.acl_bridge.specs.Passes.{is_in, made_by, made_from, made_of, flags_of, with_effect}
 use Rattle.acl_bridge.specs.Translation.{in_class, translation, with_flags}
-use Rattle.acl_bridge.proofs.Short.{doubled-translation, short_translation}
+use Rattle.acl_bridge.proofs.TranslationLength.{doubled-translation, short_translation}
 use Rattle.acl_bridge.specs.declared.passes.Class.{Class}
 use Rattle.acl_bridge.specs.declared.passes.Class.TheVariants as class
 use Rattle.acl_bridge.specs.declared.passes.Part.{Part}

@@ -14,9 +14,9 @@ use Rattle.acl_nfs4.specs.declared.ace.AceType.TheVariants.{Allow, Deny}
 use Rattle.acl_nfs4.specs.declared.who.Who.{Who}
 use Rattle.acl_nfs4.specs.declared.who.Who.TheVariants.{Owner, Group, Everyone, User, NamedGroup}
 use Rattle.acl_names.proofs.BitSets.{has-without, no_bits}
-use Rattle.acl_nfs4.proofs.ModeBits.{mask_of-within}
-use Rattle.acl_nfs4.proofs.Denials.{member, denies, same_who-refl, member-named_in, named_not_special, has-denied_to, list_any-kept, denied_anyway, decides-plain_deny}
-use Rattle.acl_nfs4.proofs.Kept.{kept_of-cases, kept-append, kept-none, kept-unchanged, kept-twice, effective_part, reduced, decides-inherited_part, unless_empty-cases}
+use Rattle.acl_nfs4.proofs.MaskOfModes.{mask_of-within}
+use Rattle.acl_nfs4.proofs.ModeChangeDenials.{member, denies, same_who-refl, member-named_in, named_not_special, has-denied_to, list_any-kept, denied_anyway, decides-plain_deny}
+use Rattle.acl_nfs4.proofs.ModeChangeKept.{kept_of-cases, kept-append, kept-none, kept-unchanged, kept-twice, effective_part, reduced, decides-inherited_part, unless_empty-cases}
 use Rattle.acl_names.proofs.AnyLemmas.{and_false, or_true, or_false, list_any-append, list_any-flat_map, list_any-weaken}
 
 -- ---- sets within the mode's bits

@@ -12,7 +12,7 @@ use Rattle.acl_nfs4.specs.Mask.{mode_bits}
 use Rattle.acl_nfs4.specs.declared.comparison.Difference.{Difference}
 use Rattle.acl_bridge.specs.Comparison.{DecidesEachBit, permission_bits}
 use Rattle.acl_bridge.specs.Translation.{translation}
-use Rattle.acl_bridge.proofs.Alike.{bit_granted}
+use Rattle.acl_bridge.proofs.TranslationDecides.{bit_granted}
 
 pub translation_decides_each_bit : (acl : List Triple) → IsValid acl → DecidesEachBit acl (translation acl)
 translation_decides_each_bit acl valid owner group requester bit of_mode = bit_granted acl valid owner group requester bit of_mode

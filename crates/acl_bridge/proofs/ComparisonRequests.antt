@@ -13,11 +13,11 @@ use Rattle.acl_posix.specs.Validity.{IsValid, count_of}
 use Rattle.acl_posix.specs.declared.entry.Tag.{Tag}
 use Rattle.acl_posix.specs.declared.entry.Tag.TheVariants.{UserObj, User, GroupObj, Group, Mask, Other}
 use Rattle.acl_nfs4.specs.Comparison.{decided_by}
-use Rattle.acl_nfs4.proofs.Compared.{two_groups_suffice}
+use Rattle.acl_nfs4.proofs.ComparisonLemmas.{two_groups_suffice}
 use Rattle.acl_bridge.specs.Comparison.{TwoGroupsSuffice}
 use Rattle.acl_bridge.specs.Translation.{translation}
-use Rattle.acl_bridge.proofs.Alike.{bit_granted}
-use Rattle.acl_bridge.proofs.Lists.{length-filter}
+use Rattle.acl_bridge.proofs.TranslationDecides.{bit_granted}
+use Rattle.acl_bridge.proofs.FilterLemmas.{length-filter}
 
 -- the entries with other permissions
 module _ (perms : Triple → ℕ) where

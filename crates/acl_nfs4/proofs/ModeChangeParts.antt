@@ -11,8 +11,8 @@ use Rattle.acl_nfs4.specs.Mask.{all_masks, mode_bits, mask_of, rest_of}
 use Rattle.acl_nfs4.specs.ModeChange.{kept_mask, kept_of}
 use Rattle.acl_nfs4.specs.Who.{is_special}
 use Rattle.acl_nfs4.proofs.AceLemmas.{within-from, within-has, within-or, within-without}
-use Rattle.acl_nfs4.proofs.Kept.{kept_of-cases, inherited_part, effective_part, reduced, cleared}
-use Rattle.acl_nfs4.proofs.ModeBits.{mask_of-within}
+use Rattle.acl_nfs4.proofs.ModeChangeKept.{kept_of-cases, inherited_part, effective_part, reduced, cleared}
+use Rattle.acl_nfs4.proofs.MaskOfModes.{mask_of-within}
 
 -- ---- flags
 

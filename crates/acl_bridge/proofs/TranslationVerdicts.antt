@@ -10,8 +10,8 @@ use Rattle.acl_posix.specs.declared.entry.Tag.{Tag}
 use Rattle.acl_nfs4.specs.Mask.{mode_bits, mask_of, rest_of}
 use Rattle.acl_nfs4.specs.Evaluation.{verdict, allows}
 use Rattle.acl_nfs4.specs.declared.who.Who.{Who}
-use Rattle.acl_nfs4.proofs.ModeBits.{permission_of, has-mask_of, has-rest_of}
-use Rattle.acl_nfs4.proofs.Verdicts.{or_else, verdict-append, verdict-allow, verdict-deny}
+use Rattle.acl_nfs4.proofs.MaskOfModes.{permission_of, has-mask_of, has-rest_of}
+use Rattle.acl_nfs4.proofs.EvaluationLemmas.{or_else, verdict-append, verdict-allow, verdict-deny}
 use Rattle.acl_bridge.specs.Translation.{who_of, is_for_owner, is_for_user, is_for_group, is_for_others, in_class, allowed_by, denied_by, settled_by, translation}
 
 -- what those to whom the entries apply are told, if there are any

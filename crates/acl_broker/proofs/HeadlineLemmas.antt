@@ -19,8 +19,8 @@ use Rattle.acl_broker.specs.declared.steps.Step.{Step}
 use Rattle.acl_broker.specs.declared.steps.Step.TheVariants.{Submit, Take, Answer, Close, Cancel}
 use Rattle.acl_broker.specs.declared.steps.StepResult.{StepResult}
 use Rattle.acl_broker.specs.declared.steps.StepResult.TheVariants.{Submitted, Taken, Answered, ClosedNow, CancelledNow}
-use Rattle.acl_broker.proofs.StepCases.{by_cases}
-use Rattle.acl_broker.proofs.Adding.{adds}
+use Rattle.acl_broker.proofs.StepsCases.{by_cases}
+use Rattle.acl_broker.proofs.StepsAdd.{adds}
 
 -- no item is accepted of a session that is closed or cancelled
 shut_refuses : {I : Type 0} (known closed cancelled : Bool) (waiting : List I) (item : I) (done : Unit) → closed || cancelled ≡ true

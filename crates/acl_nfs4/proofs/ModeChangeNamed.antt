@@ -11,7 +11,7 @@ use Rattle.acl_nfs4.specs.Who.{is_special, same_who}
 use Rattle.acl_nfs4.specs.ModeChange.{distinct, named_in, names, names_someone}
 use Rattle.acl_nfs4.specs.declared.who.Who.{Who}
 use Rattle.acl_nfs4.proofs.ListLemmas.{filter-append}
-use Rattle.acl_nfs4.proofs.Denials.{member, same_who-refl, same_who-true, member-distinct, member-named_in}
+use Rattle.acl_nfs4.proofs.ModeChangeDenials.{member, same_who-refl, same_who-true, member-distinct, member-named_in}
 
 map-append : {X Y : Type 0} (f : X → Y) (xs ys : List X) → map f (xs ++ ys) ≡ map f xs ++ map f ys
 map-append f [] ys = refl

@@ -15,13 +15,13 @@ use Rattle.acl_nfs4.specs.declared.ace.AceType.TheVariants.{Allow, Deny}
 use Rattle.acl_nfs4.specs.declared.who.Who.{Who}
 use Rattle.acl_nfs4.specs.declared.who.Who.TheVariants.{Owner, Group, Everyone}
 use Rattle.acl_names.proofs.BitSets.{has-without}
-use Rattle.acl_nfs4.proofs.ModeBits.{has-rest_of_mask, has-mask_of}
-use Rattle.acl_nfs4.proofs.Denials.{denies, same_who-refl, same_who-true, list_any-kept, denied_anyway}
-use Rattle.acl_nfs4.proofs.Idempotent.{middle, regroup}
-use Rattle.acl_nfs4.proofs.Kept.{kept_of-cases, inherited_part, effective_part, reduced, decides-inherited_part, unless_empty-cases}
+use Rattle.acl_nfs4.proofs.MaskOfModes.{has-rest_of_mask, has-mask_of}
+use Rattle.acl_nfs4.proofs.ModeChangeDenials.{denies, same_who-refl, same_who-true, list_any-kept, denied_anyway}
+use Rattle.acl_nfs4.proofs.ModeChangeTwice.{middle, regroup}
+use Rattle.acl_nfs4.proofs.ModeChangeKept.{kept_of-cases, inherited_part, effective_part, reduced, decides-inherited_part, unless_empty-cases}
 use Rattle.acl_names.proofs.AnyLemmas.{and_false, or_false, false_unless, list_any-append, list_any-elim, list_any-none, list_any-witness, list_any-flat_map, list_any-filter, list_any-map, list_any-weaken}
-use Rattle.acl_nfs4.proofs.Shown.{shown_to-allows}
-use Rattle.acl_nfs4.proofs.Verdicts.{or_else, verdict-append, verdict-allow, verdict-deny}
+use Rattle.acl_nfs4.proofs.EvaluationMode.{shown_to-allows}
+use Rattle.acl_nfs4.proofs.EvaluationLemmas.{or_else, verdict-append, verdict-allow, verdict-deny}
 
 module _ (applies : Who → Bool) (bit : ℕ) where
   -- where no entry speaks, nothing is said

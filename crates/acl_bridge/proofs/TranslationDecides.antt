@@ -17,12 +17,12 @@ use Rattle.acl_nfs4.specs.Evaluation.{allows, Grants}
 use Rattle.acl_nfs4.specs.Mask.{mode_bits, mask_of}
 use Rattle.acl_nfs4.specs.Who.{matches}
 use Rattle.acl_nfs4.specs.declared.who.Who.{Who}
-use Rattle.acl_nfs4.proofs.ModeBits.{permission_of, has-mask_of, mask_of-within}
-use Rattle.acl_nfs4.proofs.OneBit.{contains-one}
+use Rattle.acl_nfs4.proofs.MaskOfModes.{permission_of, has-mask_of, mask_of-within}
+use Rattle.acl_nfs4.proofs.MaskBits.{contains-one}
 use Rattle.acl_bridge.specs.Translation.{who_of, is_for_owner, is_for_user, is_for_group, is_for_others, translation}
 use Rattle.acl_bridge.specs.TranslationLaws.{AgreeOn, DecideAlike, GrantsAsMuch, TranslationGrantsEach}
-use Rattle.acl_bridge.proofs.Deciding.{allows-translation, matching, deciding, FewFor}
-use Rattle.acl_bridge.proofs.Lists.{length-filter, filter_twice, filter_twice-none, length-filter_twice}
+use Rattle.acl_bridge.proofs.TranslationVerdicts.{allows-translation, matching, deciding, FewFor}
+use Rattle.acl_bridge.proofs.FilterLemmas.{length-filter, filter_twice, filter_twice-none, length-filter_twice}
 
 -- ---- a valid list has one entry at most for the owner, and for a user
 

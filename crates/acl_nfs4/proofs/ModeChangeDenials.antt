@@ -14,7 +14,7 @@ use Rattle.acl_nfs4.specs.declared.ace.AceType.TheVariants.{Allow, Deny}
 use Rattle.acl_nfs4.specs.declared.who.Who.{Who}
 use Rattle.acl_nfs4.specs.declared.who.Who.TheVariants.{Owner, Group, Everyone, User, NamedGroup}
 use Rattle.acl_names.proofs.BitSets.{has-or, has-zero, has-without, same_bits}
-use Rattle.acl_nfs4.proofs.Kept.{kept_of-cases, kept-cons, inherited_part, effective_part, reduced, decides-effective_part, decides-reduced, unless_empty-cases}
+use Rattle.acl_nfs4.proofs.ModeChangeKept.{kept_of-cases, kept-cons, inherited_part, effective_part, reduced, decides-effective_part, decides-reduced, unless_empty-cases}
 use Rattle.acl_names.proofs.AnyLemmas.{or_true, or_false, list_any-append, list_any-elim, list_any-flat_map, list_any-filter, list_any-map, list_any-weaken}
 
 -- ---- whos

@@ -13,7 +13,7 @@ use Rattle.acl_nfs4.specs.Evaluation.{speaks, allows}
 use Rattle.acl_nfs4.specs.Who.{matches}
 use Rattle.acl_nfs4.specs.declared.who.Who.{Who}
 use Rattle.acl_nfs4.specs.declared.who.Who.TheVariants.{Owner, Group, Everyone, User, NamedGroup}
-use Rattle.acl_nfs4.proofs.Evaluated.{allows-cons}
+use Rattle.acl_nfs4.proofs.EvaluationLoop.{allows-cons}
 
 -- ---- fewer entries apply, but the first that speaks still does
 

@@ -21,7 +21,7 @@ use Rattle.acl_nfs4.specs.declared.who.Who.{Who}
 use Rattle.acl_nfs4.specs.declared.who.Who.TheVariants.{Owner, Group, Everyone, User, NamedGroup}
 use Rattle.acl_names.proofs.BitSets.{has-and, has-or, has-without, same_bits}
 use Rattle.acl_nfs4.proofs.ListLemmas.{filter-append}
-use Rattle.acl_nfs4.proofs.Kept.{kept_of-cases, kept-cons, inherited_part, effective_part, reduced, unless_empty-cases, is_inheritable-effective_part}
+use Rattle.acl_nfs4.proofs.ModeChangeKept.{kept_of-cases, kept-cons, inherited_part, effective_part, reduced, unless_empty-cases, is_inheritable-effective_part}
 use Rattle.acl_names.proofs.AnyLemmas.{or_false, and_false}
 
 -- ---- a function of lists that goes entry by entry, and that a change of mode leaves as it is
