@@ -19,6 +19,7 @@ pub mod Rest
 pub mod RoundTrip
 pub mod Rows
 pub mod ShapeLemmas
+pub mod PieceFaultLemmas
 pub mod Shown
 pub mod Verdicts
 pub mod FrontLemmas

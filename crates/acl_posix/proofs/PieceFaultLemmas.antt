@@ -2,7 +2,7 @@
 use Rattle.std.proofs.Common.{◌≡◌, ◌≢◌, ◌↔◌, ℕ, true, cond, nat_le, List, [], ◌∷◌, Option, Some, None, Result, Ok, Err, codes, refl, sym, ap, subst, ◌∙◌}
 use Rattle.std.proofs.lemmas.Slice.Eq.{bytes_eq-Decides}
 use Rattle.acl_names.specs.Directory.{Known, uid_of, gid_of, fault_of}
-use Rattle.acl_names.specs.Ids.{Written, Number, Name, written_id, number_or_name, decimal_value, has_name_shape, resolved, max_id}
+use Rattle.acl_names.specs.Ids.{Written, Number, Name, written_id, number_or_name, decimal_value, has_name_shape, has_domain_shape, resolved, max_id}
 use Rattle.acl_names.specs.Steps.{◌>>=◌, or_fault}
 use Rattle.acl_names.proofs.StepLemmas.{given, some_from_cond}
 use Rattle.acl_posix.specs.Entry.{Triple}
@@ -75,20 +75,20 @@ misshapen_anywhere known other piece =
 -- ---- a name that is unknown is known elsewhere
 
 -- a directory of one user and one group, both of this name
-abbrev knowing : List ℕ → Known
-knowing name = record { domain = codes "a"; users = record { name = name; uid = 0; groups = [] } ∷ []; groups = record { name = name; gid = 0 } ∷ [] }
+abbrev pub knowing : List ℕ → List ℕ → Known
+knowing domain name = record { domain = domain; users = record { name = name; uid = 0; groups = [] } ∷ []; groups = record { name = name; gid = 0 } ∷ [] }
 
-knowing_faultless : (name : List ℕ) → has_name_shape name ≡ true → fault_of (knowing name) ≡ None
-knowing_faultless name shaped = rw (shaped, (bytes_eq-Decides name name).1 refl) refl
+pub knowing_faultless : (domain name : List ℕ) → has_domain_shape domain ≡ true → has_name_shape name ≡ true → fault_of (knowing domain name) ≡ None
+knowing_faultless domain name domain_shaped shaped = rw (domain_shaped, shaped, (bytes_eq-Decides name name).1 refl) refl
 
-knows_user : (name : List ℕ) → uid_of (knowing name) name ≡ Some 0
-knows_user name = rw ((bytes_eq-Decides name name).1 refl) refl
+pub knows_user : (domain name : List ℕ) → uid_of (knowing domain name) name ≡ Some 0
+knows_user domain name = rw ((bytes_eq-Decides name name).1 refl) refl
 
-knows_group : (name : List ℕ) → gid_of (knowing name) name ≡ Some 0
-knows_group name = rw ((bytes_eq-Decides name name).1 refl) refl
+pub knows_group : (domain name : List ℕ) → gid_of (knowing domain name) name ≡ Some 0
+knows_group domain name = rw ((bytes_eq-Decides name name).1 refl) refl
 
 -- what is written and isn't found is a name
-unfound_name : (id_of : List ℕ → Option ℕ) (text : List ℕ) (w : Written) → written_id text ≡ Some w → resolved id_of w ≡ None
+pub unfound_name : (id_of : List ℕ → Option ℕ) (text : List ℕ) (w : Written) → written_id text ≡ Some w → resolved id_of w ≡ None
     → (has_name_shape text ≡ true) × (w ≡ Name text)
 unfound_name id_of text w e lost = go (decimal_value text) refl e
   where
@@ -125,13 +125,13 @@ tag_elsewhere : (known : Known) (w : TagWord) (qualifier : Option (List ℕ)) �
 tag_elsewhere known word.User None e = cc
 tag_elsewhere known word.User (Some []) e = cc
 tag_elsewhere known word.User (Some (b ∷ bs)) e =
-    let says = qualified_elsewhere (λ uid. User uid) (uid_of known) (uid_of (knowing (b ∷ bs))) (b ∷ bs) e (knows_user (b ∷ bs)) in
-    record { known = knowing (b ∷ bs); faultless = knowing_faultless (b ∷ bs) says.0; tag = User 0; said = says.1 }
+    let says = qualified_elsewhere (λ uid. User uid) (uid_of known) (uid_of (knowing (codes "a") (b ∷ bs))) (b ∷ bs) e (knows_user (codes "a") (b ∷ bs)) in
+    record { known = knowing (codes "a") (b ∷ bs); faultless = knowing_faultless (codes "a") (b ∷ bs) refl says.0; tag = User 0; said = says.1 }
 tag_elsewhere known word.Group None e = cc
 tag_elsewhere known word.Group (Some []) e = cc
 tag_elsewhere known word.Group (Some (b ∷ bs)) e =
-    let says = qualified_elsewhere (λ gid. Group gid) (gid_of known) (gid_of (knowing (b ∷ bs))) (b ∷ bs) e (knows_group (b ∷ bs)) in
-    record { known = knowing (b ∷ bs); faultless = knowing_faultless (b ∷ bs) says.0; tag = Group 0; said = says.1 }
+    let says = qualified_elsewhere (λ gid. Group gid) (gid_of known) (gid_of (knowing (codes "a") (b ∷ bs))) (b ∷ bs) e (knows_group (codes "a") (b ∷ bs)) in
+    record { known = knowing (codes "a") (b ∷ bs); faultless = knowing_faultless (codes "a") (b ∷ bs) refl says.0; tag = Group 0; said = says.1 }
 tag_elsewhere known word.Mask None e = cc
 tag_elsewhere known word.Mask (Some []) e = cc
 tag_elsewhere known word.Mask (Some (b ∷ bs)) e = cc
