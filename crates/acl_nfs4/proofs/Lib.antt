@@ -19,6 +19,7 @@ pub mod ModeChangeLeaves
 pub mod RoundTrip
 pub mod WorkedExamples
 pub mod ShapeLemmas
+pub mod PieceFaultLemmas
 pub mod EvaluationMode
 pub mod EvaluationLemmas
 pub mod FrontLemmas

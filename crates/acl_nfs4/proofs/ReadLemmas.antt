@@ -26,7 +26,7 @@ effective_ok ace made e = go (is_idle made) e
     go true e = absurd (cc)
     go false e = (cc, refl)
 
--- the parts of a piece that says an entry
+-- the parts of a piece that writes an entry
 pub record Parts (known : Known) (piece : List ℕ) (ace : Nfsace4) : Type 0 where
   pub fields : AceFields
   pub kind : AceType
@@ -41,9 +41,8 @@ pub record Parts (known : Known) (piece : List ℕ) (ace : Nfsace4) : Type 0 whe
   pub mask_is : letters_of mask_table fields.letters ≡ Some mask
   pub who_is : resolved_who known (has flags identifier_group) written ≡ Some who
   pub made : ace_of kind flags who mask ≡ ace
-  pub has_effect : is_idle ace ≡ false
 
-pub parts_of : (known : Known) (piece : List ℕ) (ace : Nfsace4) → piece_value known piece ≡ Ok ace → Parts known piece ace
+pub parts_of : (known : Known) (piece : List ℕ) (ace : Nfsace4) → piece_value known piece ≡ Ok ace → Parts known piece ace × (is_idle ace ≡ false)
 unfolding piece_value
 parts_of known piece ace e =
     let cut = bind_ok (or_fault Syntax (fields_of piece)) _ ace e in
@@ -52,29 +51,33 @@ parts_of known piece ace e =
     let written = bind_ok (or_fault Syntax (written_who cut.0.who)) _ ace flags.2 in
     let mask = bind_ok (or_fault Syntax (letters_of mask_table cut.0.letters)) _ ace written.2 in
     let who = bind_ok (or_fault UnknownName (resolved_who known (has flags.0 identifier_group) written.0)) _ ace mask.2 in
-    let last = effective_ok ace (ace_of kind.0 flags.0 who.0 mask.0) who.2 in
-    record {
-      fields = cut.0;
-      kind = kind.0;
-      flags = flags.0;
-      written = written.0;
-      mask = mask.0;
-      who = who.0;
-      cut = given Syntax (fields_of piece) cut.0 cut.1;
-      kind_is = given Syntax (type_of cut.0.kind) kind.0 kind.1;
-      flags_are = given Syntax (letters_of flag_table cut.0.flags) flags.0 flags.1;
-      written_is = given Syntax (written_who cut.0.who) written.0 written.1;
-      mask_is = given Syntax (letters_of mask_table cut.0.letters) mask.0 mask.1;
-      who_is = given UnknownName (resolved_who known (has flags.0 identifier_group) written.0) who.0 who.1;
-      made = last.0;
-      has_effect = ap is_idle (sym last.0) ∙ last.1;
-    }
+    let last = effective_ok ace (ace_of kind.0 flags.0 who.0 mask.0) who.2 in (
+      record {
+        fields = cut.0;
+        kind = kind.0;
+        flags = flags.0;
+        written = written.0;
+        mask = mask.0;
+        who = who.0;
+        cut = given Syntax (fields_of piece) cut.0 cut.1;
+        kind_is = given Syntax (type_of cut.0.kind) kind.0 kind.1;
+        flags_are = given Syntax (letters_of flag_table cut.0.flags) flags.0 flags.1;
+        written_is = given Syntax (written_who cut.0.who) written.0 written.1;
+        mask_is = given Syntax (letters_of mask_table cut.0.letters) mask.0 mask.1;
+        who_is = given UnknownName (resolved_who known (has flags.0 identifier_group) written.0) who.0 who.1;
+        made = last.0;
+      },
+      ap is_idle (sym last.0) ∙ last.1,
+    )
 
-pub value_of_parts : (known : Known) (piece : List ℕ) (ace : Nfsace4) → Parts known piece ace → piece_value known piece ≡ Ok ace
+-- an entry that is written is said if it has an effect
+pub value_of_parts : (known : Known) (piece : List ℕ) (ace : Nfsace4) → Parts known piece ace → piece_value known piece ≡ effective ace
 unfolding piece_value
 value_of_parts known piece ace parts =
-    rw (parts.cut, parts.kind_is, parts.flags_are, parts.written_is, parts.mask_is, parts.who_is)
-    (ap effective parts.made ∙ ap (λ b. cond b (Err InheritOnly) (Ok ace)) parts.has_effect)
+    rw (parts.cut, parts.kind_is, parts.flags_are, parts.written_is, parts.mask_is, parts.who_is) (ap effective parts.made)
+
+pub effective_said : (ace : Nfsace4) → is_idle ace ≡ false → effective ace ≡ Ok ace
+effective_said ace has_effect = ap (λ b. cond b (Err InheritOnly) (Ok ace)) has_effect
 
 -- what holds of each value of a piece holds of each member of a list that pieces say
 each_said : (P : Nfsace4 → Type 0) (known : Known) → ((piece : List ℕ) (ace : Nfsace4) → piece_value known piece ≡ Ok ace → P ace)
@@ -88,11 +91,11 @@ each_said P known holds (text ∷ texts) (ace ∷ aces) said =
 
 pub IsAce-read : (known : Known) (piece : List ℕ) (ace : Nfsace4) → piece_value known piece ≡ Ok ace → IsAce ace
 IsAce-read known piece ace e =
-    let parts = parts_of known piece ace e in subst IsAce parts.made (IsAce-ace_of parts.kind parts.flags parts.who parts.mask)
+    let parts = (parts_of known piece ace e).0 in subst IsAce parts.made (IsAce-ace_of parts.kind parts.flags parts.who parts.mask)
 
 pub AreAces-read : (known : Known) (text : List ℕ) (aces : List Nfsace4) → Spells (piece_value known) MAX_ACES text aces → AreAces aces
 AreAces-read known text aces spells = record {
   within = spells.within;
   each = each_said IsAce known (IsAce-read known) _ aces spells.said;
-  effective = each_said (λ ace. is_idle ace ≡ false) known (λ piece ace e. (parts_of known piece ace e).has_effect) _ aces spells.said;
+  effective = each_said (λ ace. is_idle ace ≡ false) known (λ piece ace e. (parts_of known piece ace e).1) _ aces spells.said;
 }

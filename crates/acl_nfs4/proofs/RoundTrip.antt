@@ -39,7 +39,7 @@ use Rattle.acl_nfs4.specs.declared.ace.AceType.TheVariants.{Allow, Deny, Audit, 
 use Rattle.acl_nfs4.specs.declared.who.Who.{Who}
 use Rattle.acl_nfs4.specs.declared.who.Who.TheVariants.{Owner, Group, Everyone, User, NamedGroup}
 use Rattle.acl_nfs4.proofs.LetterLemmas.{flag_table_is, mask_table_is, flags-field, mask-field}
-use Rattle.acl_nfs4.proofs.ReadLemmas.{value_of_parts}
+use Rattle.acl_nfs4.proofs.ReadLemmas.{value_of_parts, effective_said}
 use Rattle.acl_nfs4.proofs.MaskBits.{contains-one, lacks-one}
 
 -- ---- bytes of fields
@@ -249,8 +249,8 @@ module _ (known : Known) (apart : TellsNamesApart known) where
         mask_is = letters_again mask_table ace.mask mask_table_is is.known_mask;
         who_is = reads.who_is;
         made = ace_of-same ace is;
-        has_effect = effect;
       })
+      ∙ effective_said ace effect
 
   -- ---- the list
 

@@ -14,8 +14,8 @@ use Rattle.acl_names.specs.Pieces.{parts}
 use Rattle.acl_names.proofs.IdTexts.{and_first, and_second, written_name}
 use Rattle.acl_names.proofs.StepLemmas.{some_from_cond, written_by}
 use Rattle.acl_nfs4.specs.Ace.{Nfsace4, flags_for}
-use Rattle.acl_nfs4.specs.AceShapes.{IsTypeLetter, WritesId, IsWho, HasShape}
-use Rattle.acl_nfs4.specs.AceText.{WrittenWho, type_of, special_of, name_at, who_of_parts, written_who, named, resolved_who, piece_value}
+use Rattle.acl_nfs4.specs.AceShapes.{IsTypeLetter, WritesId, IsWho, WritesAce, HasShape}
+use Rattle.acl_nfs4.specs.AceText.{WrittenWho, type_of, special_of, name_at, who_of_parts, written_who, named, resolved_who, effective, piece_value}
 use Rattle.acl_nfs4.specs.AceText as form
 use Rattle.acl_nfs4.specs.Flags.{identifier_group}
 use Rattle.acl_nfs4.specs.declared.ace.AceType.{AceType}
@@ -23,7 +23,7 @@ use Rattle.acl_nfs4.specs.declared.ace.AceType.TheVariants.{Allow, Deny, Audit, 
 use Rattle.acl_nfs4.specs.declared.who.Who.{Who}
 use Rattle.acl_nfs4.specs.declared.who.Who.TheVariants as one
 use Rattle.acl_nfs4.proofs.LetterLemmas.{flags-known, mask-known}
-use Rattle.acl_nfs4.proofs.ReadLemmas.{parts_of, value_of_parts}
+use Rattle.acl_nfs4.proofs.ReadLemmas.{Parts, parts_of, value_of_parts, effective_said}
 use Rattle.acl_nfs4.proofs.RoundTrip.{at_again, parts_at, parts_name, parts_digits}
 
 same_bytes : (a b : List ℕ) → bytes_eq a b ≡ true → a ≡ b
@@ -57,7 +57,7 @@ type_read text Alarm e = ap type_of e
 -- ---- ids
 
 -- a text that writes a name is that name
-name_says : (text name : List ℕ) → written_id text ≡ Some (Name name) → (has_name_shape text ≡ true) × (text ≡ name)
+pub name_says : (text name : List ℕ) → written_id text ≡ Some (Name name) → (has_name_shape text ≡ true) × (text ≡ name)
 name_says text name e = go (decimal_value text) e
   where
     go : (number : Option ℕ) → number_or_name number text ≡ Some (Name name) → (has_name_shape text ≡ true) × (text ≡ name)
@@ -226,9 +226,9 @@ who_read known false text (one.NamedGroup gid) (is, writes) = absurd (cc)
 
 -- ---- the piece
 
-shape_of_value : (known : Known) (piece : List ℕ) (ace : Nfsace4) → piece_value known piece ≡ Ok ace → HasShape known piece ace
-shape_of_value known piece ace e =
-    let parts = parts_of known piece ace e in
+-- a piece of these parts writes the entry
+pub ace_of_parts : (known : Known) (piece : List ℕ) (ace : Nfsace4) → Parts known piece ace → WritesAce known piece ace
+ace_of_parts known piece ace parts =
     let flags_in = flags-known parts.fields.flags parts.flags (sym parts.flags_are) in
     let mask_in = mask-known parts.fields.letters parts.mask (sym parts.mask_is) in
     record {
@@ -242,11 +242,11 @@ shape_of_value known piece ace e =
       mask_is = parts.mask_is ∙ ap Some (sym mask_in ∙ ap (λ (a : Nfsace4). a.mask) parts.made);
       flags_kept = sym (ap (λ (a : Nfsace4). a.flags) parts.made) ∙ ap (flags_for parts.who) flags_in
           ∙ ap (λ (w : Who). flags_for w parts.flags) (ap (λ (a : Nfsace4). a.who) parts.made);
-      has_effect = parts.has_effect;
     }
 
-value_of_shape : (known : Known) (piece : List ℕ) (ace : Nfsace4) → HasShape known piece ace → piece_value known piece ≡ Ok ace
-value_of_shape known piece ace shape =
+-- and the other way round: what it says is the entry if it has an effect
+pub value_of_written : (known : Known) (piece : List ℕ) (ace : Nfsace4) → WritesAce known piece ace → piece_value known piece ≡ effective ace
+value_of_written known piece ace shape =
     let reads = who_read known (has shape.flags identifier_group) shape.fields.who ace.who shape.who_is in
     value_of_parts known piece ace
     (record {
@@ -268,8 +268,15 @@ value_of_shape known piece ace shape =
         who = ace.who;
         mask = mask-known shape.fields.letters ace.mask (sym shape.mask_is) i;
       };
-      has_effect = shape.has_effect;
     })
+
+shape_of_value : (known : Known) (piece : List ℕ) (ace : Nfsace4) → piece_value known piece ≡ Ok ace → HasShape known piece ace
+shape_of_value known piece ace e =
+    let parts = parts_of known piece ace e in
+    record { written = ace_of_parts known piece ace parts.0; has_effect = parts.1 }
+
+value_of_shape : (known : Known) (piece : List ℕ) (ace : Nfsace4) → HasShape known piece ace → piece_value known piece ≡ Ok ace
+value_of_shape known piece ace shape = value_of_written known piece ace shape.written ∙ effective_said ace shape.has_effect
 
 pub value_is_shape : (known : Known) (piece : List ℕ) (ace : Nfsace4) → (piece_value known piece ≡ Ok ace) ↔ HasShape known piece ace
 value_is_shape known piece ace = (shape_of_value known piece ace, value_of_shape known piece ace)

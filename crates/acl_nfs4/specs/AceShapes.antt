@@ -37,8 +37,8 @@ IsWho known is_group text Everyone = text ≡ codes "EVERYONE@"
 IsWho known is_group text (User uid) = (is_group ≡ false) × WritesId known (uid_of known) text uid
 IsWho known is_group text (NamedGroup gid) = (is_group ≡ true) × WritesId known (gid_of known) text gid
 
--- the piece has the shape of an entry, and this entry is its value
-pub record HasShape (known : Known) (piece : List ℕ) (ace : Nfsace4) : Type 0 where
+-- the piece writes this entry, whether or not it has an effect
+pub record WritesAce (known : Known) (piece : List ℕ) (ace : Nfsace4) : Type 0 where
   pub fields : AceFields
   pub flags : ℕ
   pub cut : fields_of piece ≡ Some fields
@@ -48,4 +48,8 @@ pub record HasShape (known : Known) (piece : List ℕ) (ace : Nfsace4) : Type 0 
   pub mask_is : letters_of mask_table fields.letters ≡ Some ace.mask
   -- the flag g is kept with a named group, and left out elsewhere
   pub flags_kept : ace.flags ≡ flags_for ace.who flags
+
+-- the piece has the shape of an entry, and this entry is its value: it has an effect where it stands or below
+pub record HasShape (known : Known) (piece : List ℕ) (ace : Nfsace4) : Type 0 where
+  pub written : WritesAce known piece ace
   pub has_effect : is_idle ace ≡ false

@@ -13,5 +13,6 @@ pub mod AceText
 pub mod AceViews
 pub mod PrintedText
 pub mod AceShapes
+pub mod Faults
 pub mod ReadFault
 pub mod Front

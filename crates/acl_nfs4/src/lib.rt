@@ -30,5 +30,5 @@ pub use letters::{letters_are_told_apart, push_mask, read_letters};
 pub use limits::{MAX_ACES, limits_in_numbers};
 pub use mask::{Mask, mask_of};
 pub use mode_change::Fault4;
-pub use reading::{PieceFault, pieces_have_shapes, read_aces};
+pub use reading::{PieceFault, faults_of_pieces, pieces_have_shapes, read_aces};
 pub use who::Who;

@@ -2,13 +2,14 @@
 
 ghost use Rattle.acl_nfs4.specs.Front.{BeginsWithFields};
 ghost use Rattle.acl_names.specs.Pieces.{pieces};
-ghost use Rattle.std.specs.Prelude.{IfSome, Some, ◌≡◌, ◌≢◌, ◌≤◌, ◌↔◌, ℕ, List, length, Ok, option_map, IfOk, IfErr, MatchResult};
+ghost use Rattle.std.specs.Prelude.{IfSome, Some, ◌≡◌, ◌≢◌, ◌≤◌, ◌↔◌, ℕ, List, length, Ok, Err, option_map, IfOk, IfErr, MatchResult};
 ghost use Rattle.acl_names.specs.Directory.{Known};
 ghost use Rattle.acl_names.specs.ListText.{Spells};
 ghost use Rattle.acl_names.specs.Ids.{written_id};
 ghost use Rattle.acl_names.specs.Views.{view_written};
 ghost use Rattle.acl_nfs4.specs.Ace.{Nfsace4};
 ghost use Rattle.acl_nfs4.specs.AceShapes.{HasShape};
+ghost use Rattle.acl_nfs4.specs.Faults.{HasNoEffect, HasNoShape, HasUnknownName};
 ghost use Rattle.acl_nfs4.specs.AceText.{effective, fields_of, name_at, named, piece_value, resolved_who, special_of, type_of, written_who};
 ghost use Rattle.acl_nfs4.specs.AceViews.{view_fields, view_who};
 ghost use Rattle.acl_nfs4.specs.ReadFault.{list_fault, IsTextFault};
@@ -279,4 +280,12 @@ fn effective(ace: Ace) -> Result<Ace, PieceFault>
 /// What a piece says is what the shapes say, both ways. This does nothing: it states the law.
 pub fn pieces_have_shapes()
     ensures { (known : Known) (piece : List ℕ) (ace : Nfsace4) → (piece_value known piece ≡ Ok ace) ↔ HasShape known piece ace }
+{}
+
+/// A piece that says no entry is refused for an unknown name exactly if it writes one where the name is known, for being
+/// inherit-only exactly if it writes one without effect, and else for its shape. This does nothing: it states the law.
+pub fn faults_of_pieces()
+    ensures syntax { (known : Known) (piece : List ℕ) → (piece_value known piece ≡ Err PieceFault.Syntax) ↔ HasNoShape piece }
+    ensures unknown_name { (known : Known) (piece : List ℕ) → (piece_value known piece ≡ Err PieceFault.UnknownName) ↔ HasUnknownName known piece }
+    ensures inherit_only { (known : Known) (piece : List ℕ) → (piece_value known piece ≡ Err PieceFault.InheritOnly) ↔ HasNoEffect known piece }
 {}

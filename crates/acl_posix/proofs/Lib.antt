@@ -13,6 +13,8 @@ pub mod KindLemmas
 pub mod ModeLemmas
 pub mod RoundTrip
 pub mod ShapeLemmas
+pub mod StepFaults
+pub mod PieceFaultLemmas
 pub mod ReadLemmas
 pub mod CanonicalRules
 pub mod FrontLemmas

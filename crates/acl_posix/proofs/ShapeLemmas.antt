@@ -124,7 +124,7 @@ word_read text word.Mask is = elim is [ inl e ↦ ap tag_word e | inr e ↦ ap t
 word_read text word.Other is = elim is [ inl e ↦ ap tag_word e | inr e ↦ ap tag_word e ]
 
 -- a decimal is within the range of ids
-decimal_within : (text : List ℕ) (id : ℕ) → decimal_value text ≡ Some id → nat_le id max_id ≡ true
+pub decimal_within : (text : List ℕ) (id : ℕ) → decimal_value text ≡ Some id → nat_le id max_id ≡ true
 decimal_within text id e =
     let read = some_from_cond (is_decimal text) (digits_value 10 text) id e in
     let few = list_all is_ascii_digit text && nat_le 1 (length text) && nat_le (length text) 10 in

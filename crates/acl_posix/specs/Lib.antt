@@ -10,6 +10,7 @@ pub mod Mode
 pub mod PermsText
 pub mod EntryText
 pub mod Shapes
+pub mod Faults
 pub mod PrintedText
 pub mod Views
 pub mod ReadFault

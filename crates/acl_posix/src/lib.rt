@@ -19,4 +19,4 @@ pub use entry::{Entry, Tag};
 pub use limits::{MAX_ENTRIES, limits_in_numbers};
 pub use mode::Mode;
 pub use perms::{Perms, read_perms};
-pub use reading::{EntryReader, PieceFault, pieces_have_shapes, read_entries};
+pub use reading::{EntryReader, PieceFault, faults_of_pieces, pieces_have_shapes, read_entries};

@@ -2,12 +2,13 @@
 
 ghost use Rattle.acl_posix.specs.Front.{BeginsWithTag, BeginsWithWord};
 ghost use Rattle.acl_names.specs.Pieces.{pieces};
-ghost use Rattle.std.specs.Prelude.{IfSome, Some, [], ◌++◌, ◌≡◌, ◌≢◌, ◌≤◌, ◌↔◌, ℕ, List, length, Ok, option_map, IfOk, IfErr, MatchResult};
+ghost use Rattle.std.specs.Prelude.{IfSome, Some, [], ◌++◌, ◌≡◌, ◌≢◌, ◌≤◌, ◌↔◌, ℕ, List, length, Ok, Err, option_map, IfOk, IfErr, MatchResult};
 ghost use Rattle.acl_names.specs.ListText.{Spells};
 ghost use Rattle.acl_posix.specs.EntryText.{entry_of, fields_of, tag_of, tag_word, qualified};
 ghost use Rattle.acl_names.specs.Directory.{Known, uid_of, gid_of};
 ghost use Rattle.acl_names.specs.Ids.{decimal_value};
 ghost use Rattle.acl_posix.specs.Shapes.{HasShape};
+ghost use Rattle.acl_posix.specs.Faults.{HasUnknownName, HasNoShape};
 ghost use Rattle.acl_posix.specs.Views.{view_fields};
 ghost use Rattle.acl_posix.specs.Entry.{Triple};
 ghost use Rattle.acl_posix.specs.ReadFault.{IsTextFault, list_fault};
@@ -119,6 +120,13 @@ fn text_fault(fault: ListFault<PieceFault>) -> TextFault
 /// What a piece says is what the shapes of entries say. This does nothing: it states the law.
 pub fn pieces_have_shapes()
     ensures { (known : Known) (piece : List ℕ) (entry : Triple) → (entry_of known piece ≡ Ok entry) ↔ HasShape known piece entry }
+{}
+
+/// A piece that is no entry is refused for an unknown name exactly if it is one where the name is known, and else for its
+/// shape. This does nothing: it states the law.
+pub fn faults_of_pieces()
+    ensures unknown_name { (known : Known) (piece : List ℕ) → (entry_of known piece ≡ Err PieceFault.UnknownName) ↔ HasUnknownName known piece }
+    ensures syntax { (known : Known) (piece : List ℕ) → (entry_of known piece ≡ Err PieceFault.Syntax) ↔ HasNoShape piece }
 {}
 
 fn read_fields(piece: &[u8]) -> Option<Fields<'_>>
