@@ -16,7 +16,7 @@ mod tests;
 pub use acl::{Acl, Invalid};
 pub use entries::{Entries, TextFault};
 pub use entry::{Entry, Tag};
-pub use limits::{MAX_ENTRIES, limits_in_numbers};
+pub use limits::{MAX_DEFAULT_LINE, MAX_ENTRIES, MAX_LINE, limits_in_numbers};
 pub use mode::Mode;
 pub use perms::{Perms, read_perms};
 pub use reading::{EntryReader, PieceFault, faults_of_pieces, pieces_have_shapes, read_entries};

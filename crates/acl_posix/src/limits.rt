@@ -1,11 +1,19 @@
-//! How many entries a list may have.
+//! How many entries a list may have, and how long its lines get.
 ghost use Rattle.std.specs.Prelude.{◌≡◌};
-ghost use Rattle.acl_posix.specs.declared.limits.TheConstants.{MAX_ENTRIES};
+ghost use Rattle.acl_posix.specs.declared.limits.TheConstants.{MAX_DEFAULT_LINE, MAX_ENTRIES, MAX_LINE};
 
 /// The most entries of an access control list.
 pub const MAX_ENTRIES: usize = 64;
 
+/// The most bytes of a printed line: a word and a colon, a name, a colon and permissions, a mark, and a newline.
+pub const MAX_LINE: usize = 58;
+
+/// The most bytes of a printed line behind `default:`, these counted in.
+pub const MAX_DEFAULT_LINE: usize = 66;
+
 /// The limits as numbers. There is nothing to run here: it states the law.
 pub fn limits_in_numbers()
     ensures entries { MAX_ENTRIES ≡ 64 }
+    ensures line { MAX_LINE ≡ 58 }
+    ensures default_line { MAX_DEFAULT_LINE ≡ 66 }
 {}

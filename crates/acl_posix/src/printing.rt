@@ -1,6 +1,6 @@
 //! Printing access control lists: the long text form (1003.1e draft 17, section 23).
 
-ghost use Rattle.std.specs.Prelude.{◌≡◌, ◌≤◌, ◌++◌, ◌∷◌, [], not, length, vec_len, vec_capacity, ◌+◌, ◌*◌, option_map, OnOk, OnErr, None, codes};
+ghost use Rattle.std.specs.Prelude.{◌≡◌, ◌≤◌, ◌<◌, ◌++◌, ◌∷◌, [], not, length, vec_len, vec_capacity, ◌+◌, ◌*◌, option_map, OnOk, OnErr, None, codes};
 ghost use Rattle.acl_names.specs.Bits.{has_all};
 ghost use Rattle.acl_names.specs.ListText.{Spells};
 ghost use Rattle.acl_posix.specs.Entry.{HavePermissions, perms_of};
@@ -9,26 +9,21 @@ ghost use Rattle.acl_posix.specs.Perms.{bits_of};
 ghost use Rattle.acl_posix.specs.PermsText.{perms_text};
 ghost use Rattle.acl_posix.specs.PrintedText.{default_text, effective_mark, effective_text, line_text, long_text, mark_of, qualifier_text, word_text, HasId, HaveIds};
 
-use crate::limits::MAX_ENTRIES;
+use crate::limits::{MAX_DEFAULT_LINE, MAX_ENTRIES, MAX_LINE};
 use crate::{Acl, Entry, Perms, Tag};
 use acl_names::{Directory, put_bytes};
 use bitflags::Flags;
 use std::alloc::AllocError;
 use std::mem;
 
-/// The most bytes of a line: a word and a colon, a name, a colon and permissions, a mark, and a newline.
-const MAX_LINE: usize = 58;
-
-/// The same behind `default:`.
-const MAX_DEFAULT_LINE: usize = 66;
-
 impl Acl {
     /// Appends the entries in canonical order, one per line: `tag:qualifier:perms`, with the full tag word, the name of a
     /// qualifier where the directory has one, else its decimal, and three characters of permissions. For want of memory
-    /// `out` is as it was.
+    /// `out` is as it was; it runs out only where `out` has no room for `MAX_LINE` bytes an entry.
     pub fn print_long(&self, directory: &Directory, out: &mut Vec<u8>) -> Result<(), AllocError>
         ensures text { OnOk result (out.new.items ≡ out.old.items ++ long_text directory.now self.now) }
         ensures unchanged { OnErr result (out.new.items ≡ out.old.items) }
+        ensures room { OnErr result (vec_capacity out.old < vec_len out.old + length self.now * MAX_LINE) }
         // What is printed is read as these entries.
         ensures read_again { OnOk result (Spells (entry_of directory.now) MAX_ENTRIES (long_text directory.now self.now) self.now) }
     {
@@ -36,7 +31,7 @@ impl Acl {
     }
 
     /// Appends the same text, but where the mask removes something from an entry, a tab, `#effective:` and three characters
-    /// stand before the newline. For want of memory `out` is as it was.
+    /// stand before the newline. For want of memory `out` is as it was; it runs out only as there.
     pub fn print_effective(
         &self,
         directory: &Directory,
@@ -45,6 +40,7 @@ impl Acl {
         ensures text { OnOk result (out.new.items
             ≡ out.old.items ++ effective_text directory.now (perms_of Tag.Mask self.now) self.now) }
         ensures unchanged { OnErr result (out.new.items ≡ out.old.items) }
+        ensures room { OnErr result (vec_capacity out.old < vec_len out.old + length self.now * MAX_LINE) }
         // What is printed is read as these entries: a mark is a comment.
         ensures read_again { OnOk result
             (Spells (entry_of directory.now) MAX_ENTRIES (effective_text directory.now (perms_of Tag.Mask self.now) self.now) self.now) }
@@ -53,11 +49,12 @@ impl Acl {
     }
 
     /// Appends the text of `print_effective` with `default:` before each line: how a directory's default list is shown. For
-    /// want of memory `out` is as it was.
+    /// want of memory `out` is as it was; it runs out only where `out` has no room for `MAX_DEFAULT_LINE` bytes an entry.
     pub fn print_default(&self, directory: &Directory, out: &mut Vec<u8>) -> Result<(), AllocError>
         ensures text { OnOk result (out.new.items
             ≡ out.old.items ++ default_text directory.now (perms_of Tag.Mask self.now) self.now) }
         ensures unchanged { OnErr result (out.new.items ≡ out.old.items) }
+        ensures room { OnErr result (vec_capacity out.old < vec_len out.old + length self.now * MAX_DEFAULT_LINE) }
     {
         let entries = self.entries();
         out.reserve(entries.len() * MAX_DEFAULT_LINE)?;
@@ -75,6 +72,7 @@ fn print_lines(
     requires { length entries.now ≤ MAX_ENTRIES }
     ensures text { OnOk result (out.new.items ≡ out.old.items ++ effective_text directory.now (option_map bits_of mask) entries.now) }
     ensures unchanged { OnErr result (out.new.items ≡ out.old.items) }
+    ensures room { OnErr result (vec_capacity out.old < vec_len out.old + length entries.now * MAX_LINE) }
     // What is printed is read as these entries: a mark is a comment.
     ensures read_again { OnOk result (HavePermissions entries.now → length entries.now ≤ MAX_ENTRIES
         → Spells (entry_of directory.now) MAX_ENTRIES (effective_text directory.now (option_map bits_of mask) entries.now) entries.now) }
@@ -89,7 +87,7 @@ fn print_lines(
 /// to memory byte by byte.
 fn put_lines(entries: &[Entry], mask: Option<Perms>, directory: &Directory, out: &mut Vec<u8>)
     requires within { length entries.now ≤ MAX_ENTRIES }
-    requires room { vec_len out.old + length entries.now * 58 ≤ vec_capacity out.old }
+    requires room { vec_len out.old + length entries.now * MAX_LINE ≤ vec_capacity out.old }
     ensures text { out.new.items ≡ out.old.items ++ effective_text directory.now (option_map bits_of mask) entries.now }
     ensures have_ids { HaveIds entries.now }
 {
@@ -109,7 +107,7 @@ fn put_default_lines(
     out: &mut Vec<u8>,
 )
     requires within { length entries.now ≤ MAX_ENTRIES }
-    requires room { vec_len out.old + length entries.now * 66 ≤ vec_capacity out.old }
+    requires room { vec_len out.old + length entries.now * MAX_DEFAULT_LINE ≤ vec_capacity out.old }
     ensures text { out.new.items ≡ out.old.items ++ default_text directory.now (option_map bits_of mask) entries.now }
 {
     let none = Vec::new(*out.allocator());
