@@ -5,8 +5,6 @@ mod comparison;
 mod laws;
 mod passes;
 mod requests;
-#[cfg(test)]
-mod tests;
 mod translation;
 mod whole_requests;
 

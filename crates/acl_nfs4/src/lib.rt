@@ -17,8 +17,6 @@ mod mode;
 mod mode_change;
 mod printing;
 mod reading;
-#[cfg(test)]
-mod tests;
 mod who;
 
 pub use ace::{Ace, AceType};

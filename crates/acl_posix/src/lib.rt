@@ -10,8 +10,6 @@ mod mode;
 mod perms;
 mod printing;
 mod reading;
-#[cfg(test)]
-mod tests;
 
 pub use acl::{Acl, Invalid};
 pub use entries::{Entries, TextFault};

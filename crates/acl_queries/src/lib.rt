@@ -18,5 +18,3 @@ pub use input::{CapFault, read_capped};
 pub use output::write_text;
 pub use words::{WordsFault, words_of};
 
-#[cfg(test)]
-mod tests;

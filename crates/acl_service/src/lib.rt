@@ -21,5 +21,3 @@ pub use served::Served;
 pub use sessions::{Report, serve, serve_rounds};
 pub use setup::{SetupError, read_setup};
 
-#[cfg(test)]
-mod tests;

@@ -11,8 +11,6 @@ mod path;
 mod refusal;
 mod reply;
 mod request;
-#[cfg(test)]
-mod tests;
 mod tree;
 
 pub use boxed::Boxed;

@@ -1,6 +1,0 @@
-//! Worked examples.
-mod askers;
-mod directory;
-mod fixture;
-mod refused_growths;
-mod text;

@@ -1,0 +1,91 @@
+//! Lists compared for everyone: the file is alice's, whose uid is 1000, and the group's staff. What a comparison tells is
+//! tested where it is printed, in acl_service.
+use crate::bridge::fixture::{aces, acl, directory};
+use acl_bridge::{Unlike, request_difference};
+use acl_names::{Gid, Requester, Uid};
+use acl_nfs4::mask_of;
+use acl_posix::{Perms, read_perms};
+use std::alloc::Global;
+use std::test::Fail;
+
+fn alice() -> Result<Uid, Fail> {
+    Ok(Uid::new(1000).ok_or("a uid")?)
+}
+
+fn staff() -> Result<Gid, Fail> {
+    Ok(Gid::new(50).ok_or("a gid")?)
+}
+
+/// Two lists that grant all of writing alike to everyone in at most two of the groups 61, 62 and 63, and not to whom is in all.
+const KEPT: &str = "u::w,g::-,g:63:-,m::w,o::w";
+
+const MOVED: &str = "A::OWNER@:wa,D::GROUP@:wa,A:g:61:w,A:g:62:a,D:g:63:wa,A::EVERYONE@:wa";
+
+/// Whether the first of them lets a member of these groups write.
+fn kept(alloc: Global, gids: &[u32]) -> Result<bool, Fail> {
+    let names = directory(alloc)?;
+    let list = acl(alloc, &names, KEPT)?;
+    let member = member(alloc, gids)?;
+    Ok(list.grants(alice()?, staff()?, &member, Perms::WRITE))
+}
+
+/// Whether the second does.
+fn moved(alloc: Global, gids: &[u32]) -> Result<bool, Fail> {
+    let names = directory(alloc)?;
+    let list = aces(alloc, &names, MOVED)?;
+    let member = member(alloc, gids)?;
+    Ok(list.grants4(alice()?, staff()?, &member, mask_of(Perms::WRITE)))
+}
+
+fn member(alloc: Global, gids: &[u32]) -> Result<Requester, Fail> {
+    let mut own = Vec::new(alloc);
+    for gid in gids {
+        own.push(Gid::new(*gid).ok_or("a gid")?)?;
+    }
+    Ok(Requester::new(Uid::new(0).ok_or("a uid")?, own))
+}
+
+#[test]
+fn two_groups_write_alike(rt: HostRuntime) -> Result<(), Fail> {
+    for (gid, other, may) in [
+        (61, 61, true),
+        (62, 62, true),
+        (63, 63, false),
+        (61, 62, true),
+        (61, 63, false),
+        (62, 63, false),
+    ] {
+        assert_eq!(rt; kept(rt.alloc(), &[gid, other])?, may);
+        assert_eq!(rt; moved(rt.alloc(), &[gid, other])?, may);
+    }
+    Ok(())
+}
+
+#[test]
+fn three_groups_do_not(rt: HostRuntime) -> Result<(), Fail> {
+    assert_eq!(rt; kept(rt.alloc(), &[61, 62, 63])?, false);
+    assert_eq!(rt; moved(rt.alloc(), &[61, 62, 63])?, true);
+    Ok(())
+}
+
+/// To whom two POSIX lists grant the permissions together differently.
+fn request(alloc: Global, first: &str, second: &str, perms: &str) -> Result<Option<Unlike>, Fail> {
+    let names = directory(alloc)?;
+    let before = acl(alloc, &names, first)?;
+    let after = acl(alloc, &names, second)?;
+    let request = read_perms(perms.as_bytes()).ok_or("permissions")?;
+    Ok(request_difference(alloc, &before, &after, alice()?, staff()?, request)?)
+}
+
+/// In staff and ops one may read and write by turns, but not at once.
+#[test]
+fn reading_and_writing_at_once(rt: HostRuntime) -> Result<(), Fail> {
+    let divided = "u::-,g::r,g:ops:w,m::rw,o::-";
+    let joined = "u::-,g::r,g:ops:rw,m::rw,o::-";
+    assert_eq!(rt; request(rt.alloc(), divided, divided, "rw")?, None);
+    let found = request(rt.alloc(), divided, joined, "rw")?.ok_or("a difference")?;
+    assert!(rt; !found.before);
+    assert_eq!(rt; found.asker.gid, Gid::new(50));
+    assert_eq!(rt; found.asker.other_gid, Gid::new(60));
+    Ok(())
+}

@@ -1,0 +1,44 @@
+//! With ample memory both translations succeed, at the sizes that matter: the fewest entries, as many as stand inline, one more,
+//! and the most.
+use acl_bridge::{translate, translate_default};
+use acl_names::Uid;
+use acl_posix::{Acl, Entries, Entry, Perms, Tag};
+use std::alloc::Global;
+use std::test::Fail;
+
+fn entry(tag: Tag) -> Entry {
+    Entry {
+        tag,
+        perms: Perms::READ,
+    }
+}
+
+/// A valid list of so many entries, of which each but the mask's gives reading alone.
+fn list_of(alloc: Global, count: u32) -> Option<Acl> {
+    let mut entries = Entries::new(alloc);
+    for tag in [Tag::UserObj, Tag::GroupObj, Tag::Other] {
+        entries.push(entry(tag)).ok()?;
+    }
+    if count > 3 {
+        entries.push(entry(Tag::Mask)).ok()?;
+    }
+    for uid in 4..count {
+        entries.push(entry(Tag::User(Uid::new(uid)?))).ok()?;
+    }
+    Acl::new(entries).ok()
+}
+
+/// Each entry but the mask's and the others' allows and denies.
+#[test]
+fn translations_of_each_size(rt: HostRuntime) -> Result<(), Fail> {
+    for (count, translated) in [(3, 5), (4, 5), (8, 13), (9, 15), (64, 125)] {
+        let list = list_of(rt.alloc(), count).ok_or("a list")?;
+        assert_eq!(rt; list.entries().len(), count as usize);
+        assert_eq!(rt; translate(rt.alloc(), &list)?.aces().len(), translated);
+        assert_eq!(rt;
+            translate_default(rt.alloc(), &list)?.aces().len(),
+            translated
+        );
+    }
+    Ok(())
+}

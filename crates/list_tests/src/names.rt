@@ -1,0 +1,5 @@
+//! Worked examples.
+mod askers;
+mod directory;
+mod refused_growths;
+mod text;

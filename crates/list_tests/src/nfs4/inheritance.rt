@@ -1,0 +1,70 @@
+use crate::nfs4::fixture::printed;
+use acl_examples::acl4;
+use acl_nfs4::{Acl4, Kind};
+use acl_posix::Mode;
+use std::alloc::Global;
+use std::test::Fail;
+
+/// The list of the example of a directory.
+const PARENT: &str = "A:f:bob:r,A:dng:ops:rx,D:fn:carol:w,A:fdi:EVERYONE@:tc";
+
+/// What the directory of the example hands down to one made in it.
+const BELOW: &str = "A:fi:bob@example.org:r\nA:g:ops@example.org:rx\nA:fd:EVERYONE@:tc\n";
+
+fn inherited(alloc: Global, text: &str, kind: Kind) -> Option<Acl4> {
+    acl4(alloc, text)?.inherited(alloc, kind).ok()
+}
+
+/// What is made below a directory with the list.
+fn made(alloc: Global, text: &str, kind: Kind, mode: u16) -> Option<String> {
+    let mut list = inherited(alloc, text, kind)?;
+    list.chmod4(alloc, Mode::from_bits(mode)?).ok()?;
+    printed(alloc, &list)
+}
+
+#[test]
+fn what_is_inherited(rt: HostRuntime) -> Result<(), Fail> {
+    let file = "A::bob@example.org:r\nD::carol@example.org:w\nA::EVERYONE@:tc\n";
+    let again = "A:fi:bob@example.org:r\nA:fd:EVERYONE@:tc\n";
+    for (list, kind, wanted) in [
+        (PARENT, Kind::File, file),
+        (PARENT, Kind::Dir, BELOW),
+        (BELOW, Kind::Dir, again),
+        // Where f, d and n stand together nothing is passed on.
+        ("A:fdnSg:ops:r", Kind::File, "A:Sg:ops@example.org:r\n"),
+        ("A:fdnSg:ops:r", Kind::Dir, "A:Sg:ops@example.org:r\n"),
+        ("A:n:OWNER@:r", Kind::Dir, ""),
+    ] {
+        let below = inherited(rt.alloc(), list, kind).ok_or("a list")?;
+        let text = printed(rt.alloc(), &below).ok_or("a text")?;
+        assert_eq!(rt; text.as_str(), wanted, "{list}");
+    }
+    Ok(())
+}
+
+#[test]
+fn what_is_made_with_a_mode(rt: HostRuntime) -> Result<(), Fail> {
+    let file =
+        "A::OWNER@:rwa\nD::OWNER@:x\nA::bob@example.org:r\nD::carol@example.org:w\nA::EVERYONE@:tc\nD::bob@example.org:wax\nD::carol@example.org:ax\nA::GROUP@:r\nD::GROUP@:wax\n";
+    let below =
+        "A::OWNER@:rwax\nA:fi:bob@example.org:r\nA:g:ops@example.org:rx\nA:fdi:EVERYONE@:tc\nA::EVERYONE@:tc\nD:g:ops@example.org:wa\nA::GROUP@:rx\nD::GROUP@:wa\n";
+    for (kind, mode, wanted) in [(Kind::File, 0o640, file), (Kind::Dir, 0o750, below)] {
+        let text = made(rt.alloc(), PARENT, kind, mode).ok_or("a list")?;
+        assert_eq!(rt; text.as_str(), wanted);
+    }
+    Ok(())
+}
+
+#[test]
+fn flags_of_inheritance(rt: HostRuntime) -> Result<(), Fail> {
+    for (list, wanted) in [
+        ("A::OWNER@:r,A:n:OWNER@:r", true),
+        ("A:fi:OWNER@:r", true),
+        ("A:SFg:ops:r", false),
+        ("", false),
+    ] {
+        let list = acl4(rt.alloc(), list).ok_or("a list")?;
+        assert_eq!(rt; list.has_inheritance(), wanted);
+    }
+    Ok(())
+}

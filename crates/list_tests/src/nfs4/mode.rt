@@ -1,0 +1,64 @@
+use crate::nfs4::fixture::printed;
+use acl_examples::acl4;
+use acl_posix::Mode;
+use std::alloc::Global;
+use std::test::Fail;
+
+fn mode_shown(alloc: Global, text: &str) -> Option<u16> {
+    Some(acl4(alloc, text)?.mode4().bits())
+}
+
+/// The list after the mode was set so many times.
+fn with_mode(alloc: Global, text: &str, mode: u16, times: u32) -> Option<String> {
+    let mut list = acl4(alloc, text)?;
+    for _ in 0..times {
+        list.chmod4(alloc, Mode::from_bits(mode)?).ok()?;
+    }
+    printed(alloc, &list)
+}
+
+/// The list of the example of a mode set on a file.
+const SHARED: &str =
+    "A::OWNER@:rwatTcC,A::bob@example.org:rwa,A:g:ops@example.org:r,A::EVERYONE@:r";
+
+#[test]
+fn the_mode_of_a_list(rt: HostRuntime) -> Result<(), Fail> {
+    for (list, wanted) in [
+        (SHARED, 0o644),
+        ("D::EVERYONE@:r,A::OWNER@:r", 0o000),
+        // To write is to append, too.
+        ("A::OWNER@:w", 0o000),
+    ] {
+        assert_eq!(rt; mode_shown(rt.alloc(), list), Some(wanted), "{list}");
+    }
+    Ok(())
+}
+
+#[test]
+fn a_mode_that_is_set(rt: HostRuntime) -> Result<(), Fail> {
+    let shared =
+        "A::OWNER@:rwa\nD::OWNER@:x\nA::OWNER@:tTcC\nD::bob@example.org:rwax\nD:g:ops@example.org:rwax\nD::GROUP@:rwax\nA::EVERYONE@:r\n";
+    let split =
+        "A::OWNER@:rwax\nA:fdi:bob@example.org:rx\nA::bob@example.org:rx\nD::bob@example.org:wa\nA::GROUP@:rx\nD::GROUP@:wa\n";
+    for (list, mode, wanted) in [(SHARED, 0o604, shared), ("A:fd:bob:rx", 0o750, split)] {
+        for times in [1, 2] {
+            let set = with_mode(rt.alloc(), list, mode, times).ok_or("a list")?;
+            assert_eq!(rt; set.as_str(), wanted, "{list} {times}");
+        }
+    }
+    Ok(())
+}
+
+#[test]
+fn audits_stay(rt: HostRuntime) -> Result<(), Fail> {
+    let set = with_mode(
+        rt.alloc(),
+        "U:SF:EVERYONE@:rx,L:fF:bob:w,U::OWNER@:",
+        0o700,
+        1,
+    );
+    let wanted =
+        "A::OWNER@:rwax\nU:SF:EVERYONE@:rx\nL:fF:bob@example.org:w\nU::OWNER@:\nD::GROUP@:rwax\n";
+    assert_eq!(rt; set.ok_or("a list")?.as_str(), wanted);
+    Ok(())
+}

@@ -1,0 +1,171 @@
+//! Calls that may want memory: one refused growth, wherever it falls, is told by the call in which it falls, leaves
+//! everything as it was, and the call may be made again.
+//!
+//! scripts/refused-growths refuses one growth of a test after the other. Each test here passes whichever growth that is,
+//! and prints how many refusals it was told of.
+use acl_examples::{Refusals, directory};
+use acl_names::{Directory, Uid};
+use acl_nfs4::{Ace, AceFault, AceType, Acl4, Fault4, Flags, Kind, Mask, Who, read_aces};
+use acl_posix::Mode;
+use bitflags::Flags as FlagSet;
+use std::alloc::Global;
+use std::test::Fail;
+
+/// A list of more entries than stand in the value itself.
+const LONG: &str =
+    "A:f:1:r,A:f:2:r,A:f:3:r,A:f:4:r,A:f:5:r,A:f:6:r,A:f:7:r,A:f:8:r,A:f:9:r,A:f:10:r,A:f:11:r,A:f:12:r,A:f:13:r,A:f:14:r,A:f:15:r,A:f:16:r,A:f:17:r";
+
+/// What a file in a directory with that list inherits.
+const BELOW: &str =
+    "A::1:r\nA::2:r\nA::3:r\nA::4:r\nA::5:r\nA::6:r\nA::7:r\nA::8:r\nA::9:r\nA::10:r\nA::11:r\nA::12:r\nA::13:r\nA::14:r\nA::15:r\nA::16:r\nA::17:r\n";
+
+/// The examples' directory, at the second attempt if the first is refused.
+fn names(alloc: Global, told: &mut Refusals) -> Result<Directory, Fail> {
+    match directory(alloc) {
+        Some(directory) => Ok(directory),
+        None => {
+            told.one_more();
+            Ok(directory(alloc).ok_or("refused without cause")?)
+        }
+    }
+}
+
+/// The long list, at the second attempt if the first is refused.
+fn long_acl(alloc: Global, names: &Directory, told: &mut Refusals) -> Result<Acl4, Fail> {
+    match read_aces(alloc, LONG.as_bytes(), names) {
+        Ok(list) => Ok(list),
+        Err(AceFault::Memory) => {
+            told.one_more();
+            Ok(read_aces(alloc, LONG.as_bytes(), names)?)
+        }
+        Err(_) => Err("another answer took the place of Memory".into()),
+    }
+}
+
+/// A copy of the list, at the second attempt if the first is refused.
+fn copy(alloc: Global, list: &Acl4, told: &mut Refusals) -> Result<Acl4, Fail> {
+    match list.try_clone(alloc) {
+        Ok(copy) => Ok(copy),
+        Err(_) => {
+            told.one_more();
+            Ok(list.try_clone(alloc)?)
+        }
+    }
+}
+
+/// An entry that lets the user with this number read.
+fn reader(number: u32) -> Option<Ace> {
+    let who = Who::User(Uid::new(number)?);
+    Some(Ace::new(AceType::Allow, Flags::empty(), who, Mask::READ_DATA))
+}
+
+#[test]
+fn push_under_a_refused_growth(rt: HostRuntime) -> Result<(), Fail> {
+    let mut told = Refusals::new();
+    let mut list = Acl4::empty(rt.alloc());
+    for number in 0..128 {
+        let entry = reader(number).ok_or("an entry")?;
+        if list.push(entry) == Err(AceFault::Memory) {
+            told.one_more();
+            assert_eq!(rt; list.aces().len(), number as usize);
+            assert!(rt; list.push(entry).is_ok());
+        }
+    }
+    assert_eq!(rt; list.aces().len(), 128);
+    for (number, entry) in list.aces().iter().enumerate() {
+        assert_eq!(rt; Some(*entry), reader(number as u32));
+    }
+    println!(rt; "refusals: {}", told.told())?;
+    Ok(())
+}
+
+#[test]
+fn read_aces_under_a_refused_growth(rt: HostRuntime) -> Result<(), Fail> {
+    let mut told = Refusals::new();
+    let names = names(rt.alloc(), &mut told)?;
+    let list = long_acl(rt.alloc(), &names, &mut told)?;
+    assert_eq!(rt; list.aces().len(), 17);
+    println!(rt; "refusals: {}", told.told())?;
+    Ok(())
+}
+
+#[test]
+fn print_aces_under_a_refused_growth(rt: HostRuntime) -> Result<(), Fail> {
+    let mut told = Refusals::new();
+    let names = names(rt.alloc(), &mut told)?;
+    let list = long_acl(rt.alloc(), &names, &mut told)?;
+    let mut out = Vec::new(rt.alloc());
+    if out.push(b'>').is_err() {
+        told.one_more();
+        out.push(b'>')?;
+    }
+    if list.print_aces(&names, &mut out).is_err() {
+        told.one_more();
+        assert_eq!(rt; out.as_slice(), b">".as_slice());
+        list.print_aces(&names, &mut out)?;
+    }
+    // 9 lines of 8 bytes, and 8 of 9, after the one that stood there.
+    assert_eq!(rt; out.len(), 145);
+    assert!(rt; out.starts_with(b">A:f:1:r\nA:f:2:r\n".as_slice()));
+    println!(rt; "refusals: {}", told.told())?;
+    Ok(())
+}
+
+#[test]
+fn chmod4_under_a_refused_growth(rt: HostRuntime) -> Result<(), Fail> {
+    let mut told = Refusals::new();
+    let names = names(rt.alloc(), &mut told)?;
+    let mut list = long_acl(rt.alloc(), &names, &mut told)?;
+    let before = copy(rt.alloc(), &list, &mut told)?;
+    let mode = Mode::from_bits(0o700).ok_or("a mode")?;
+    if list.chmod4(rt.alloc(), mode) == Err(Fault4::Memory) {
+        told.one_more();
+        assert!(rt; list.aces() == before.aces());
+        assert_eq!(rt; list.chmod4(rt.alloc(), mode), Ok(()));
+    }
+    // The owner's, what is inherited of each entry, a denial of each user, and the group's.
+    assert_eq!(rt; list.aces().len(), 36);
+    println!(rt; "refusals: {}", told.told())?;
+    Ok(())
+}
+
+#[test]
+fn inherited_under_a_refused_growth(rt: HostRuntime) -> Result<(), Fail> {
+    let mut told = Refusals::new();
+    let names = names(rt.alloc(), &mut told)?;
+    let list = long_acl(rt.alloc(), &names, &mut told)?;
+    let below = match list.inherited(rt.alloc(), Kind::File) {
+        Ok(below) => below,
+        Err(_) => {
+            told.one_more();
+            list.inherited(rt.alloc(), Kind::File)?
+        }
+    };
+    let mut out = Vec::new(rt.alloc());
+    if below.print_aces(&names, &mut out).is_err() {
+        told.one_more();
+        below.print_aces(&names, &mut out)?;
+    }
+    assert_eq!(rt; out.as_slice(), BELOW.as_bytes());
+    println!(rt; "refusals: {}", told.told())?;
+    Ok(())
+}
+
+#[test]
+fn lists_with_room_under_a_refused_growth(rt: HostRuntime) -> Result<(), Fail> {
+    let mut told = Refusals::new();
+    let mut list = match Acl4::with_capacity(rt.alloc(), 40) {
+        Ok(list) => list,
+        Err(_) => {
+            told.one_more();
+            Acl4::with_capacity(rt.alloc(), 40)?
+        }
+    };
+    assert_eq!(rt; list.aces().len(), 0);
+    for number in 0..40 {
+        assert!(rt; list.push(reader(number).ok_or("an entry")?).is_ok());
+    }
+    assert_eq!(rt; list.aces().len(), 40);
+    println!(rt; "refusals: {}", told.told())?;
+    Ok(())
+}

@@ -1,0 +1,71 @@
+use crate::nfs4::fixture::printed;
+use acl_examples::{acl4, directory};
+use acl_nfs4::{AceFault, Mask, read_aces, read_letters};
+use bitflags::Flags as FlagSet;
+use std::alloc::Global;
+use std::test::Fail;
+
+fn fault_of(alloc: Global, text: &str) -> Option<AceFault> {
+    read_aces(alloc, text.as_bytes(), &directory(alloc)?).err()
+}
+
+#[test]
+fn texts_in_their_printed_form(rt: HostRuntime) -> Result<(), Fail> {
+    for (text, wanted) in [
+        ("A:g:GROUP@:r", "A::GROUP@:r\n"),
+        ("A::OWNER@:", "A::OWNER@:\n"),
+        (
+            " A : : bob : wr # all\n\n# none\nL:Fifg:60:x",
+            "A::bob@example.org:rw\nL:fiFg:ops@example.org:x\n",
+        ),
+        (
+            "U:FS:1003:yoCcNnTtDdxawr,D:g:7:",
+            "U:SF:1003:rwaxdDtTnNcCoy\nD:g:7:\n",
+        ),
+        ("", ""),
+    ] {
+        let list = acl4(rt.alloc(), text).ok_or("a list")?;
+        let shown = printed(rt.alloc(), &list).ok_or("a text")?;
+        assert_eq!(rt; shown.as_str(), wanted, "{text}");
+    }
+    Ok(())
+}
+
+#[test]
+fn texts_that_are_refused(rt: HostRuntime) -> Result<(), Fail> {
+    for (text, wanted) in [
+        ("A:ff:OWNER@:r", AceFault::Syntax),
+        ("A::bob@other.org:r", AceFault::UnknownName),
+        ("A:i:OWNER@:r", AceFault::InheritOnly),
+        // In a piece the syntax comes first, then the name, then the flags.
+        ("A:i:dave:rr", AceFault::Syntax),
+        ("A:i:dave:r", AceFault::UnknownName),
+        ("A:g:bob:r", AceFault::UnknownName),
+        ("A::OWNER@:r,A:i:OWNER@:r,q", AceFault::InheritOnly),
+        ("A::OWNER@:r,", AceFault::Syntax),
+        ("A::OWNER@", AceFault::Syntax),
+        ("B::OWNER@:r", AceFault::Syntax),
+        ("A::bob@Other:r", AceFault::Syntax),
+        ("A::bob@a@b:r", AceFault::Syntax),
+        ("A::1001@example.org:r", AceFault::Syntax),
+        ("A::4294967295:r", AceFault::Syntax),
+        ("A::1000:r\r", AceFault::Syntax),
+    ] {
+        assert_eq!(rt; fault_of(rt.alloc(), text), Some(wanted), "{text}");
+    }
+    Ok(())
+}
+
+#[test]
+fn letters(rt: HostRuntime) -> Result<(), Fail> {
+    for (text, wanted) in [
+        ("", Some(Mask::empty())),
+        ("aw", Some(Mask::WRITE_DATA.union(Mask::APPEND_DATA))),
+        ("y", Some(Mask::SYNCHRONIZE)),
+        ("rr", None),
+        ("q", None),
+    ] {
+        assert_eq!(rt; read_letters(text.as_bytes()), wanted, "{text}");
+    }
+    Ok(())
+}

@@ -1,0 +1,75 @@
+use crate::posix::fixture::perms;
+use acl_examples::{acl, directory};
+use acl_names::{Gid, Uid};
+use std::alloc::Global;
+use std::test::Fail;
+
+/// Whether the user may do it with alice's file, whose group is staff, under the list that the text spells.
+fn may(alloc: Global, text: &str, user: &str, request: &str) -> Option<bool> {
+    let names = directory(alloc)?;
+    let list = acl(alloc, text)?;
+    let requester = names.requester(alloc, names.uid_of(user)?).ok()?;
+    Some(list.grants(
+        names.uid_of("alice")?,
+        names.gid_of("staff")?,
+        &requester,
+        perms(request)?,
+    ))
+}
+
+#[test]
+fn each_case_of_the_check(rt: HostRuntime) -> Result<(), Fail> {
+    for (list, user, request, wanted) in [
+        // Groups don't add up.
+        ("u::-,g::r,g:ops:w,m::rw,o::-", "bob", "r", true),
+        ("u::-,g::r,g:ops:w,m::rw,o::-", "bob", "w", true),
+        ("u::-,g::r,g:ops:w,m::rw,o::-", "bob", "rw", false),
+        // No fall-through to others.
+        ("u::-,g::r,o::rwx", "alice", "r", false),
+        ("u::-,g::r,o::rwx", "carol", "x", true),
+        ("u::-,g::r,o::rwx", "bob", "x", false),
+        // The owner before a named user.
+        ("u::r,u:alice:rwx,g::-,m::rwx,o::-", "alice", "w", false),
+        // The mask limits users and the file's group, and neither the owner nor the others.
+        ("u::rw,u:bob:rw,g::r,m::r,o::-", "bob", "w", false),
+        ("u::rw,u:bob:rw,g::r,m::r,o::-", "bob", "r", true),
+        ("u::rw,u:bob:r,g::rw,m::r,o::rwx", "alice", "w", true),
+        ("u::rw,u:carol:r,g::rw,m::r,o::rwx", "bob", "w", false),
+        ("u::rw,u:bob:r,g::rw,m::r,o::rwx", "carol", "x", true),
+        // The empty request is granted.
+        ("u::-,g::-,o::-", "carol", "-", true),
+    ] {
+        assert_eq!(rt;
+            may(rt.alloc(), list, user, request),
+            Some(wanted),
+            "{list} {user} {request}"
+        );
+    }
+    Ok(())
+}
+
+/// A list whose entries name the users 1 to 60.
+fn list_of_sixty_users(alloc: Global) -> Option<Acl> {
+    let mut text = String::from_str(alloc, "u::r,g::r,m::r,o::-").ok()?;
+    for uid in 1..61 {
+        let entry = format!(in alloc; ",u:{uid}:r").ok()?;
+        text.push_str(entry.as_str()).ok()?;
+    }
+    acl(alloc, text.as_str())
+}
+
+/// Whether the list lets this user read a file of alice's and of staff's.
+fn may_read(alloc: Global, list: &Acl, uid: u32) -> Option<bool> {
+    let names = directory(alloc)?;
+    let requester = names.requester(alloc, Uid::new(uid)?).ok()?;
+    Some(list.grants(Uid::new(1000)?, Gid::new(50)?, &requester, perms("r")?))
+}
+
+#[test]
+fn many_named_users(rt: HostRuntime) -> Result<(), Fail> {
+    let list = list_of_sixty_users(rt.alloc()).ok_or("the list")?;
+    assert_eq!(rt; may_read(rt.alloc(), &list, 60), Some(true));
+    assert_eq!(rt; may_read(rt.alloc(), &list, 1), Some(true));
+    assert_eq!(rt; may_read(rt.alloc(), &list, 61), Some(false));
+    Ok(())
+}

@@ -1,0 +1,71 @@
+//! Texts that were cut or bent: what each comes to, by scripts/read-texts.py, which reads them apart from this crate.
+use crate::bent::{ACES, ENTRIES, bent};
+use acl_examples::directory;
+use acl_names::Directory;
+use acl_posix::{TextFault, read_entries};
+use std::alloc::Global;
+use std::test::Fail;
+
+/// How many entries a text has, at most 9, or its fault by its first letter.
+fn outcome(alloc: Global, names: &Directory, text: &[u8]) -> u8 {
+    match read_entries(alloc, text, names) {
+        Ok(list) => {
+            let counts = b"0123456789";
+            counts.get(list.as_slice().len()).copied().unwrap_or(b'+')
+        }
+        Err(TextFault::Syntax) => b'S',
+        Err(TextFault::UnknownName) => b'U',
+        Err(TextFault::TooMany) => b'T',
+        Err(TextFault::Memory) => b'M',
+    }
+}
+
+/// What the text comes to that is bent at each place in turn.
+fn outcomes(alloc: Global, text: &str, byte: Option<u8>) -> Option<String> {
+    let names = directory(alloc)?;
+    let mut found = Vec::new(alloc);
+    for place in 0..text.len() {
+        let bent = bent(alloc, text.as_bytes(), place, byte)?;
+        found.push(outcome(alloc, &names, &bent)).ok()?;
+    }
+    String::from_utf8(found).ok()
+}
+
+#[test]
+fn cut_and_bent_texts(rt: HostRuntime) -> Result<(), Fail> {
+    for (byte, wanted) in [
+        (None, "0SSSSSSSSS1111SSSSS2222SSSSS3333333333SSSSSS"),
+        (Some(0), "SSSSSSSSSSSSSSSSSSSSSSSSSSSSSSSS44443SSSSSSS"),
+        (Some(b':'), "SSSSS4S4SSSSSSSS44SSSSSSSS44SSSS44443SSSSS4S"),
+        (Some(b','), "SSSSSSSSSSSSS4SSSSSSS4SSSSSSSSSS44443SSSSSSS"),
+        (Some(b'#'), "2SSSSSSSSS3333SSSSS4433SSSSS4444444433SSSSSS"),
+        (Some(b'\n'), "SSSSSSSSSSSSS4SSSSSS44SSSSSSS44SSSS44SSSSSSS"),
+        (Some(0x80), "SSSSSSSSSSSSSSSSSSSSSSSSSSSSSSSS44443SSSSSSS"),
+    ] {
+        let found = outcomes(rt.alloc(), ENTRIES, byte).ok_or("memory")?;
+        assert_eq!(rt; found.as_str(), wanted, "{byte:?}");
+    }
+    Ok(())
+}
+
+/// A text of the other kind has no entry, unless nothing of it is left.
+#[test]
+fn texts_of_the_other_kind(rt: HostRuntime) -> Result<(), Fail> {
+    for byte in [
+        None,
+        Some(0),
+        Some(b':'),
+        Some(b','),
+        Some(b'#'),
+        Some(b'\n'),
+        Some(0x80),
+    ] {
+        let found = outcomes(rt.alloc(), ACES, byte).ok_or("memory")?;
+        let nothing_left = byte.is_none() || byte == Some(b'#');
+        let first = if nothing_left { b'0' } else { b'S' };
+        assert_eq!(rt; found.as_bytes().first(), Some(&first), "{byte:?}");
+        let others = found.as_bytes().get(1..).ok_or("a text")?;
+        assert!(rt; others.iter().all(|it| *it == b'S'), "{byte:?}");
+    }
+    Ok(())
+}

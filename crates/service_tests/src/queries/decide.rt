@@ -1,0 +1,423 @@
+use acl_queries::decide;
+use std::alloc::Global;
+use std::io::{self, Write};
+use std::test::Fail;
+
+/// The fields in order: owner, group, uid, gids, perms, TEXT.
+type Fields<'a> = [&'a str; 6];
+
+const ASKED: Fields<'static> = ["1000", "50", "1001", "50,60", "r", "u::rw,g::r,o::-"];
+
+fn words_for<'a>(fields: &Fields<'a>) -> [&'a str; 12] {
+    [
+        "decide", "--owner", fields[0], "--group", fields[1], "--uid", fields[2], "--gids",
+        fields[3], "--perms", fields[4], fields[5],
+    ]
+}
+
+/// Fails at each write.
+#[derive(Drop)]
+struct Broken;
+
+impl Write for Broken {
+    fn write(&mut self, _buffer: &[u8]) -> io::Result<usize> {
+        Err(io::Error::from(io::ErrorKind::BrokenPipe))
+    }
+
+    fn flush(&mut self) -> io::Result<()> {
+        Ok(())
+    }
+}
+
+#[test]
+fn granted_and_denied(rt: HostRuntime) -> Result<(), Fail> {
+    for (fields, line) in [
+        (ASKED, "granted\n"),
+        // The group may only read.
+        (
+            ["1000", "50", "1001", "50,60", "w", "u::rw,g::r,o::-"],
+            "denied\n",
+        ),
+        (
+            ["1000", "50", "1000", "50", "rw", "u::rw,g::r,o::-"],
+            "granted\n",
+        ),
+        (
+            ["1000", "50", "1001", "60", "r", "u::rw,g::r,o::-"],
+            "denied\n",
+        ),
+        // No bit asked for.
+        (
+            ["1000", "50", "1001", "60", "-", "u::rw,g::r,o::-"],
+            "granted\n",
+        ),
+        // A group that matches and doesn't grant isn't followed by the others.
+        (
+            [
+                "1000",
+                "50",
+                "1001",
+                "60",
+                "r",
+                "u::rw,g::r,g:60:-,m::r,o::r",
+            ],
+            "denied\n",
+        ),
+        // The entries are in no order.
+        (
+            [
+                "1000",
+                "50",
+                "1001",
+                "60",
+                "r",
+                "o::-,m::r,u:1001:r,g::-,u::rw",
+            ],
+            "granted\n",
+        ),
+        // Blanks, lines and comments.
+        (
+            [
+                "1000",
+                "50",
+                "1001",
+                "60",
+                "r",
+                "user : : rw # all\ngroup::-\n\nother:r",
+            ],
+            "granted\n",
+        ),
+        (
+            [
+                "4294967294",
+                "0000000000",
+                "4294967294",
+                "0",
+                "x",
+                "u::x,g::-,o::-",
+            ],
+            "granted\n",
+        ),
+    ] {
+        let words = words_for(&fields);
+        let mut out = Vec::new(rt.alloc());
+        let mut err = Vec::new(rt.alloc());
+        assert_eq!(rt;
+            decide(rt.alloc(), words.as_slice(), &mut out, &mut err),
+            0,
+            "at {fields:?}"
+        );
+        assert_eq!(rt; out.as_slice(), line.as_bytes(), "at {fields:?}");
+        assert!(rt; err.is_empty());
+    }
+    Ok(())
+}
+
+#[test]
+fn without_gids(rt: HostRuntime) {
+    let words = [
+        "decide",
+        "u::rw,g::r,o::-",
+        "--perms=-w-",
+        "--uid",
+        "1001",
+        "--group=50",
+        "--owner",
+        "1000",
+    ];
+    let mut out = Vec::new(rt.alloc());
+    let mut err = Vec::new(rt.alloc());
+    assert_eq!(rt; decide(rt.alloc(), words.as_slice(), &mut out, &mut err), 0);
+    assert_eq!(rt; out.as_slice(), b"denied\n".as_slice());
+    assert!(rt; err.is_empty());
+}
+
+#[test]
+fn with_the_translation(rt: HostRuntime) -> Result<(), Fail> {
+    for (perms, list, text) in [
+        (
+            "rw",
+            "u::-,g::r,g:60:w,m::rw,o::-",
+            "denied\nD::OWNER@:rwax\nA::GROUP@:r\nA:g:60:wa\nD::GROUP@:wax\nD:g:60:rx\n",
+        ),
+        // The same entries in another order.
+        (
+            "rw",
+            "o::-,g:60:w,m::rw,g::r,u::-",
+            "denied\nD::OWNER@:rwax\nA::GROUP@:r\nA:g:60:wa\nD::GROUP@:wax\nD:g:60:rx\n",
+        ),
+        // The users stand by their ids, and the mask takes from what they have.
+        (
+            "r",
+            "u::-,u:8:rw,u:7:x,g::r,m::rx,o::r",
+            "granted\nD::OWNER@:rwax\nA::7:x\nD::7:rwa\nA::8:r\nD::8:wax\nA::GROUP@:r\nD::GROUP@:wax\nA::EVERYONE@:r\n",
+        ),
+        (
+            "w",
+            "u::rwx,g::rwx,o::-",
+            "granted\nA::OWNER@:rwax\nA::GROUP@:rwax\n",
+        ),
+    ] {
+        let words = [
+            "decide", "--nfs4", "--owner", "1000", "--group", "50", "--uid", "1001", "--gids",
+            "50,60", "--perms", perms, list,
+        ];
+        let mut out = Vec::new(rt.alloc());
+        let mut err = Vec::new(rt.alloc());
+        assert_eq!(rt;
+            decide(rt.alloc(), words.as_slice(), &mut out, &mut err),
+            0,
+            "at {list:?}"
+        );
+        assert_eq!(rt; out.as_slice(), text.as_bytes(), "at {list:?}");
+        assert!(rt; err.is_empty());
+    }
+    Ok(())
+}
+
+const GIDS_32: &str =
+    "1,2,3,4,5,6,7,8,9,10,11,12,13,14,15,16,17,18,19,20,21,22,23,24,25,26,27,28,29,30,31,50";
+
+const GIDS_33: &str =
+    "1,2,3,4,5,6,7,8,9,10,11,12,13,14,15,16,17,18,19,20,21,22,23,24,25,26,27,28,29,30,31,32,x";
+
+const BAD_32ND: &str =
+    "1,2,3,4,5,6,7,8,9,10,11,12,13,14,15,16,17,18,19,20,21,22,23,24,25,26,27,28,29,30,31,x,33";
+
+#[test]
+fn refuses_fields(rt: HostRuntime) -> Result<(), Fail> {
+    for (at, field, line) in [
+        (0, "x", "aclctl: bad-id\n"),
+        (0, "", "aclctl: bad-id\n"),
+        (0, "4294967295", "aclctl: bad-id\n"),
+        (0, "00000000001", "aclctl: bad-id\n"),
+        (1, "root", "aclctl: bad-id\n"),
+        (2, "+1", "aclctl: bad-id\n"),
+        (3, "50,", "aclctl: bad-id\n"),
+        (3, "", "aclctl: bad-id\n"),
+        (3, " 50", "aclctl: bad-id\n"),
+        (3, GIDS_33, "aclctl: too-many\n"),
+        (3, BAD_32ND, "aclctl: bad-id\n"),
+        (4, "q", "aclctl: bad-perms\n"),
+        (4, "rr", "aclctl: bad-perms\n"),
+        (4, "", "aclctl: bad-perms\n"),
+        (5, "u::rw,g::r,o::q", "aclctl: bad-acl\n"),
+        (5, "u::rw,,g::r,o::-", "aclctl: bad-acl\n"),
+        (5, "u::rw,g::r,o::-,u:bob:r", "aclctl: unknown-name\n"),
+        // The leftmost faulty piece is told.
+        (5, "u:bob:r,u::q", "aclctl: unknown-name\n"),
+        (5, "u::q,u:bob:r", "aclctl: bad-acl\n"),
+        (5, "u::rw,u:7:r,g::r,o::-", "aclctl: invalid-acl\n"),
+        (5, "u::rw,g::r", "aclctl: invalid-acl\n"),
+        (5, "u::rw,u::rw,g::r,o::-", "aclctl: invalid-acl\n"),
+        (5, "", "aclctl: invalid-acl\n"),
+    ] {
+        let mut fields = ASKED;
+        assert!(rt; at < 6);
+        fields[at] = field;
+        let words = words_for(&fields);
+        let mut out = Vec::new(rt.alloc());
+        let mut err = Vec::new(rt.alloc());
+        assert_eq!(rt;
+            decide(rt.alloc(), words.as_slice(), &mut out, &mut err),
+            1,
+            "at {field:?}"
+        );
+        assert_eq!(rt; err.as_slice(), line.as_bytes(), "at {field:?}");
+        assert!(rt; out.is_empty());
+    }
+    Ok(())
+}
+
+#[test]
+fn takes_32_gids(rt: HostRuntime) {
+    let mut fields = ASKED;
+    fields[3] = GIDS_32;
+    let mut out = Vec::new(rt.alloc());
+    let mut err = Vec::new(rt.alloc());
+    assert_eq!(rt;
+        decide(
+            rt.alloc(),
+            words_for(&fields).as_slice(),
+            &mut out,
+            &mut err
+        ),
+        0
+    );
+    assert_eq!(rt; out.as_slice(), b"granted\n".as_slice());
+}
+
+/// The three entries that there must be, and then so many of `m::r`.
+fn long_text(alloc: Global, masks: usize) -> io::Result<String> {
+    let mut text = String::from_str(alloc, "u::rw,g::r,o::-")?;
+    for _ in 0..masks {
+        text.push_str(",m::r")?;
+    }
+    Ok(text)
+}
+
+#[test]
+fn takes_64_entries(rt: HostRuntime) -> Result<(), Fail> {
+    for (masks, line) in [
+        (1, "granted\n"),
+        (61, "aclctl: invalid-acl\n"),
+        (62, "aclctl: too-many\n"),
+    ] {
+        let text = long_text(rt.alloc(), masks)?;
+        let mut fields = ASKED;
+        fields[5] = text.as_str();
+        let mut both = Vec::new(rt.alloc());
+        let mut err = Vec::new(rt.alloc());
+        let _ = decide(
+            rt.alloc(),
+            words_for(&fields).as_slice(),
+            &mut both,
+            &mut err,
+        );
+        both.extend_from_slice(err.as_slice())?;
+        assert_eq!(rt; both.as_slice(), line.as_bytes(), "with {masks} masks");
+    }
+    Ok(())
+}
+
+/// Each field from the back to the front is made faulty in turn, so that the first of them is told.
+#[test]
+fn first_faulty_field_is_told(rt: HostRuntime) {
+    let mut fields = ASKED;
+    for (at, field, line) in [
+        (5, "u::q", "aclctl: bad-acl\n"),
+        (4, "q", "aclctl: bad-perms\n"),
+        (3, GIDS_33, "aclctl: too-many\n"),
+        (2, "x", "aclctl: bad-id\n"),
+    ] {
+        assert!(rt; at < 6);
+        fields[at] = field;
+        let mut out = Vec::new(rt.alloc());
+        let mut err = Vec::new(rt.alloc());
+        assert_eq!(rt;
+            decide(
+                rt.alloc(),
+                words_for(&fields).as_slice(),
+                &mut out,
+                &mut err
+            ),
+            1
+        );
+        assert_eq!(rt; err.as_slice(), line.as_bytes());
+        assert!(rt; out.is_empty());
+    }
+}
+
+#[test]
+fn parser_refuses_words(rt: HostRuntime) {
+    for words in [
+        ["decide", "--owner"].as_slice(),
+        ["decide", "--help"].as_slice(),
+        ["decide"].as_slice(),
+        // There is no --perms.
+        [
+            "decide",
+            "--owner",
+            "1000",
+            "--group",
+            "50",
+            "--uid",
+            "1001",
+            "u::rw,g::r,o::-",
+        ]
+        .as_slice(),
+        // A flag has no value of its own,
+        [
+            "decide",
+            "--nfs4=true",
+            "--owner",
+            "1000",
+            "--group",
+            "50",
+            "--uid",
+            "1001",
+            "--perms",
+            "r",
+            "u::rw,g::r,o::-",
+        ]
+        .as_slice(),
+        // and stands once.
+        [
+            "decide",
+            "--nfs4",
+            "--nfs4",
+            "--owner",
+            "1000",
+            "--group",
+            "50",
+            "--uid",
+            "1001",
+            "--perms",
+            "r",
+            "u::rw,g::r,o::-",
+        ]
+        .as_slice(),
+        // A value that begins with - follows a =.
+        [
+            "decide",
+            "--owner",
+            "1000",
+            "--group",
+            "50",
+            "--uid",
+            "1001",
+            "--perms",
+            "-w-",
+            "u::rw,g::r,o::-",
+        ]
+        .as_slice(),
+    ] {
+        let mut out = Vec::new(rt.alloc());
+        let mut err = Vec::new(rt.alloc());
+        assert_eq!(rt;
+            decide(rt.alloc(), words, &mut out, &mut err),
+            2,
+            "at {words:?}"
+        );
+        assert!(rt; out.is_empty());
+        assert!(rt; !err.is_empty());
+    }
+}
+
+#[test]
+fn failed_writes(rt: HostRuntime) {
+    let words = words_for(&ASKED);
+    let mut err = Vec::new(rt.alloc());
+    assert_eq!(rt;
+        decide(rt.alloc(), words.as_slice(), &mut Broken, &mut err),
+        3
+    );
+    assert_eq!(rt; err.as_slice(), b"aclctl: run: output\n".as_slice());
+    assert_eq!(rt;
+        decide(
+            rt.alloc(),
+            [
+                "decide",
+                "u::rw,g::r,o::-",
+                "--owner",
+                "1000",
+                "--group",
+                "50",
+                "--uid",
+                "1001",
+                "--perms",
+                "r",
+                "--nfs4",
+            ]
+            .as_slice(),
+            &mut Broken,
+            &mut Broken
+        ),
+        3
+    );
+    // A fault while writing to the other writer changes no status.
+    assert_eq!(rt;
+        decide(rt.alloc(), ["decide"].as_slice(), &mut Broken, &mut Broken),
+        2
+    );
+}

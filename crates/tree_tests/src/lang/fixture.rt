@@ -1,0 +1,38 @@
+//! What lines and answers come to; none where memory is refused or a text is.
+use acl_examples::directory;
+use acl_lang::{Answer, Line, read_line, render};
+use acl_tree::{LineFault, Reply, Request};
+use std::alloc::Global;
+
+/// The code of a line's fault; 0 of a command, and 100 of a line that gives nothing.
+pub fn code_of(alloc: Global, line: &[u8]) -> Option<u8> {
+    let names = directory(alloc)?;
+    match read_line(alloc, line, &names).ok()? {
+        Line::Nothing => Some(100),
+        Line::Command(Request::Bad(fault)) => Some(code(fault)),
+        Line::Command(_) => Some(0),
+    }
+}
+
+pub fn code(fault: LineFault) -> u8 {
+    match fault {
+        LineFault::Syntax => 1,
+        LineFault::BadPath => 2,
+        LineFault::BadMode => 3,
+        LineFault::BadPerms => 4,
+        LineFault::UnknownName => 5,
+        LineFault::BadAcl => 6,
+        LineFault::InvalidAcl => 7,
+        LineFault::TooMany => 8,
+        LineFault::InheritOnly => 9,
+        LineFault::LineTooLong => 10,
+    }
+}
+
+/// What is printed of the reply to a line.
+pub fn printed(alloc: Global, line: u32, reply: Reply) -> Option<String> {
+    let names = directory(alloc)?;
+    let mut out = Vec::new(alloc);
+    render(&Answer { line, reply }, &names, &mut out).ok()?;
+    String::from_utf8(out).ok()
+}

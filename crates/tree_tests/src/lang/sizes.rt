@@ -1,0 +1,10 @@
+use acl_lang::{Answer, Numbered};
+use std::test::Fail;
+
+/// Journals and rings hold many requests and answers, so that their lists stand in boxes.
+#[test]
+fn requests_and_answers_are_small(rt: HostRuntime) -> Result<(), Fail> {
+    assert!(rt; size_of::<Numbered>() <= 64);
+    assert!(rt; size_of::<Answer>() <= 64);
+    Ok(())
+}
