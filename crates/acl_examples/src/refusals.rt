@@ -17,6 +17,19 @@ impl Refusals {
         self.told = self.told.saturating_add(1);
     }
 
+    /// What the attempt gives, at the second one if the first is refused, which counts as one more.
+    pub fn again<T, F: Fn() -> Option<T>>(&mut self, attempt: F) -> Option<T>
+        requires { F.IsAlwaysCallable attempt }
+    {
+        match attempt() {
+            Some(value) => Some(value),
+            None => {
+                self.one_more();
+                attempt()
+            }
+        }
+    }
+
     /// How many there were.
     pub fn told(&self) -> u32 {
         self.told
