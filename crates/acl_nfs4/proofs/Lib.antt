@@ -9,6 +9,7 @@ pub mod ModeChangeTwice
 pub mod InheritanceLemmas
 pub mod ModeChangeKept
 pub mod LetterLemmas
+pub mod LetterBits
 pub mod ListLemmas
 pub mod MaskOfModes
 pub mod ModeChangeNamed
