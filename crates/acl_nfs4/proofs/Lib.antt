@@ -19,6 +19,7 @@ pub mod ReadLemmas
 pub mod ModeChangeLeaves
 pub mod RoundTrip
 pub mod WorkedExamples
+pub mod WhoLemmas
 pub mod ShapeLemmas
 pub mod PieceFaultLemmas
 pub mod EvaluationMode
