@@ -1,5 +1,6 @@
 -- Letters that are read by a list of their bits.
 use Rattle.std.proofs.Common.{◌≡◌, ◌≢◌, ℕ, zero, suc, ◌<◌, ◌+◌, ◌==◌, Bool, true, false, cond, ◌&&◌, ◌||◌, List, [], ◌∷◌, take, get_or, length, filter, nat_le, nat_lt, None, refl, sym, ap, subst, ◌∙◌, arith, bit_and, bit_or, ◌⊎◌, inl, inr}
+use Rattle.std.specs.Prelude.{slice_index}
 use Rattle.std.specs.List.{AllByRecursion, list_any}
 use Rattle.std.proofs.lemmas.Bool.{cases_Bool, eqb-true, true≢false}
 use Rattle.std.proofs.lemmas.Bool.Decides.{nat_tests, Decides-eqb}
@@ -11,7 +12,7 @@ use Rattle.acl_names.proofs.BitSets.{has-and, has-or, has-zero, no_bits}
 use Rattle.acl_names.proofs.Counting.{list_any-count_by}
 use Rattle.acl_names.proofs.LettersAgain.{bits_from}
 use Rattle.acl_names.proofs.LettersInTurn.{AreRead, one_more_read, refused_letter, refused_repeat}
-use Rattle.acl_nfs4.specs.LetterBits.{bit_of_letter, BitsDiffer, GivesBitsOf}
+use Rattle.acl_nfs4.specs.LetterBits.{BitsDiffer, GivesBitsOf}
 use Rattle.acl_nfs4.specs.Letters.{flag_table, mask_table}
 use Rattle.acl_nfs4.specs.declared.letter_bits.TheConstants.{FLAG_BITS, MASK_BITS}
 
@@ -158,7 +159,7 @@ module _ (table : List Letter) (front : List ℕ) (byte : ℕ) where
 
 -- ---- one more letter, by its bit
 module _ (table : List Letter) (bits_of : List ℕ) (gives : GivesBitsOf bits_of table) (text : List ℕ) (i bits bit : ℕ) (inside : i < length text)
-    (read : AreRead table (take i text) bits) (is_byte : get_or text i 0 < 256) (is : bit ≡ bit_of_letter bits_of (get_or text i 0)) where
+    (read : AreRead table (take i text) bits) (is_byte : get_or text i 0 < 256) (is : bit ≡ slice_index bits_of (get_or text i 0)) where
   abbrev here : ℕ
   here = get_or text i 0
 
@@ -216,10 +217,10 @@ holds_at test (suc n) i all below = go (holds_at test n i) (cases_Bool (i == n))
     go later (inr other) both = later both.1 (let apart : i ≢ n = λ e. true≢false (sym ((Decides-eqb i n).1 e) ∙ other) in omega (arith, apart))
 
 abbrev same_bit : List ℕ → List Letter → ℕ → Bool
-same_bit bits table byte = bit_of_letter bits byte == bits_of_rows (filter (λ row. row.letter == byte) table)
+same_bit bits table byte = slice_index bits byte == bits_of_rows (filter (λ row. row.letter == byte) table)
 
 each_byte : (bits : List ℕ) (table : List Letter) → holds_below (same_bit bits table) 256 ≡ true
-    → (byte : ℕ) → byte < 256 → bit_of_letter bits byte ≡ bits_of_rows (filter (λ row. row.letter == byte) table)
+    → (byte : ℕ) → byte < 256 → slice_index bits byte ≡ bits_of_rows (filter (λ row. row.letter == byte) table)
 each_byte bits table all byte below = eqb-true _ _ (holds_at (same_bit bits table) 256 byte all below)
 
 pub flag_bits_given : GivesBitsOf FLAG_BITS flag_table

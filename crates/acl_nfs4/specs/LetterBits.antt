@@ -1,13 +1,9 @@
--- Private steps, which no public clause cites: the bit of each letter, in a list by the letter's place behind 'A'.
-use Rattle.std.specs.Prelude.{◌≡◌, ℕ, ◌-◌, ◌<◌, ◌==◌, nat_lt, false, List, [], ◌∷◌, filter, slice_index, if◌then◌else◌}
+-- Private steps, which no public clause cites: the bit of each letter, in a list by the letter's byte.
+use Rattle.std.specs.Prelude.{◌≡◌, ℕ, ◌<◌, ◌==◌, false, List, [], ◌∷◌, filter, slice_index}
 use Rattle.std.specs.List.{AllByRecursion}
 use Rattle.acl_names.specs.Bits.{◌∩◌}
 use Rattle.acl_names.specs.Letters.{bits_of_rows}
 use Rattle.acl_names.specs.declared.letters.Letter.{Letter}
-
--- the bit that the list has for a letter, and 0 where it has none
-abbrev pub bit_of_letter : List ℕ → ℕ → ℕ
-bit_of_letter bits letter = if nat_lt letter 65 then 0 else slice_index bits (letter - 65)
 
 -- no two rows have a bit in common
 abbrev pub BitsDiffer : List Letter → Type 0
@@ -16,6 +12,6 @@ BitsDiffer (row ∷ rows) = (row.bit ∩ bits_of_rows rows ≡ 0) × BitsDiffer 
 
 -- the list has for each byte the bit that the table has for it, and no two bits are the same
 pub record GivesBitsOf (bits : List ℕ) (table : List Letter) : Type 0 where
-  pub each : (byte : ℕ) → byte < 256 → bit_of_letter bits byte ≡ bits_of_rows (filter (λ row. row.letter == byte) table)
+  pub each : (byte : ℕ) → byte < 256 → slice_index bits byte ≡ bits_of_rows (filter (λ row. row.letter == byte) table)
   pub bits_stand : AllByRecursion (λ row. (row.bit == 0) ≡ false) table
   pub bits_differ : BitsDiffer table
