@@ -1,5 +1,5 @@
 -- A text that begins with the fields of an entry begins with the piece that they make.
-use Rattle.std.proofs.Common.{◌≡◌, ℕ, List, [], ◌∷◌, ◌++◌, length, Some, Result, Ok, sym, ap, ◌∙◌, append_assoc, length-append, arith}
+use Rattle.std.proofs.Common.{◌≡◌, ℕ, List, [], ◌∷◌, ◌++◌, Some, Result, Ok, sym, ap, ◌∙◌, append_assoc, length-append, arith}
 use Rattle.std.specs.List.{AllByRecursion, join_with_byte}
 use Rattle.acl_names.specs.Plain.{IsField, IsFront}
 use Rattle.acl_names.proofs.Fields.{fields_again, joined_plain}

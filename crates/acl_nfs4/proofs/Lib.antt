@@ -9,6 +9,7 @@ pub mod ModeChangeTwice
 pub mod InheritanceLemmas
 pub mod ModeChangeKept
 pub mod LetterLemmas
+pub mod LetterBits
 pub mod ListLemmas
 pub mod MaskOfModes
 pub mod ModeChangeNamed
@@ -18,6 +19,7 @@ pub mod ReadLemmas
 pub mod ModeChangeLeaves
 pub mod RoundTrip
 pub mod WorkedExamples
+pub mod WhoLemmas
 pub mod ShapeLemmas
 pub mod PieceFaultLemmas
 pub mod EvaluationMode

@@ -95,9 +95,9 @@ kept_of-rest group ace d i =
 -- ---- lists that are too long
 
 -- what is too long stays too long with more behind it
-pub too_long-more : (front more : List Nfsace4) → IsTooLong front → IsTooLong (front ++ more)
-too_long-more front more long = omega (arith, length-append front more, long)
+pub too_long-more : (most : ℕ) (front more : List Nfsace4) → IsTooLong most front → IsTooLong most (front ++ more)
+too_long-more most front more long = omega (arith, length-append front more, long)
 
-pub too_long-within : (made next rest whole : List Nfsace4) → made ++ (next ++ rest) ≡ whole → IsTooLong (made ++ next) → IsTooLong whole
-too_long-within made next rest whole e long =
-    subst IsTooLong (append_assoc made next rest ∙ e) (too_long-more (made ++ next) rest long)
+pub too_long-within : (most : ℕ) (made next rest whole : List Nfsace4) → made ++ (next ++ rest) ≡ whole → IsTooLong most (made ++ next) → IsTooLong most whole
+too_long-within most made next rest whole e long =
+    subst (IsTooLong most) (append_assoc made next rest ∙ e) (too_long-more most (made ++ next) rest long)

@@ -15,14 +15,15 @@ pub record AreAces (aces : List Nfsace4) : Type 0 where
   pub each : All IsAce aces
   pub effective : HaveEffect aces
 
--- more entries than a list may have
-abbrev pub IsTooLong : List Nfsace4 → Type 0
-IsTooLong aces = MAX_ACES < length aces
+-- more entries than so many
+abbrev pub IsTooLong : ℕ → List Nfsace4 → Type 0
+IsTooLong most aces = most < length aces
 
--- a list in the making: it has the entries of a list, and room for as many as one may have
-pub record IsDraft (aces : List Nfsace4) (room : ℕ) : Type 0 where
+-- a list in the making, with so many places in itself: it has the entries of a list, and room for as many as it has places
+pub record IsDraft (places : ℕ) (aces : List Nfsace4) (room : ℕ) : Type 0 where
   pub are_aces : AreAces aces
-  pub has_room : MAX_ACES ≤ room
+  pub has_room : places ≤ room
+  pub places_within : places ≤ MAX_ACES
 
 -- what a push can be refused for
 abbrev pub IsPushFault : AceFault → Type 0

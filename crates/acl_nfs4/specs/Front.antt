@@ -1,6 +1,5 @@
 -- Private steps, which no public clause cites: the fields of an entry with which a text begins.
-use Rattle.std.specs.Prelude.{◌≡◌, List, ℕ, [], ◌∷◌, ◌++◌}
-use Rattle.std.specs.List.{join_with_byte}
+use Rattle.std.specs.Prelude.{◌≡◌, List, ℕ, ◌∷◌, ◌++◌}
 use Rattle.acl_names.specs.Plain.{IsField}
 use Rattle.acl_nfs4.specs.AceText.{AceFields}
 

@@ -9,6 +9,7 @@ pub mod Inheritance
 pub mod ModeChange
 pub mod ModeChangeLaws
 pub mod Letters
+pub mod LetterBits
 pub mod AceText
 pub mod AceViews
 pub mod PrintedText

@@ -2,7 +2,7 @@
 ghost use Rattle.std.specs.Prelude.{◌≡◌, ◌≢◌, ◌<◌, ◌≤◌, IsOk, ◌↔◌, true, [], ◌∷◌, ◌++◌, length, OnOk, OnErr, IfOk, IfErr, Err};
 
 use crate::Ace;
-use crate::limits::MAX_ACES;
+use crate::limits::{INLINE_ACES, MAX_ACES};
 use smallvec::SmallVec;
 use std::alloc::{AllocError, Global};
 use std::marker::Model;
@@ -26,7 +26,7 @@ pub enum AceFault {
 /// `INHERIT_ONLY` without `FILE_INHERIT` or `DIRECTORY_INHERIT`.
 #[derive(Debug, Drop)]
 pub struct Acl4 {
-    aces: SmallVec<Ace, 16>,
+    aces: SmallVec<Ace, INLINE_ACES>,
 }
 
 impl Model for Acl4 {
@@ -65,7 +65,7 @@ impl Acl4 {
     }
 
     /// The list of these entries.
-    pub(crate) fn from_items(aces: SmallVec<Ace, 16>) -> Acl4
+    pub(crate) fn from_items(aces: SmallVec<Ace, INLINE_ACES>) -> Acl4
         requires are_aces { AreAces aces.items }
         requires room { length aces.items ≤ 16 → 16 ≤ aces.capacity }
         ensures { result ≡ aces.items }

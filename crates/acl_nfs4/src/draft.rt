@@ -1,25 +1,25 @@
-//! A list that is being made, on the stack: nothing grows until it is finished.
-ghost use Rattle.std.specs.Prelude.{◌≡◌, ◌<◌, ◌≤◌, IsOk, false, [], ◌∷◌, ◌++◌, length, OnOk, OnErr, IfOk};
+//! A list that is being made.
+ghost use Rattle.std.specs.Prelude.{◌≡◌, ◌<◌, ◌≤◌, false, [], ◌∷◌, ◌++◌, length, OnOk, OnErr};
 
-use crate::limits::MAX_ACES;
+use crate::limits::{INLINE_ACES, MAX_ACES};
 use crate::{Ace, AceType, Acl4, Mask, Who};
 use bitflags::Flags as FlagSet;
 use smallvec::SmallVec;
-use std::alloc::{AllocError, Global};
+use std::alloc::Global;
 use std::marker::Model;
 
 /// There is no room for a further entry.
 #[derive(Clone, Copy, Debug)]
 pub(crate) struct Full;
 
-/// A list in the making. All the entries that a list may have stand in its inline places, so that it never allocates; the
-/// finished list does so once.
+/// A list in the making, with room for `N` entries in itself. A `Draft<MAX_ACES>` has all its entries there, 2 KiB, and never
+/// allocates; a `Draft<INLINE_ACES>` has them where the finished list has them, and allocates with the 17th.
 #[derive(Drop)]
-pub(crate) struct Draft {
-    aces: SmallVec<Ace, MAX_ACES>,
+pub(crate) struct Draft<const N: usize> {
+    aces: SmallVec<Ace, N>,
 }
 
-impl Model for Draft {
+impl<const N: usize> Model for Draft<N> {
     ghost use Rattle.std.specs.Prelude.{List};
     ghost use Rattle.acl_nfs4.specs.Ace.{Nfsace4};
     ghost use Rattle.acl_nfs4.specs.Acl.{IsDraft};
@@ -28,16 +28,17 @@ impl Model for Draft {
 
     ghost view = { λ draft. draft.aces.items };
 
-    ghost invariant = { λ draft. IsDraft draft.aces.items draft.aces.capacity };
+    ghost invariant = { λ draft. IsDraft N draft.aces.items draft.aces.capacity };
 }
 
-impl Draft {
+impl<const N: usize> Draft<N> {
     ghost use Rattle.acl_nfs4.specs.Acl.{IsTooLong};
     ghost use Rattle.acl_nfs4.specs.Ace.{is_idle, unless_empty, plain};
     ghost use Rattle.acl_nfs4.specs.Mask.{mask_bits, all_masks};
     ghost use Rattle.acl_names.specs.Bits.{◌∩◌};
 
-    pub(crate) fn new(alloc: Global) -> Draft
+    pub(crate) fn new(alloc: Global) -> Draft<N>
+        requires { N ≤ MAX_ACES }
         ensures { result ≡ [] }
     {
         Draft {
@@ -45,28 +46,38 @@ impl Draft {
         }
     }
 
-    /// Puts the entry behind the others.
-    pub(crate) fn push_within(&mut self, ace: Ace)
+    /// A list in the making is no longer than a list may be. This does nothing: it states what a draft keeps.
+    pub(crate) fn tell_length(&self)
+        ensures { length self.now ≤ MAX_ACES }
+    {
+        let _ = &self.aces;
+    }
+
+    /// Puts the entry behind the others. It is refused only for want of memory, and not up to `N` entries.
+    pub(crate) fn push_within(&mut self, ace: Ace) -> Result<(), Full>
         requires room { length self.old < MAX_ACES }
         requires effective { is_idle ace ≡ false }
-        ensures { self.new ≡ self.old ++ ace ∷ [] }
+        ensures ok { OnOk result (self.new ≡ self.old ++ ace ∷ []) }
+        ensures full { OnErr result (IsTooLong N (self.old ++ ace ∷ [])) }
     {
         // An entry tells that its bits have names where it is looked at.
         let _mask = ace.mask();
-        self.aces.push_reserved(ace);
+        match self.aces.push(ace) {
+            Ok(()) => Ok(()),
+            Err(_) => Err(Full),
+        }
     }
 
     /// Puts the entry behind the others, unless there is no room.
     pub(crate) fn push(&mut self, ace: Ace) -> Result<(), Full>
         requires { is_idle ace ≡ false }
         ensures ok { OnOk result (self.new ≡ self.old ++ ace ∷ []) }
-        ensures full { OnErr result (IsTooLong (self.old ++ ace ∷ [])) }
+        ensures full { OnErr result (IsTooLong N (self.old ++ ace ∷ [])) }
     {
         if self.aces.len() >= MAX_ACES {
             return Err(Full);
         }
-        self.push_within(ace);
-        Ok(())
+        self.push_within(ace)
     }
 
     /// Puts the entry behind the others, unless its mask is empty.
@@ -74,7 +85,7 @@ impl Draft {
     pub(crate) fn push_unless_empty(&mut self, ace: Ace) -> Result<(), Full>
         requires { is_idle ace ≡ false }
         ensures ok { OnOk result (self.new ≡ self.old ++ unless_empty ace) }
-        ensures full { OnErr result (IsTooLong (self.old ++ unless_empty ace)) }
+        ensures full { OnErr result (IsTooLong N (self.old ++ unless_empty ace)) }
     {
         if ace.mask().is_empty() {
             return Ok(());
@@ -86,17 +97,18 @@ impl Draft {
     pub(crate) fn push_plain(&mut self, kind: AceType, who: Who, mask: Mask) -> Result<(), Full>
         requires { mask_bits mask ∩ all_masks ≡ mask_bits mask }
         ensures ok { OnOk result (self.new ≡ self.old ++ plain kind who (mask_bits mask)) }
-        ensures full { OnErr result (IsTooLong (self.old ++ plain kind who (mask_bits mask))) }
+        ensures full { OnErr result (IsTooLong N (self.old ++ plain kind who (mask_bits mask))) }
     {
         self.push_unless_empty(Ace::plain(kind, who, mask))
     }
+}
 
+impl Draft<INLINE_ACES> {
     /// The finished list.
-    pub(crate) fn finished(&self, alloc: Global) -> Result<Acl4, AllocError>
-        ensures value { IfOk result (λ acl. acl ≡ self.now) }
-        ensures short { length self.now ≤ 16 → IsOk result }
+    pub(crate) fn finished(self) -> Acl4
+        ensures { result ≡ self }
     {
-        let aces = SmallVec::from_slice(alloc, self.aces.as_slice())?;
-        Ok(Acl4::from_items(aces))
+        let Draft { aces } = self;
+        Acl4::from_items(aces)
     }
 }

@@ -5,6 +5,7 @@ ghost use Rattle.acl_nfs4.specs.Flags.{flag_bits, file_inherit, directory_inheri
 ghost use Rattle.acl_nfs4.specs.Inheritance.{flags_below, has_inheritance, inherited_entry, inherited_list};
 
 use crate::draft::Draft;
+use crate::limits::INLINE_ACES;
 use crate::{Ace, Acl4, Flags};
 use bitflags::Flags as FlagSet;
 use std::alloc::{AllocError, Global};
@@ -67,13 +68,13 @@ impl Acl4 {
         ensures value { IfOk result (λ acl. acl ≡ inherited_list kind self.now) }
         ensures short { length (inherited_list kind self.now) ≤ 16 → IsOk result }
     {
-        let mut draft = Draft::new(alloc);
+        let mut draft = Draft::<INLINE_ACES>::new(alloc);
         for ace in self.aces() {
             if let Some(below) = ace.inherited(kind) {
-                draft.push_within(below);
+                draft.push_within(below).map_err(|_| AllocError)?;
             }
         }
-        draft.finished(alloc)
+        Ok(draft.finished())
     }
 
     /// Whether any entry has one of the flags `FILE_INHERIT`, `DIRECTORY_INHERIT`, `NO_PROPAGATE_INHERIT` and

@@ -6,8 +6,9 @@ ghost use Rattle.acl_nfs4.specs.Flags.{flag_bits};
 ghost use Rattle.acl_nfs4.specs.Letters.{flag_table, mask_table};
 ghost use Rattle.acl_nfs4.specs.Mask.{mask_bits};
 
+use crate::letter_bits::{FLAG_BITS, MASK_BITS, read_bits};
 use crate::{Flags, Mask};
-use acl_names::{Letter, push_letters as push_letters_of, read_letters as read_letters_of};
+use acl_names::{Letter, push_letters as push_letters_of};
 use bitflags::Flags as FlagSet;
 use std::alloc::AllocError;
 
@@ -108,7 +109,7 @@ const MASK_TABLE: [Letter; 14] = [
 pub fn read_letters(text: &[u8]) -> Option<Mask>
     ensures { option_map mask_bits result ≡ letters_of mask_table text.now }
 {
-    match read_letters_of(&MASK_TABLE, text) {
+    match read_bits(&MASK_BITS, text) {
         Some(bits) => Some(Mask::from_bits_retain(bits)),
         None => None,
     }
@@ -118,7 +119,7 @@ pub fn read_letters(text: &[u8]) -> Option<Mask>
 pub(crate) fn read_flags(text: &[u8]) -> Option<Flags>
     ensures { option_map flag_bits result ≡ letters_of flag_table text.now }
 {
-    match read_letters_of(&FLAG_TABLE, text) {
+    match read_bits(&FLAG_BITS, text) {
         Some(bits) => Some(Flags::from_bits_retain(bits as u8)),
         None => None,
     }

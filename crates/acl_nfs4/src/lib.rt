@@ -10,6 +10,7 @@ mod draft;
 mod evaluation;
 mod flags;
 mod inheritance;
+mod letter_bits;
 mod letters;
 mod limits;
 mod mask;

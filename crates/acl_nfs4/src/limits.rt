@@ -5,6 +5,9 @@ ghost use Rattle.acl_nfs4.specs.declared.limits.TheConstants.{MAX_ACES};
 /// The most entries of an access control list.
 pub const MAX_ACES: usize = 128;
 
+/// How many entries a list has in itself; with more it has them all in memory of their own.
+pub(crate) const INLINE_ACES: usize = 16;
+
 /// The limits as numbers. There is nothing to run here: it states the law.
 pub fn limits_in_numbers()
     ensures aces { MAX_ACES ≡ 128 }

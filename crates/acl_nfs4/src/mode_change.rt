@@ -10,7 +10,7 @@ ghost use Rattle.acl_nfs4.specs.ModeChange.{kept_mask, kept_of, kept, names_some
 ghost use Rattle.acl_nfs4.specs.ModeChangeLaws.{GrantsOwner, GrantsGroup, GrantsOthers, LimitsNamed, KeepsAudits, KeepsInheritOnly, InheritsAlike};
 
 use crate::draft::{Draft, Full};
-use crate::limits::MAX_ACES;
+use crate::limits::{INLINE_ACES, MAX_ACES};
 use crate::mask::{mask_of, rest_of};
 use crate::{Ace, AceType, Acl4, Flags, Mask, Who};
 use acl_posix::{Mode, Perms};
@@ -95,18 +95,18 @@ impl Ace {
 }
 
 /// In front: what the mode's user has is allowed to the owner, and the rest of the mode's bits denied.
-fn push_owner(draft: &mut Draft, user: Perms) -> Result<(), Full>
+fn push_owner<const N: usize>(draft: &mut Draft<N>, user: Perms) -> Result<(), Full>
     ensures ok { OnOk result (draft.new ≡ draft.old ++ for_owner (bits_of user)) }
-    ensures full { OnErr result (IsTooLong (draft.old ++ for_owner (bits_of user))) }
+    ensures full { OnErr result (IsTooLong N (draft.old ++ for_owner (bits_of user))) }
 {
     draft.push_plain(AceType::Allow, Who::Owner, mask_of(user))?;
     draft.push_plain(AceType::Deny, Who::Owner, rest_of(user))
 }
 
 /// Behind: the same for the group, and what the mode's others have is allowed to everyone.
-fn push_others(draft: &mut Draft, group: Perms, other: Perms) -> Result<(), Full>
+fn push_others<const N: usize>(draft: &mut Draft<N>, group: Perms, other: Perms) -> Result<(), Full>
     ensures ok { OnOk result (draft.new ≡ draft.old ++ for_others (bits_of group) (bits_of other)) }
-    ensures full { OnErr result (IsTooLong (draft.old ++ for_others (bits_of group) (bits_of other))) }
+    ensures full { OnErr result (IsTooLong N (draft.old ++ for_others (bits_of group) (bits_of other))) }
 {
     draft.push_plain(AceType::Allow, Who::Group, mask_of(group))?;
     draft.push_plain(AceType::Deny, Who::Group, rest_of(group))?;
@@ -115,10 +115,10 @@ fn push_others(draft: &mut Draft, group: Perms, other: Perms) -> Result<(), Full
 
 /// What an entry leaves: one that doesn't decide stays; one that is inherited too becomes one entry for each; and what takes
 /// effect keeps no bit that the mode takes.
-fn push_kept_of(draft: &mut Draft, ace: &Ace, group: Perms) -> Result<(), Full>
+fn push_kept_of<const N: usize>(draft: &mut Draft<N>, ace: &Ace, group: Perms) -> Result<(), Full>
     requires { is_idle ace.now ≡ false }
     ensures ok { OnOk result (draft.new ≡ draft.old ++ kept_of (bits_of group) ace.now) }
-    ensures full { OnErr result (IsTooLong (draft.old ++ kept_of (bits_of group) ace.now)) }
+    ensures full { OnErr result (IsTooLong N (draft.old ++ kept_of (bits_of group) ace.now)) }
 {
     if !ace.decides() {
         return draft.push(*ace);
@@ -131,10 +131,10 @@ fn push_kept_of(draft: &mut Draft, ace: &Ace, group: Perms) -> Result<(), Full>
 }
 
 /// What the old entries leave.
-fn push_kept(draft: &mut Draft, aces: &[Ace], group: Perms) -> Result<(), Full>
+fn push_kept<const N: usize>(draft: &mut Draft<N>, aces: &[Ace], group: Perms) -> Result<(), Full>
     requires { HaveEffect aces.now }
     ensures ok { OnOk result (draft.new ≡ draft.old ++ kept (bits_of group) aces.now) }
-    ensures full { OnErr result (IsTooLong (draft.old ++ kept (bits_of group) aces.now)) }
+    ensures full { OnErr result (IsTooLong N (draft.old ++ kept (bits_of group) aces.now)) }
 {
     for ace in aces {
         push_kept_of(draft, ace, group)?;
@@ -163,9 +163,14 @@ fn denied_to(aces: &[Ace], who: &Who) -> Mask
 }
 
 /// What the mode's group lacks, denied to this who as far as the old entries don't.
-fn push_denial(draft: &mut Draft, aces: &[Ace], group: Perms, who: Who) -> Result<(), Full>
+fn push_denial<const N: usize>(
+    draft: &mut Draft<N>,
+    aces: &[Ace],
+    group: Perms,
+    who: Who,
+) -> Result<(), Full>
     ensures ok { OnOk result (draft.new ≡ draft.old ++ denial_of (bits_of group) aces.now who) }
-    ensures full { OnErr result (IsTooLong (draft.old ++ denial_of (bits_of group) aces.now who)) }
+    ensures full { OnErr result (IsTooLong N (draft.old ++ denial_of (bits_of group) aces.now who)) }
 {
     let denied = denied_to(aces, &who);
     draft.push_plain(AceType::Deny, who, rest_of(group).without(denied))
@@ -175,9 +180,13 @@ fn push_denial(draft: &mut Draft, aces: &[Ace], group: Perms, who: Who) -> Resul
 ///
 /// For each entry that names someone this looks at the entries before it, and for each who at all entries. The list has at
 /// most 128 of them; to sort them by who and back would cost a second list and gain nothing at this length.
-fn push_denials(draft: &mut Draft, aces: &[Ace], group: Perms) -> Result<(), Full>
+fn push_denials<const N: usize>(
+    draft: &mut Draft<N>,
+    aces: &[Ace],
+    group: Perms,
+) -> Result<(), Full>
     ensures ok { OnOk result (draft.new ≡ draft.old ++ denials (bits_of group) aces.now) }
-    ensures full { OnErr result (IsTooLong (draft.old ++ denials (bits_of group) aces.now)) }
+    ensures full { OnErr result (IsTooLong N (draft.old ++ denials (bits_of group) aces.now)) }
 {
     for place in 0..aces.len() {
         let ace = &aces[place];
@@ -189,17 +198,34 @@ fn push_denials(draft: &mut Draft, aces: &[Ace], group: Perms) -> Result<(), Ful
 }
 
 /// The entries with the mode set.
-fn with_mode(alloc: Global, aces: &[Ace], mode: Mode) -> Result<Draft, Full>
-    requires { HaveEffect aces.now }
+fn with_mode<const N: usize>(alloc: Global, aces: &[Ace], mode: Mode) -> Result<Draft<N>, Full>
+    requires effective { HaveEffect aces.now }
+    requires places { N ≤ MAX_ACES }
     ensures ok { IfOk result (λ draft. draft ≡ with_mode aces.now mode) }
-    ensures full { OnErr result (IsTooLong (with_mode aces.now mode)) }
+    ensures within { IfOk result (λ draft. length draft ≤ MAX_ACES) }
+    ensures full { OnErr result (IsTooLong N (with_mode aces.now mode)) }
 {
     let mut draft = Draft::new(alloc);
     push_owner(&mut draft, mode.user)?;
     push_kept(&mut draft, aces, mode.group)?;
     push_denials(&mut draft, aces, mode.group)?;
     push_others(&mut draft, mode.group, mode.other)?;
+    draft.tell_length();
     Ok(draft)
+}
+
+/// Why the mode was not set: the list would have too many entries, or else memory ran out. It is made again to know it, where
+/// it needs no memory.
+#[cold]
+#[inline(never)]
+fn why_refused(alloc: Global, aces: &[Ace], mode: Mode) -> Fault4
+    requires { HaveEffect aces.now }
+    ensures { (result ≡ Fault4.TooMany) ↔ (MAX_ACES < length (with_mode aces.now mode)) }
+{
+    match with_mode::<MAX_ACES>(alloc, aces, mode) {
+        Ok(_) => Fault4::Memory,
+        Err(_) => Fault4::TooMany,
+    }
 }
 
 impl Acl4 {
@@ -238,17 +264,12 @@ impl Acl4 {
     {
         // A mode tells that it has permissions alone where it is looked at.
         let _user = mode.user;
-        match with_mode(alloc, self.aces(), mode) {
+        match with_mode::<INLINE_ACES>(alloc, self.aces(), mode) {
             Ok(draft) => {
-                match draft.finished(alloc) {
-                    Ok(acl) => {
-                        *self = acl;
-                        Ok(())
-                    }
-                    Err(_) => Err(Fault4::Memory),
-                }
+                *self = draft.finished();
+                Ok(())
             }
-            Err(_) => Err(Fault4::TooMany),
+            Err(_) => Err(why_refused(alloc, self.aces(), mode)),
         }
     }
 }

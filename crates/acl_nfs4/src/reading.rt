@@ -19,8 +19,8 @@ use crate::letters::{read_flags, read_letters};
 use crate::limits::MAX_ACES;
 use crate::{Ace, AceFault, AceType, Acl4, Who};
 use acl_names::{
-    Directory, ListFault, Parts, PieceReader, WrittenId, is_domain, read_list, split_field,
-    trim_blanks,
+    Directory, ListFault, Parts, PieceReader, WrittenId, is_domain, read_decimal, read_list,
+    split_field, trim_blanks,
 };
 use std::alloc::Global;
 
@@ -84,6 +84,7 @@ impl<'a> PieceReader for AceReader<'a> {
 }
 
 /// What a piece of these fields says.
+#[inline(always)]
 #[tactic(auto, unfolding(crate::specs::AceText::piece_value))]
 fn value_of_fields(directory: &Directory, fields: AceFields<'_>) -> Result<Ace, PieceFault>
     ensures { (piece : List ℕ) → fields_of piece ≡ Some (view_fields fields.entry) → result ≡ piece_value directory.now piece }
@@ -192,7 +193,25 @@ fn read_type(text: &[u8]) -> Option<AceType>
     }
 }
 
+/// Whom the text names. A decimal and a special identifier, as most are, are told at one look.
 fn read_who(text: &[u8]) -> Option<WrittenWho<'_>>
+    ensures { option_map view_who result ≡ written_who text.now }
+{
+    if let Some(number) = read_decimal(text) {
+        return Some(WrittenWho::Id(WrittenId::Number(number)));
+    }
+    if let [word @ .., last] = text {
+        if *last == b'@' {
+            if let Some(special) = read_special(word) {
+                return Some(special);
+            }
+        }
+    }
+    read_who_of_parts(text)
+}
+
+/// The same of any text, by its parts round each `@`.
+fn read_who_of_parts(text: &[u8]) -> Option<WrittenWho<'_>>
     ensures { option_map view_who result ≡ written_who text.now }
 {
     let mut parts = Parts::new(b'@', text);
@@ -238,6 +257,7 @@ fn read_name_at<'a>(name: &'a [u8], domain: &'a [u8]) -> Option<WrittenWho<'a>>
     }
 }
 
+#[inline(always)]
 fn resolve(directory: &Directory, is_group: bool, written: WrittenWho<'_>) -> Option<Who>
     ensures { result ≡ resolved_who directory.now is_group (view_who written.entry) }
 {
@@ -257,6 +277,7 @@ fn resolve(directory: &Directory, is_group: bool, written: WrittenWho<'_>) -> Op
 }
 
 /// The user or the group that has what is written.
+#[inline(always)]
 fn named(directory: &Directory, is_group: bool, written: WrittenId<'_>) -> Option<Who>
     ensures { result ≡ named directory.now is_group (view_written written.entry) }
 {

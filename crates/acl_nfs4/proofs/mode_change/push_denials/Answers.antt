@@ -12,7 +12,7 @@ use Rattle.acl_nfs4.proofs.mode_change.push_denials.Goals as goal
 use Rattle.acl_nfs4.proofs.mode_change.push_denials.Goals.{then-names_someone+then-not-any_names+in_ok-push_denial, else-names_someone, else-names_someone-via-then-names_someone+else-not-any_names, else-names_someone-via-else-names_someone}
 
 pub returns-in_err-push_denial-clause-full : goal.returns-in_err-push_denial-clause-full
-returns-in_err-push_denial-clause-full c =
+returns-in_err-push_denial-clause-full g c =
     let aces = c.args.aces.now in
     let i = c.loop-place.place in
     let ace = c.index-aces-place.result in
@@ -20,14 +20,14 @@ returns-in_err-push_denial-clause-full c =
     let ahead = made-ahead f aces i ace c.loop-place-test.true c.index-aces-place.is (sym c.names_someone.ensures ∙ c.if-names_someone.true)
     (ap (λ who. list_any (names who) (take i aces)) (sym c.who.ensures) ∙ sym c.any_names.ensures ∙ c.if-not-any_names.true) in
     OnErr-from c.from_residual.result
-    (too_long-within c.loop-place.draft (f ace.who) ahead.0 (c.args.draft.now ++ denials (bits_of c.args.group) aces)
+    (too_long-within g.row.N c.loop-place.draft (f ace.who) ahead.0 (c.args.draft.now ++ denials (bits_of c.args.group) aces)
     (ap (λ (xs : List Nfsace4). xs ++ (f ace.who ++ ahead.0)) c.loop-place.invariant
     ∙ append_assoc c.args.draft.now (flat_map f (named_in (take i aces))) (f ace.who ++ ahead.0)
     ∙ ap (λ (xs : List Nfsace4). c.args.draft.now ++ xs) ahead.1)
     (rw (← c.who-then-not-any_names.ensures) c.in_err-push_denial.ensures.full))
 
 pub loop-place-preserved : goal.loop-place-preserved
-loop-place-preserved c =
+loop-place-preserved g c =
     let aces = c.args.aces.now in
     let i = c.loop-place.place in
     let ace = c.index-aces-place.result in

@@ -5,4 +5,4 @@ use Rattle.acl_nfs4.proofs.mode_change.push_denials.Given as goal
 
 -- the denials so far are of those whom the entries so far name
 abbrev pub invariant-loop-place : goal.invariant-loop-place
-invariant-loop-place l = l.draft ≡ l.initial.draft ++ flat_map (denial_of (bits_of l.group) l.aces) (named_in (take l.place l.aces))
+invariant-loop-place g l = l.draft ≡ l.initial.draft ++ flat_map (denial_of (bits_of l.group) l.aces) (named_in (take l.place l.aces))

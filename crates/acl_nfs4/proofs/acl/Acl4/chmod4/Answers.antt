@@ -8,36 +8,36 @@ use Rattle.acl_nfs4.proofs.ModeChangeGrants.{grants-owner, grants-group, grants-
 use Rattle.acl_nfs4.proofs.ModeChangeTwice.{with_mode-twice}
 use Rattle.acl_nfs4.proofs.ModeChangeLeaves.{audits-with_mode, inherit_only-with_mode, inherited-with_mode}
 use Rattle.acl_nfs4.proofs.acl.Acl4.chmod4.Goals as goal
-use Rattle.acl_nfs4.proofs.acl.Acl4.chmod4.Goals.{Joined-draft}
+use Rattle.acl_nfs4.proofs.acl.Acl4.chmod4.Goals.{Joined-self-finished}
 
 -- the new list is the old one with the mode set
-set : (c : Joined-draft) → with_mode c.args.self.now c.args.mode ≡ c.in-Ok-finished.acl
+set : (c : Joined-self-finished) → with_mode c.args.self.now c.args.mode ≡ c.finished.result
 set c =
-    sym (c.in-Ok-finished.ensures.value ∙ c.in-Ok.ensures.ok ∙ ap (λ (aces : List Nfsace4). with_mode aces c.args.mode) c.aces.ensures.value)
+    sym (c.finished.ensures ∙ c.in-Ok.ensures.ok ∙ ap (λ (aces : List Nfsace4). with_mode aces c.args.mode) c.aces.ensures.value)
 
-pub returns-in-Ok-finished-clause-shown : goal.returns-in-Ok-finished-clause-shown
-returns-in-Ok-finished-clause-shown c = subst (λ (new : List Nfsace4). mode_of new ≡ c.args.mode) (set c) (mode_of-with_mode c.args.self.now c.args.mode (subst AreClasses c.mode.view_is c.mode.invariant))
+pub returns-in-Ok-clause-shown : goal.returns-in-Ok-clause-shown
+returns-in-Ok-clause-shown c = subst (λ (new : List Nfsace4). mode_of new ≡ c.args.mode) (set c) (mode_of-with_mode c.args.self.now c.args.mode (subst AreClasses c.mode.view_is c.mode.invariant))
 
-pub returns-in-Ok-finished-clause-owner_granted : goal.returns-in-Ok-finished-clause-owner_granted
-returns-in-Ok-finished-clause-owner_granted c = subst (λ (new : List Nfsace4). GrantsOwner new c.args.mode) (set c) (grants-owner c.args.self.now c.args.mode)
+pub returns-in-Ok-clause-owner_granted : goal.returns-in-Ok-clause-owner_granted
+returns-in-Ok-clause-owner_granted c = subst (λ (new : List Nfsace4). GrantsOwner new c.args.mode) (set c) (grants-owner c.args.self.now c.args.mode)
 
-pub returns-in-Ok-finished-clause-group_granted : goal.returns-in-Ok-finished-clause-group_granted
-returns-in-Ok-finished-clause-group_granted c = subst (λ (new : List Nfsace4). GrantsGroup c.args.self.now new c.args.mode) (set c) (grants-group c.args.self.now c.args.mode)
+pub returns-in-Ok-clause-group_granted : goal.returns-in-Ok-clause-group_granted
+returns-in-Ok-clause-group_granted c = subst (λ (new : List Nfsace4). GrantsGroup c.args.self.now new c.args.mode) (set c) (grants-group c.args.self.now c.args.mode)
 
-pub returns-in-Ok-finished-clause-others_granted : goal.returns-in-Ok-finished-clause-others_granted
-returns-in-Ok-finished-clause-others_granted c = subst (λ (new : List Nfsace4). GrantsOthers c.args.self.now new c.args.mode) (set c) (grants-others c.args.self.now c.args.mode)
+pub returns-in-Ok-clause-others_granted : goal.returns-in-Ok-clause-others_granted
+returns-in-Ok-clause-others_granted c = subst (λ (new : List Nfsace4). GrantsOthers c.args.self.now new c.args.mode) (set c) (grants-others c.args.self.now c.args.mode)
 
-pub returns-in-Ok-finished-clause-named_limited : goal.returns-in-Ok-finished-clause-named_limited
-returns-in-Ok-finished-clause-named_limited c = subst (λ (new : List Nfsace4). LimitsNamed c.args.self.now new c.args.mode) (set c) (limits-named c.args.self.now c.args.mode)
+pub returns-in-Ok-clause-named_limited : goal.returns-in-Ok-clause-named_limited
+returns-in-Ok-clause-named_limited c = subst (λ (new : List Nfsace4). LimitsNamed c.args.self.now new c.args.mode) (set c) (limits-named c.args.self.now c.args.mode)
 
-pub returns-in-Ok-finished-clause-audits_kept : goal.returns-in-Ok-finished-clause-audits_kept
-returns-in-Ok-finished-clause-audits_kept c = subst (λ (new : List Nfsace4). KeepsAudits c.args.self.now new) (set c) (audits-with_mode c.args.self.now c.args.mode)
+pub returns-in-Ok-clause-audits_kept : goal.returns-in-Ok-clause-audits_kept
+returns-in-Ok-clause-audits_kept c = subst (λ (new : List Nfsace4). KeepsAudits c.args.self.now new) (set c) (audits-with_mode c.args.self.now c.args.mode)
 
-pub returns-in-Ok-finished-clause-inherit_only_kept : goal.returns-in-Ok-finished-clause-inherit_only_kept
-returns-in-Ok-finished-clause-inherit_only_kept c = subst (λ (new : List Nfsace4). KeepsInheritOnly c.args.self.now new) (set c) (inherit_only-with_mode c.args.self.now c.args.mode)
+pub returns-in-Ok-clause-inherit_only_kept : goal.returns-in-Ok-clause-inherit_only_kept
+returns-in-Ok-clause-inherit_only_kept c = subst (λ (new : List Nfsace4). KeepsInheritOnly c.args.self.now new) (set c) (inherit_only-with_mode c.args.self.now c.args.mode)
 
-pub returns-in-Ok-finished-clause-inherits_alike : goal.returns-in-Ok-finished-clause-inherits_alike
-returns-in-Ok-finished-clause-inherits_alike c = subst (λ (new : List Nfsace4). InheritsAlike c.args.self.now new) (set c) (λ kind. inherited-with_mode kind c.args.self.now c.args.mode)
+pub returns-in-Ok-clause-inherits_alike : goal.returns-in-Ok-clause-inherits_alike
+returns-in-Ok-clause-inherits_alike c = subst (λ (new : List Nfsace4). InheritsAlike c.args.self.now new) (set c) (λ kind. inherited-with_mode kind c.args.self.now c.args.mode)
 
-pub returns-in-Ok-finished-clause-again : goal.returns-in-Ok-finished-clause-again
-returns-in-Ok-finished-clause-again c = subst (λ (new : List Nfsace4). with_mode new c.args.mode ≡ new) (set c) (with_mode-twice c.args.self.now c.args.mode)
+pub returns-in-Ok-clause-again : goal.returns-in-Ok-clause-again
+returns-in-Ok-clause-again c = subst (λ (new : List Nfsace4). with_mode new c.args.mode ≡ new) (set c) (with_mode-twice c.args.self.now c.args.mode)

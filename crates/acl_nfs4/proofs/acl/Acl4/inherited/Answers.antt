@@ -5,8 +5,8 @@ use Rattle.acl_nfs4.specs.Inheritance.{inherited_entry, inherited_list}
 use Rattle.acl_nfs4.proofs.ListLemmas.{drop-here, shorter, length-filter_map}
 use Rattle.acl_nfs4.proofs.acl.Acl4.inherited.Goals as goal
 
-pub push_within-requires-clause-room : goal.push_within-requires-clause-room
-push_within-requires-clause-room c =
+pub push_within-requires : goal.push_within-requires
+push_within-requires c =
     let whole : List Nfsace4 = c.aces-ace-items.result.now in
     let rest : List Nfsace4 = inherited_list c.args.kind (drop (c.loop-ace.ace-index + 1) whole) in
     let ahead = shorter c.loop-ace.draft c.in-Some.below rest (inherited_list c.args.kind whole)
@@ -16,4 +16,4 @@ push_within-requires-clause-room c =
     ∙ c.loop-ace.invariant) in
     let short : length (inherited_list c.args.kind whole) ≤ length whole = length-filter_map (inherited_entry c.args.kind) whole in
     let limit : length whole ≤ 128 = (rw c.aces-ace-items.ensures.value c.aces-ace-items.ensures.aces.within) in
-    omega arith
+    (omega arith, (omega arith, c.in-Some.ensures.effective))
