@@ -3,16 +3,16 @@
 
 ghost use Rattle.std.specs.Prelude.{◌≡◌, ◌++◌, ◌∷◌, Some, find, IfSome};
 ghost use Rattle.std.specs.Cmp.Lexicographic.{slice_cmp};
+ghost use Rattle.std.specs.Option.{option_copied};
 ghost use Rattle.std.specs.Ordering.{nat_cmp};
 ghost use Rattle.std.specs.Str.{bytes_eq};
 ghost use Rattle.acl_names.specs.Ascending.{IsAscending};
 
 use crate::limits::MAX_NAME_LEN;
-use crate::named::{Named, find_by_name};
+use crate::named::{Named, find_by_bytes};
 use std::alloc::{AllocError, Global};
-use std::str;
 
-/// So many guesses there are for each member: of 1024 names one in 16 shares its guess with another.
+/// So many guesses there are for each member: of many names one in 17 then loses its guess to another.
 const GUESSES_PER_MEMBER: usize = 8;
 
 /// An odd number near the golden ratio of 2^64, by which the bits of a hash are spread.
@@ -39,24 +39,16 @@ pub(crate) fn find_by_hash<'a, T: Named>(
     name: &[u8],
 ) -> Option<&'a T>
     requires { IsAscending (slice_cmp nat_cmp) T.name_of members.now }
-    ensures { IfSome result (λ member. find (λ other. bytes_eq (T.name_of other) name.now) members.now ≡ Some member.now) }
+    ensures { option_copied result ≡ find (λ other. bytes_eq (T.name_of other) name.now) members.now }
 {
     if let Some(member) = guessed(members, guesses, hash, name) {
         return Some(member);
     }
-    match str::from_utf8(name) {
-        Ok(name) => find_by_name(members, name),
-        Err(_) => None,
-    }
+    find_by_bytes(members, name)
 }
 
 /// The same where the guess for the hash is right.
-fn guessed<'a, T: Named>(
-    members: &'a [T],
-    guesses: &[u16],
-    hash: u64,
-    name: &[u8],
-) -> Option<&'a T>
+fn guessed<'a, T: Named>(members: &'a [T], guesses: &[u16], hash: u64, name: &[u8]) -> Option<&'a T>
     requires { IsAscending (slice_cmp nat_cmp) T.name_of members.now }
     ensures { IfSome result (λ member. find (λ other. bytes_eq (T.name_of other) name.now) members.now ≡ Some member.now) }
 {
@@ -92,7 +84,7 @@ pub fn split_name(separator: u8, text: &[u8]) -> Option<(&[u8], u64, &[u8])>
 }
 
 /// The hash of a name.
-fn hash_of(name: &[u8]) -> u64 {
+pub(crate) fn hash_of(name: &[u8]) -> u64 {
     let mut hash: u64 = 0;
     for byte in name {
         hash = hashed(hash, *byte);

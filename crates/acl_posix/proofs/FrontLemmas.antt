@@ -5,7 +5,7 @@ use Rattle.std.specs.Str.{bytes_eq}
 use Rattle.std.proofs.lemmas.List.{take-append-drop}
 use Rattle.std.proofs.lemmas.Slice.Eq.{bytes_eq-Decides}
 use Rattle.acl_names.specs.Directory.{Known, uid_of, gid_of}
-use Rattle.acl_names.specs.Ids.{IsNameOf, written_id, resolved}
+use Rattle.acl_names.specs.Ids.{has_name_shape, written_id, resolved}
 use Rattle.acl_names.specs.Plain.{IsField, IsFront}
 use Rattle.acl_names.proofs.Fields.{fields_again, joined_plain, name_field, tested_field}
 use Rattle.acl_names.proofs.IdTexts.{written_name}
@@ -27,28 +27,28 @@ begins_with front text rest same is =
     ∙ ap (λ t. front ++ t) (sym is)
 
 -- a name says the tag of the user, or of the group, that has it
-pub user_front : (known : Known) (text name : List ℕ) (uid : ℕ) (rest : List ℕ) → text ≡ name ++ 58 ∷ rest → IsNameOf (uid_of known) name uid
-    → BeginsWithTag known text word.User (User uid) rest
-user_front known text name uid rest cut found =
-    let field = name_field name found.shaped in
+pub user_front : (known : Known) (text name : List ℕ) (uid : ℕ) (rest : List ℕ) → text ≡ name ++ 58 ∷ rest → has_name_shape name ≡ true
+    → Some uid ≡ uid_of known name → BeginsWithTag known text word.User (User uid) rest
+user_front known text name uid rest cut shaped found =
+    let field = name_field name shaped in
     record {
       qualifier = name;
       cut = cut;
       field = field.0;
       says = user_tag known name field.1 ∙ qualified_by (λ n. User n) (uid_of known) uid (written_id name)
-          (ap (option_and_then (resolved (uid_of known))) (written_name name found.shaped) ∙ found.has);
+          (ap (option_and_then (resolved (uid_of known))) (written_name name shaped) ∙ sym found);
     }
 
-pub group_front : (known : Known) (text name : List ℕ) (gid : ℕ) (rest : List ℕ) → text ≡ name ++ 58 ∷ rest → IsNameOf (gid_of known) name gid
-    → BeginsWithTag known text word.Group (Group gid) rest
-group_front known text name gid rest cut found =
-    let field = name_field name found.shaped in
+pub group_front : (known : Known) (text name : List ℕ) (gid : ℕ) (rest : List ℕ) → text ≡ name ++ 58 ∷ rest → has_name_shape name ≡ true
+    → Some gid ≡ gid_of known name → BeginsWithTag known text word.Group (Group gid) rest
+group_front known text name gid rest cut shaped found =
+    let field = name_field name shaped in
     record {
       qualifier = name;
       cut = cut;
       field = field.0;
       says = group_tag known name field.1 ∙ qualified_by (λ n. Group n) (gid_of known) gid (written_id name)
-          (ap (option_and_then (resolved (gid_of known))) (written_name name found.shaped) ∙ found.has);
+          (ap (option_and_then (resolved (gid_of known))) (written_name name shaped) ∙ sym found);
     }
 
 pub front_is : (known : Known) (text behind_word behind_tag rest : List ℕ) (word : TagWord) (tag : Tag) (perms : ℕ)
