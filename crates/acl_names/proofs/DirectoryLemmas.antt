@@ -205,6 +205,41 @@ read_back name_of id_of members once shaped id name found =
     nothing : (n : List ℕ) → None ≡ Some n → ⊥
     nothing n e = cc
 
+-- a name that is found has its shape
+found_shaped : {X : Type 0} (name_of : X → List ℕ) (members : List X) → list_any (λ member. not (has_name_shape (name_of member))) members ≡ false
+    → (name : List ℕ) (member : X) → find (λ m. bytes_eq (name_of m) name) members ≡ Some member → has_name_shape name ≡ true
+found_shaped {X} name_of members shaped name member is =
+    elim (first_or_none (λ m. bytes_eq (name_of m) name) members) [
+      | inl (found, (that, passes)) ↦
+          let there : Contains members found = Contains-find (λ m. bytes_eq (name_of m) name) members found that in
+          let at : (d : X) → get_or members there.0 d ≡ found = λ d. get_or-within members there.0 d found there.1 ∙ there.2 in
+          let has_shape : has_name_shape (name_of found) ≡ true =
+          not_false _ (ap (λ m. not (has_name_shape (name_of m))) (sym (at found)) ∙ any_false members (λ m. not (has_name_shape (name_of m))) shaped there.0 found there.1) in
+          let same : name_of found ≡ name = (bytes_eq-Decides (name_of found) name).0 passes in
+          ap has_name_shape (sym same) ∙ has_shape
+      | inr none ↦ absurd (nothing member (sym none.0 ∙ is))
+    ]
+  where
+    nothing : (m : X) → None ≡ Some m → ⊥
+    nothing m e = cc
+
+names_shaped : (known : Known) → fault_of known ≡ None
+    → (list_any (λ (user : KnownUser). not (has_name_shape user.name)) known.users ≡ false)
+    × (list_any (λ (group : KnownGroup). not (has_name_shape group.name)) known.groups ≡ false)
+unfolding first_of_tests
+names_shaped known faultless =
+    let shaped = shapes_right (is_too_many known) (has_bad_name known) (repeats_name known) (repeats_id known) (has_unknown_group known) faultless in
+    let both = or_parts (not (has_domain_shape known.domain) || list_any (λ (user : KnownUser). not (has_name_shape user.name)) known.users)
+    (list_any (λ (group : KnownGroup). not (has_name_shape group.name)) known.groups) shaped in
+    let users = or_parts (not (has_domain_shape known.domain)) (list_any (λ (user : KnownUser). not (has_name_shape user.name)) known.users) both.0 in
+    (users.1, both.1)
+
+pub user_shaped : (known : Known) → fault_of known ≡ None → (name : List ℕ) (user : KnownUser) → user_named known name ≡ Some user → has_name_shape name ≡ true
+user_shaped known faultless = found_shaped (λ (user : KnownUser). user.name) known.users (names_shaped known faultless).0
+
+pub group_shaped : (known : Known) → fault_of known ≡ None → (name : List ℕ) (group : KnownGroup) → group_named known name ≡ Some group → has_name_shape name ≡ true
+group_shaped known faultless = found_shaped (λ (group : KnownGroup). group.name) known.groups (names_shaped known faultless).1
+
 -- where nothing is wrong, names can be told apart
 pub tells_names_apart : (known : Known) → fault_of known ≡ None → TellsNamesApart known
 unfolding first_of_tests

@@ -99,7 +99,15 @@ pub(crate) fn find_by_name<'a, T: Named>(members: &'a [T], name: &str) -> Option
     requires { IsAscending (slice_cmp nat_cmp) T.name_of members.now }
     ensures { option_copied result ≡ find (λ member. bytes_eq (T.name_of member) name.now) members.now }
 {
-    match members.binary_search_by(|member| member.name().cmp(name)) {
+    find_by_bytes(members, name.as_bytes())
+}
+
+/// The same of a name that may be no text.
+pub(crate) fn find_by_bytes<'a, T: Named>(members: &'a [T], name: &[u8]) -> Option<&'a T>
+    requires { IsAscending (slice_cmp nat_cmp) T.name_of members.now }
+    ensures { option_copied result ≡ find (λ member. bytes_eq (T.name_of member) name.now) members.now }
+{
+    match members.binary_search_by(|member| member.name().as_bytes().cmp(name)) {
         Ok(place) => Some(&members[place]),
         Err(_) => None,
     }

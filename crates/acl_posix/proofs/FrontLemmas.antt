@@ -1,20 +1,24 @@
 -- A text that begins with an entry field by field begins with it.
-use Rattle.std.proofs.Common.{◌≡◌, ℕ, ◌<◌, List, [], ◌∷◌, ◌++◌, length, take, drop, Some, Ok, sym, ap, ◌∙◌, append_assoc, length-append, arith, true}
+use Rattle.std.proofs.Common.{◌≡◌, ℕ, ◌<◌, List, [], ◌∷◌, ◌++◌, length, take, drop, Some, Ok, option_and_then, sym, ap, ◌∙◌, append_assoc, length-append, arith, true}
 use Rattle.std.specs.List.{AllByRecursion, join_with_byte}
 use Rattle.std.specs.Str.{bytes_eq}
 use Rattle.std.proofs.lemmas.List.{take-append-drop}
 use Rattle.std.proofs.lemmas.Slice.Eq.{bytes_eq-Decides}
-use Rattle.acl_names.specs.Directory.{Known}
+use Rattle.acl_names.specs.Directory.{Known, uid_of, gid_of}
+use Rattle.acl_names.specs.Ids.{has_name_shape, written_id, resolved}
 use Rattle.acl_names.specs.Plain.{IsField, IsFront}
-use Rattle.acl_names.proofs.Fields.{fields_again, joined_plain, tested_field}
+use Rattle.acl_names.proofs.Fields.{fields_again, joined_plain, name_field, tested_field}
+use Rattle.acl_names.proofs.IdTexts.{written_name}
 use Rattle.acl_posix.specs.Entry.{Triple}
 use Rattle.acl_posix.specs.EntryText.{Fields, as_fields, fields_of, entry_of}
 use Rattle.acl_posix.specs.Front.{BeginsWithWord, BeginsWithTag, BeginsWithPerms}
 use Rattle.acl_posix.specs.PermsText.{perms_of_text, three_letters}
 use Rattle.acl_posix.specs.declared.entry.Tag.{Tag}
+use Rattle.acl_posix.specs.declared.entry.Tag.TheVariants.{User, Group}
 use Rattle.acl_posix.specs.declared.reading.TagWord.{TagWord}
+use Rattle.acl_posix.specs.declared.reading.TagWord.TheVariants as word
 use Rattle.acl_posix.proofs.ReadLemmas.{three_letters-read}
-use Rattle.acl_posix.proofs.RoundTrip.{three_pass, read_parts}
+use Rattle.acl_posix.proofs.RoundTrip.{group_tag, qualified_by, read_parts, three_pass, user_tag}
 
 pub begins_with : (front text rest : List ℕ) → bytes_eq (take (length front) text) front ≡ true → rest ≡ drop (length front) text → text ≡ front ++ rest
 begins_with front text rest same is =
@@ -22,8 +26,33 @@ begins_with front text rest same is =
     ∙ ap (λ t. t ++ drop (length front) text) ((bytes_eq-Decides (take (length front) text) front).0 same)
     ∙ ap (λ t. front ++ t) (sym is)
 
+-- a name says the tag of the user, or of the group, that has it
+pub user_front : (known : Known) (text name : List ℕ) (uid : ℕ) (rest : List ℕ) → text ≡ name ++ 58 ∷ rest → has_name_shape name ≡ true
+    → Some uid ≡ uid_of known name → BeginsWithTag known text word.User (User uid) rest
+user_front known text name uid rest cut shaped found =
+    let field = name_field name shaped in
+    record {
+      qualifier = name;
+      cut = cut;
+      field = field.0;
+      says = user_tag known name field.1 ∙ qualified_by (λ n. User n) (uid_of known) uid (written_id name)
+          (ap (option_and_then (resolved (uid_of known))) (written_name name shaped) ∙ sym found);
+    }
+
+pub group_front : (known : Known) (text name : List ℕ) (gid : ℕ) (rest : List ℕ) → text ≡ name ++ 58 ∷ rest → has_name_shape name ≡ true
+    → Some gid ≡ gid_of known name → BeginsWithTag known text word.Group (Group gid) rest
+group_front known text name gid rest cut shaped found =
+    let field = name_field name shaped in
+    record {
+      qualifier = name;
+      cut = cut;
+      field = field.0;
+      says = group_tag known name field.1 ∙ qualified_by (λ n. Group n) (gid_of known) gid (written_id name)
+          (ap (option_and_then (resolved (gid_of known))) (written_name name shaped) ∙ sym found);
+    }
+
 pub front_is : (known : Known) (text behind_word behind_tag rest : List ℕ) (word : TagWord) (tag : Tag) (perms : ℕ)
-    → BeginsWithWord text word behind_word → BeginsWithTag behind_word word tag behind_tag → BeginsWithPerms behind_tag perms rest
+    → BeginsWithWord text word behind_word → BeginsWithTag known behind_word word tag behind_tag → BeginsWithPerms behind_tag perms rest
     → IsFront (entry_of known) text (record { tag = tag; perms = perms }) rest
 front_is known text behind_word behind_tag rest word tag perms w t p =
     let three = three_letters p.read p.write p.execute in
@@ -39,5 +68,5 @@ front_is known text behind_word behind_tag rest word tag perms w t p =
           ∙ sym (append_assoc w.written (58 ∷ (t.qualifier ++ 58 ∷ three)) rest ∙ ap (λ x. w.written ++ 58 ∷ x) (append_assoc t.qualifier (58 ∷ three) rest));
       some = omega (arith, length-append w.written (58 ∷ join_with_byte 58 more));
       plain = joined_plain w.written more are;
-      said = read_parts known piece fields word perms tag cut w.says allowed (t.says known);
+      said = read_parts known piece fields word perms tag cut w.says allowed t.says;
     }

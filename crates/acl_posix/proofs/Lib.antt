@@ -6,6 +6,7 @@ pub mod PermsLemmas
 pub mod AccessLemmas
 pub mod OrderLemmas
 pub mod InOrderLemmas
+pub mod InsertLemmas
 pub mod PartLemmas
 pub mod FoundLemmas
 pub mod FaultLemmas

@@ -14,12 +14,12 @@ pub record BeginsWithWord (text : List ℕ) (word : TagWord) (rest : List ℕ) :
   pub field : IsField written
   pub says : tag_word written ≡ Some word
 
--- the text behind the word begins with a qualifier and a colon, and whatever the directory, they say the tag
-pub record BeginsWithTag (text : List ℕ) (word : TagWord) (tag : Tag) (rest : List ℕ) : Type 0 where
+-- the text behind the word begins with a qualifier and a colon, and they say the tag
+pub record BeginsWithTag (known : Known) (text : List ℕ) (word : TagWord) (tag : Tag) (rest : List ℕ) : Type 0 where
   pub qualifier : List ℕ
   pub cut : text ≡ qualifier ++ 58 ∷ rest
   pub field : IsField qualifier
-  pub says : (known : Known) → tag_of known word (Some qualifier) ≡ Ok tag
+  pub says : tag_of known word (Some qualifier) ≡ Ok tag
 
 -- the text begins with three characters of permissions
 pub record BeginsWithPerms (text : List ℕ) (perms : ℕ) (rest : List ℕ) : Type 0 where

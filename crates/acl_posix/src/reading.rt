@@ -18,7 +18,7 @@ use crate::perms::{read_perms, read_perms_front};
 use crate::{Entries, Entry, Tag, TextFault};
 use acl_names::{
     Directory, Gid, ListFault, Parts, PieceReader, Uid, WrittenId, read_decimal_until, read_list,
-    trim_blanks,
+    split_name, trim_blanks,
 };
 use std::alloc::Global;
 
@@ -74,7 +74,7 @@ impl<'a> PieceReader for EntryReader<'a> {
         let Some((word, behind_word)) = read_word_front(text) else {
             return None;
         };
-        let Some((tag, behind_tag)) = read_tag_front(word, behind_word) else {
+        let Some((tag, behind_tag)) = read_tag_front(self.directory, word, behind_word) else {
             return None;
         };
         let Some((perms, rest)) = read_perms_front(behind_tag) else {
@@ -236,16 +236,53 @@ fn behind<'t>(front: &[u8], text: &'t [u8]) -> Option<&'t [u8]>
     }
 }
 
-/// The tag that the word and a qualifier say: none, or a decimal; and what stands behind its colon.
-fn read_tag_front(word: TagWord, text: &[u8]) -> Option<(Tag, &[u8])>
-    ensures { IfSome result (λ front. BeginsWithTag text.now word front.0 front.1.now) }
+/// The tag that the word and a qualifier say: none, a decimal, or a name; and what stands behind its colon.
+fn read_tag_front<'t>(
+    directory: &Directory,
+    word: TagWord,
+    text: &'t [u8],
+) -> Option<(Tag, &'t [u8])>
+    ensures { IfSome result (λ front. BeginsWithTag directory.now text.now word front.0 front.1.now) }
 {
     if let [b':', rest @ ..] = text {
         return Some((tag_of_word(word), rest));
     }
-    let (id, rest) = read_decimal_until(b':', text)?;
+    let Some((id, rest)) = read_decimal_until(b':', text) else {
+        return read_name_front(directory, word, text);
+    };
     let tag = named_tag(word, id)?;
     Some((tag, rest))
+}
+
+/// The tag that the word and a name say, and what stands behind its colon.
+fn read_name_front<'t>(
+    directory: &Directory,
+    word: TagWord,
+    text: &'t [u8],
+) -> Option<(Tag, &'t [u8])>
+    ensures { IfSome result (λ front. BeginsWithTag directory.now text.now word front.0 front.1.now) }
+{
+    match word {
+        TagWord::User => read_user_front(directory, text),
+        TagWord::Group => read_group_front(directory, text),
+        TagWord::Mask | TagWord::Other => None,
+    }
+}
+
+fn read_user_front<'t>(directory: &Directory, text: &'t [u8]) -> Option<(Tag, &'t [u8])>
+    ensures { IfSome result (λ front. BeginsWithTag directory.now text.now TagWord.User front.0 front.1.now) }
+{
+    let (name, hash, rest) = split_name(b':', text)?;
+    let uid = directory.uid_by_hash(hash, name)?;
+    Some((Tag::User(uid), rest))
+}
+
+fn read_group_front<'t>(directory: &Directory, text: &'t [u8]) -> Option<(Tag, &'t [u8])>
+    ensures { IfSome result (λ front. BeginsWithTag directory.now text.now TagWord.Group front.0 front.1.now) }
+{
+    let (name, hash, rest) = split_name(b':', text)?;
+    let gid = directory.gid_by_hash(hash, name)?;
+    Some((Tag::Group(gid), rest))
 }
 
 /// The tag of an entry that names no one.

@@ -1,5 +1,5 @@
 use acl_examples::{group, groups, user, users};
-use acl_names::{Directory, Gid, Group, SetupFault, Uid, User};
+use acl_names::{Directory, Gid, Group, SetupFault, Uid, User, split_name};
 use std::alloc::Global;
 use std::test::Fail;
 
@@ -65,6 +65,27 @@ fn looks_up_names_and_ids(rt: HostRuntime) -> Result<(), Fail> {
     assert_eq!(rt; directory.gid_of("alice"), None);
     assert_eq!(rt; directory.user_name(Uid::new(50).ok_or("uid")?), None);
     assert_eq!(rt; directory.group_name(Gid::new(1000).ok_or("gid")?), None);
+    Ok(())
+}
+
+#[test]
+fn names_are_found_whatever_their_hash(rt: HostRuntime) -> Result<(), Fail> {
+    let directory = made(
+        rt.alloc(),
+        users(rt.alloc()).ok_or("users")?,
+        groups(rt.alloc()).ok_or("groups")?,
+    )?;
+    let (name, hash, rest) = split_name(b':', b"alice:rw-").ok_or("a name")?;
+    assert!(rt; name == b"alice".as_slice() && rest == b"rw-".as_slice());
+    assert_eq!(rt; directory.uid_by_hash(hash, name), Uid::new(1000));
+    assert_eq!(rt; directory.gid_by_hash(hash, name), None);
+    for other in [0, 1, u64::MAX] {
+        assert_eq!(rt; directory.uid_by_hash(other, b"bob"), Uid::new(1001));
+        assert_eq!(rt; directory.gid_by_hash(other, b"ops"), Gid::new(60));
+        assert_eq!(rt; directory.uid_by_hash(other, b"b\xff"), None);
+    }
+    assert!(rt; split_name(b':', b"alice").is_none());
+    assert!(rt; split_name(b':', b"a-name-of-more-than-thirty-two-bytes:").is_none());
     Ok(())
 }
 

@@ -30,6 +30,18 @@ returns-in_default-requesters-clause-refused c =
     fault_of-moved (string_bytes c.args.domain) c.args.users.items c.sort-user_keys.new.members.items c.args.groups.items c.sort-group_keys.new.members.items
     c.sort-user_keys.ensures.permutation c.sort-group_keys.ensures.permutation ∙ sym found ∙ none_from _ c.in_default.not-Some
 
+pub returns-in_default-guesses_of-clause-refused : goal.returns-in_default-guesses_of-clause-refused
+returns-in_default-guesses_of-clause-refused c =
+    let found = rw (c.deref.ensures, c.deref-2.ensures.value, c.deref-3.ensures.value) at c.first_fault.ensures in
+    fault_of-moved (string_bytes c.args.domain) c.args.users.items c.sort-user_keys.new.members.items c.args.groups.items c.sort-group_keys.new.members.items
+    c.sort-user_keys.ensures.permutation c.sort-group_keys.ensures.permutation ∙ sym found ∙ none_from _ c.in_default.not-Some
+
+pub returns-in_default-guesses_of-2-clause-refused : goal.returns-in_default-guesses_of-2-clause-refused
+returns-in_default-guesses_of-2-clause-refused c =
+    let found = rw (c.deref.ensures, c.deref-2.ensures.value, c.deref-3.ensures.value) at c.first_fault.ensures in
+    fault_of-moved (string_bytes c.args.domain) c.args.users.items c.sort-user_keys.new.members.items c.args.groups.items c.sort-group_keys.new.members.items
+    c.sort-user_keys.ensures.permutation c.sort-group_keys.ensures.permutation ∙ sym found ∙ none_from _ c.in_default.not-Some
+
 pub returns-clause-made : goal.returns-clause-made
 returns-clause-made c =
     let found = rw (c.deref.ensures, c.deref-2.ensures.value, c.deref-3.ensures.value) at c.first_fault.ensures in

@@ -6,7 +6,7 @@ use Rattle.std.proofs.lemmas.Cmp.{nat_list_cmp_total}
 use Rattle.std.proofs.lemmas.Fn.{always_returns_same}
 use Rattle.acl_names.proofs.AscendingLemmas.{find-searched, find-absent, slice_get-within}
 use Rattle.acl_names.proofs.Keys.{same_name}
-use Rattle.acl_names.proofs.named.find_by_name.Goals as goal
+use Rattle.acl_names.proofs.named.find_by_bytes.Goals as goal
 
 pub returns-in-Ok : goal.returns-in-Ok
 returns-in-Ok g c =
