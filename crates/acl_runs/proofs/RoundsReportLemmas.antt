@@ -4,7 +4,7 @@ use Rattle.std.specs.List.{AllByRecursion, flat_map}
 use Rattle.std.specs.declared.vec.Vec.{Vec}
 use Rattle.std.specs.declared.alloc.Global.{Global}
 use Rattle.std.proofs.Common.{ap, sym, ◌∙◌, subst, arith, get_or}
-use Rattle.std.proofs.lemmas.List.{length-map, get_or_default, take_all}
+use Rattle.std.proofs.lemmas.List.{length-map, map-id, get_or_default, take_all}
 use Rattle.acl_broker.specs.Journal.{items_from, state_after, answers_to}
 use Rattle.acl_broker.specs.declared.steps.JournalEntry.{JournalEntry}
 use Rattle.acl_runs.specs.RunReport.{IsReport}
@@ -47,14 +47,14 @@ module _ {C State I R : Type 0} (rest : C → List I) (next : State → I → St
     outputs = λ session progress below. (begun.fresh session progress below).1 ∙ ap (λ j. flat_map text (answers_to next reply session service j)) (sym begun.journal);
   }
 
-  module _ (service : State) (sessions : List C) (most : ℕ) (old new : Run C State I R) (report : RunReport State I R) (begun : HasBegun rest service sessions old) (served_all : AllRounds rest next reply text most old new) (told : IsReported new report) where
+  module _ (service : State) (sessions : List C) (most : ℕ) (old new : Run C State I R) (report : RunReport State R I R) (begun : HasBegun rest service sessions old) (served_all : AllRounds rest next reply text most old new) (told : IsReported new report) where
     journal_is : report.journal.items ≡ rounds most (map rest sessions)
     journal_is = ap (λ j. j.items) told.journal ∙ served_all.journal ∙ ap (λ front. front ++ rounds most (rests rest old)) begun.journal ∙ ap (λ lists. rounds most lists) begun.rests_are
 
     pub are_rounds : AllByRecursion (λ list. length list ≤ most) (map rest sessions) → AreRounds (map rest sessions) report.journal.items
     are_rounds few = (most, few, journal_is)
 
-    pub is_report : AllByRecursion (λ list. length list ≤ most) (map rest sessions) → IsReport next reply text is_error service None (map rest sessions) report
+    pub is_report : AllByRecursion (λ list. length list ≤ most) (map rest sessions) → IsReport next reply text is_error (λ answer. answer) service None (map rest sessions) report
     is_report few =
         let wanted = map rest sessions in
         let had = served_all.answered service (began_answered service sessions old begun) in
@@ -67,7 +67,7 @@ module _ {C State I R : Type 0} (rest : C → List I) (next : State → I → St
           answers = λ session none below.
               let within : session < length new.sessions.items = omega (arith, below, many) in
               let progress : Progress C R = some_item new.sessions.items session within in
-              ap (λ (v : Vec R Global). v.items) (told.answers session progress none within) ∙ had.answers session progress within ∙ ap (λ j. answers_to next reply session service j) (sym same);
+              ap (λ (v : Vec R Global). v.items) (told.answers session progress none within) ∙ had.answers session progress within ∙ ap (λ j. answers_to next reply session service j) (sym same) ∙ sym (map-id (answers_to next reply session service report.journal.items));
           printed = told.printed ∙ many;
           outputs = λ session none below.
               let within : session < length new.sessions.items = omega (arith, below, many) in

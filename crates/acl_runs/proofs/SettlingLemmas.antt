@@ -1,5 +1,5 @@
 -- Both sides of a run together: what each session submitted and polled is the journal's.
-use Rattle.std.specs.Prelude.{◌≡◌, ◌⊎◌, ℕ, suc, ◌<◌, ◌≤◌, Bool, true, false, List, [], ◌∷◌, ◌++◌, length, refl, Option, Some, None, if◌then◌else◌, ◌==◌}
+use Rattle.std.specs.Prelude.{◌≡◌, ◌⊎◌, ℕ, suc, ◌<◌, ◌≤◌, Bool, true, false, List, [], ◌∷◌, ◌++◌, length, map, refl, Option, Some, None, if◌then◌else◌, ◌==◌}
 use Rattle.std.specs.List.{AllByRecursion, flat_map}
 use Rattle.std.specs.declared.vec.Vec.{Vec}
 use Rattle.std.specs.declared.alloc.Global.{Global}
@@ -99,7 +99,7 @@ module _ {I R : Type 0} (is_error : R → Bool) where
   served_up_to (Some allowed) wanted sent items polled answers true as_many items_are polled_are (inr part) limited =
       ((prefix_trans items sent wanted items_are part.0, inr ((limited allowed refl).1 refl)), all_polled is_error allowed polled answers polled_are part.1 ((limited allowed refl).1 refl))
 
-module _ {State I R : Type 0} (next : State → I → State) (reply : State → I → R) (text : R → List ℕ) (is_error : R → Bool) where
+module _ {State I R K : Type 0} (next : State → I → State) (reply : State → I → R) (text : R → List ℕ) (is_error : R → Bool) (keep : R → K) where
   limit_at : (opening : State) (taker : TakerState State I R) (limit : Option ℕ) (limits : Limits) (session : ℕ) (side : TakerSide I R) → Keeps next reply opening taker → AreLimited is_error limit limits taker.sides → session < length taker.sides
       → (allowed : ℕ) → limit ≡ Some allowed
       → (((get_or taker.sides session side).cancelled ≡ false → errors_in is_error (answers_to next reply session opening taker.journal) < allowed)
@@ -114,31 +114,32 @@ module _ {State I R : Type 0} (next : State → I → State) (reply : State → 
       )
 
   -- the report of a run, from what each session was served and where the rejoined broker stands
-  pub report_of : (opening : State) (limit : Option ℕ) (limits : Limits) (wanted : List (List I)) (taker : TakerState State I R) (gathered : Gathered I R) (broker : BrokerState State I R) (report : RunReport State I R)
-      → Keeps next reply opening taker → AreLimited is_error limit limits taker.sides → AreServed text is_error limit wanted gathered → AreEndsOf gathered.ends.items taker.sides
+  pub report_of : (opening : State) (limit : Option ℕ) (limits : Limits) (wanted : List (List I)) (taker : TakerState State I R) (gathered : Gathered I R K) (broker : BrokerState State I R) (report : RunReport State K I R)
+      → Keeps next reply opening taker → AreLimited is_error limit limits taker.sides → AreServed text is_error keep limit wanted gathered → AreEndsOf gathered.ends.items taker.sides
       → ((point : Point State I R) → IsPointOf opening taker gathered.ends.items point → StandsAt next reply point broker)
       → report.journal.items ≡ taker.journal → report.service ≡ taker.service → report.answers ≡ gathered.answers → report.outputs ≡ gathered.outputs
-      → IsReport next reply text is_error opening limit wanted report
+      → IsReport next reply text is_error keep opening limit wanted report
   report_of opening limit limits wanted taker gathered broker report keeps limited served are stands journal_is service_is answers_are outputs_are =
       let ends = gathered.ends.items in
       let journal = taker.journal in
       let sessions : length taker.sides ≡ length wanted = sym are.0 ∙ served.ends in
       let answers_of : ℕ → List R = λ session. answers_to next reply session opening journal in
       let stood : StandsAt next reply (rejoined_point opening taker ends) broker = stands (rejoined_point opening taker ends) (is_rejoined_point opening taker ends are.0) in
-      let one = λ (session : ℕ) (none : List I) (answers : Vec R Global) (output : Vec ℕ Global) (below : session < length wanted).
+      let one = λ (session : ℕ) (none : List I) (answers : Vec K Global) (output : Vec ℕ Global) (below : session < length wanted).
       let within : session < length taker.sides = omega (arith, below, sessions) in
       let end : End I R = some_item ends session (omega (arith, below, served.ends)) in
       let side : TakerSide I R = some_item taker.sides session within in
       let lane = stood.each session fresh_lane within in
-      let is : IsServed text is_error limit (get_or wanted session none) (get_or ends session end) (get_or gathered.answers.items session answers).items (get_or gathered.outputs.items session output).items = served.each session none end answers output below in
+      let is : IsServed text is_error keep limit (get_or wanted session none) (get_or ends session end) (get_or gathered.answers.items session answers).items (get_or gathered.outputs.items session output).items = served.each session none end answers output below in
       let items_are : IsPrefix (items_from session journal) (sent_by (get_or ends session end)) = subst (λ all. IsPrefix (items_from session journal) all) (get_or-map sent_by ends session end [] (omega (arith, below, served.ends))) lane.merged in
-      let polled_are : IsPrefix (get_or gathered.answers.items session answers).items (answers_of session) =
-      ((get_or broker.lanes session fresh_lane).owed, ap (λ front. front ++ (get_or broker.lanes session fresh_lane).owed) (sym is.polled ∙ sym (get_or-map polled_by ends session end [] (omega (arith, below, served.ends)))) ∙ lane.answered) in
-      let all : IsServedUpTo is_error limit (get_or wanted session none) (items_from session journal) (answers_of session) × ((get_or gathered.answers.items session answers).items ≡ answers_of session) =
-      served_up_to is_error limit (get_or wanted session none) (sent_by (get_or ends session end)) (items_from session journal) (get_or gathered.answers.items session answers).items (answers_of session) (get_or taker.sides session side).cancelled
+      let polled = polled_by (get_or ends session end) in
+      let polled_are : IsPrefix polled (answers_of session) =
+      ((get_or broker.lanes session fresh_lane).owed, ap (λ front. front ++ (get_or broker.lanes session fresh_lane).owed) (sym (get_or-map polled_by ends session end [] (omega (arith, below, served.ends)))) ∙ lane.answered) in
+      let all : IsServedUpTo is_error limit (get_or wanted session none) (items_from session journal) (answers_of session) × (polled ≡ answers_of session) =
+      served_up_to is_error limit (get_or wanted session none) (sent_by (get_or ends session end)) (items_from session journal) polled (answers_of session) (get_or taker.sides session side).cancelled
       (length-answers_to next reply session opening journal) items_are polled_are is.sent (limit_at opening taker limit limits session side keeps limited within) in
-      let both : IsServedUpTo is_error limit (get_or wanted session none) (items_from session journal) (answers_of session) × ((get_or gathered.answers.items session answers).items ≡ answers_of session) × ((get_or gathered.outputs.items session output).items ≡ flat_map text (answers_of session)) =
-      (all.0, all.1, is.output_is ∙ ap (λ answers. flat_map text answers) all.1) in
+      let both : IsServedUpTo is_error limit (get_or wanted session none) (items_from session journal) (answers_of session) × ((get_or gathered.answers.items session answers).items ≡ map keep (answers_of session)) × ((get_or gathered.outputs.items session output).items ≡ flat_map text (answers_of session)) =
+      (all.0, is.kept_is ∙ ap (λ answers. map keep answers) all.1, is.output_is ∙ ap (λ answers. flat_map text answers) all.1) in
       both in
       let wanted_at = λ (session : ℕ) (below : session < length wanted). some_item wanted session below in
       let answers_at = λ (session : ℕ) (below : session < length wanted). some_item gathered.answers.items session (omega (arith, below, served.answers)) in
@@ -147,7 +148,7 @@ module _ {State I R : Type 0} (next : State → I → State) (reply : State → 
         known = subst (λ entries. AllByRecursion (λ entry. entry.session < length wanted) entries) (sym journal_is) (subst (λ n. AllByRecursion (λ entry. entry.session < n) journal) sessions keeps.known);
         served = λ session none below. subst (λ entries. IsServedUpTo is_error limit (get_or wanted session none) (items_from session entries) (answers_to next reply session opening entries)) (sym journal_is) (one session none (answers_at session below) (output_at session below) below).0;
         answered = ap (λ answers. length answers.items) answers_are ∙ served.answers;
-        answers = λ session none below. ap (λ answers. (get_or answers.items session none).items) answers_are ∙ (one session (wanted_at session below) none (output_at session below) below).1 ∙ ap (λ entries. answers_to next reply session opening entries) (sym journal_is);
+        answers = λ session none below. ap (λ answers. (get_or answers.items session none).items) answers_are ∙ (one session (wanted_at session below) none (output_at session below) below).1 ∙ ap (λ entries. map keep (answers_to next reply session opening entries)) (sym journal_is);
         printed = ap (λ outputs. length outputs.items) outputs_are ∙ served.outputs;
         outputs = λ session none below. ap (λ outputs. (get_or outputs.items session none).items) outputs_are ∙ (one session (wanted_at session below) (answers_at session below) none below).2 ∙ ap (λ entries. flat_map text (answers_to next reply session opening entries)) (sym journal_is);
         state = service_is ∙ keeps.state ∙ ap (λ entries. state_after next opening entries) (sym journal_is);

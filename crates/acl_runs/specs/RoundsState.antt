@@ -17,7 +17,7 @@ module _ {C State I R : Type 0} where
     pub fresh : (session : ℕ) (progress : Progress C R) → session < length run.sessions.items → ((slice_index_or run.sessions.items session progress).answers.items ≡ []) × ((slice_index_or run.sessions.items session progress).output.items ≡ [])
 
   -- the report has what the sessions were answered
-  pub record IsReported (run : Run C State I R) (report : RunReport State I R) : Type 0 where
+  pub record IsReported (run : Run C State I R) (report : RunReport State R I R) : Type 0 where
     pub journal : report.journal ≡ run.journal
     pub service_is : report.service ≡ run.service
     pub answered : length report.answers.items ≡ length run.sessions.items

@@ -45,52 +45,52 @@ pub record IsBegun {C State I R : Type 0} (rest : C → List I) (limit : Option 
   pub some : limit ≢ Some 0
 
 -- the handle of a worker
-abbrev pub Handle : Type 0 → Type 0 → Type 0 → Type 0 → Type 0
-Handle C P I R = PromisedHandle (Result (Finished I R) ServeFault) (Serves C P I R)
+abbrev pub Handle : Type 0 → Type 0 → Type 0 → Type 0 → Type 0 → Type 0
+Handle C P I R K = PromisedHandle (Result (Finished I R K) ServeFault) (Serves C P I R K)
 
-module _ {C P I R : Type 0} where
+module _ {C P I R K : Type 0} where
   -- the worker was started with this end and these requests
-  pub record IsStarted (replies : P) (max_errors : Option ℕ) (end : End I R) (requests : C) (worker : Handle C P I R) : Type 0 where
+  pub record IsStarted (replies : P) (max_errors : Option ℕ) (end : End I R) (requests : C) (worker : Handle C P I R K) : Type 0 where
     pub start : Open worker.promise.start.value ≡ end
     pub requests_are : worker.promise.requests.value ≡ requests
     pub replies_are : worker.promise.replies.now ≡ replies
     pub max_errors_is : worker.promise.max_errors ≡ max_errors
 
   -- a worker for each session, each with its own end and its own requests
-  pub record AreStarted (replies : P) (max_errors : Option ℕ) (ends : List (End I R)) (sessions : List C) (workers : List (Handle C P I R)) : Type 0 where
+  pub record AreStarted (replies : P) (max_errors : Option ℕ) (ends : List (End I R)) (sessions : List C) (workers : List (Handle C P I R K)) : Type 0 where
     pub count : length workers ≡ length sessions
-    pub each : (session : ℕ) (end : End I R) (requests : C) (worker : Handle C P I R) → session < length sessions → IsStarted replies max_errors (slice_index_or ends session end) (slice_index_or sessions session requests) (slice_index_or workers session worker)
+    pub each : (session : ℕ) (end : End I R) (requests : C) (worker : Handle C P I R K) → session < length sessions → IsStarted replies max_errors (slice_index_or ends session end) (slice_index_or sessions session requests) (slice_index_or workers session worker)
 
-  module _ (rest : C → List I) (text : P → R → List ℕ) (is_error : R → Bool) where
+  module _ (rest : C → List I) (text : P → R → List ℕ) (is_error : R → Bool) (keep : R → K) where
     -- what the worker's promise says of what it hands on
-    abbrev pub IsKept : Handle C P I R → End I R → List R → List ℕ → Type 0
-    IsKept worker end answers output = IsFinished (text worker.promise.replies.now) is_error worker.promise.start.value worker.promise.max_errors (rest worker.promise.requests.value) end answers output
+    abbrev pub IsKept : Handle C P I R K → End I R → List K → List ℕ → Type 0
+    IsKept worker end answers output = IsFinished (text worker.promise.replies.now) is_error keep worker.promise.start.value worker.promise.max_errors (rest worker.promise.requests.value) end answers output
 
     -- each place has what the worker of that place handed on
-    pub record AreGathered (workers : List (Handle C P I R)) (gathered : Gathered I R) : Type 0 where
+    pub record AreGathered (workers : List (Handle C P I R K)) (gathered : Gathered I R K) : Type 0 where
       pub ends : length gathered.ends.items ≡ length workers
       pub answers : length gathered.answers.items ≡ length workers
       pub outputs : length gathered.outputs.items ≡ length workers
-      pub each : (session : ℕ) (worker : Handle C P I R) (end : End I R) (answers : Vec R Global) (output : Vec ℕ Global) → session < length workers
+      pub each : (session : ℕ) (worker : Handle C P I R K) (end : End I R) (answers : Vec K Global) (output : Vec ℕ Global) → session < length workers
           → IsKept (slice_index_or workers session worker) (slice_index_or gathered.ends.items session end) (slice_index_or gathered.answers.items session answers).items (slice_index_or gathered.outputs.items session output).items
 
-module _ {I R : Type 0} where
+module _ {I R K : Type 0} where
   -- nothing is there, and room for so many
-  pub record HasRoom (count : ℕ) (gathered : Gathered I R) : Type 0 where
+  pub record HasRoom (count : ℕ) (gathered : Gathered I R K) : Type 0 where
     pub ends : (vec_len gathered.ends ≡ 0) × (count ≤ vec_capacity gathered.ends)
     pub answers : (vec_len gathered.answers ≡ 0) × (count ≤ vec_capacity gathered.answers)
     pub outputs : (vec_len gathered.outputs ≡ 0) × (count ≤ vec_capacity gathered.outputs)
 
   -- each place has the end, answers and output of a session that is served
-  pub record AreServed (text : R → List ℕ) (is_error : R → Bool) (limit : Option ℕ) (wanted : List (List I)) (gathered : Gathered I R) : Type 0 where
+  pub record AreServed (text : R → List ℕ) (is_error : R → Bool) (keep : R → K) (limit : Option ℕ) (wanted : List (List I)) (gathered : Gathered I R K) : Type 0 where
     pub ends : length gathered.ends.items ≡ length wanted
     pub answers : length gathered.answers.items ≡ length wanted
     pub outputs : length gathered.outputs.items ≡ length wanted
-    pub each : (session : ℕ) (none : List I) (end : End I R) (answers : Vec R Global) (output : Vec ℕ Global) → session < length wanted
-        → IsServed text is_error limit (slice_index_or wanted session none) (slice_index_or gathered.ends.items session end) (slice_index_or gathered.answers.items session answers).items (slice_index_or gathered.outputs.items session output).items
+    pub each : (session : ℕ) (none : List I) (end : End I R) (answers : Vec K Global) (output : Vec ℕ Global) → session < length wanted
+        → IsServed text is_error keep limit (slice_index_or wanted session none) (slice_index_or gathered.ends.items session end) (slice_index_or gathered.answers.items session answers).items (slice_index_or gathered.outputs.items session output).items
 
 -- the report of a run in which each session was served, whatever opening state its taker keeps
-abbrev pub Settles : {State I R : Type 0} → (State → I → State) → (State → I → R) → TakerState State I R → Gathered I R → RunReport State I R → Type 0
-Settles {State} {I} {R} next reply taker gathered report =
-    (text : R → List ℕ) (is_error : R → Bool) (opening : State) (limit : Option ℕ) (limits : Limits) (wanted : List (List I))
-    → Keeps next reply opening taker → AreLimited is_error limit limits taker.sides → AreServed text is_error limit wanted gathered → IsReport next reply text is_error opening limit wanted report
+abbrev pub Settles : {State I R K : Type 0} → (State → I → State) → (State → I → R) → TakerState State I R → Gathered I R K → RunReport State K I R → Type 0
+Settles {State} {I} {R} {K} next reply taker gathered report =
+    (text : R → List ℕ) (is_error : R → Bool) (keep : R → K) (opening : State) (limit : Option ℕ) (limits : Limits) (wanted : List (List I))
+    → Keeps next reply opening taker → AreLimited is_error limit limits taker.sides → AreServed text is_error keep limit wanted gathered → IsReport next reply text is_error keep opening limit wanted report

@@ -1,5 +1,5 @@
 -- What the worker of a session does.
-use Rattle.std.specs.Prelude.{◌≡◌, ◌⊎◌, ℕ, Bool, true, List, [], ◌∷◌, ◌++◌, length, Option, Some, None, if◌then◌else◌, ◌-◌}
+use Rattle.std.specs.Prelude.{◌≡◌, ◌⊎◌, ℕ, Bool, true, List, [], ◌∷◌, ◌++◌, length, map, Option, Some, None, if◌then◌else◌, ◌-◌}
 use Rattle.std.specs.List.{flat_map}
 use mathlib.Core.List.{IsPrefix}
 use Rattle.acl_broker.specs.Ends.{sent_by, polled_by, is_closed, StaysEndOf}
@@ -18,52 +18,52 @@ one_less (Some left) = Some (left - 1)
 abbrev pub IsNew : {I R : Type 0} → SessionEnd I R → Type 0
 IsNew end = (sent_by (Open end) ≡ []) × (polled_by (Open end) ≡ [])
 
-module _ {R : Type 0} where
+module _ {K : Type 0} where
   -- no more errors are allowed
-  abbrev pub IsOver : Printed R → Type 0
+  abbrev pub IsOver : Printed K → Type 0
   IsOver printed = printed.left ≡ Some 0
 
-module _ {R : Type 0} (text : R → List ℕ) (is_error : R → Bool) where
-  -- one more answer, with its text
-  pub record Prints (old : Printed R) (answer : R) (new : Printed R) : Type 0 where
-    pub answers : new.answers.items ≡ old.answers.items ++ answer ∷ []
+module _ {R K : Type 0} (text : R → List ℕ) (is_error : R → Bool) (keep : R → K) where
+  -- one more answer, of which so much is kept, with its text
+  pub record Prints (old : Printed K) (answer : R) (new : Printed K) : Type 0 where
+    pub answers : new.answers.items ≡ old.answers.items ++ keep answer ∷ []
     pub output : new.output.items ≡ old.output.items ++ text answer
     pub left : new.left ≡ (if is_error answer then one_less old.left else old.left)
 
   -- these answers are printed, and the errors among them counted
-  pub record HasPrinted (limit : Option ℕ) (polled : List R) (printed : Printed R) : Type 0 where
-    pub answers : printed.answers.items ≡ polled
+  pub record HasPrinted (limit : Option ℕ) (polled : List R) (printed : Printed K) : Type 0 where
+    pub answers : printed.answers.items ≡ map keep polled
     pub output : printed.output.items ≡ flat_map text polled
     pub left : printed.left ≡ left_after is_error limit polled
 
   module _ {I : Type 0} where
     -- one session at two moments: these items were submitted since, and what was polled was printed
-    pub record GoesOn (old : End I R) (was : Printed R) (items : List I) (new : End I R) (is : Printed R) : Type 0 where
+    pub record GoesOn (old : End I R) (was : Printed K) (items : List I) (new : End I R) (is : Printed K) : Type 0 where
       pub stays : StaysEndOf old new
       pub sent : sent_by new ≡ sent_by old ++ items
       pub prints : (limit : Option ℕ) → HasPrinted limit (polled_by old) was → HasPrinted limit (polled_by new) is
       pub over : IsOver was → IsOver is
 
     -- the same, and what was submitted was the first of what was still wanted
-    pub record Advances (old : End I R) (was : Printed R) (wanted : List I) (new : End I R) (is : Printed R) (rest : List I) : Type 0 where
+    pub record Advances (old : End I R) (was : Printed K) (wanted : List I) (new : End I R) (is : Printed K) (rest : List I) : Type 0 where
       pub stays : StaysEndOf old new
       pub sent : sent_by new ++ rest ≡ sent_by old ++ wanted
       pub prints : (limit : Option ℕ) → HasPrinted limit (polled_by old) was → HasPrinted limit (polled_by new) is
 
     -- the session has submitted all that it wanted, which is so many; or some of it, where no more errors are allowed
-    pub record Submits (old : End I R) (was : Printed R) (wanted : List I) (count : ℕ) (new : End I R) (is : Printed R) : Type 0 where
+    pub record Submits (old : End I R) (was : Printed K) (wanted : List I) (count : ℕ) (new : End I R) (is : Printed K) : Type 0 where
       pub stays : StaysEndOf old new
       pub sent : ((sent_by new ≡ sent_by old ++ wanted) × (count ≡ length wanted)) ⊎ (IsPrefix (sent_by new) (sent_by old ++ wanted) × IsOver is)
       pub prints : (limit : Option ℕ) → HasPrinted limit (polled_by old) was → HasPrinted limit (polled_by new) is
 
-    -- a session that is served: its end, closed, has submitted all that was wanted and polled as many answers, or some of it where these answers use up the errors allowed; these are the answers that it polled, and this is their text
-    pub record IsServed (limit : Option ℕ) (wanted : List I) (end : End I R) (answers : List R) (output : List ℕ) : Type 0 where
+    -- a session that is served: its end, closed, has submitted all that was wanted and polled as many answers, or some of it where these answers use up the errors allowed; this is what is kept of the answers that it polled, and this is their text
+    pub record IsServed (limit : Option ℕ) (wanted : List I) (end : End I R) (kept : List K) (output : List ℕ) : Type 0 where
       pub closed : is_closed end ≡ true
-      pub sent : ((sent_by end ≡ wanted) × (length answers ≡ length wanted)) ⊎ (IsPrefix (sent_by end) wanted × UsesUp is_error limit answers)
-      pub polled : polled_by end ≡ answers
-      pub output_is : output ≡ flat_map text answers
+      pub sent : ((sent_by end ≡ wanted) × (length (polled_by end) ≡ length wanted)) ⊎ (IsPrefix (sent_by end) wanted × UsesUp is_error limit (polled_by end))
+      pub kept_is : kept ≡ map keep (polled_by end)
+      pub output_is : output ≡ flat_map text (polled_by end)
 
     -- what a worker hands on that wasn't stopped: its own end, of a session that is served
-    pub record IsFinished (start : SessionEnd I R) (limit : Option ℕ) (wanted : List I) (end : End I R) (answers : List R) (output : List ℕ) : Type 0 where
+    pub record IsFinished (start : SessionEnd I R) (limit : Option ℕ) (wanted : List I) (end : End I R) (kept : List K) (output : List ℕ) : Type 0 where
       pub stays : StaysEndOf (Open start) end
-      pub served : IsServed limit wanted end answers output
+      pub served : IsServed limit wanted end kept output

@@ -19,7 +19,7 @@ pub fn serve_in_rounds<P, S, C>(
     replies: &P,
     service: S,
     sessions: Vec<C>,
-) -> Result<RunReport<S>, ServeFault>
+) -> Result<RunReport<S, S::Reply>, ServeFault>
 where
     P: Replies<Reply = S::Reply>,
     S: Service + Drop,
@@ -28,7 +28,7 @@ where
     S::Reply: Drop,
     requires count { length sessions.items < 2 ^ 32 }
     requires few { All (λ session. length (C.rest session) < 2 ^ 32) sessions.items }
-    ensures report { IfOk result (IsReport S.next S.reply (P.text replies.now) P.is_error service None (map C.rest sessions.items)) }
+    ensures report { IfOk result (IsReport S.next S.reply (P.text replies.now) P.is_error (λ reply. reply) service None (map C.rest sessions.items)) }
     ensures journal { IfOk result (λ report. AreRounds (map C.rest sessions.items) report.journal.items) }
     ensures fault { IfErr result (λ fault. fault ≡ ServeFault.Memory) }
 {
@@ -45,7 +45,7 @@ fn serve_at_most<P, S, C>(
     service: S,
     sessions: Vec<C>,
     most: u32,
-) -> Result<RunReport<S>, AllocError>
+) -> Result<RunReport<S, S::Reply>, AllocError>
 where
     P: Replies<Reply = S::Reply>,
     S: Service + Drop,
@@ -54,7 +54,7 @@ where
     S::Reply: Drop,
     requires count { length sessions.items < 2 ^ 32 }
     requires few { All (λ session. length (C.rest session) ≤ most) sessions.items }
-    ensures report { IfOk result (IsReport S.next S.reply (P.text replies.now) P.is_error service None (map C.rest sessions.items)) }
+    ensures report { IfOk result (IsReport S.next S.reply (P.text replies.now) P.is_error (λ reply. reply) service None (map C.rest sessions.items)) }
     ensures journal { IfOk result (λ report. AreRounds (map C.rest sessions.items) report.journal.items) }
 {
     let mut begun = begin_all(alloc, service, sessions)?;

@@ -28,7 +28,7 @@ pub fn serve_sessions<R, G, P, S, C>(
     service: S,
     sessions: Vec<C>,
     max_errors: Option<u32>,
-) -> Result<RunReport<S>, ServeFault>
+) -> Result<RunReport<S, P::Kept>, ServeFault>
 where
     R: Threads + Wait + Clock + Sync,
     G: Gate,
@@ -37,10 +37,11 @@ where
     C: Requests<Request = S::Request> + Send + Drop,
     S::Request: Send + Drop,
     S::Reply: Send + Drop,
+    P::Kept: Send + Drop,
     requires count { (1 ≤ length sessions.items) × (length sessions.items ≤ SESSIONS) }
     requires few { All (λ session. length (C.rest session) < 2 ^ 32) sessions.items }
     requires some { max_errors ≢ Some 0 }
-    ensures { IfOk result (IsReport S.next S.reply (P.text replies.now) P.is_error service max_errors (map C.rest sessions.items)) }
+    ensures { IfOk result (IsReport S.next S.reply (P.text replies.now) P.is_error P.keep service max_errors (map C.rest sessions.items)) }
 {
     let Ok(begun) = begin(alloc, &sessions, service, max_errors) else {
         return Err(ServeFault::Memory);
@@ -50,9 +51,9 @@ where
     thread::scope(
         thread::scope_env(),
         rt,
-        |scope| -> Result<RunReport<S>, ServeFault>
+        |scope| -> Result<RunReport<S, P::Kept>, ServeFault>
             requires { IsBegun C.rest max_errors sessions.items begun }
-            ensures { IfOk result (λ report. (opening : S) → Keeps S.next S.reply opening (view begun.taker) → IsReport S.next S.reply (P.text replies.entry.now) P.is_error opening max_errors (map C.rest sessions.items) report) }
+            ensures { IfOk result (λ report. (opening : S) → Keeps S.next S.reply opening (view begun.taker) → IsReport S.next S.reply (P.text replies.entry.now) P.is_error P.keep opening max_errors (map C.rest sessions.items) report) }
         {
             let setting = Setting {
                 rt,
@@ -110,7 +111,7 @@ fn run_workers<'s, E, R, G, P, S, C>(
     setting: &Setting<'s, R, G, P>,
     sessions: Vec<C>,
     begun: Begun<S>,
-) -> Result<RunReport<S>, ServeFault>
+) -> Result<RunReport<S, P::Kept>, ServeFault>
 where
     R: Threads + Wait + Clock + Sync + 's,
     G: Gate + 's,
@@ -119,8 +120,9 @@ where
     C: Requests<Request = S::Request> + Send + Drop + 's,
     S::Request: Send + Drop + 's,
     S::Reply: Send + Drop + 's,
+    P::Kept: Send + Drop + 's,
     requires { IsBegun C.rest setting.now.max_errors sessions.items begun }
-    ensures { IfOk result (λ report. (opening : S) → Keeps S.next S.reply opening (view begun.taker) → IsReport S.next S.reply (P.text setting.now.replies.now) P.is_error opening setting.now.max_errors (map C.rest sessions.items) report) }
+    ensures { IfOk result (λ report. (opening : S) → Keeps S.next S.reply opening (view begun.taker) → IsReport S.next S.reply (P.text setting.now.replies.now) P.is_error P.keep opening setting.now.max_errors (map C.rest sessions.items) report) }
 {
     let Begun {
         ends,
@@ -144,7 +146,10 @@ where
 }
 
 /// Ties both sides together.
-fn settle<S: Service>(taker: Taker<S>, gathered: Gathered<S::Request, S::Reply>) -> RunReport<S>
+fn settle<S: Service, K>(
+    taker: Taker<S>,
+    gathered: Gathered<S::Request, S::Reply, K>,
+) -> RunReport<S, K>
 where
     S::Request: Drop,
     S::Reply: Drop,

@@ -21,13 +21,17 @@ pub(super) struct Serves<'a, C: Requests, P: Replies> {
     max_errors: Option<u32>,
 }
 
-impl<'a, C: Requests, P: Replies> Promise<Result<Finished<C::Request, P::Reply>, ServeFault>>
-    for Serves<'a, C, P> {
-    ghost kept_by = { λ promise result. IfOk result (λ finished. IsFinished (P.text promise.replies.now) P.is_error promise.start.value promise.max_errors (C.rest promise.requests.value) (Closed finished.end) finished.printed.answers.items finished.printed.output.items) };
+impl<'a, C: Requests, P: Replies> Promise<
+    Result<Finished<C::Request, P::Reply, P::Kept>, ServeFault>,
+> for Serves<'a, C, P> {
+    ghost kept_by = { λ promise result. IfOk result (λ finished. IsFinished (P.text promise.replies.now) P.is_error P.keep promise.start.value promise.max_errors (C.rest promise.requests.value) (Closed finished.end) finished.printed.answers.items finished.printed.output.items) };
 }
 
 pub(super) type Worker<'a, C, P> = PromisedHandle<
-    Result<Finished<<C as Requests>::Request, <P as Replies>::Reply>, ServeFault>,
+    Result<
+        Finished<<C as Requests>::Request, <P as Replies>::Reply, <P as Replies>::Kept>,
+        ServeFault,
+    >,
     Serves<'a, C, P>,
 >;
 
@@ -45,6 +49,7 @@ where
     C: Requests + Send + Drop + 's,
     C::Request: Send + Drop + 's,
     P::Reply: Send + Drop + 's,
+    P::Kept: Send + Drop + 's,
     requires count { length ends.items ≡ length sessions.items }
     requires fresh { AreFresh ends.items }
     requires few { All (λ session. length (C.rest session) < 2 ^ 32) sessions.items }
@@ -87,6 +92,7 @@ fn start_worker<
 where
     C::Request: Send + Drop + 's,
     P::Reply: Send + Drop + 's,
+    P::Kept: Send + Drop + 's,
     requires fresh { IsNew end }
     requires few { length (C.rest requests) < 2 ^ 32 }
     ensures { IfOk result (λ worker. IsStarted setting.now.replies.now setting.now.max_errors (Open end) requests worker) }
@@ -105,9 +111,9 @@ where
         replies,
         max_errors,
     };
-    let worker = move || -> Result<Finished<C::Request, P::Reply>, ServeFault>
+    let worker = move || -> Result<Finished<C::Request, P::Reply, P::Kept>, ServeFault>
         requires { IsNew end × (length (C.rest requests) < 2 ^ 32) }
-        ensures { IfOk result (λ finished. IsFinished (P.text replies.entry.now) P.is_error end max_errors (C.rest requests) (Closed finished.end) finished.printed.answers.items finished.printed.output.items) }
+        ensures { IfOk result (λ finished. IsFinished (P.text replies.entry.now) P.is_error P.keep end max_errors (C.rest requests) (Closed finished.end) finished.printed.answers.items finished.printed.output.items) }
     {
         let setting = Setting {
             rt,
@@ -127,9 +133,9 @@ where
 
 /// What the workers hand on, with a place for each session.
 #[derive(Drop)]
-pub(super) struct Gathered<I, A> {
+pub(super) struct Gathered<I, A, K> {
     pub(super) ends: Vec<End<I, A>>,
-    pub(super) answers: Vec<Vec<A>>,
+    pub(super) answers: Vec<Vec<K>>,
     pub(super) outputs: Vec<Vec<u8>>,
 }
 
@@ -138,11 +144,12 @@ pub(super) fn join_workers<R: Threads, P: Replies, C: Requests>(
     rt: &R,
     alloc: Global,
     workers: Vec<Worker<'_, C, P>>,
-) -> Result<Gathered<C::Request, P::Reply>, ServeFault>
+) -> Result<Gathered<C::Request, P::Reply, P::Kept>, ServeFault>
 where
     C::Request: Drop,
     P::Reply: Drop,
-    ensures { IfOk result (AreGathered C.rest P.text P.is_error workers.entry.items) }
+    P::Kept: Drop,
+    ensures { IfOk result (AreGathered C.rest P.text P.is_error P.keep workers.entry.items) }
 {
     let Ok(mut gathered) = make_room(alloc, workers.len()) else {
         return Err(ServeFault::Memory);
@@ -162,7 +169,10 @@ where
 }
 
 /// Room for what so many workers hand on.
-fn make_room<I: Drop, A: Drop>(alloc: Global, count: usize) -> Result<Gathered<I, A>, AllocError>
+fn make_room<I: Drop, A: Drop, K: Drop>(
+    alloc: Global,
+    count: usize,
+) -> Result<Gathered<I, A, K>, AllocError>
     ensures { IfOk result (HasRoom count) }
 {
     let ends = Vec::with_capacity(alloc, count)?;

@@ -5,7 +5,7 @@ use Rattle.std.specs.declared.vec.Vec.{Vec}
 use Rattle.std.specs.declared.alloc.Global.{Global}
 use Rattle.std.proofs.Common.{ap, sym, ◌∙◌, subst, arith, get_or}
 use Rattle.std.proofs.lemmas.Bool.{eq-eqb}
-use Rattle.std.proofs.lemmas.List.{get_or-map, length-map}
+use Rattle.std.proofs.lemmas.List.{get_or-map, length-map, map-id}
 use Rattle.acl_broker.specs.Journal.{items_from, state_after, answers_to}
 use Rattle.acl_broker.specs.declared.steps.JournalEntry.{JournalEntry}
 use Rattle.acl_names.specs.Directory.{Known}
@@ -36,8 +36,8 @@ served_tree served [] = refl
 served_tree served (entry ∷ journal) = served_tree (next_served served entry.item) journal
 
 -- what is told of a run explains its sessions
-pub explains : (served : Served) (limit : Option ℕ) (texts : List (Vec ℕ Global)) (run : RunReport Served Numbered Answer)
-    → IsReport next_served reply_served (answer_text served.directory.now) is_error served limit (requests_of_each served.directory.now texts) run
+pub explains : (served : Served) (limit : Option ℕ) (texts : List (Vec ℕ Global)) (run : RunReport Served Answer Numbered Answer)
+    → IsReport next_served reply_served (answer_text served.directory.now) is_error (λ answer. answer) served limit (requests_of_each served.directory.now texts) run
     → ExplainsSessions served.directory.now served.tree limit texts (told run)
 explains served limit texts run is =
     let known = served.directory.now in
@@ -51,20 +51,20 @@ explains served limit texts run is =
           subst (λ requests. IsServedUpTo is_error limit requests (items_from session journal) (answers_in known served.tree journal session)) (get_or-map (λ text. requests_of known text.items) texts session none [] below)
           (subst (λ answers. IsServedUpTo is_error limit (get_or wanted session []) (items_from session journal) answers) (served_answers session served journal) (is.served session [] (within session below)));
       answered = is.answered ∙ count;
-      answers = λ session none below. is.answers session none (within session below) ∙ served_answers session served journal;
+      answers = λ session none below. is.answers session none (within session below) ∙ map-id (answers_to next_served reply_served session served journal) ∙ served_answers session served journal;
       outputs_are = is.printed ∙ count;
       outputs = λ session none below. is.outputs session none (within session below) ∙ ap (λ answers. flat_map (answer_text known) answers) (served_answers session served journal);
       result = ap (λ state. state.tree) is.state ∙ served_tree served journal;
     }
 
 -- the same, of the report, where the run is of sessions that want the texts' requests
-pub explained : (served : Served) (limit : Option ℕ) (texts : List (Vec ℕ Global)) (wanted : List (List Numbered)) (run : RunReport Served Numbered Answer) (report : Report)
+pub explained : (served : Served) (limit : Option ℕ) (texts : List (Vec ℕ Global)) (wanted : List (List Numbered)) (run : RunReport Served Answer Numbered Answer) (report : Report)
     → wanted ≡ requests_of_each served.directory.now texts → report ≡ told run
-    → IsReport next_served reply_served (answer_text served.directory.now) is_error served limit wanted run
+    → IsReport next_served reply_served (answer_text served.directory.now) is_error (λ answer. answer) served limit wanted run
     → ExplainsSessions served.directory.now served.tree limit texts report
 explained served limit texts wanted run report wanted_are is_told is =
     subst (λ report. ExplainsSessions served.directory.now served.tree limit texts report) (sym is_told)
-    (explains served limit texts run (subst (λ wanted. IsReport next_served reply_served (answer_text served.directory.now) is_error served limit wanted run) wanted_are is))
+    (explains served limit texts run (subst (λ wanted. IsReport next_served reply_served (answer_text served.directory.now) is_error (λ answer. answer) served limit wanted run) wanted_are is))
 
 -- a journal of one session has its items and no others
 alone_items : (journal : List (JournalEntry Numbered)) → AllByRecursion (λ entry. entry.session < 1) journal → map (λ entry. entry.item) journal ≡ items_from 0 journal

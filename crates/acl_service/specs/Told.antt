@@ -6,5 +6,5 @@ use Rattle.acl_service.specs.declared.served.Served.{Served}
 use Rattle.acl_service.specs.declared.sessions.report.Report.{Report}
 
 -- the same, with the service's tree
-abbrev pub told : RunReport Served Numbered Answer → Report
+abbrev pub told : RunReport Served Answer Numbered Answer → Report
 told run = record { journal = run.journal; answers = run.answers; outputs = run.outputs; tree = run.service.tree }

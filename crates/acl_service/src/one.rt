@@ -19,7 +19,9 @@ pub enum OneFault {
     Write,
 }
 
-/// Applies the requests of the text's lines one by one, and prints each answer before the next line is read.
+/// Applies the requests of the text's lines one by one, and prints each answer before the next line is read. Answers are
+/// seldom twice as long as their text: with so much room from the start they are seldom copied into more, and a machine lends
+/// memory only to what is written of it.
 fn answer_lines(
     alloc: Global,
     directory: &Directory,
@@ -31,6 +33,7 @@ fn answer_lines(
     ensures text { OnOk result (printed.new.items ≡ printed.old.items ++ session_text directory.now tree.old text.now) }
     ensures tree { OnOk result (tree.new ≡ tree_after directory.now tree.old (requests_of directory.now text.now)) }
 {
+    printed.reserve(text.len().saturating_mul(2))?;
     let mut requests = Requests::new(text, directory);
     while let Some(numbered) = requests.next(alloc)? {
         let reply = tree.apply(alloc, &numbered.request, directory)?;

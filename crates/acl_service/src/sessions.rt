@@ -4,6 +4,7 @@ ghost use Rattle.acl_broker.specs.declared.limits.TheConstants.{SESSIONS};
 ghost use Rattle.acl_lang.specs.declared.limits.TheConstants.{MAX_TEXT_LEN};
 ghost use Rattle.acl_runs.specs.Rounds.{AreRounds};
 ghost use Rattle.acl_service.specs.Sessions.{ExplainsSessions, requests_of_each};
+ghost use Rattle.acl_service.specs.Told.{told};
 
 mod cursor;
 mod printer;
@@ -11,10 +12,11 @@ mod report;
 
 use crate::Served;
 use acl_names::Directory;
-use acl_runs::{Gate, ServeFault, serve_in_rounds, serve_sessions};
+use acl_runs::{Gate, RunReport, ServeFault, serve_in_rounds, serve_sessions};
 use acl_tree::Tree;
 use cursor::open_all;
-use printer::Printer;
+pub(crate) use printer::PrintedAnswer;
+use printer::{Printer, PrinterAlone};
 pub use report::Report;
 use report::report_of;
 use std::alloc::Global;
@@ -56,6 +58,34 @@ pub fn serve<R: Threads + Wait + Clock + Sync, G: Gate>(
     };
     let run = serve_sessions(rt, alloc, gate, &printer, service, sessions, max_errors)?;
     Ok(report_of(run))
+}
+
+/// The same, of whose answers nothing is wanted but their text: none is kept, so that long sessions take less memory.
+pub(crate) fn serve_in_print<'a, R: Threads + Wait + Clock + Sync, G: Gate>(
+    rt: &R,
+    alloc: Global,
+    gate: &G,
+    directory: &'a Directory,
+    tree: Tree,
+    texts: &[Vec<u8>],
+    max_errors: Option<u32>,
+) -> Result<RunReport<Served<'a>, PrintedAnswer>, ServeFault>
+    requires count { (1 ≤ length texts.now) × (length texts.now ≤ SESSIONS) }
+    requires short { All (λ text. length text.items ≤ MAX_TEXT_LEN) texts.now }
+    requires some { max_errors ≢ Some 0 }
+    ensures { IfOk result (λ run. ExplainsSessions directory.now tree max_errors texts.now (told run)) }
+{
+    let Ok(sessions) = open_all(alloc, directory, texts) else {
+        return Err(ServeFault::Memory);
+    };
+    let alone = PrinterAlone { directory };
+    let service = Served {
+        alloc,
+        directory,
+        tree,
+    };
+    let run = serve_sessions(rt, alloc, gate, &alone, service, sessions, max_errors)?;
+    Ok(run)
 }
 
 /// Lets a session for each text work on the tree, all on this thread and in turn: the first request of each text that has

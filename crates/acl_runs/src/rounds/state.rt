@@ -52,7 +52,7 @@ where
 pub(crate) fn report_all<S: Service + Drop, C: Requests<Request = S::Request> + Drop>(
     alloc: Global,
     run: Run<C, S, S::Request, S::Reply>,
-) -> Result<RunReport<S>, AllocError>
+) -> Result<RunReport<S, S::Reply>, AllocError>
 where
     S::Request: Drop,
     S::Reply: Drop,

@@ -10,10 +10,11 @@ ghost use Rattle.acl_service.specs.Runs.{session_text};
 
 use super::fault::TextsFault;
 use super::printing::{print_journal, write_outputs};
-use crate::{Report, read_setup, run_one, serve};
+use crate::sessions::{PrintedAnswer, serve_in_print};
+use crate::{Served, read_setup, run_one};
 use acl_broker::SESSIONS;
 use acl_names::Directory;
-use acl_runs::Gate;
+use acl_runs::{Gate, RunReport};
 use acl_tree::Tree;
 use std::alloc::Global;
 use std::io::Write;
@@ -30,10 +31,10 @@ pub(super) struct Options {
     pub max_errors: Option<u32>,
 }
 
-/// Writes the outputs of a report, and behind them its journal where that is asked for. All that takes memory comes first.
+/// Writes the outputs of a run, and behind them its journal where that is asked for. All that takes memory comes first.
 fn print_report<W: Write>(
     alloc: Global,
-    report: &Report,
+    report: &RunReport<Served<'_>, PrintedAnswer>,
     journal: bool,
     out: &mut W,
 ) -> Result<(), TextsFault>
@@ -87,7 +88,7 @@ fn print_sessions<R: Threads + Wait + Clock + Sync, G: Gate, W: Write>(
     ensures silent { IfErr result (λ fault. fault ≢ lost_output → Keeps (W.contents out.old) (W.contents out.new)) }
     ensures fault { IfErr result IsRunFault }
 {
-    let report = serve(rt, alloc, gate, directory, tree, texts, options.max_errors)?;
+    let report = serve_in_print(rt, alloc, gate, directory, tree, texts, options.max_errors)?;
     print_report(alloc, &report, options.journal, out)
 }
 

@@ -22,7 +22,7 @@ pub struct Report {
 }
 
 /// The report of a run over the tree.
-pub(super) fn report_of(run: RunReport<Served<'_>>) -> Report
+pub(super) fn report_of(run: RunReport<Served<'_>, Answer>) -> Report
     ensures { result ≡ told run.entry }
 {
     let RunReport {

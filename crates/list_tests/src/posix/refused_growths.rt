@@ -61,7 +61,7 @@ fn push_under_a_refused_growth(rt: HostRuntime) -> Result<(), Fail> {
 
 #[test]
 fn push_out_of_order_under_a_refused_growth(rt: HostRuntime) -> Result<(), Fail> {
-    let mut told = Told { refusals: 0 };
+    let mut told = Refusals::new();
     let mut entries = Entries::new(rt.alloc());
     for number in 0..64 {
         let entry = Entry {
@@ -75,7 +75,7 @@ fn push_out_of_order_under_a_refused_growth(rt: HostRuntime) -> Result<(), Fail>
         }
     }
     assert_eq!(rt; entries.as_slice().len(), 64);
-    println!(rt; "refusals: {}", told.refusals)?;
+    println!(rt; "refusals: {}", told.told())?;
     Ok(())
 }
 

@@ -11,7 +11,7 @@ returns-clause-report g c =
     let rest = g.C.Requests.rest in
     let text = g.P.Replies.text c.args.replies.now in
     let few = all_rest rest c.args.most c.args.sessions.items c.requires.few in
-    if_ok c.report_all.result (IsReported c.take_rounds.new.run) (IsReport g.S.Service.next g.S.Service.reply text g.P.Replies.is_error c.args.service None (map rest c.args.sessions.items))
+    if_ok c.report_all.result (IsReported c.take_rounds.new.run) (IsReport g.S.Service.next g.S.Service.reply text g.P.Replies.is_error (λ reply. reply) c.args.service None (map rest c.args.sessions.items))
     (λ report told. is_report rest g.S.Service.next g.S.Service.reply text g.P.Replies.is_error c.args.service c.args.sessions.items c.args.most c.in_ok-begun.begun c.take_rounds.new.run report c.in_ok-begun.ensures c.in_ok-take_rounds.ensures told few)
     c.report_all.ensures
 
