@@ -1,5 +1,6 @@
 pub mod AceLemmas
 pub mod ModeChangeDenials
+pub mod MarkLemmas
 pub mod EvaluationLoop
 pub mod AllowedBits
 pub mod ComparisonLemmas

@@ -7,6 +7,7 @@ pub mod Evaluation
 pub mod Comparison
 pub mod Inheritance
 pub mod ModeChange
+pub mod Marks
 pub mod ModeChangeLaws
 pub mod Letters
 pub mod LetterBits

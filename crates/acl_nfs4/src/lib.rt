@@ -13,6 +13,7 @@ mod inheritance;
 mod letter_bits;
 mod letters;
 mod limits;
+mod marks;
 mod mask;
 mod mode;
 mod mode_change;

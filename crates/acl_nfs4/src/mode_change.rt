@@ -4,6 +4,7 @@ ghost use Rattle.std.specs.List.{list_any};
 ghost use Rattle.acl_posix.specs.Perms.{bits_of};
 ghost use Rattle.acl_nfs4.specs.Ace.{is_idle};
 ghost use Rattle.acl_nfs4.specs.Acl.{HaveEffect, IsTooLong};
+ghost use Rattle.acl_nfs4.specs.Marks.{IsMarked};
 ghost use Rattle.acl_nfs4.specs.Mask.{mask_bits};
 ghost use Rattle.acl_nfs4.specs.Evaluation.{mode_of};
 ghost use Rattle.acl_nfs4.specs.ModeChange.{kept_mask, kept_of, kept, names_someone, names, denies_by_name, denied_to, denial_of, denials, for_owner, for_others, with_mode};
@@ -11,6 +12,7 @@ ghost use Rattle.acl_nfs4.specs.ModeChangeLaws.{GrantsOwner, GrantsGroup, Grants
 
 use crate::draft::{Draft, Full};
 use crate::limits::{INLINE_ACES, MAX_ACES};
+use crate::marks::{MARKS, mark_of};
 use crate::mask::{mask_of, rest_of};
 use crate::{Ace, AceType, Acl4, Flags, Mask, Who};
 use acl_posix::{Mode, Perms};
@@ -162,24 +164,59 @@ fn denied_to(aces: &[Ace], who: &Who) -> Mask
     denied
 }
 
+/// Whether an entry decides about this who by name, by the marks of those about whom one does.
+fn any_marked_names(aces: &[Ace], named: &[bool; MARKS], who: &Who) -> bool
+    requires { IsMarked names named.now aces.now }
+    ensures { result ≡ list_any (names who.now) aces.now }
+{
+    named[mark_of(who)] && any_names(aces, who)
+}
+
+/// The marks of those whom the entries deny something by name.
+fn marks_of_denied(aces: &[Ace]) -> [bool; MARKS]
+    ensures { IsMarked denies_by_name result aces.now }
+{
+    let mut denied = [false; MARKS];
+    for ace in aces {
+        if ace.kind().is_deny() {
+            denied[mark_of(&ace.who())] = true;
+        }
+    }
+    denied
+}
+
+/// The bits that the entries deny this who by name, by the marks of those to whom they deny any.
+fn marked_denied_to(aces: &[Ace], denied: &[bool; MARKS], who: &Who) -> Mask
+    requires { IsMarked denies_by_name denied.now aces.now }
+    ensures { mask_bits result ≡ denied_to who.now aces.now }
+{
+    if denied[mark_of(who)] {
+        denied_to(aces, who)
+    } else {
+        Mask::empty()
+    }
+}
+
 /// What the mode's group lacks, denied to this who as far as the old entries don't.
 fn push_denial<const N: usize>(
     draft: &mut Draft<N>,
     aces: &[Ace],
+    denied: &[bool; MARKS],
     group: Perms,
     who: Who,
 ) -> Result<(), Full>
+    requires { IsMarked denies_by_name denied.now aces.now }
     ensures ok { OnOk result (draft.new ≡ draft.old ++ denial_of (bits_of group) aces.now who) }
     ensures full { OnErr result (IsTooLong N (draft.old ++ denial_of (bits_of group) aces.now who)) }
 {
-    let denied = denied_to(aces, &who);
+    let denied = marked_denied_to(aces, denied, &who);
     draft.push_plain(AceType::Deny, who, rest_of(group).without(denied))
 }
 
 /// A denial for each who that the old entries name, in the order of its first entry.
 ///
-/// For each entry that names someone this looks at the entries before it, and for each who at all entries. The list has at
-/// most 128 of them; to sort them by who and back would cost a second list and gain nothing at this length.
+/// For an entry that names someone whose mark stands this looks at the entries before it, and for each who whose mark stands
+/// among the denied at all entries. The list has at most 128 of them; to sort them by who and back would cost a second list.
 fn push_denials<const N: usize>(
     draft: &mut Draft<N>,
     aces: &[Ace],
@@ -188,11 +225,14 @@ fn push_denials<const N: usize>(
     ensures ok { OnOk result (draft.new ≡ draft.old ++ denials (bits_of group) aces.now) }
     ensures full { OnErr result (IsTooLong N (draft.old ++ denials (bits_of group) aces.now)) }
 {
+    let denied = marks_of_denied(aces);
+    let mut named = [false; MARKS];
     for place in 0..aces.len() {
         let ace = &aces[place];
-        if ace.names_someone() && !any_names(&aces[..place], &ace.who()) {
-            push_denial(draft, aces, group, ace.who())?;
+        if ace.names_someone() && !any_marked_names(&aces[..place], &named, &ace.who()) {
+            push_denial(draft, aces, &denied, group, ace.who())?;
         }
+        named[mark_of(&ace.who())] = true;
     }
     Ok(())
 }

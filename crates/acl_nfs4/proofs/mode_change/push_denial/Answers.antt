@@ -7,6 +7,6 @@ use Rattle.acl_nfs4.proofs.mode_change.push_denial.Goals as goal
 pub push_plain-requires : goal.push_plain-requires
 push_plain-requires g c = (
   search,
-  denial-known c.args.group.0 (mask_bits c.denied_to-denied.result)
-      (c.without.ensures ∙ ap (λ (m : ℕ). without m (mask_bits c.denied_to-denied.result)) c.rest_of.ensures),
+  denial-known c.args.group.0 (mask_bits c.marked_denied_to-denied.result)
+      (c.without.ensures ∙ ap (λ (m : ℕ). without m (mask_bits c.marked_denied_to-denied.result)) c.rest_of.ensures),
 )
