@@ -72,26 +72,6 @@ fn push_under_a_refused_growth(rt: HostRuntime) -> Result<(), Fail> {
 }
 
 #[test]
-fn push_out_of_order_under_a_refused_growth(rt: HostRuntime) -> Result<(), Fail> {
-    let mut told = Told { refusals: 0 };
-    let mut entries = Entries::new(rt.alloc());
-    for number in 0..64 {
-        let entry = Entry {
-            tag: Tag::User(Uid::new(number * 37 % 64).ok_or("uid")?),
-            perms: Perms::READ,
-        };
-        if entries.push(entry) == Err(TextFault::Memory) {
-            told.one_more();
-            assert_eq!(rt; entries.as_slice().len(), number as usize);
-            assert!(rt; entries.push(entry).is_ok());
-        }
-    }
-    assert_eq!(rt; entries.as_slice().len(), 64);
-    println!(rt; "refusals: {}", told.refusals)?;
-    Ok(())
-}
-
-#[test]
 fn read_entries_under_a_refused_growth(rt: HostRuntime) -> Result<(), Fail> {
     let mut told = Told { refusals: 0 };
     let names = names(rt.alloc(), &mut told)?;
