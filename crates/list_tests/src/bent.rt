@@ -5,7 +5,8 @@ use std::alloc::Global;
 pub const ENTRIES: &str = "user : : rwx , g::r-x\nmask:rwx # all\nother:r";
 
 /// A text of NFSv4 entries, with each kind of who.
-pub const ACES: &str = "A::OWNER@:rwatTcC,A::bob@example.org:rwa,A:g:ops@example.org:r,A::EVERYONE@:r";
+pub const ACES: &str =
+    "A::OWNER@:rwatTcC,A::bob@example.org:rwa,A:g:ops@example.org:r,A::EVERYONE@:r";
 
 /// The text cut off at the place, if there is no byte; else with the byte at that place.
 pub fn bent(alloc: Global, text: &[u8], place: usize, byte: Option<u8>) -> Option<Vec<u8>> {

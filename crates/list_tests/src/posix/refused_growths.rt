@@ -45,26 +45,7 @@ fn push_under_a_refused_growth(rt: HostRuntime) -> Result<(), Fail> {
     let mut entries = Entries::new(rt.alloc());
     for number in 0..64 {
         let entry = Entry {
-            tag: Tag::User(Uid::new(number).ok_or("uid")?),
-            perms: Perms::READ,
-        };
-        if entries.push(entry) == Err(TextFault::Memory) {
-            told.one_more();
-            assert_eq!(rt; entries.as_slice().len(), number as usize);
-            assert!(rt; entries.push(entry).is_ok());
-        }
-    }
-    assert_eq!(rt; entries.as_slice().len(), 64);
-    println!(rt; "refusals: {}", told.told())?;
-    Ok(())
-}
-
-#[test]
-fn push_out_of_order_under_a_refused_growth(rt: HostRuntime) -> Result<(), Fail> {
-    let mut told = Refusals::new();
-    let mut entries = Entries::new(rt.alloc());
-    for number in 0..64 {
-        let entry = Entry {
+            // Out of order, so that the sorted copy grows too.
             tag: Tag::User(Uid::new(number * 37 % 64).ok_or("uid")?),
             perms: Perms::READ,
         };

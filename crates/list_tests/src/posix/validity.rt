@@ -54,49 +54,6 @@ fn entries_stand_in_canonical_order(rt: HostRuntime) -> Result<(), Fail> {
     Ok(())
 }
 
-/// The 60 users of these uids, and the four entries that a list of them needs, pushed in this order.
-fn pushed(alloc: Global, first: &[Tag], uids: &[u32]) -> Result<Entries, Fail> {
-    let mut entries = Entries::new(alloc);
-    for tag in first {
-        let entry = Entry {
-            tag: *tag,
-            perms: Perms::READ,
-        };
-        entries.push(entry)?;
-    }
-    for number in uids {
-        let entry = Entry {
-            tag: Tag::User(Uid::new(*number).ok_or("uid")?),
-            perms: Perms::READ,
-        };
-        entries.push(entry)?;
-    }
-    Ok(entries)
-}
-
-#[test]
-fn entries_that_are_pushed_out_of_order_make_a_list(rt: HostRuntime) -> Result<(), Fail> {
-    let first = [Tag::Mask, Tag::Other, Tag::GroupObj, Tag::UserObj];
-    let mut uids = Vec::new(rt.alloc());
-    for number in 0..60 {
-        // Each of the 60 once, far from the one before; the greatest id among them.
-        let far = number * 37 % 60;
-        uids.push(if far == 59 { 4_294_967_294 } else { far })?;
-    }
-    let entries = pushed(rt.alloc(), &first, &uids)?;
-    assert!(rt; matches!(entries.as_slice(), [front, ..] if front.tag == Tag::Mask));
-    let acl = Acl::new(entries)?;
-    let sorted = acl.entries();
-    assert_eq!(rt; sorted.len(), 64);
-    assert!(rt; sorted.is_sorted_by(|one, later| one.tag < later.tag));
-    assert!(rt; sorted[0].tag == Tag::UserObj && sorted[63].tag == Tag::Other);
-    uids.truncate(59);
-    uids.push(7)?;
-    let repeated = pushed(rt.alloc(), &first, &uids)?;
-    assert_eq!(rt; Acl::new(repeated).err(), Some(Invalid::Repeated));
-    Ok(())
-}
-
 #[test]
 fn a_list_has_at_most_64_entries(rt: HostRuntime) -> Result<(), Fail> {
     let mut entries = Entries::new(rt.alloc());
