@@ -1,6 +1,7 @@
 use crate::posix::fixture::perms;
 use acl_examples::{acl, directory};
 use acl_names::{Gid, Uid};
+use acl_posix::Acl;
 use std::alloc::Global;
 use std::test::Fail;
 
