@@ -17,4 +17,3 @@ pub use fault::RunFault;
 pub use input::{CapFault, read_capped};
 pub use output::write_text;
 pub use words::{WordsFault, words_of};
-

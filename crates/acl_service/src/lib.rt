@@ -20,4 +20,3 @@ pub use run_command::{OpenFiles, run, run_texts};
 pub use served::Served;
 pub use sessions::{Report, serve, serve_rounds};
 pub use setup::{SetupError, read_setup};
-
