@@ -11,61 +11,55 @@ use std::alloc::Global;
 use std::test::*;
 
 /// Puts an entry with this tag behind the others, at the second attempt if the first is refused.
-fn push(entries: &mut Entries, tag: Tag, told: &mut Refusals) -> Result<(), Fail> {
+fn push(entries: &mut Entries, tag: Tag, refusals: &mut Refusals) -> Result<(), Fail> {
     let entry = Entry {
         tag,
         perms: Perms::READ,
     };
     if entries.push(entry) == Err(TextFault::Memory) {
-        told.one_more();
+        refusals.one_more();
         entries.push(entry)?;
     }
     Ok(())
 }
 
 /// The longest translation: 60 users, the owner, the file's group, the mask and the others.
-fn longest(alloc: Global, told: &mut Refusals) -> Result<Acl, Fail> {
+fn longest(alloc: Global, refusals: &mut Refusals) -> Result<Acl, Fail> {
     let mut entries = Entries::new(alloc);
-    push(&mut entries, Tag::UserObj, told)?;
+    push(&mut entries, Tag::UserObj, refusals)?;
     for number in 0..60 {
         let uid = Uid::new(number).ok_or("uid")?;
-        push(&mut entries, Tag::User(uid), told)?;
+        push(&mut entries, Tag::User(uid), refusals)?;
     }
-    push(&mut entries, Tag::GroupObj, told)?;
-    push(&mut entries, Tag::Mask, told)?;
-    push(&mut entries, Tag::Other, told)?;
+    push(&mut entries, Tag::GroupObj, refusals)?;
+    push(&mut entries, Tag::Mask, refusals)?;
+    push(&mut entries, Tag::Other, refusals)?;
     Ok(Acl::new(entries).ok().ok_or("a valid list")?)
 }
 
 #[test]
 fn translate_under_a_refused_growth(rt: HostRuntime) -> Result<(), Fail> {
-    let mut told = Refusals::new();
-    let list = longest(rt.alloc(), &mut told)?;
-    let aces = match translate(rt.alloc(), &list) {
-        Ok(aces) => aces,
-        Err(_) => {
-            told.one_more();
-            translate(rt.alloc(), &list)?
-        }
-    };
+    let alloc = rt.alloc();
+    let mut refusals = Refusals::new();
+    let list = longest(alloc, &mut refusals)?;
+    let aces = refusals
+        .again(|| translate(alloc, &list).ok())
+        .ok_or("refused without cause")?;
     assert_eq!(rt; list.entries().len(), 64);
     assert_eq!(rt; aces.aces().len(), 125);
-    println!(rt; "refusals: {}", told.told())?;
+    println!(rt; "refusals: {}", refusals.told())?;
     Ok(())
 }
 
 #[test]
 fn translate_default_under_a_refused_growth(rt: HostRuntime) -> Result<(), Fail> {
-    let mut told = Refusals::new();
-    let list = longest(rt.alloc(), &mut told)?;
-    let aces = match translate_default(rt.alloc(), &list) {
-        Ok(aces) => aces,
-        Err(_) => {
-            told.one_more();
-            translate_default(rt.alloc(), &list)?
-        }
-    };
+    let alloc = rt.alloc();
+    let mut refusals = Refusals::new();
+    let list = longest(alloc, &mut refusals)?;
+    let aces = refusals
+        .again(|| translate_default(alloc, &list).ok())
+        .ok_or("refused without cause")?;
     assert_eq!(rt; aces.aces().len(), 125);
-    println!(rt; "refusals: {}", told.told())?;
+    println!(rt; "refusals: {}", refusals.told())?;
     Ok(())
 }

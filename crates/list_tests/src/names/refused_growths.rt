@@ -18,10 +18,10 @@ fn attempt(alloc: Global) -> Option<Result<Directory, SetupFault>> {
 }
 
 /// The directory of the examples, at the second attempt if the first is refused.
-fn directory_again(alloc: Global, told: &mut Refusals) -> Result<Directory, Fail> {
+fn directory_again(alloc: Global, refusals: &mut Refusals) -> Result<Directory, Fail> {
     match attempt(alloc) {
         Some(Ok(directory)) => return Ok(directory),
-        None | Some(Err(SetupFault::Memory)) => told.one_more(),
+        None | Some(Err(SetupFault::Memory)) => refusals.one_more(),
         Some(Err(_)) => return Err("another answer took the place of Memory".into()),
     }
     match attempt(alloc) {
@@ -32,10 +32,11 @@ fn directory_again(alloc: Global, told: &mut Refusals) -> Result<Directory, Fail
 
 #[test]
 fn from_parts_under_a_refused_growth(rt: HostRuntime) -> Result<(), Fail> {
-    let mut told = Refusals::new();
-    let directory = directory_again(rt.alloc(), &mut told)?;
+    let alloc = rt.alloc();
+    let mut refusals = Refusals::new();
+    let directory = directory_again(alloc, &mut refusals)?;
     assert_eq!(rt; directory.uid_of("bob"), Uid::new(1001));
-    println!(rt; "refusals: {}", told.told())?;
+    println!(rt; "refusals: {}", refusals.told())?;
     Ok(())
 }
 
@@ -49,63 +50,55 @@ fn faulty(alloc: Global) -> Option<Option<SetupFault>> {
 
 #[test]
 fn a_fault_is_told_before_want_of_memory(rt: HostRuntime) -> Result<(), Fail> {
-    let mut told = Refusals::new();
-    let mut found = faulty(rt.alloc());
-    if found.is_none() {
-        told.one_more();
-        found = faulty(rt.alloc());
-    }
+    let alloc = rt.alloc();
+    let mut refusals = Refusals::new();
+    let found = refusals.again(|| faulty(alloc));
     assert_eq!(rt; found, Some(Some(SetupFault::UnknownGroup)));
-    println!(rt; "refusals: {}", told.told())?;
+    println!(rt; "refusals: {}", refusals.told())?;
     Ok(())
 }
 
 #[test]
 fn requester_under_a_refused_growth(rt: HostRuntime) -> Result<(), Fail> {
-    let mut told = Refusals::new();
-    let directory = directory_again(rt.alloc(), &mut told)?;
+    let alloc = rt.alloc();
+    let mut refusals = Refusals::new();
+    let directory = directory_again(alloc, &mut refusals)?;
     let bob = Uid::new(1001).ok_or("uid")?;
-    let requester = match directory.requester(rt.alloc(), bob) {
-        Ok(requester) => requester,
-        Err(_) => {
-            told.one_more();
-            directory.requester(rt.alloc(), bob)?
-        }
-    };
+    let requester = refusals
+        .again(|| directory.requester(alloc, bob).ok())
+        .ok_or("refused without cause")?;
     assert_eq!(rt; requester.gids().len(), 2);
-    println!(rt; "refusals: {}", told.told())?;
+    println!(rt; "refusals: {}", refusals.told())?;
     Ok(())
 }
 
 #[test]
 fn asker_under_a_refused_growth(rt: HostRuntime) -> Result<(), Fail> {
-    let mut told = Refusals::new();
+    let alloc = rt.alloc();
+    let mut refusals = Refusals::new();
     let asker = Asker {
         uid: Uid::new(1001).ok_or("uid")?,
         gid: Gid::new(50),
         other_gid: Gid::new(60),
     };
-    let requester = match asker.requester(rt.alloc()) {
-        Ok(requester) => requester,
-        Err(_) => {
-            told.one_more();
-            asker.requester(rt.alloc())?
-        }
-    };
+    let requester = refusals
+        .again(|| asker.requester(alloc).ok())
+        .ok_or("refused without cause")?;
     assert_eq!(rt; requester.gids().len(), 2);
-    println!(rt; "refusals: {}", told.told())?;
+    println!(rt; "refusals: {}", refusals.told())?;
     Ok(())
 }
 
 #[test]
 fn push_id_under_a_refused_growth(rt: HostRuntime) -> Result<(), Fail> {
-    let mut told = Refusals::new();
-    let mut out = Vec::new(rt.alloc());
+    let alloc = rt.alloc();
+    let mut refusals = Refusals::new();
+    let mut out = Vec::new(alloc);
     if push_id(None, 4294967294, &mut out).is_err() {
-        told.one_more();
+        refusals.one_more();
         push_id(None, 4294967294, &mut out)?;
     }
     assert_eq!(rt; out.as_slice(), b"4294967294".as_slice());
-    println!(rt; "refusals: {}", told.told())?;
+    println!(rt; "refusals: {}", refusals.told())?;
     Ok(())
 }

@@ -19,37 +19,15 @@ const LONG: &str =
 const BELOW: &str =
     "A::1:r\nA::2:r\nA::3:r\nA::4:r\nA::5:r\nA::6:r\nA::7:r\nA::8:r\nA::9:r\nA::10:r\nA::11:r\nA::12:r\nA::13:r\nA::14:r\nA::15:r\nA::16:r\nA::17:r\n";
 
-/// The examples' directory, at the second attempt if the first is refused.
-fn names(alloc: Global, told: &mut Refusals) -> Result<Directory, Fail> {
-    match directory(alloc) {
-        Some(directory) => Ok(directory),
-        None => {
-            told.one_more();
-            Ok(directory(alloc).ok_or("refused without cause")?)
-        }
-    }
-}
-
 /// The long list, at the second attempt if the first is refused.
-fn long_acl(alloc: Global, names: &Directory, told: &mut Refusals) -> Result<Acl4, Fail> {
+fn long_acl(alloc: Global, names: &Directory, refusals: &mut Refusals) -> Result<Acl4, Fail> {
     match read_aces(alloc, LONG.as_bytes(), names) {
         Ok(list) => Ok(list),
         Err(AceFault::Memory) => {
-            told.one_more();
+            refusals.one_more();
             Ok(read_aces(alloc, LONG.as_bytes(), names)?)
         }
         Err(_) => Err("another answer took the place of Memory".into()),
-    }
-}
-
-/// A copy of the list, at the second attempt if the first is refused.
-fn copy(alloc: Global, list: &Acl4, told: &mut Refusals) -> Result<Acl4, Fail> {
-    match list.try_clone(alloc) {
-        Ok(copy) => Ok(copy),
-        Err(_) => {
-            told.one_more();
-            Ok(list.try_clone(alloc)?)
-        }
     }
 }
 
@@ -61,12 +39,13 @@ fn reader(number: u32) -> Option<Ace> {
 
 #[test]
 fn push_under_a_refused_growth(rt: HostRuntime) -> Result<(), Fail> {
-    let mut told = Refusals::new();
-    let mut list = Acl4::empty(rt.alloc());
+    let alloc = rt.alloc();
+    let mut refusals = Refusals::new();
+    let mut list = Acl4::empty(alloc);
     for number in 0..128 {
         let entry = reader(number).ok_or("an entry")?;
         if list.push(entry) == Err(AceFault::Memory) {
-            told.one_more();
+            refusals.one_more();
             assert_eq!(rt; list.aces().len(), number as usize);
             assert!(rt; list.push(entry).is_ok());
         }
@@ -75,97 +54,96 @@ fn push_under_a_refused_growth(rt: HostRuntime) -> Result<(), Fail> {
     for (number, entry) in list.aces().iter().enumerate() {
         assert_eq!(rt; Some(*entry), reader(number as u32));
     }
-    println!(rt; "refusals: {}", told.told())?;
+    println!(rt; "refusals: {}", refusals.told())?;
     Ok(())
 }
 
 #[test]
 fn read_aces_under_a_refused_growth(rt: HostRuntime) -> Result<(), Fail> {
-    let mut told = Refusals::new();
-    let names = names(rt.alloc(), &mut told)?;
-    let list = long_acl(rt.alloc(), &names, &mut told)?;
+    let alloc = rt.alloc();
+    let mut refusals = Refusals::new();
+    let names = refusals.again(|| directory(alloc)).ok_or("the directory")?;
+    let list = long_acl(alloc, &names, &mut refusals)?;
     assert_eq!(rt; list.aces().len(), 17);
-    println!(rt; "refusals: {}", told.told())?;
+    println!(rt; "refusals: {}", refusals.told())?;
     Ok(())
 }
 
 #[test]
 fn print_aces_under_a_refused_growth(rt: HostRuntime) -> Result<(), Fail> {
-    let mut told = Refusals::new();
-    let names = names(rt.alloc(), &mut told)?;
-    let list = long_acl(rt.alloc(), &names, &mut told)?;
-    let mut out = Vec::new(rt.alloc());
+    let alloc = rt.alloc();
+    let mut refusals = Refusals::new();
+    let names = refusals.again(|| directory(alloc)).ok_or("the directory")?;
+    let list = long_acl(alloc, &names, &mut refusals)?;
+    let mut out = Vec::new(alloc);
     if out.push(b'>').is_err() {
-        told.one_more();
+        refusals.one_more();
         out.push(b'>')?;
     }
     if list.print_aces(&names, &mut out).is_err() {
-        told.one_more();
+        refusals.one_more();
         assert_eq!(rt; out.as_slice(), b">".as_slice());
         list.print_aces(&names, &mut out)?;
     }
     // 9 lines of 8 bytes, and 8 of 9, after the one that stood there.
     assert_eq!(rt; out.len(), 145);
     assert!(rt; out.starts_with(b">A:f:1:r\nA:f:2:r\n".as_slice()));
-    println!(rt; "refusals: {}", told.told())?;
+    println!(rt; "refusals: {}", refusals.told())?;
     Ok(())
 }
 
 #[test]
 fn chmod4_under_a_refused_growth(rt: HostRuntime) -> Result<(), Fail> {
-    let mut told = Refusals::new();
-    let names = names(rt.alloc(), &mut told)?;
-    let mut list = long_acl(rt.alloc(), &names, &mut told)?;
-    let before = copy(rt.alloc(), &list, &mut told)?;
+    let alloc = rt.alloc();
+    let mut refusals = Refusals::new();
+    let names = refusals.again(|| directory(alloc)).ok_or("the directory")?;
+    let mut list = long_acl(alloc, &names, &mut refusals)?;
+    let before = refusals
+        .again(|| list.try_clone(alloc).ok())
+        .ok_or("a copy")?;
     let mode = Mode::from_bits(0o700).ok_or("a mode")?;
-    if list.chmod4(rt.alloc(), mode) == Err(Fault4::Memory) {
-        told.one_more();
+    if list.chmod4(alloc, mode) == Err(Fault4::Memory) {
+        refusals.one_more();
         assert!(rt; list.aces() == before.aces());
-        assert_eq!(rt; list.chmod4(rt.alloc(), mode), Ok(()));
+        assert_eq!(rt; list.chmod4(alloc, mode), Ok(()));
     }
     // The owner's, what is inherited of each entry, a denial of each user, and the group's.
     assert_eq!(rt; list.aces().len(), 36);
-    println!(rt; "refusals: {}", told.told())?;
+    println!(rt; "refusals: {}", refusals.told())?;
     Ok(())
 }
 
 #[test]
 fn inherited_under_a_refused_growth(rt: HostRuntime) -> Result<(), Fail> {
-    let mut told = Refusals::new();
-    let names = names(rt.alloc(), &mut told)?;
-    let list = long_acl(rt.alloc(), &names, &mut told)?;
-    let below = match list.inherited(rt.alloc(), Kind::File) {
-        Ok(below) => below,
-        Err(_) => {
-            told.one_more();
-            list.inherited(rt.alloc(), Kind::File)?
-        }
-    };
-    let mut out = Vec::new(rt.alloc());
+    let alloc = rt.alloc();
+    let mut refusals = Refusals::new();
+    let names = refusals.again(|| directory(alloc)).ok_or("the directory")?;
+    let list = long_acl(alloc, &names, &mut refusals)?;
+    let below = refusals
+        .again(|| list.inherited(alloc, Kind::File).ok())
+        .ok_or("refused without cause")?;
+    let mut out = Vec::new(alloc);
     if below.print_aces(&names, &mut out).is_err() {
-        told.one_more();
+        refusals.one_more();
         below.print_aces(&names, &mut out)?;
     }
     assert_eq!(rt; out.as_slice(), BELOW.as_bytes());
-    println!(rt; "refusals: {}", told.told())?;
+    println!(rt; "refusals: {}", refusals.told())?;
     Ok(())
 }
 
 #[test]
 fn lists_with_room_under_a_refused_growth(rt: HostRuntime) -> Result<(), Fail> {
-    let mut told = Refusals::new();
-    let mut list = match Acl4::with_capacity(rt.alloc(), 40) {
-        Ok(list) => list,
-        Err(_) => {
-            told.one_more();
-            Acl4::with_capacity(rt.alloc(), 40)?
-        }
-    };
+    let alloc = rt.alloc();
+    let mut refusals = Refusals::new();
+    let mut list = refusals
+        .again(|| Acl4::with_capacity(alloc, 40).ok())
+        .ok_or("refused without cause")?;
     assert_eq!(rt; list.aces().len(), 0);
     for number in 0..40 {
         assert!(rt; list.push(reader(number).ok_or("an entry")?).is_ok());
     }
     assert_eq!(rt; list.aces().len(), 40);
-    println!(rt; "refusals: {}", told.told())?;
+    println!(rt; "refusals: {}", refusals.told())?;
     Ok(())
 }

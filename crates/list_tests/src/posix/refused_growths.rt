@@ -5,44 +5,18 @@
 //! how many refusals it was told of: one up to the last growth that it asks for, and none from then on.
 use crate::posix::fixture::mode;
 use acl_examples::{Refusals, acl, directory};
-use acl_names::{Directory, Uid};
-use acl_posix::{Acl, Entries, Entry, Mode, Perms, Tag, TextFault, read_entries};
-use std::alloc::Global;
+use acl_names::Uid;
+use acl_posix::{Acl, Entries, Entry, Perms, Tag, TextFault, read_entries};
 use std::test::Fail;
 
 /// A list of more entries than stand in the value itself.
 const LONG: &str = "u::rw,u:1:r,u:2:r,u:3:r,u:4:r,u:5:r,u:6:r,u:7:r,u:bob:rw,g::r,m::r,o::-";
 
-/// The examples' directory, at the second attempt if the first is refused.
-fn names(alloc: Global, told: &mut Refusals) -> Result<Directory, Fail> {
-    match directory(alloc) {
-        Some(directory) => Ok(directory),
-        None => {
-            told.one_more();
-            Ok(directory(alloc).ok_or("refused without cause")?)
-        }
-    }
-}
-
-/// A long list, at the second attempt if the first is refused.
-fn long_acl(alloc: Global, told: &mut Refusals) -> Result<Acl, Fail> {
-    match acl(alloc, LONG) {
-        Some(list) => Ok(list),
-        None => {
-            told.one_more();
-            Ok(acl(alloc, LONG).ok_or("refused without cause")?)
-        }
-    }
-}
-
-fn some_mode() -> Result<Mode, Fail> {
-    Ok(mode(0o640).ok_or("mode")?)
-}
-
 #[test]
 fn push_under_a_refused_growth(rt: HostRuntime) -> Result<(), Fail> {
-    let mut told = Refusals::new();
-    let mut entries = Entries::new(rt.alloc());
+    let alloc = rt.alloc();
+    let mut refusals = Refusals::new();
+    let mut entries = Entries::new(alloc);
     for number in 0..64 {
         let entry = Entry {
             // Out of order, so that the sorted copy grows too.
@@ -50,77 +24,73 @@ fn push_under_a_refused_growth(rt: HostRuntime) -> Result<(), Fail> {
             perms: Perms::READ,
         };
         if entries.push(entry) == Err(TextFault::Memory) {
-            told.one_more();
+            refusals.one_more();
             assert_eq!(rt; entries.as_slice().len(), number as usize);
             assert!(rt; entries.push(entry).is_ok());
         }
     }
     assert_eq!(rt; entries.as_slice().len(), 64);
-    println!(rt; "refusals: {}", told.told())?;
+    println!(rt; "refusals: {}", refusals.told())?;
     Ok(())
 }
 
 #[test]
 fn read_entries_under_a_refused_growth(rt: HostRuntime) -> Result<(), Fail> {
-    let mut told = Refusals::new();
-    let names = names(rt.alloc(), &mut told)?;
-    let mut entries = read_entries(rt.alloc(), LONG.as_bytes(), &names);
+    let alloc = rt.alloc();
+    let mut refusals = Refusals::new();
+    let names = refusals.again(|| directory(alloc)).ok_or("the directory")?;
+    let mut entries = read_entries(alloc, LONG.as_bytes(), &names);
     if matches!(entries, Err(TextFault::Memory)) {
-        told.one_more();
-        entries = read_entries(rt.alloc(), LONG.as_bytes(), &names);
+        refusals.one_more();
+        entries = read_entries(alloc, LONG.as_bytes(), &names);
     }
     let entries = entries?;
     assert_eq!(rt; entries.as_slice().len(), 12);
     assert!(rt; Acl::new(entries).is_ok());
-    println!(rt; "refusals: {}", told.told())?;
+    println!(rt; "refusals: {}", refusals.told())?;
     Ok(())
 }
 
 #[test]
 fn printers_under_a_refused_growth(rt: HostRuntime) -> Result<(), Fail> {
-    let mut told = Refusals::new();
-    let names = names(rt.alloc(), &mut told)?;
-    let list = long_acl(rt.alloc(), &mut told)?;
-    let mut out = Vec::new(rt.alloc());
+    let alloc = rt.alloc();
+    let mut refusals = Refusals::new();
+    let names = refusals.again(|| directory(alloc)).ok_or("the directory")?;
+    let list = refusals.again(|| acl(alloc, LONG)).ok_or("a list")?;
+    let mut out = Vec::new(alloc);
     if list.print_long(&names, &mut out).is_err() {
-        told.one_more();
+        refusals.one_more();
         assert_eq!(rt; out.len(), 0);
         list.print_long(&names, &mut out)?;
     }
     let long = out.len();
     if list.print_effective(&names, &mut out).is_err() {
-        told.one_more();
+        refusals.one_more();
         assert_eq!(rt; out.len(), long);
         list.print_effective(&names, &mut out)?;
     }
     // One mark of 15 bytes makes the difference.
     assert_eq!(rt; out.len().saturating_sub(long), long.saturating_add(15));
-    println!(rt; "refusals: {}", told.told())?;
+    println!(rt; "refusals: {}", refusals.told())?;
     Ok(())
 }
 
 #[test]
 fn lists_of_modes_under_a_refused_growth(rt: HostRuntime) -> Result<(), Fail> {
-    let mut told = Refusals::new();
-    let default = long_acl(rt.alloc(), &mut told)?;
-    let made = match Acl::at_creation(rt.alloc(), &default, some_mode()?) {
-        Ok(made) => made,
-        Err(_) => {
-            told.one_more();
-            Acl::at_creation(rt.alloc(), &default, some_mode()?)?
-        }
-    };
+    let alloc = rt.alloc();
+    let mut refusals = Refusals::new();
+    let default = refusals.again(|| acl(alloc, LONG)).ok_or("a list")?;
+    let mode = mode(0o640).ok_or("a mode")?;
+    let made = refusals
+        .again(|| Acl::at_creation(alloc, &default, mode).ok())
+        .ok_or("refused without cause")?;
     assert_eq!(rt; made.mode().bits(), 0o640);
-    let copy = match default.try_clone(rt.alloc()) {
-        Ok(copy) => copy,
-        Err(_) => {
-            told.one_more();
-            default.try_clone(rt.alloc())?
-        }
-    };
+    let copy = refusals
+        .again(|| default.try_clone(alloc).ok())
+        .ok_or("refused without cause")?;
     assert!(rt; copy.entries() == default.entries());
     // A list of three takes no memory.
-    assert!(rt; Acl::of_mode(rt.alloc(), some_mode()?).is_ok());
-    println!(rt; "refusals: {}", told.told())?;
+    assert!(rt; Acl::of_mode(alloc, mode).is_ok());
+    println!(rt; "refusals: {}", refusals.told())?;
     Ok(())
 }
