@@ -5,7 +5,7 @@
 //! how many refusals it was told of: one up to the last growth that it asks for, and none from then on.
 use acl_examples::{Refusals, acl, directory};
 use acl_lang::{Answer, Line, Numbered, Requests, read_line, read_text, render};
-use acl_names::{Directory, Gid, Uid};
+use acl_names::{Gid, Uid};
 use acl_nfs4::{Ace, AceType, Acl4, Flags as AceFlags, Kind, Mask, Who};
 use acl_posix::{Acl, Entry, Mode, Perms, Tag};
 use acl_tree::{Boxed, LineFault, NodeAcl, Path, Reply, Request, View};
@@ -22,28 +22,6 @@ const TEXT: &[u8] =
 /// The view of the render's test.
 const SHOWN: &[u8] =
     b"1 get /d dir alice staff 640 posix\nuser::rw-\nuser:1:r--\nuser:2:r--\nuser:3:r--\nuser:4:r--\nuser:5:r--\nuser:6:r--\nuser:7:r--\nuser:bob:rw-\t#effective:r--\ngroup::r--\nmask::r--\nother::---\ndefault:user::rw-\ndefault:user:1:r--\ndefault:user:2:r--\ndefault:user:3:r--\ndefault:user:4:r--\ndefault:user:5:r--\ndefault:user:6:r--\ndefault:user:7:r--\ndefault:user:bob:rw-\t#effective:r--\ndefault:group::r--\ndefault:mask::r--\ndefault:other::---\n";
-
-/// The examples' directory, at the second attempt if the first is refused.
-fn names(alloc: Global, told: &mut Refusals) -> Result<Directory, Fail> {
-    match directory(alloc) {
-        Some(directory) => Ok(directory),
-        None => {
-            told.one_more();
-            Ok(directory(alloc).ok_or("refused without cause")?)
-        }
-    }
-}
-
-/// A long list, at the second attempt if the first is refused.
-fn long_acl(alloc: Global, told: &mut Refusals) -> Result<Acl, Fail> {
-    match acl(alloc, LONG) {
-        Some(list) => Ok(list),
-        None => {
-            told.one_more();
-            Ok(acl(alloc, LONG).ok_or("refused without cause")?)
-        }
-    }
-}
 
 /// Whether the entry names the user, with these permissions.
 fn is_user(entry: &Entry, uid: u32, perms: Perms) -> bool {
@@ -135,37 +113,31 @@ fn is_of_text(numbered: &Numbered, line: u32) -> bool {
 
 #[test]
 fn read_line_under_a_refused_growth(rt: HostRuntime) -> Result<(), Fail> {
-    let mut told = Refusals::new();
-    let names = names(rt.alloc(), &mut told)?;
+    let alloc = rt.alloc();
+    let mut refusals = Refusals::new();
+    let names = refusals.again(|| directory(alloc)).ok_or("the directory")?;
     let line =
         b"set /a default u::rw,u:1:r,u:2:r,u:3:r,u:4:r,u:5:r,u:6:r,u:7:r,u:bob:rw,g::r,m::r,o::-";
-    let mut read = read_line(rt.alloc(), line, &names);
-    if read.is_err() {
-        told.one_more();
-        read = read_line(rt.alloc(), line, &names);
-    }
+    let read = refusals.again(|| read_line(alloc, line, &names).ok());
     match &read {
-        Ok(Line::Command(Request::SetDefault(path, Some(list)))) => {
+        Some(Line::Command(Request::SetDefault(path, Some(list)))) => {
             assert_eq!(rt; path.as_bytes(), b"/a".as_slice());
             assert!(rt; is_long(list));
         }
         _ => return Err(Fail::from("no default list")),
     }
-    println!(rt; "refusals: {}", told.told())?;
+    println!(rt; "refusals: {}", refusals.told())?;
     Ok(())
 }
 
 #[test]
 fn read_text_under_a_refused_growth(rt: HostRuntime) -> Result<(), Fail> {
-    let mut told = Refusals::new();
-    let names = names(rt.alloc(), &mut told)?;
-    let requests = match read_text(rt.alloc(), TEXT, &names) {
-        Ok(requests) => requests,
-        Err(_) => {
-            told.one_more();
-            read_text(rt.alloc(), TEXT, &names)?
-        }
-    };
+    let alloc = rt.alloc();
+    let mut refusals = Refusals::new();
+    let names = refusals.again(|| directory(alloc)).ok_or("the directory")?;
+    let requests = refusals
+        .again(|| read_text(alloc, TEXT, &names).ok())
+        .ok_or("requests")?;
     match requests.as_slice() {
         [first, second, third, fourth] => {
             assert!(rt; is_of_text(first, 2));
@@ -175,81 +147,64 @@ fn read_text_under_a_refused_growth(rt: HostRuntime) -> Result<(), Fail> {
         }
         _ => return Err(Fail::from("other than four requests")),
     }
-    println!(rt; "refusals: {}", told.told())?;
+    println!(rt; "refusals: {}", refusals.told())?;
     Ok(())
 }
 
 #[test]
 fn requests_under_a_refused_growth(rt: HostRuntime) -> Result<(), Fail> {
-    let mut told = Refusals::new();
-    let names = names(rt.alloc(), &mut told)?;
+    let alloc = rt.alloc();
+    let mut refusals = Refusals::new();
+    let names = refusals.again(|| directory(alloc)).ok_or("the directory")?;
     let mut requests = Requests::new(TEXT, &names);
     for line in [2, 4, 5, 6] {
-        let mut next = requests.next(rt.alloc());
+        let mut next = requests.next(alloc);
         if next.is_err() {
-            told.one_more();
-            next = requests.next(rt.alloc());
+            refusals.one_more();
+            next = requests.next(alloc);
         }
         let numbered = next?.ok_or("a request")?;
         assert!(rt; is_of_text(&numbered, line));
     }
-    assert!(rt; requests.next(rt.alloc())?.is_none());
-    println!(rt; "refusals: {}", told.told())?;
+    assert!(rt; requests.next(alloc)?.is_none());
+    println!(rt; "refusals: {}", refusals.told())?;
     Ok(())
 }
 
-/// A directory's view, at the second attempt if the first is refused.
-fn view(alloc: Global, told: &mut Refusals) -> Result<View, Fail> {
-    let access = long_acl(alloc, told)?;
-    let default = long_acl(alloc, told)?;
-    let path = match Path::read(alloc, b"/d") {
-        Ok(path) => path,
-        Err(_) => {
-            told.one_more();
-            Path::read(alloc, b"/d")
-                .ok()
-                .ok_or("refused without cause")?
-        }
-    };
-    Ok(View {
+/// A directory's view in a box; none where memory is refused.
+fn boxed_view(alloc: Global) -> Option<Boxed<View>> {
+    let access = acl(alloc, LONG)?;
+    let default = acl(alloc, LONG)?;
+    let path = Path::read(alloc, b"/d").ok()?;
+    let view = View {
         path,
         kind: Kind::Dir,
-        owner: Uid::new(1000).ok_or("uid")?,
-        group: Gid::new(50).ok_or("gid")?,
-        mode: Mode::from_bits(0o640).ok_or("mode")?,
+        owner: Uid::new(1000)?,
+        group: Gid::new(50)?,
+        mode: Mode::from_bits(0o640)?,
         acl: NodeAcl::Posix {
             access,
             default: Some(default),
         },
-    })
-}
-
-/// The same in a box, at the second attempt if the first is refused.
-fn boxed_view(alloc: Global, told: &mut Refusals) -> Result<Boxed<View>, Fail> {
-    let first = view(alloc, told)?;
-    match Boxed::new(alloc, first) {
-        Ok(view) => Ok(view),
-        Err(_) => {
-            told.one_more();
-            let second = view(alloc, told)?;
-            Ok(Boxed::new(alloc, second)?)
-        }
-    }
+    };
+    Boxed::new(alloc, view).ok()
 }
 
 #[test]
 fn render_under_a_refused_growth(rt: HostRuntime) -> Result<(), Fail> {
-    let mut told = Refusals::new();
-    let names = names(rt.alloc(), &mut told)?;
-    let reply = Reply::Node(boxed_view(rt.alloc(), &mut told)?);
+    let alloc = rt.alloc();
+    let mut refusals = Refusals::new();
+    let names = refusals.again(|| directory(alloc)).ok_or("the directory")?;
+    let view = refusals.again(|| boxed_view(alloc)).ok_or("a view")?;
+    let reply = Reply::Node(view);
     let answer = Answer { line: 1, reply };
-    let mut out = Vec::new(rt.alloc());
+    let mut out = Vec::new(alloc);
     if render(&answer, &names, &mut out).is_err() {
-        told.one_more();
+        refusals.one_more();
         assert_eq!(rt; out.len(), 0);
         render(&answer, &names, &mut out)?;
     }
     assert_eq!(rt; out.as_slice(), SHOWN);
-    println!(rt; "refusals: {}", told.told())?;
+    println!(rt; "refusals: {}", refusals.told())?;
     Ok(())
 }
