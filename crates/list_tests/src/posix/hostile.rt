@@ -1,4 +1,4 @@
-//! Texts that were cut or bent: what each comes to, by scripts/read-texts.py, which reads them apart from this crate.
+//! Texts that were cut or bent: what each comes to, by scripts/read-texts.py, which shares nothing with the readers.
 use crate::bent::{ACES, ENTRIES, bent};
 use acl_examples::directory;
 use acl_names::Directory;
