@@ -1,5 +1,4 @@
 mod comparison;
 mod examples;
-mod fixture;
 mod refused_growths;
 mod sizes;

@@ -30,14 +30,19 @@ fn longest(alloc: Global) -> Option<Acl4> {
     Some(list)
 }
 
+/// The longest list, read.
+fn read_longest(alloc: Global) -> Option<Acl4> {
+    let text = text_of(alloc, 128)?;
+    acl4(alloc, text.as_str())
+}
+
 #[test]
 fn as_many_entries_as_there_may_be(rt: HostRuntime) -> Result<(), Fail> {
-    let text = text_of(rt.alloc(), 128).ok_or("a text")?;
-    let mut read = acl4(rt.alloc(), text.as_str()).ok_or("a list")?;
+    let mode = Mode::from_bits(0o644).ok_or("a mode")?;
     let list = longest(rt.alloc()).ok_or("a list")?;
+    let mut read = read_longest(rt.alloc()).ok_or("a list")?;
     assert!(rt; read.aces() == list.aces());
-    let set = read.chmod4(rt.alloc(), Mode::from_bits(0o644).ok_or("a mode")?);
-    assert_eq!(rt; set, Err(Fault4::TooMany));
+    assert_eq!(rt; read.chmod4(rt.alloc(), mode), Err(Fault4::TooMany));
     assert!(rt; read.aces() == list.aces());
     Ok(())
 }
@@ -49,6 +54,11 @@ fn one_entry_too_many(rt: HostRuntime) -> Result<(), Fail> {
     text.push_str("nonsense")?;
     let fault = read_aces(rt.alloc(), text.as_bytes(), &names).err();
     assert_eq!(rt; fault, Some(AceFault::TooMany));
+    Ok(())
+}
+
+#[test]
+fn one_pushed_entry_too_many(rt: HostRuntime) -> Result<(), Fail> {
     let mut list = longest(rt.alloc()).ok_or("a list")?;
     assert_eq!(rt; list.push(Ace::default()), Err(AceFault::TooMany));
     Ok(())

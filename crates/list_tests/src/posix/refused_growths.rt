@@ -6,7 +6,8 @@
 use crate::posix::fixture::mode;
 use acl_examples::{Refusals, acl, directory};
 use acl_names::Uid;
-use acl_posix::{Acl, Entries, Entry, Perms, Tag, TextFault, read_entries};
+use acl_posix::{Acl, Entries, Entry, Mode, Perms, Tag, TextFault, read_entries};
+use std::alloc::Global;
 use std::test::Fail;
 
 /// A list of more entries than stand in the value itself.
@@ -75,22 +76,38 @@ fn printers_under_a_refused_growth(rt: HostRuntime) -> Result<(), Fail> {
     Ok(())
 }
 
+/// The mode of a file that is made with this one below the default list.
+fn mode_below(alloc: Global, default: &Acl, mode: Mode) -> Option<Mode> {
+    let made = Acl::at_creation(alloc, default, mode).ok()?;
+    Some(made.mode())
+}
+
+/// Whether a copy has the list's entries.
+fn is_copied(alloc: Global, list: &Acl) -> Option<bool> {
+    let copy = list.try_clone(alloc).ok()?;
+    Some(copy.entries() == list.entries())
+}
+
 #[test]
 fn lists_of_modes_under_a_refused_growth(rt: HostRuntime) -> Result<(), Fail> {
     let alloc = rt.alloc();
     let mut refusals = Refusals::new();
-    let default = refusals.again(|| acl(alloc, LONG)).ok_or("a list")?;
     let mode = mode(0o640).ok_or("a mode")?;
-    let made = refusals
-        .again(|| Acl::at_creation(alloc, &default, mode).ok())
-        .ok_or("refused without cause")?;
-    assert_eq!(rt; made.mode().bits(), 0o640);
-    let copy = refusals
-        .again(|| default.try_clone(alloc).ok())
-        .ok_or("refused without cause")?;
-    assert!(rt; copy.entries() == default.entries());
     // A list of three takes no memory.
     assert!(rt; Acl::of_mode(alloc, mode).is_ok());
+    let default = refusals.again(|| acl(alloc, LONG)).ok_or("a list")?;
+    let shown = refusals.again(|| mode_below(alloc, &default, mode));
+    assert_eq!(rt; shown, Some(mode));
+    println!(rt; "refusals: {}", refusals.told())?;
+    Ok(())
+}
+
+#[test]
+fn a_copy_under_a_refused_growth(rt: HostRuntime) -> Result<(), Fail> {
+    let alloc = rt.alloc();
+    let mut refusals = Refusals::new();
+    let list = refusals.again(|| acl(alloc, LONG)).ok_or("a list")?;
+    assert_eq!(rt; refusals.again(|| is_copied(alloc, &list)), Some(true));
     println!(rt; "refusals: {}", refusals.told())?;
     Ok(())
 }

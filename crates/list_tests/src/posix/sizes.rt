@@ -1,9 +1,9 @@
 //! With ample memory each call that may take some succeeds, at the sizes that matter: few entries, as many as stand inline, one
 //! more, and the most.
-use crate::posix::fixture::mode;
-use acl_examples::directory;
+use crate::posix::fixture::{long, mode};
+use acl_examples::{acl, directory};
 use acl_names::Directory;
-use acl_posix::{Acl, Entries, read_entries};
+use acl_posix::{Acl, Entries, Entry, read_entries};
 use std::alloc::Global;
 use std::test::Fail;
 
@@ -26,43 +26,61 @@ fn entries_of(alloc: Global, count: u32, names: &Directory) -> Option<Entries> {
     read_entries(alloc, text_of(alloc, count)?.as_bytes(), names).ok()
 }
 
+/// The entries, pushed one by one.
+fn pushed(alloc: Global, entries: &[Entry]) -> Option<Entries> {
+    let mut pushed = Entries::new(alloc);
+    for entry in entries {
+        pushed.push(*entry).ok()?;
+    }
+    Some(pushed)
+}
+
 #[test]
 fn texts_and_entries_of_each_size(rt: HostRuntime) -> Result<(), Fail> {
     let names = directory(rt.alloc()).ok_or("directory")?;
     for count in [0, 1, 8, 9, 64] {
         let read = entries_of(rt.alloc(), count, &names).ok_or("entries")?;
         assert_eq!(rt; read.as_slice().len(), count as usize);
-        let mut pushed = Entries::new(rt.alloc());
-        for entry in read.as_slice() {
-            assert!(rt; pushed.push(*entry).is_ok());
-        }
+        let pushed = pushed(rt.alloc(), read.as_slice()).ok_or("pushed entries")?;
         assert!(rt; pushed.as_slice() == read.as_slice());
     }
     Ok(())
 }
 
-/// The list of so many entries, printed.
-fn printed(alloc: Global, list: &Acl, names: &Directory) -> Option<Vec<u8>> {
-    let mut out = Vec::new(alloc);
-    list.print_long(names, &mut out).ok()?;
-    Some(out)
+/// The list of so many entries.
+fn list_of(alloc: Global, count: u32) -> Option<Acl> {
+    let text = text_of(alloc, count)?;
+    acl(alloc, text.as_str())
+}
+
+/// Whether a copy has the list's entries.
+fn is_copied(alloc: Global, list: &Acl) -> Option<bool> {
+    let copy = list.try_clone(alloc).ok()?;
+    Some(copy.entries() == list.entries())
+}
+
+/// Whether a file that is made with the mode 777 below the default list has its entries.
+fn is_handed_on(alloc: Global, list: &Acl) -> Option<bool> {
+    let all = mode(0o777)?;
+    let made = Acl::at_creation(alloc, list, all).ok()?;
+    Some(made.entries() == list.entries())
+}
+
+/// Whether what is printed is read as the list's entries.
+fn is_read_again(alloc: Global, list: &Acl) -> Option<bool> {
+    let text = long(alloc, list)?;
+    let again = acl(alloc, text.as_str())?;
+    Some(again.entries() == list.entries())
 }
 
 #[test]
 fn lists_of_each_size(rt: HostRuntime) -> Result<(), Fail> {
-    let names = directory(rt.alloc()).ok_or("directory")?;
-    let all = mode(0o777).ok_or("mode")?;
     for count in [3, 8, 9, 64] {
-        let entries = entries_of(rt.alloc(), count, &names).ok_or("entries")?;
-        let list = Acl::new(entries).ok().ok_or("a valid list")?;
-        let copy = list.try_clone(rt.alloc())?;
-        let made = Acl::at_creation(rt.alloc(), &list, all)?;
-        let text = printed(rt.alloc(), &list, &names).ok_or("text")?;
+        let list = list_of(rt.alloc(), count).ok_or("a valid list")?;
         assert_eq!(rt; list.entries().len(), count as usize);
-        assert!(rt; copy.entries() == list.entries());
-        assert!(rt; made.entries() == list.entries());
-        let read = read_entries(rt.alloc(), text.as_slice(), &names)?;
-        assert!(rt; read.as_slice() == list.entries());
+        assert_eq!(rt; is_copied(rt.alloc(), &list), Some(true));
+        assert_eq!(rt; is_handed_on(rt.alloc(), &list), Some(true));
+        assert_eq!(rt; is_read_again(rt.alloc(), &list), Some(true));
     }
     Ok(())
 }

@@ -1,4 +1,5 @@
-use acl_examples::directory;
+use crate::posix::fixture::long;
+use acl_examples::{acl, directory};
 use acl_names::Uid;
 use acl_posix::{Acl, Entries, Entry, Invalid, Perms, Tag, TextFault, read_entries};
 use std::alloc::Global;
@@ -39,18 +40,16 @@ fn lists_are_refused_for_the_first_fault(rt: HostRuntime) -> Result<(), Fail> {
 
 #[test]
 fn entries_stand_in_canonical_order(rt: HostRuntime) -> Result<(), Fail> {
-    let names = directory(rt.alloc()).ok_or("the directory")?;
-    let text = b"o::-,m::rwx,g:60:r,g:ops2:r,g:0:w,g::r,u:7:r,u:bob:w,u::rw";
-    let fault = read_entries(rt.alloc(), text, &names).err();
-    assert_eq!(rt; fault, Some(TextFault::UnknownName));
-    let text = b"o::-,m::rwx,g:60:r,g:0:w,g::r,u:bob:w,u:7:r,u::rw";
-    let entries = read_entries(rt.alloc(), text, &names)?;
-    let acl = Acl::new(entries)?;
-    let mut out = Vec::new(rt.alloc());
-    acl.print_long(&names, &mut out)?;
-    let printed =
-        "user::rw-\nuser:7:r--\nuser:bob:-w-\ngroup::r--\ngroup:root:-w-\ngroup:ops:r--\nmask::rwx\nother::---\n";
-    assert_eq!(rt; out.as_slice(), printed.as_bytes());
+    let list = acl(
+        rt.alloc(),
+        "o::-,m::rwx,g:60:r,g:0:w,g::r,u:bob:w,u:7:r,u::rw",
+    )
+    .ok_or("list")?;
+    let printed = long(rt.alloc(), &list).ok_or("print")?;
+    assert_eq!(rt;
+        printed.as_str(),
+        "user::rw-\nuser:7:r--\nuser:bob:-w-\ngroup::r--\ngroup:root:-w-\ngroup:ops:r--\nmask::rwx\nother::---\n"
+    );
     Ok(())
 }
 

@@ -2,7 +2,7 @@ use crate::service::fixture::tree;
 use acl_examples::directory;
 use acl_lang::MAX_TEXT_LEN;
 use acl_service::{OneFault, run_one};
-use acl_tree::Path;
+use acl_tree::{Path, Tree};
 use std::alloc::Global;
 use std::io::{self, Write};
 use std::test::Fail;
@@ -73,16 +73,20 @@ fn faults_and_translations(rt: HostRuntime) -> Result<(), Fail> {
     Ok(())
 }
 
-#[test]
-fn the_tree_is_given_back(rt: HostRuntime) -> Result<(), Fail> {
-    let names = directory(rt.alloc()).ok_or("names")?;
-    let tree = tree(rt.alloc()).ok_or("a tree")?;
+/// The tree once the session is done.
+fn after(alloc: Global) -> Option<Tree> {
+    let names = directory(alloc)?;
+    let tree = tree(alloc)?;
     let mut lines = [0; 128];
     let mut out = lines.as_mut_slice();
     let text = CREATE_AND_GET.as_bytes();
-    let ran = run_one(rt.alloc(), &names, tree, text, &mut out);
-    let after = ran.ok().ok_or("a run")?;
+    run_one(alloc, &names, tree, text, &mut out).ok()
+}
+
+#[test]
+fn the_tree_is_given_back(rt: HostRuntime) -> Result<(), Fail> {
     let path = Path::read(rt.alloc(), b"/a").ok().ok_or("a path")?;
+    let after = after(rt.alloc()).ok_or("a run")?;
     assert_eq!(rt; after.len(), 2);
     assert!(rt; after.node(&path).is_some());
     Ok(())

@@ -53,6 +53,17 @@ const P: &str = "create dir /p alice 755\ncreate file /p/f alice 600\nget /p/f\n
 
 const Q: &str = "create dir /q bob 755\ncreate file /q/f bob 600\nget /q/f\n";
 
+/// The texts' bytes.
+fn texts_of(alloc: Global, given: &[&str]) -> Option<Vec<Vec<u8>>> {
+    let mut texts = Vec::new(alloc);
+    for text in given {
+        texts
+            .push(Vec::from_slice(alloc, text.as_bytes()).ok()?)
+            .ok()?;
+    }
+    Some(texts)
+}
+
 /// How a run of these texts ended: its status, and what went to the output and to standard error.
 fn run<R: Threads + Wait + Clock + Sync, G: Gate>(
     rt: &R,
@@ -62,18 +73,12 @@ fn run<R: Threads + Wait + Clock + Sync, G: Gate>(
     given: &[&str],
     journal: bool,
     max_errors: Option<u32>,
-) -> Result<(u8, Vec<u8>, Vec<u8>), Fail>
+) -> Option<(u8, Vec<u8>, Vec<u8>)>
     requires { max_errors ≢ Some 0 }
 {
-    let mut texts = Vec::new(alloc);
-    for text in given {
-        texts.push(Vec::from_slice(alloc, text.as_bytes())?)?;
-    }
-    if texts.is_empty() {
-        return Err("no texts".into());
-    }
-    if !are_short(&texts) {
-        return Err("texts that are too long".into());
+    let texts = texts_of(alloc, given)?;
+    if texts.is_empty() || !are_short(&texts) {
+        return None;
     }
     let mut out = Vec::new(alloc);
     let mut err = Vec::new(alloc);
@@ -82,7 +87,7 @@ fn run<R: Threads + Wait + Clock + Sync, G: Gate>(
     let status = run_texts(
         rt, alloc, gate, setup, texts, journal, max_errors, &mut out, &mut err,
     );
-    Ok((status, out, err))
+    Some((status, out, err))
 }
 
 #[test]
@@ -95,7 +100,8 @@ fn journal_of_one_session(rt: HostRuntime) -> Result<(), Fail> {
         &[CREATE_AND_GET],
         true,
         None,
-    )?;
+    )
+    .ok_or("no run")?;
     let wanted =
         "1 ok\n2 get /a file alice staff 644 posix\nuser::rw-\ngroup::r--\nother::r--\njournal\n0 1\n0 2\n";
     assert_eq!(rt; status, 0);
@@ -114,7 +120,8 @@ fn one_session_alone(rt: HostRuntime) -> Result<(), Fail> {
         &[CREATE_AND_GET],
         false,
         None,
-    )?;
+    )
+    .ok_or("no run")?;
     let wanted = "1 ok\n2 get /a file alice staff 644 posix\nuser::rw-\ngroup::r--\nother::r--\n";
     assert_eq!(rt; status, 0);
     assert_eq!(rt; out.as_slice(), wanted.as_bytes());
@@ -124,7 +131,9 @@ fn one_session_alone(rt: HostRuntime) -> Result<(), Fail> {
 
 #[test]
 fn output_of_two_sessions(rt: HostRuntime) -> Result<(), Fail> {
-    let (status, out, err) = run(&rt, rt.alloc(), &OpenGate, SETUP, &[P, Q], false, None)?;
+    let (status, out, err) = run(&rt, rt.alloc(), &OpenGate, SETUP, &[P, Q], false, None).ok_or(
+        "no run",
+    )?;
     let wanted =
         "session 0\n1 ok\n2 ok\n3 get /p/f file alice staff 600 posix\nuser::rw-\ngroup::---\nother::---\nsession 1\n1 ok\n2 ok\n3 get /q/f file bob staff 600 posix\nuser::rw-\ngroup::---\nother::---\n";
     assert_eq!(rt; status, 0);
@@ -136,7 +145,9 @@ fn output_of_two_sessions(rt: HostRuntime) -> Result<(), Fail> {
 #[test]
 fn most_errors_allowed(rt: HostRuntime) -> Result<(), Fail> {
     let text = "get /x\nget /\nnope\nget /\n";
-    let (status, out, err) = run(&rt, rt.alloc(), &OpenGate, SETUP, &[text], true, Some(2))?;
+    let (status, out, err) = run(&rt, rt.alloc(), &OpenGate, SETUP, &[text], true, Some(2)).ok_or(
+        "no run",
+    )?;
     let wanted =
         "1 error 20 no-such-path\n2 get / dir root root 755 posix\nuser::rwx\ngroup::r-x\nother::r-x\n3 error 1 syntax\njournal\n0 1\n0 2\n0 3\n";
     assert_eq!(rt; status, 0);
@@ -148,7 +159,9 @@ fn most_errors_allowed(rt: HostRuntime) -> Result<(), Fail> {
 #[test]
 fn stopped_by_the_gate(rt: HostRuntime) -> Result<(), Fail> {
     let gate = Closed { session: 0, nth: 2 };
-    let (status, out, err) = run(&rt, rt.alloc(), &gate, SETUP, &[P, Q], false, None)?;
+    let (status, out, err) = run(&rt, rt.alloc(), &gate, SETUP, &[P, Q], false, None).ok_or(
+        "no run",
+    )?;
     assert_eq!(rt; status, 3);
     assert!(rt; out.is_empty());
     assert_eq!(rt; err.as_slice(), b"aclctl: run: stopped\n".as_slice());
@@ -178,7 +191,8 @@ fn setups_that_are_refused(rt: HostRuntime) -> Result<(), Fail> {
             &[P, Q],
             true,
             None,
-        )?;
+        )
+        .ok_or("no run")?;
         assert_eq!(rt; status, 1);
         assert!(rt; out.is_empty());
         assert_eq!(rt; err.as_slice(), line.as_bytes());
@@ -188,54 +202,45 @@ fn setups_that_are_refused(rt: HostRuntime) -> Result<(), Fail> {
 
 #[test]
 fn more_than_64_texts_come_before_the_setup(rt: HostRuntime) -> Result<(), Fail> {
-    let (status, out, err) = run(
-        &rt,
-        rt.alloc(),
-        &OpenGate,
-        "[[",
-        [P; 65].as_slice(),
-        false,
-        None,
-    )?;
-    assert_eq!(rt; status, 2);
-    assert!(rt; out.is_empty());
-    assert_eq!(rt; err.as_slice(), b"aclctl: at most 64 sessions\n".as_slice());
-    let (status, _out, err) = run(
-        &rt,
-        rt.alloc(),
-        &OpenGate,
-        "[[",
-        [P; 64].as_slice(),
-        false,
-        None,
-    )?;
-    assert_eq!(rt; status, 1);
-    assert_eq!(rt; err.as_slice(), b"aclctl: setup: not toml\n".as_slice());
+    for (texts, status, line) in [
+        ([P; 65].as_slice(), 2, "aclctl: at most 64 sessions\n"),
+        ([P; 64].as_slice(), 1, "aclctl: setup: not toml\n"),
+    ] {
+        let (ended, out, err) = run(&rt, rt.alloc(), &OpenGate, "[[", texts, false, None).ok_or(
+            "no run",
+        )?;
+        assert_eq!(rt; ended, status);
+        assert!(rt; out.is_empty());
+        assert_eq!(rt; err.as_slice(), line.as_bytes());
+    }
     Ok(())
+}
+
+/// How a run of these texts ends where so many writes of 8 bytes each succeed: its status, and what goes to standard error.
+fn run_into_failing<R: Threads + Wait + Clock + Sync>(
+    rt: &R,
+    alloc: Global,
+    given: &[&str],
+    writes: u32,
+) -> Option<(u8, Vec<u8>)> {
+    let texts = texts_of(alloc, given)?;
+    if texts.is_empty() || !are_short(&texts) {
+        return None;
+    }
+    let mut out = Failing { bytes: 8, writes };
+    let mut err = Vec::new(alloc);
+    let setup = SETUP.as_bytes();
+    let texts = texts.as_slice();
+    let status = run_texts(
+        rt, alloc, &OpenGate, setup, texts, false, None, &mut out, &mut err,
+    );
+    Some((status, err))
 }
 
 #[test]
 fn writers_that_fail(rt: HostRuntime) -> Result<(), Fail> {
-    let mut one = Vec::new(rt.alloc());
-    one.push(Vec::from_slice(rt.alloc(), CREATE_AND_GET.as_bytes())?)?;
-    let mut two = Vec::new(rt.alloc());
-    two.push(Vec::from_slice(rt.alloc(), P.as_bytes())?)?;
-    two.push(Vec::from_slice(rt.alloc(), Q.as_bytes())?)?;
-    for (texts, bytes, writes) in [(one.as_slice(), 8, 0), (two.as_slice(), 8, 1)] {
-        let mut out = Failing { bytes, writes };
-        let mut err = Vec::new(rt.alloc());
-        let setup = SETUP.as_bytes();
-        let status = run_texts(
-            &rt,
-            rt.alloc(),
-            &OpenGate,
-            setup,
-            texts,
-            false,
-            None,
-            &mut out,
-            &mut err,
-        );
+    for (texts, writes) in [([CREATE_AND_GET].as_slice(), 0), ([P, Q].as_slice(), 1)] {
+        let (status, err) = run_into_failing(&rt, rt.alloc(), texts, writes).ok_or("no run")?;
         assert_eq!(rt; status, 3);
         assert_eq!(rt; err.as_slice(), b"aclctl: run: output\n".as_slice());
     }

@@ -3,6 +3,8 @@ use crate::service::gates::{AfterAnswer, Meeting, Shut, ShutAt};
 use crate::service::texts::{entries_of, has_journal, has_output, serve_texts};
 use acl_examples::directory;
 use acl_service::{OpenGate, ServeFault, run_one};
+use acl_tree::Tree;
+use std::alloc::Global;
 use std::test::Fail;
 
 /// A directory and a file in it for each of two users.
@@ -37,21 +39,20 @@ fn two_sessions_two_directories(rt: HostRuntime) -> Result<(), Fail> {
     Ok(())
 }
 
+/// The examples' tree with the file /a of alice's.
+fn with_a(alloc: Global) -> Option<Tree> {
+    let names = directory(alloc)?;
+    let root = tree(alloc)?;
+    let mut lines = [0; 64];
+    let mut out = lines.as_mut_slice();
+    let text = b"create file /a alice 666\n".as_slice();
+    run_one(alloc, &names, root, text, &mut out).ok()
+}
+
 /// A check is granted exactly where it stands before the change of the mode.
 #[test]
 fn two_sessions_one_file(rt: HostRuntime) -> Result<(), Fail> {
-    let names = directory(rt.alloc()).ok_or("no names")?;
-    let root = tree(rt.alloc()).ok_or("no tree")?;
-    let mut lines = [0; 64];
-    let mut out = lines.as_mut_slice();
-    let made = run_one(
-        rt.alloc(),
-        &names,
-        root,
-        b"create file /a alice 666\n".as_slice(),
-        &mut out,
-    );
-    let tree = made.ok().ok_or("a fault")?;
+    let tree = with_a(rt.alloc()).ok_or("no tree")?;
     let texts = ["chmod /a 600\nget /a\n", "check /a bob r\n"];
     let served = serve_texts(&rt, rt.alloc(), &OpenGate, tree, texts.as_slice(), None);
     let report = served.ok_or("no run")?.ok().ok_or("a fault")?;

@@ -7,15 +7,22 @@ use acl_tree::{Style, Tree};
 use std::alloc::Global;
 use std::test::Fail;
 
-/// What is printed of a session with this text.
-fn session(alloc: Global, text: &str) -> Option<String> {
-    let names = directory(alloc)?;
+/// A tree of a root alone, which is root's.
+fn tree(alloc: Global) -> Option<Tree> {
+    let owner = Uid::new(0)?;
+    let group = Gid::new(0)?;
     let mode = Mode::from_bits(0o755)?;
     let umask = Mode::from_bits(0o022)?;
-    let mut tree = Tree::new(alloc, Uid::new(0)?, Gid::new(0)?, mode, Style::Posix, umask).ok()?;
+    Tree::new(alloc, owner, group, mode, Style::Posix, umask).ok()
+}
+
+/// What is printed of a session with this text.
+fn session(alloc: Global, text: &str) -> Option<String> {
     if text.len() > MAX_TEXT_LEN {
         return None;
     }
+    let mut tree = tree(alloc)?;
+    let names = directory(alloc)?;
     let requests = read_text(alloc, text.as_bytes(), &names).ok()?;
     let mut out = Vec::new(alloc);
     for numbered in requests.iter() {

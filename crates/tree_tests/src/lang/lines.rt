@@ -152,24 +152,23 @@ fn faults_of_lists(rt: HostRuntime) -> Result<(), Fail> {
 
 #[test]
 fn longest_lists(rt: HostRuntime) -> Result<(), Fail> {
-    let line = users_line(rt.alloc(), 64).ok_or("memory")?;
-    assert_eq!(rt; code_of(rt.alloc(), &line), Some(0));
-    let line = users_line(rt.alloc(), 65).ok_or("memory")?;
-    assert_eq!(rt; code_of(rt.alloc(), &line), Some(8));
-    let line = list_line(rt.alloc(), "set /a nfs4 ", "A::0:t", 128).ok_or("memory")?;
-    assert_eq!(rt; code_of(rt.alloc(), &line), Some(0));
-    let line = list_line(rt.alloc(), "set /a nfs4 ", "A::0:t", 129).ok_or("memory")?;
-    assert_eq!(rt; code_of(rt.alloc(), &line), Some(8));
+    for (count, code) in [(64, 0), (65, 8)] {
+        let line = users_line(rt.alloc(), count).ok_or("memory")?;
+        assert_eq!(rt; code_of(rt.alloc(), &line), Some(code));
+    }
+    for (count, code) in [(128, 0), (129, 8)] {
+        let line = list_line(rt.alloc(), "set /a nfs4 ", "A::0:t", count).ok_or("memory")?;
+        assert_eq!(rt; code_of(rt.alloc(), &line), Some(code));
+    }
     Ok(())
 }
 
 #[test]
 fn longest_lines(rt: HostRuntime) -> Result<(), Fail> {
-    let line = list_line(rt.alloc(), "#", ",", 512).ok_or("memory")?;
-    assert_eq!(rt; line.len(), 1024);
-    assert_eq!(rt; code_of(rt.alloc(), &line), Some(100));
-    let line = list_line(rt.alloc(), "##", ",", 512).ok_or("memory")?;
-    assert_eq!(rt; line.len(), 1025);
-    assert_eq!(rt; code_of(rt.alloc(), &line), Some(10));
+    for (front, length, code) in [("#", 1024, 100), ("##", 1025, 10)] {
+        let line = list_line(rt.alloc(), front, ",", 512).ok_or("memory")?;
+        assert_eq!(rt; line.len(), length);
+        assert_eq!(rt; code_of(rt.alloc(), &line), Some(code));
+    }
     Ok(())
 }

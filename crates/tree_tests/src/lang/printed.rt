@@ -18,12 +18,16 @@ fn shown(
     mode: u16,
     acl: NodeAcl,
 ) -> Option<String> {
+    let owner = Uid::new(owner)?;
+    let group = Gid::new(group)?;
+    let mode = Mode::from_bits(mode)?;
+    let path = Path::read(alloc, path.as_bytes()).ok()?;
     let view = View {
-        path: Path::read(alloc, path.as_bytes()).ok()?,
+        path,
         kind,
-        owner: Uid::new(owner)?,
-        group: Gid::new(group)?,
-        mode: Mode::from_bits(mode)?,
+        owner,
+        group,
+        mode,
         acl,
     };
     printed(alloc, line, Reply::Node(Boxed::new(alloc, view).ok()?))
@@ -41,12 +45,14 @@ fn posix(alloc: Global, access: &str, default: Option<&str>) -> Option<NodeAcl> 
 
 #[test]
 fn words(rt: HostRuntime) -> Result<(), Fail> {
-    let done = printed(rt.alloc(), 1, Reply::Done).ok_or("memory")?;
-    assert_eq!(rt; done.as_str(), "1 ok\n");
-    let granted = printed(rt.alloc(), 4_294_967_295, Reply::Granted).ok_or("memory")?;
-    assert_eq!(rt; granted.as_str(), "4294967295 granted\n");
-    let denied = printed(rt.alloc(), 30, Reply::Denied).ok_or("memory")?;
-    assert_eq!(rt; denied.as_str(), "30 denied\n");
+    for (line, reply, text) in [
+        (1, Reply::Done, "1 ok\n"),
+        (4_294_967_295, Reply::Granted, "4294967295 granted\n"),
+        (30, Reply::Denied, "30 denied\n"),
+    ] {
+        let printed = printed(rt.alloc(), line, reply).ok_or("memory")?;
+        assert_eq!(rt; printed.as_str(), text);
+    }
     Ok(())
 }
 
@@ -136,17 +142,29 @@ fn an_nfs4_file_of_nobody(rt: HostRuntime) -> Result<(), Fail> {
     Ok(())
 }
 
+/// What is printed of a translation of one list.
+fn translated(alloc: Global, access: &str) -> Option<String> {
+    let access = Boxed::new(alloc, acl4(alloc, access)?).ok()?;
+    printed(alloc, 3, Reply::Translated(access))
+}
+
+/// What is printed of a translation of two.
+fn both_translated(alloc: Global, access: &str, inherit: &str) -> Option<String> {
+    let access = Boxed::new(alloc, acl4(alloc, access)?).ok()?;
+    let inherit = Boxed::new(alloc, acl4(alloc, inherit)?).ok()?;
+    printed(alloc, 3, Reply::TranslatedBoth { access, inherit })
+}
+
 #[test]
-fn translations(rt: HostRuntime) -> Result<(), Fail> {
-    let access = acl4(rt.alloc(), "A::OWNER@:rwax").ok_or("list")?;
-    let access = Boxed::new(rt.alloc(), access)?;
-    let one = printed(rt.alloc(), 3, Reply::Translated(access)).ok_or("memory")?;
+fn a_translation(rt: HostRuntime) -> Result<(), Fail> {
+    let one = translated(rt.alloc(), "A::OWNER@:rwax").ok_or("memory")?;
     assert_eq!(rt; one.as_str(), "3 translated\nA::OWNER@:rwax\n");
-    let access = acl4(rt.alloc(), "A::OWNER@:rwax").ok_or("list")?;
-    let inherit = acl4(rt.alloc(), "A:fdi:OWNER@:rwax").ok_or("list")?;
-    let access = Boxed::new(rt.alloc(), access)?;
-    let inherit = Boxed::new(rt.alloc(), inherit)?;
-    let both = printed(rt.alloc(), 3, Reply::TranslatedBoth { access, inherit }).ok_or("memory")?;
+    Ok(())
+}
+
+#[test]
+fn a_translation_of_both_lists(rt: HostRuntime) -> Result<(), Fail> {
+    let both = both_translated(rt.alloc(), "A::OWNER@:rwax", "A:fdi:OWNER@:rwax").ok_or("memory")?;
     assert_eq!(rt;
         both.as_str(),
         "3 translated\nA::OWNER@:rwax\nA:fdi:OWNER@:rwax\n"

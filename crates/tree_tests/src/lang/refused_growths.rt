@@ -111,6 +111,19 @@ fn is_of_text(numbered: &Numbered, line: u32) -> bool {
     }
 }
 
+/// Whether the requests are the text's.
+fn are_of_text(requests: &[Numbered]) -> bool {
+    match requests {
+        [first, second, third, fourth] => {
+            is_of_text(first, 2)
+                && is_of_text(second, 4)
+                && is_of_text(third, 5)
+                && is_of_text(fourth, 6)
+        }
+        _ => false,
+    }
+}
+
 #[test]
 fn read_line_under_a_refused_growth(rt: HostRuntime) -> Result<(), Fail> {
     let alloc = rt.alloc();
@@ -138,15 +151,7 @@ fn read_text_under_a_refused_growth(rt: HostRuntime) -> Result<(), Fail> {
     let requests = refusals
         .again(|| read_text(alloc, TEXT, &names).ok())
         .ok_or("requests")?;
-    match requests.as_slice() {
-        [first, second, third, fourth] => {
-            assert!(rt; is_of_text(first, 2));
-            assert!(rt; is_of_text(second, 4));
-            assert!(rt; is_of_text(third, 5));
-            assert!(rt; is_of_text(fourth, 6));
-        }
-        _ => return Err(Fail::from("other than four requests")),
-    }
+    assert!(rt; are_of_text(requests.as_slice()));
     println!(rt; "refusals: {}", refusals.told())?;
     Ok(())
 }
@@ -173,15 +178,18 @@ fn requests_under_a_refused_growth(rt: HostRuntime) -> Result<(), Fail> {
 
 /// A directory's view in a box; none where memory is refused.
 fn boxed_view(alloc: Global) -> Option<Boxed<View>> {
+    let owner = Uid::new(1000)?;
+    let group = Gid::new(50)?;
+    let mode = Mode::from_bits(0o640)?;
     let access = acl(alloc, LONG)?;
     let default = acl(alloc, LONG)?;
     let path = Path::read(alloc, b"/d").ok()?;
     let view = View {
         path,
         kind: Kind::Dir,
-        owner: Uid::new(1000)?,
-        group: Gid::new(50)?,
-        mode: Mode::from_bits(0o640)?,
+        owner,
+        group,
+        mode,
         acl: NodeAcl::Posix {
             access,
             default: Some(default),

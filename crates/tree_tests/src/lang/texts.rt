@@ -66,12 +66,14 @@ fn lines_are_numbered(rt: HostRuntime) -> Result<(), Fail> {
 
 #[test]
 fn longest_texts(rt: HostRuntime) -> Result<(), Fail> {
-    let text = repeated(rt.alloc(), b"x\n", 524_288).ok_or("memory")?;
-    let read = requests(rt.alloc(), &text).ok_or("memory")?;
-    assert_eq!(rt; read.len(), 524_288);
-    assert_eq!(rt; last(&read), Some((524_288, 1)));
-    let text = repeated(rt.alloc(), b"\n", 1_048_576).ok_or("memory")?;
-    let read = requests(rt.alloc(), &text).ok_or("memory")?;
-    assert_eq!(rt; read.len(), 0);
+    for (line, lines, count, wanted) in [
+        (b"x\n".as_slice(), 524_288, 524_288, Some((524_288, 1))),
+        (b"\n".as_slice(), 1_048_576, 0, None),
+    ] {
+        let text = repeated(rt.alloc(), line, lines).ok_or("memory")?;
+        let read = requests(rt.alloc(), &text).ok_or("memory")?;
+        assert_eq!(rt; read.len(), count);
+        assert_eq!(rt; last(&read), wanted);
+    }
     Ok(())
 }

@@ -163,6 +163,11 @@ impl World {
         self.apply(&Request::Translate(path))
     }
 
+    pub fn told_translation(&mut self, at: &str) -> Option<Told> {
+        let path = self.path(at)?;
+        self.told(&Request::Translate(path))
+    }
+
     /// Copies of the tree's nodes.
     pub fn nodes(&self) -> Option<Nodes> {
         let mut views = Vec::new(self.alloc);

@@ -56,21 +56,38 @@ fn longest(alloc: Global) -> Option<Acl4> {
     Some(list)
 }
 
+/// The command that sets the longest list.
+fn set_longest(alloc: Global) -> Option<Request> {
+    let path = Path::read(alloc, b"/a").ok()?;
+    let list = Boxed::new(alloc, longest(alloc)?).ok()?;
+    Some(Request::SetNfs4(path, list))
+}
+
+/// The examples' tree, whose file /a has the longest list.
+fn with_longest(alloc: Global) -> Option<World> {
+    let request = set_longest(alloc)?;
+    let mut world = World::with_a(alloc)?;
+    match world.told(&request)? {
+        Told::Done => Some(world),
+        _ => None,
+    }
+}
+
 #[test]
 fn too_many_entries_for_a_mode(rt: HostRuntime) -> Result<(), Fail> {
-    let mut world = World::with_a(rt.alloc()).ok_or("a tree")?;
-    let list = longest(rt.alloc()).ok_or("a list")?;
-    let request = Request::SetNfs4(
-        Path::read(rt.alloc(), b"/a")?,
-        Boxed::new(rt.alloc(), list)?,
-    );
-    assert_eq!(rt; world.told(&request), Some(Told::Done));
+    let mut world = with_longest(rt.alloc()).ok_or("a tree")?;
     let before = world.nodes().ok_or("copies")?;
     assert_eq!(rt;
         world.chmod("/a", 0o644),
         Some(Told::Refused(TreeFault::TooMany))
     );
     assert!(rt; world.has_nodes(&before));
+    Ok(())
+}
+
+#[test]
+fn the_longest_list_decides(rt: HostRuntime) -> Result<(), Fail> {
+    let mut world = with_longest(rt.alloc()).ok_or("a tree")?;
     assert_eq!(rt; world.check4("/a", 0, "t"), Some(Told::Granted));
     Ok(())
 }

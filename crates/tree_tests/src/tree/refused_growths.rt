@@ -34,23 +34,44 @@ fn with_nfs4(alloc: Global) -> Option<World> {
     Some(world)
 }
 
-/// What the command comes to, at the second attempt if the first is refused, which leaves each node as it was and adds none.
-fn again<T, F: Fn(&mut World) -> Option<T>>(
+/// What the command comes to, at the second attempt if the first is refused; none if a refused command changed a node or the
+/// number of nodes.
+fn again<F: Fn(&mut World) -> Option<Told>>(
     world: &mut World,
     refusals: &mut Refusals,
     command: F,
-) -> Result<T, Fail>
+) -> Option<Told>
     requires { F.IsAlwaysCallable command }
 {
-    let before = refusals.again(|| world.nodes()).ok_or("copies")?;
-    if let Some(found) = command(world) {
-        return Ok(found);
+    let before = refusals.again(|| world.nodes())?;
+    if let Some(told) = command(world) {
+        return Some(told);
     }
     refusals.one_more();
     if !world.has_nodes(&before) {
-        return Err("a refused command changed the tree".into());
+        return None;
     }
-    Ok(command(world).ok_or("refused without cause")?)
+    command(world)
+}
+
+/// A tree and what the command on it comes to, and how many growths were refused meanwhile.
+fn commanded<M: Fn() -> Option<World>, F: Fn(&mut World) -> Option<Told>>(
+    make: M,
+    command: F,
+) -> Option<(World, Told, Refusals)>
+    requires make { M.IsAlwaysCallable make }
+    requires command { F.IsAlwaysCallable command }
+{
+    let mut refusals = Refusals::new();
+    let mut world = refusals.again(make)?;
+    let told = again(&mut world, &mut refusals, command)?;
+    Some((world, told, refusals))
+}
+
+/// Whether a copy is the path.
+fn is_copied(alloc: Global, path: &Path) -> Option<bool> {
+    let copy = path.try_clone(alloc).ok()?;
+    Some(copy.as_bytes() == path.as_bytes())
 }
 
 #[test]
@@ -60,10 +81,7 @@ fn paths_under_a_refused_growth(rt: HostRuntime) -> Result<(), Fail> {
     let path = refusals
         .again(|| Path::read(alloc, b"/a/b").ok())
         .ok_or("a path")?;
-    let copy = refusals
-        .again(|| path.try_clone(alloc).ok())
-        .ok_or("a copy")?;
-    assert!(rt; copy.as_bytes() == path.as_bytes());
+    assert_eq!(rt; refusals.again(|| is_copied(alloc, &path)), Some(true));
     println!(rt; "refusals: {}", refusals.told())?;
     Ok(())
 }
@@ -83,13 +101,11 @@ fn new_under_a_refused_growth(rt: HostRuntime) -> Result<(), Fail> {
 #[test]
 fn set_access_under_a_refused_growth(rt: HostRuntime) -> Result<(), Fail> {
     let alloc = rt.alloc();
-    let mut refusals = Refusals::new();
-    let mut world = refusals.again(|| World::with_a(alloc)).ok_or("a tree")?;
-    let told = again(
-        &mut world,
-        &mut refusals,
+    let (world, told, mut refusals) = commanded(
+        || World::with_a(alloc),
         |world| world.set_access("/a", LONG),
-    )?;
+    )
+    .ok_or("refused without cause")?;
     assert_eq!(rt; told, Told::Done);
     assert_eq!(rt; refusals.again(|| world.has_access("/a", LONG)), Some(true));
     println!(rt; "refusals: {}", refusals.told())?;
@@ -99,13 +115,10 @@ fn set_access_under_a_refused_growth(rt: HostRuntime) -> Result<(), Fail> {
 #[test]
 fn set_default_under_a_refused_growth(rt: HostRuntime) -> Result<(), Fail> {
     let alloc = rt.alloc();
-    let mut refusals = Refusals::new();
-    let mut world = refusals.again(|| with_d(alloc)).ok_or("a tree")?;
-    let told = again(
-        &mut world,
-        &mut refusals,
+    let (_, told, refusals) = commanded(
+        || with_d(alloc),
         |world| world.set_default("/d", LONG),
-    )?;
+    ).ok_or("refused without cause")?;
     assert_eq!(rt; told, Told::Done);
     println!(rt; "refusals: {}", refusals.told())?;
     Ok(())
@@ -114,13 +127,10 @@ fn set_default_under_a_refused_growth(rt: HostRuntime) -> Result<(), Fail> {
 #[test]
 fn set_nfs4_under_a_refused_growth(rt: HostRuntime) -> Result<(), Fail> {
     let alloc = rt.alloc();
-    let mut refusals = Refusals::new();
-    let mut world = refusals.again(|| with_d(alloc)).ok_or("a tree")?;
-    let told = again(
-        &mut world,
-        &mut refusals,
+    let (world, told, mut refusals) = commanded(
+        || with_d(alloc),
         |world| world.set_nfs4("/d", LONG4),
-    )?;
+    ).ok_or("refused without cause")?;
     assert_eq!(rt; told, Told::Done);
     assert_eq!(rt; refusals.again(|| world.has_aces("/d", LONG4)), Some(true));
     println!(rt; "refusals: {}", refusals.told())?;
@@ -130,9 +140,10 @@ fn set_nfs4_under_a_refused_growth(rt: HostRuntime) -> Result<(), Fail> {
 #[test]
 fn chmod_under_a_refused_growth(rt: HostRuntime) -> Result<(), Fail> {
     let alloc = rt.alloc();
-    let mut refusals = Refusals::new();
-    let mut world = refusals.again(|| with_nfs4(alloc)).ok_or("a tree")?;
-    let told = again(&mut world, &mut refusals, |world| world.chmod("/d", 0o640))?;
+    let (_, told, refusals) = commanded(
+        || with_nfs4(alloc),
+        |world| world.chmod("/d", 0o640),
+    ).ok_or("refused without cause")?;
     assert_eq!(rt; told, Told::Done);
     println!(rt; "refusals: {}", refusals.told())?;
     Ok(())
@@ -141,13 +152,11 @@ fn chmod_under_a_refused_growth(rt: HostRuntime) -> Result<(), Fail> {
 #[test]
 fn create_under_a_refused_growth(rt: HostRuntime) -> Result<(), Fail> {
     let alloc = rt.alloc();
-    let mut refusals = Refusals::new();
-    let mut world = refusals.again(|| World::with_a(alloc)).ok_or("a tree")?;
-    let told = again(
-        &mut world,
-        &mut refusals,
+    let (world, told, refusals) = commanded(
+        || World::with_a(alloc),
         |world| world.create(Kind::Dir, "/d", ALICE, 0o755),
-    )?;
+    )
+    .ok_or("refused without cause")?;
     assert_eq!(rt; told, Told::Done);
     assert_eq!(rt; world.tree.len(), 3);
     println!(rt; "refusals: {}", refusals.told())?;
@@ -157,13 +166,11 @@ fn create_under_a_refused_growth(rt: HostRuntime) -> Result<(), Fail> {
 #[test]
 fn create_below_a_default_list_under_a_refused_growth(rt: HostRuntime) -> Result<(), Fail> {
     let alloc = rt.alloc();
-    let mut refusals = Refusals::new();
-    let mut world = refusals.again(|| with_d(alloc)).ok_or("a tree")?;
-    let told = again(
-        &mut world,
-        &mut refusals,
+    let (world, told, refusals) = commanded(
+        || with_d(alloc),
         |world| world.create(Kind::Dir, "/d/e", CAROL, 0o640),
-    )?;
+    )
+    .ok_or("refused without cause")?;
     assert_eq!(rt; told, Told::Done);
     assert_eq!(rt; world.tree.len(), 3);
     println!(rt; "refusals: {}", refusals.told())?;
@@ -173,13 +180,11 @@ fn create_below_a_default_list_under_a_refused_growth(rt: HostRuntime) -> Result
 #[test]
 fn create_below_an_nfsv4_list_under_a_refused_growth(rt: HostRuntime) -> Result<(), Fail> {
     let alloc = rt.alloc();
-    let mut refusals = Refusals::new();
-    let mut world = refusals.again(|| with_nfs4(alloc)).ok_or("a tree")?;
-    let told = again(
-        &mut world,
-        &mut refusals,
+    let (world, told, refusals) = commanded(
+        || with_nfs4(alloc),
         |world| world.create(Kind::Dir, "/d/e", CAROL, 0o640),
-    )?;
+    )
+    .ok_or("refused without cause")?;
     assert_eq!(rt; told, Told::Done);
     assert_eq!(rt; world.tree.len(), 3);
     println!(rt; "refusals: {}", refusals.told())?;
@@ -189,9 +194,9 @@ fn create_below_an_nfsv4_list_under_a_refused_growth(rt: HostRuntime) -> Result<
 #[test]
 fn get_under_a_refused_growth(rt: HostRuntime) -> Result<(), Fail> {
     let alloc = rt.alloc();
-    let mut refusals = Refusals::new();
-    let mut world = refusals.again(|| with_d(alloc)).ok_or("a tree")?;
-    let told = again(&mut world, &mut refusals, |world| world.get("/d"))?;
+    let (_, told, refusals) = commanded(|| with_d(alloc), |world| world.get("/d")).ok_or(
+        "refused without cause",
+    )?;
     assert_eq!(rt; told, Told::Shown);
     println!(rt; "refusals: {}", refusals.told())?;
     Ok(())
@@ -200,13 +205,10 @@ fn get_under_a_refused_growth(rt: HostRuntime) -> Result<(), Fail> {
 #[test]
 fn check_under_a_refused_growth(rt: HostRuntime) -> Result<(), Fail> {
     let alloc = rt.alloc();
-    let mut refusals = Refusals::new();
-    let mut world = refusals.again(|| with_d(alloc)).ok_or("a tree")?;
-    let told = again(
-        &mut world,
-        &mut refusals,
+    let (_, told, refusals) = commanded(
+        || with_d(alloc),
         |world| world.check("/d", BOB, "r"),
-    )?;
+    ).ok_or("refused without cause")?;
     assert_eq!(rt; told, Told::Granted);
     println!(rt; "refusals: {}", refusals.told())?;
     Ok(())
@@ -215,37 +217,11 @@ fn check_under_a_refused_growth(rt: HostRuntime) -> Result<(), Fail> {
 #[test]
 fn check4_under_a_refused_growth(rt: HostRuntime) -> Result<(), Fail> {
     let alloc = rt.alloc();
-    let mut refusals = Refusals::new();
-    let mut world = refusals.again(|| with_nfs4(alloc)).ok_or("a tree")?;
-    let told = again(
-        &mut world,
-        &mut refusals,
+    let (_, told, refusals) = commanded(
+        || with_nfs4(alloc),
         |world| world.check4("/d", BOB, "r"),
-    )?;
+    ).ok_or("refused without cause")?;
     assert_eq!(rt; told, Told::Denied);
-    println!(rt; "refusals: {}", refusals.told())?;
-    Ok(())
-}
-
-#[test]
-fn checks_take_no_memory(rt: HostRuntime) -> Result<(), Fail> {
-    let alloc = rt.alloc();
-    let mut refusals = Refusals::new();
-    let mut world = refusals.again(|| with_nfs4(alloc)).ok_or("a tree")?;
-    let bob = uid(BOB).ok_or("uid")?;
-    let perms = read_perms(b"r").ok_or("permissions")?;
-    let path = refusals
-        .again(|| Path::read(alloc, b"/d").ok())
-        .ok_or("a path")?;
-    assert!(rt; world.told(&Request::Check(path, bob, perms)).is_some());
-    let mask = read_letters(b"r").ok_or("mask")?;
-    let path = refusals
-        .again(|| Path::read(alloc, b"/d").ok())
-        .ok_or("a path")?;
-    assert_eq!(rt;
-        world.told(&Request::Check4(path, bob, mask)),
-        Some(Told::Denied)
-    );
     println!(rt; "refusals: {}", refusals.told())?;
     Ok(())
 }
@@ -253,9 +229,46 @@ fn checks_take_no_memory(rt: HostRuntime) -> Result<(), Fail> {
 #[test]
 fn translate_under_a_refused_growth(rt: HostRuntime) -> Result<(), Fail> {
     let alloc = rt.alloc();
+    let (_, told, refusals) = commanded(
+        || with_d(alloc),
+        |world| world.told_translation("/d"),
+    ).ok_or("refused without cause")?;
+    assert_eq!(rt; told, Told::Translated);
+    println!(rt; "refusals: {}", refusals.told())?;
+    Ok(())
+}
+
+/// The path /d, at the second attempt if the first is refused.
+fn path_d(alloc: Global, refusals: &mut Refusals) -> Option<Path> {
+    refusals.again(|| Path::read(alloc, b"/d").ok())
+}
+
+/// What a check of bob's reading comes to, at the first attempt.
+fn checked(alloc: Global, world: &mut World, refusals: &mut Refusals) -> Option<Told> {
+    let bob = uid(BOB)?;
+    let perms = read_perms(b"r")?;
+    let path = path_d(alloc, refusals)?;
+    world.told(&Request::Check(path, bob, perms))
+}
+
+/// The same of the NFSv4 list.
+fn checked4(alloc: Global, world: &mut World, refusals: &mut Refusals) -> Option<Told> {
+    let bob = uid(BOB)?;
+    let mask = read_letters(b"r")?;
+    let path = path_d(alloc, refusals)?;
+    world.told(&Request::Check4(path, bob, mask))
+}
+
+#[test]
+fn checks_take_no_memory(rt: HostRuntime) -> Result<(), Fail> {
+    let alloc = rt.alloc();
     let mut refusals = Refusals::new();
-    let mut world = refusals.again(|| with_d(alloc)).ok_or("a tree")?;
-    again(&mut world, &mut refusals, |world| world.translate("/d"))?;
+    let mut world = refusals.again(|| with_nfs4(alloc)).ok_or("a tree")?;
+    assert!(rt; checked(alloc, &mut world, &mut refusals).is_some());
+    assert_eq!(rt;
+        checked4(alloc, &mut world, &mut refusals),
+        Some(Told::Denied)
+    );
     println!(rt; "refusals: {}", refusals.told())?;
     Ok(())
 }
