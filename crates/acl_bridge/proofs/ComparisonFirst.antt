@@ -1,5 +1,5 @@
 -- The first of some requests that lists don't grant alike, as a loop over them finds it.
-use Rattle.std.proofs.Common.{◌≡◌, ◌+◌, ◌<◌, ℕ, List, [], ◌∷◌, ap, ◌∙◌, subst, sym, inl, inr, drop, get_or, length, map}
+use Rattle.std.proofs.Common.{◌≡◌, ◌+◌, ◌<◌, ℕ, List, [], ◌∷◌, subst, inl, inr, drop, get_or, length, map}
 use Rattle.std.specs.List.{AllByRecursion}
 use Rattle.acl_posix.specs.Entry.{Triple}
 use Rattle.acl_posix.specs.Perms.{bits_of}

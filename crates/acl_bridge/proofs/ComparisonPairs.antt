@@ -1,82 +1,36 @@
 -- The askers of all pairs of POSIX entries tell whether two lists grant a request alike to everyone.
-use Rattle.std.proofs.Common.{◌≡◌, ◌≢◌, ◌≤◌, ◌+◌, ◌<◌, ◌==◌, ℕ, zero, suc, Bool, true, false, cond, not, ◌||◌, refl, sym, ap, ap₂, ◌∙◌, List, [], ◌∷◌, ◌++◌, Some, length, get_or, length-append, arith}
-use Rattle.std.specs.Prelude.{flat_map}
+use Rattle.std.proofs.Common.{◌≡◌, ◌≢◌, ◌≤◌, ◌+◌, ◌<◌, ℕ, zero, suc, Bool, true, false, not, ◌||◌, refl, sym, ap, ap₂, ◌∙◌, List, [], ◌∷◌, ◌++◌, Some, length, get_or, length-append, arith}
 use Rattle.std.specs.List.{All, list_any}
 use Rattle.std.proofs.lemmas.Bool.{true≢false, eq-eqb, or_parts}
-use Rattle.std.proofs.lemmas.List.Elements.{All-nil, All-cons, All-head, All-tail, All-append, All-map}
+use Rattle.std.proofs.lemmas.List.Elements.{All-nil, All-cons, All-map}
 use Rattle.acl_names.specs.Bits.{has}
 use Rattle.acl_names.specs.Requester.{Identity}
 use Rattle.acl_names.proofs.AnyLemmas.{list_any-append, list_any-agree}
 use Rattle.acl_names.proofs.BitSets.{has-above}
-use Rattle.acl_posix.specs.Access.{effective_perms}
 use Rattle.acl_posix.specs.Entry.{Triple}
 use Rattle.acl_posix.specs.Validity.{IsValid}
 use Rattle.acl_posix.specs.declared.entry.Tag.{Tag}
 use Rattle.acl_posix.specs.declared.entry.Tag.TheVariants.{UserObj, User, GroupObj, Group, Mask, Other}
-use Rattle.acl_nfs4.specs.Ace.{Nfsace4, plain, unless_empty}
+use Rattle.acl_nfs4.specs.Ace.{Nfsace4}
 use Rattle.acl_names.specs.Asker.{identity_of}
 use Rattle.acl_nfs4.specs.Comparison.{needed_uid, asker_for, decided_by}
-use Rattle.acl_nfs4.specs.Mask.{mask_of, rest_of}
-use Rattle.acl_nfs4.specs.declared.ace.AceType.{AceType}
-use Rattle.acl_nfs4.specs.declared.ace.AceType.TheVariants.{Allow, Deny}
 use Rattle.acl_nfs4.specs.declared.who.Who.TheVariants.{Everyone}
-use Rattle.acl_nfs4.specs.Who.{flags_of_who}
 use Rattle.acl_nfs4.specs.declared.who.Who.{Who}
 use Rattle.acl_nfs4.proofs.ComparisonLemmas.{pairs_suffice}
 use Rattle.acl_nfs4.proofs.ComparisonStrangers.{is_at, enough, tried, tried_apart}
 use Rattle.acl_bridge.specs.Comparison.{OfEachTag, IsStranger, GrantAlike, GrantAlikeAt, IsUnlike, PairsSuffice, asks_for, is_of_user}
 use Rattle.acl_bridge.specs.declared.requests.Unlike.{Unlike}
-use Rattle.acl_bridge.specs.Translation.{who_of, is_for_owner, is_for_user, is_for_group, is_for_others, in_class, allowed_by, denied_by, settled_by, translation}
+use Rattle.acl_bridge.specs.Translation.{who_of, translation}
+use Rattle.acl_bridge.proofs.PassLemmas.{All-translation}
 use Rattle.acl_bridge.proofs.ComparisonRequests.{as_reading, with_perms, reading, read_as}
 
 -- ---- what holds of each who that entries stand for holds of each entry of the translation
 
 module _ (P : Who → Type 0) where
-  abbrev Holds : List Nfsace4 → Type 0
-  Holds aces = All (λ ace. P ace.who) aces
+  pub of_translation : (acl : List Triple) → All (λ entry. P (who_of entry.tag)) acl → All (λ ace. P ace.who) (translation acl)
+  of_translation = All-translation P (λ (ace : Nfsace4). P ace.who) (λ kind who mask holds. holds)
 
-  of_plain : (kind : AceType) (who : Who) (mask : ℕ) → P who → Holds (plain kind who mask)
-  unfolding unless_empty
-  of_plain kind who mask holds = go (mask == 0)
-    where
-      go : (b : Bool) → Holds (cond b [] (record { kind = kind; flags = flags_of_who who; who = who; mask = mask } ∷ []))
-      go true = All-nil (λ (ace : Nfsace4). P ace.who)
-      go false = All-cons (λ (ace : Nfsace4). P ace.who) _ [] holds (All-nil (λ (ace : Nfsace4). P ace.who))
-
-  of_class : (makes : Triple → List Nfsace4) → ((entry : Triple) → P (who_of entry.tag) → Holds (makes entry))
-      → (class : Tag → Bool) (entries : List Triple) → All (λ entry. P (who_of entry.tag)) entries → Holds (flat_map makes (in_class class entries))
-  of_class makes each class [] all = All-nil (λ (ace : Nfsace4). P ace.who)
-  of_class makes each class (entry ∷ entries) all =
-      go (class entry.tag) (of_class makes each class entries (All-tail (λ (other : Triple). P (who_of other.tag)) entry entries all))
-    where
-      go : (b : Bool) → Holds (flat_map makes (in_class class entries))
-          → Holds (flat_map makes (cond b (entry ∷ in_class class entries) (in_class class entries)))
-      go true rest =
-          All-append (λ (ace : Nfsace4). P ace.who) (makes entry) (flat_map makes (in_class class entries))
-          (each entry (All-head (λ (other : Triple). P (who_of other.tag)) entry entries all)) rest
-      go false rest = rest
-
-  pub of_translation : (acl : List Triple) → All (λ entry. P (who_of entry.tag)) acl → Holds (translation acl)
-  of_translation acl all =
-      let append = All-append (λ (ace : Nfsace4). P ace.who) in
-      append _ _
-      (append _ _
-      (append _ _
-      (append _ _ (of_class (settled_by acl) settled is_for_owner acl all) (of_class (settled_by acl) settled is_for_user acl all))
-      (of_class (allowed_by acl) allowed is_for_group acl all))
-      (of_class (denied_by acl) denied is_for_group acl all))
-      (of_class (allowed_by acl) allowed is_for_others acl all)
-    where
-      allowed : (entry : Triple) → P (who_of entry.tag) → Holds (allowed_by acl entry)
-      allowed entry holds = of_plain Allow (who_of entry.tag) (mask_of (effective_perms acl entry)) holds
-
-      denied : (entry : Triple) → P (who_of entry.tag) → Holds (denied_by acl entry)
-      denied entry holds = of_plain Deny (who_of entry.tag) (rest_of (effective_perms acl entry)) holds
-
-      settled : (entry : Triple) → P (who_of entry.tag) → Holds (settled_by acl entry)
-      settled entry holds = All-append (λ (ace : Nfsace4). P ace.who) (allowed_by acl entry) (denied_by acl entry) (allowed entry holds) (denied entry holds)
-
-  pub of_reading : (request : ℕ) (acl : List Triple) → All (λ entry. P (who_of entry.tag)) acl → Holds (translation (as_reading request acl))
+  pub of_reading : (request : ℕ) (acl : List Triple) → All (λ entry. P (who_of entry.tag)) acl → All (λ ace. P ace.who) (translation (as_reading request acl))
   of_reading request acl all =
       of_translation (as_reading request acl)
       (All-map (λ (entry : Triple). P (who_of entry.tag)) (with_perms (reading request acl)) acl all)

@@ -1,26 +1,26 @@
 -- What the passes make.
-use Rattle.std.proofs.Common.{◌≡◌, ℕ, ◌≤◌, Bool, true, false, cond, ◌||◌, ◌<◌, refl, sym, ap, ◌∙◌, ap₂, subst, List, [], ◌∷◌, ◌++◌, length, get_or, drop, ◌+◌, ◌*◌, Option, append-nil, append_assoc, length-append, arith}
+use Rattle.std.proofs.Common.{◌≡◌, ℕ, suc, ◌≤◌, Bool, true, false, cond, ◌||◌, ◌<◌, refl, sym, ap, ◌∙◌, ap₂, subst, List, [], ◌∷◌, ◌++◌, length, get_or, drop, ◌+◌, append-nil, length-append, arith}
+use Rattle.std.proofs.Math.Seq.{drop-cons}
 use Rattle.std.specs.Prelude.{flat_map, ◌==◌, Result, Ok, Err, IfOk}
+use Rattle.std.specs.List.{All}
+use Rattle.std.proofs.lemmas.List.Elements.{All-nil, All-cons, All-head, All-tail, All-append, All-filter}
 use Rattle.acl_names.specs.Bits.{has, without, ◌∩◌, ◌∪◌}
 use Rattle.acl_names.proofs.AnyLemmas.{or_false}
 use Rattle.acl_names.proofs.BitSets.{has-or, has-zero, same_bits}
-use Rattle.acl_posix.specs.Canonical.{IsAcl}
-use Rattle.acl_posix.specs.Entry.{Triple, perms_of}
-use Rattle.acl_posix.specs.declared.entry.Tag.TheVariants.{Mask}
+use Rattle.acl_posix.specs.Access.{effective_perms}
+use Rattle.acl_posix.specs.Entry.{Triple}
 use Rattle.acl_nfs4.specs.Ace.{Nfsace4, ace_of, flags_for, is_idle, plain, unless_empty}
-use Rattle.acl_nfs4.specs.declared.limits.TheConstants.{MAX_ACES}
 use Rattle.acl_nfs4.specs.Flags.{all_flags}
-use Rattle.acl_nfs4.specs.Mask.{all_masks}
+use Rattle.acl_nfs4.specs.Mask.{all_masks, mask_of, rest_of}
 use Rattle.acl_nfs4.specs.Who.{flags_of_who}
 use Rattle.acl_nfs4.proofs.ListLemmas.{drop-here}
 use Rattle.acl_nfs4.specs.declared.ace.AceType.{AceType}
+use Rattle.acl_nfs4.specs.declared.ace.AceType.TheVariants.{Allow, Deny}
 use Rattle.acl_nfs4.specs.declared.who.Who.{Who}
 use Rattle.acl_nfs4.specs.declared.who.Who.TheVariants.{Owner, Group, Everyone, User, NamedGroup}
-use Rattle.acl_bridge.specs.Passes.{is_in, made_by, made_from, made_of, flags_of, with_effect}
-use Rattle.acl_bridge.specs.Translation.{in_class, translation, with_flags}
-use Rattle.acl_bridge.proofs.TranslationLength.{doubled-translation, short_translation}
+use Rattle.acl_bridge.specs.Effects.{flags_of, with_effect}
+use Rattle.acl_bridge.specs.Translation.{who_of, is_in, in_class, made_for, made_by, made_by_pass, passes, translation, with_flags}
 use Rattle.acl_bridge.specs.declared.passes.Class.{Class}
-use Rattle.acl_bridge.specs.declared.passes.Class.TheVariants as class
 use Rattle.acl_bridge.specs.declared.passes.Part.{Part}
 use Rattle.acl_bridge.specs.declared.passes.Part.TheVariants.{Allowed, Denied, Settled}
 use Rattle.acl_bridge.specs.declared.passes.Effect.{Effect}
@@ -29,7 +29,7 @@ use Rattle.acl_bridge.specs.declared.passes.Effect.TheVariants.{Here, Below}
 -- ---- one entry
 
 -- an entry with no flags of its own
-abbrev bare : AceType → Who → ℕ → Nfsace4
+abbrev pub bare : AceType → Who → ℕ → Nfsace4
 bare kind who mask = record { kind = kind; flags = flags_of_who who; who = who; mask = mask }
 
 flags_for-effect : (effect : Effect) (who : Who) → flags_for who (flags_of effect ∩ all_flags) ≡ flags_of_who who ∪ flags_of effect
@@ -113,131 +113,71 @@ room-full {most} effect old kind who mask full room =
     let both = length-append old (with_effect effect (plain kind who mask)) in
     omega arith
 
--- ---- one pass
+-- ---- a pass, and all of them
 
-module _ (class : Class) (part : Part) (effect : Effect) (mask : Option ℕ) where
-  -- what an entry makes
-  abbrev by : Triple → List Nfsace4
-  by entry = with_effect effect (made_by part mask entry)
-
-  made_from-taken : (entry : Triple) (rest : List Triple) → is_in class entry.tag ≡ true
-      → made_from class part effect mask (entry ∷ rest) ≡ by entry ++ made_from class part effect mask rest
-  made_from-taken entry rest taken =
-      ap (λ (b : Bool). with_effect effect (flat_map (made_by part mask) (cond b (entry ∷ in_class (is_in class) rest) (in_class (is_in class) rest)))) taken
-      ∙ with_effect-append effect (made_by part mask entry) (flat_map (made_by part mask) (in_class (is_in class) rest))
-
-  made_from-skipped : (entry : Triple) (rest : List Triple) → is_in class entry.tag ≡ false
-      → made_from class part effect mask (entry ∷ rest) ≡ made_from class part effect mask rest
-  made_from-skipped entry rest skipped =
-      ap (λ (b : Bool). with_effect effect (flat_map (made_by part mask) (cond b (entry ∷ in_class (is_in class) rest) (in_class (is_in class) rest)))) skipped
-
-  -- an entry of the class adds what it makes
-  pub pass-taken : (old new : List Nfsace4) (entries : List Triple) (i : ℕ) (entry : Triple) → i < length entries → entry ≡ get_or entries i entry
-      → is_in class entry.tag ≡ true → new ≡ old ++ by entry
-      → new ++ made_from class part effect mask (drop (i + 1) entries) ≡ old ++ made_from class part effect mask (drop i entries)
-  pass-taken old new entries i entry inside here taken added =
-      let rest = drop (i + 1) entries in
-      ap (λ (xs : List Nfsace4). xs ++ made_from class part effect mask rest) added
-      ∙ append_assoc old (by entry) (made_from class part effect mask rest)
-      ∙ ap (λ (xs : List Nfsace4). old ++ xs)
-      (sym (ap (made_from class part effect mask) (drop-here entries i entry inside here) ∙ made_from-taken entry rest taken))
-
-  pub pass-skipped : (old : List Nfsace4) (entries : List Triple) (i : ℕ) (entry : Triple) → i < length entries → entry ≡ get_or entries i entry
-      → is_in class entry.tag ≡ false
-      → old ++ made_from class part effect mask (drop (i + 1) entries) ≡ old ++ made_from class part effect mask (drop i entries)
-  pass-skipped old entries i entry inside here skipped =
-      ap (λ (xs : List Nfsace4). old ++ xs)
-      (sym (ap (made_from class part effect mask) (drop-here entries i entry inside here) ∙ made_from-skipped entry (drop (i + 1) entries) skipped))
-
-  -- there is room for what an entry makes where there is for the rest of the pass
-  pub pass-room : {most : ℕ} (old : List Nfsace4) (entries : List Triple) (i : ℕ) (entry : Triple) → i < length entries → entry ≡ get_or entries i entry
-      → is_in class entry.tag ≡ true → length (old ++ made_from class part effect mask (drop i entries)) ≤ most
-      → length (old ++ by entry) ≤ most
-  pass-room {most} old entries i entry inside here taken room =
-      let same = pass-taken old (old ++ by entry) entries i entry inside here taken refl in
-      let both = length-append (old ++ by entry) (made_from class part effect mask (drop (i + 1) entries)) in
-      let lengths = ap (λ (xs : List Nfsace4). length xs) same in
+module _ (effect : Effect) (acl : List Triple) (old whole : List Nfsace4) where
+  -- what is made next is no longer than all that is still to be made
+  room-next : (all made rest : List Nfsace4) → all ≡ made ++ rest → old ++ with_effect effect all ≡ whole
+      → length (old ++ with_effect effect made) ≤ length whole
+  room-next all made rest is joined =
+      let lengths = ap (λ (xs : List Nfsace4). length xs) joined in
+      let parts = ap (λ (xs : List Nfsace4). length (old ++ with_effect effect xs)) is in
+      let apart = ap (λ (xs : List Nfsace4). length (old ++ xs)) (with_effect-append effect made rest) in
+      let n1 = length-append old (with_effect effect made ++ with_effect effect rest) in
+      let n2 = length-append (with_effect effect made) (with_effect effect rest) in
+      let n3 = length-append old (with_effect effect made) in
       omega arith
 
--- ---- the five passes
+  -- the entry at hand makes no more than the pass
+  pub pass-room : (class : Class) (part : Part) (entries : List Triple) (i : ℕ) (entry : Triple)
+      → i < length entries → entry ≡ get_or entries i entry → is_in class entry.tag ≡ true
+      → old ++ with_effect effect (flat_map (made_by part acl) (in_class class (drop i entries))) ≡ whole
+      → length (old ++ with_effect effect (made_by part acl entry)) ≤ length whole
+  pass-room class part entries i entry inside here taken =
+      let rest = in_class class (drop (i + 1) entries) in
+      room-next _ (made_by part acl entry) (flat_map (made_by part acl) rest)
+      (ap (λ (xs : List Triple). flat_map (made_by part acl) (in_class class xs)) (drop-here entries i entry inside here)
+      ∙ ap (λ (b : Bool). flat_map (made_by part acl) (cond b (entry ∷ rest) rest)) taken)
 
-pub made-translation : (effect : Effect) (acl : List Triple)
-    → made_of class.Owner Settled effect acl
-    ++ made_of class.Users Settled effect acl
-    ++ made_of class.Groups Allowed effect acl
-    ++ made_of class.Groups Denied effect acl
-    ++ made_of class.Others Allowed effect acl
-    ≡ with_effect effect (translation acl)
-made-translation effect acl =
-    sym (
-    with_effect-append effect (((owner ++ users) ++ allowed) ++ denied) others
-    ∙ ap (λ (xs : List Nfsace4). xs ++ with_effect effect others)
-    (with_effect-append effect ((owner ++ users) ++ allowed) denied
-    ∙ ap (λ (xs : List Nfsace4). xs ++ with_effect effect denied)
-    (with_effect-append effect (owner ++ users) allowed
-    ∙ ap (λ (xs : List Nfsace4). xs ++ with_effect effect allowed) (with_effect-append effect owner users)))
-    )
-  where
-    pass : Class → Part → List Nfsace4
-    pass class part = flat_map (made_by part (perms_of Mask acl)) (in_class (is_in class) acl)
+  -- the pass at hand makes no more than all of them
+  pub passes-room : (i : ℕ) (default : Class × Part) → i < length passes
+      → old ++ with_effect effect (flat_map (λ pass. made_by_pass pass acl) (drop i passes)) ≡ whole
+      → length (old ++ with_effect effect (made_by_pass (get_or passes i default) acl)) ≤ length whole
+  passes-room i default inside =
+      room-next _ (made_by_pass (get_or passes i default) acl) (flat_map (λ pass. made_by_pass pass acl) (drop (suc i) passes))
+      (ap (flat_map (λ pass. made_by_pass pass acl)) (drop-cons passes i default inside))
 
-    owner : List Nfsace4
-    owner = pass class.Owner Settled
+-- ---- each entry of a translation
 
-    users : List Nfsace4
-    users = pass class.Users Settled
+All-flat_map : {X Y : Type 0} (P : X → Type 0) (Q : Y → Type 0) (f : X → List Y) → ((x : X) → P x → All Q (f x)) → (xs : List X)
+    → All P xs → All Q (flat_map f xs)
+All-flat_map P Q f each [] all = All-nil Q
+All-flat_map P Q f each (x ∷ xs) all =
+    All-append Q (f x) (flat_map f xs) (each x (All-head P x xs all)) (All-flat_map P Q f each xs (All-tail P x xs all))
 
-    allowed : List Nfsace4
-    allowed = pass class.Groups Allowed
+-- where each who that entries stand for has a property, and an entry for one who has it has another, each entry made has that
+module _ (P : Who → Type 0) (Q : Nfsace4 → Type 0) (each : (kind : AceType) (who : Who) (mask : ℕ) → P who → Q (bare kind who mask)) where
+  All-plain : (kind : AceType) (who : Who) (mask : ℕ) → P who → All Q (plain kind who mask)
+  unfolding unless_empty
+  All-plain kind who mask holds =
+      elim (mask == 0) as (λ b. All Q (cond b [] (bare kind who mask ∷ [])))
+      [ true ↦ All-nil Q | false ↦ All-cons Q (bare kind who mask) [] (each kind who mask holds) (All-nil Q) ]
 
-    denied : List Nfsace4
-    denied = pass class.Groups Denied
+  All-made_for : (part : Part) (who : Who) (perms : ℕ) → P who → All Q (made_for part who perms)
+  All-made_for Allowed who perms holds = All-plain Allow who (mask_of perms) holds
+  All-made_for Denied who perms holds = All-plain Deny who (rest_of perms) holds
+  All-made_for Settled who perms holds =
+      All-append Q (plain Allow who (mask_of perms)) (plain Deny who (rest_of perms))
+      (All-plain Allow who (mask_of perms) holds) (All-plain Deny who (rest_of perms) holds)
 
-    others : List Nfsace4
-    others = pass class.Others Allowed
-
--- the five passes make no more than a list may have
-module _ (effect : Effect) (acl : List Triple) (is : IsAcl acl) where
-  abbrev owner : List Nfsace4
-  owner = made_of class.Owner Settled effect acl
-
-  abbrev users : List Nfsace4
-  users = made_of class.Users Settled effect acl
-
-  abbrev allowed : List Nfsace4
-  allowed = made_of class.Groups Allowed effect acl
-
-  abbrev denied : List Nfsace4
-  denied = made_of class.Groups Denied effect acl
-
-  abbrev others : List Nfsace4
-  others = made_of class.Others Allowed effect acl
-
-  pub lengths-made : length owner + length users + length allowed + length denied + length others ≤ MAX_ACES
-  lengths-made =
-      let whole = ap (λ (xs : List Nfsace4). length xs) (made-translation effect acl) in
-      let same = length-with_effect effect (translation acl) in
-      let short : length (translation acl) ≤ 125 = short_translation acl is in
-      let n1 = length-append owner users in
-      let n2 = length-append (owner ++ users) allowed in
-      let n3 = length-append ((owner ++ users) ++ allowed) denied in
-      let n4 = length-append (((owner ++ users) ++ allowed) ++ denied) others in
-      omega arith
-
-  pub lengths-doubled : length owner + length users + length allowed + length denied + length others ≤ 2 * length acl
-  lengths-doubled =
-      let whole = ap (λ (xs : List Nfsace4). length xs) (made-translation effect acl) in
-      let same = length-with_effect effect (translation acl) in
-      let short : length (translation acl) ≤ 2 * length acl = doubled-translation acl in
-      let n1 = length-append owner users in
-      let n2 = length-append (owner ++ users) allowed in
-      let n3 = length-append ((owner ++ users) ++ allowed) denied in
-      let n4 = length-append (((owner ++ users) ++ allowed) ++ denied) others in
-      omega arith
-
--- what is known of the entries so far, and of those to come
-pub room-left : (made old next : List Nfsace4) → made ≡ old ++ next → length made ≡ length old + length next
-room-left made old next is = ap (λ (xs : List Nfsace4). length xs) is ∙ length-append old next
+  pub All-translation : (acl : List Triple) → All (λ entry. P (who_of entry.tag)) acl → All Q (translation acl)
+  All-translation acl all = All-flat_map (λ pass. Unit {0}) Q (λ pass. made_by_pass pass acl) of_pass passes (λ k d inside. tt)
+    where
+      of_pass : (pass : Class × Part) → Unit {0} → All Q (made_by_pass pass acl)
+      of_pass (class, part) any =
+          All-flat_map (λ (entry : Triple). P (who_of entry.tag)) Q (made_by part acl)
+          (λ entry. All-made_for part (who_of entry.tag) (effective_perms acl entry)) (in_class class acl)
+          (All-filter (λ (entry : Triple). is_in class entry.tag) (λ (entry : Triple). P (who_of entry.tag)) acl all)
 
 -- what holds of the value that a result can only have holds of what it has
 pub IfOk-is : {T E : Type 0} (result : Result T E) (value : T) (P : T → Type 0) → P value → IfOk result (λ x. x ≡ value) → IfOk result P

@@ -19,7 +19,9 @@ use Rattle.acl_nfs4.specs.Who.{matches}
 use Rattle.acl_nfs4.specs.declared.who.Who.{Who}
 use Rattle.acl_nfs4.proofs.MaskOfModes.{permission_of, has-mask_of, mask_of-within}
 use Rattle.acl_nfs4.proofs.MaskBits.{contains-one}
-use Rattle.acl_bridge.specs.Translation.{who_of, is_for_owner, is_for_user, is_for_group, is_for_others, translation}
+use Rattle.acl_bridge.specs.Translation.{who_of, is_in, translation}
+use Rattle.acl_bridge.specs.declared.passes.Class.{Class}
+use Rattle.acl_bridge.specs.declared.passes.Class.TheVariants.{Owner, Users, Groups, Others}
 use Rattle.acl_bridge.specs.TranslationLaws.{AgreeOn, DecideAlike, GrantsAsMuch, TranslationGrantsEach}
 use Rattle.acl_bridge.proofs.TranslationVerdicts.{allows-translation, matching, deciding, FewFor}
 use Rattle.acl_bridge.proofs.FilterLemmas.{length-filter, filter_twice, filter_twice-none, length-filter_twice}
@@ -27,17 +29,17 @@ use Rattle.acl_bridge.proofs.FilterLemmas.{length-filter, filter_twice, filter_t
 -- ---- a valid list has one entry at most for the owner, and for a user
 
 -- where all entries of a class to which the translation's apply have one tag, there is one at most
-pub few : (acl : List Triple) → IsValid acl → (applies : Who → Bool) (class : Tag → Bool) (of : Tag)
-    → ((tag : Tag) → class tag ≡ true → applies (who_of tag) ≡ true → same_tag tag of ≡ true) → FewFor acl applies class
+pub few : (acl : List Triple) → IsValid acl → (applies : Who → Bool) (class : Class) (of : Tag)
+    → ((tag : Tag) → is_in class tag ≡ true → applies (who_of tag) ≡ true → same_tag tag of ≡ true) → FewFor acl applies class
 few acl valid applies class of only =
     let below : length (matching applies acl class) ≤ length (entries_of of acl) =
-    length-filter_twice (λ (entry : Triple). class entry.tag) (λ (entry : Triple). applies (who_of entry.tag))
+    length-filter_twice (λ (entry : Triple). is_in class entry.tag) (λ (entry : Triple). applies (who_of entry.tag))
     (λ (entry : Triple). same_tag entry.tag of) (λ entry. only entry.tag) acl in
     let counted = length-filter (λ (entry : Triple). same_tag entry.tag of) acl in
     let once : count_of of acl ≤ 1 = IsValid-count_of acl valid of in
     omega arith
 
-pub owners_alone : (applies : Who → Bool) (tag : Tag) → is_for_owner tag ≡ true → applies (who_of tag) ≡ true → same_tag tag UserObj ≡ true
+pub owners_alone : (applies : Who → Bool) (tag : Tag) → is_in Owner tag ≡ true → applies (who_of tag) ≡ true → same_tag tag UserObj ≡ true
 owners_alone applies UserObj is matches = refl
 owners_alone applies (User uid) is matches = absurd (true≢false (sym is))
 owners_alone applies GroupObj is matches = absurd (true≢false (sym is))
@@ -67,7 +69,7 @@ module _ (acl : List Triple) (valid : IsValid acl) (owner group : ℕ) (requeste
   abbrev applies : Who → Bool
   applies = matches owner group requester
 
-  users_alone : (tag : Tag) → is_for_user tag ≡ true → applies (who_of tag) ≡ true → same_tag tag (User requester.uid) ≡ true
+  users_alone : (tag : Tag) → is_in Users tag ≡ true → applies (who_of tag) ≡ true → same_tag tag (User requester.uid) ≡ true
   users_alone UserObj is matches = absurd (true≢false (sym is))
   users_alone (User named) is matches = eqb_swap named requester.uid ∙ matches
   users_alone GroupObj is matches = absurd (true≢false (sym is))
@@ -76,7 +78,7 @@ module _ (acl : List Triple) (valid : IsValid acl) (owner group : ℕ) (requeste
   users_alone Other is matches = absurd (true≢false (sym is))
 
   -- both lists ask the same entries
-  the_owner : (requester.uid == owner) ≡ true → (tag : Tag) → (is_for_owner tag && applies (who_of tag)) ≡ same_tag tag UserObj
+  the_owner : (requester.uid == owner) ≡ true → (tag : Tag) → (is_in Owner tag && applies (who_of tag)) ≡ same_tag tag UserObj
   the_owner is UserObj = is
   the_owner is (User uid) = refl
   the_owner is GroupObj = refl
@@ -84,7 +86,7 @@ module _ (acl : List Triple) (valid : IsValid acl) (owner group : ℕ) (requeste
   the_owner is Mask = refl
   the_owner is Other = refl
 
-  no_owner : (requester.uid == owner) ≡ false → (tag : Tag) → (is_for_owner tag && applies (who_of tag)) ≡ false
+  no_owner : (requester.uid == owner) ≡ false → (tag : Tag) → (is_in Owner tag && applies (who_of tag)) ≡ false
   no_owner not UserObj = not
   no_owner not (User uid) = refl
   no_owner not GroupObj = refl
@@ -92,7 +94,7 @@ module _ (acl : List Triple) (valid : IsValid acl) (owner group : ℕ) (requeste
   no_owner not Mask = refl
   no_owner not Other = refl
 
-  the_user : (tag : Tag) → (is_for_user tag && applies (who_of tag)) ≡ same_tag tag (User requester.uid)
+  the_user : (tag : Tag) → (is_in Users tag && applies (who_of tag)) ≡ same_tag tag (User requester.uid)
   the_user UserObj = refl
   the_user (User named) = eqb_swap requester.uid named
   the_user GroupObj = refl
@@ -100,7 +102,7 @@ module _ (acl : List Triple) (valid : IsValid acl) (owner group : ℕ) (requeste
   the_user Mask = refl
   the_user Other = refl
 
-  the_groups : (tag : Tag) → (is_for_group tag && applies (who_of tag)) ≡ is_for_group_of requester group tag
+  the_groups : (tag : Tag) → (is_in Groups tag && applies (who_of tag)) ≡ is_for_group_of requester group tag
   the_groups UserObj = refl
   the_groups (User uid) = refl
   the_groups GroupObj = refl
@@ -108,7 +110,7 @@ module _ (acl : List Triple) (valid : IsValid acl) (owner group : ℕ) (requeste
   the_groups Mask = refl
   the_groups Other = refl
 
-  the_others : (tag : Tag) → (is_for_others tag && applies (who_of tag)) ≡ same_tag tag Other
+  the_others : (tag : Tag) → (is_in Others tag && applies (who_of tag)) ≡ same_tag tag Other
   the_others UserObj = refl
   the_others (User uid) = refl
   the_others GroupObj = refl
@@ -117,16 +119,16 @@ module _ (acl : List Triple) (valid : IsValid acl) (owner group : ℕ) (requeste
   the_others Other = refl
 
   -- the entries of a class that apply are those of a test
-  matching-is : (class test : Tag → Bool) → ((tag : Tag) → (class tag && applies (who_of tag)) ≡ test tag)
+  matching-is : (class : Class) (test : Tag → Bool) → ((tag : Tag) → (is_in class tag && applies (who_of tag)) ≡ test tag)
       → matching applies acl class ≡ filter (λ entry. test entry.tag) acl
   matching-is class test same =
-      filter_twice (λ (entry : Triple). class entry.tag) (λ (entry : Triple). applies (who_of entry.tag)) (λ (entry : Triple). test entry.tag)
+      filter_twice (λ (entry : Triple). is_in class entry.tag) (λ (entry : Triple). applies (who_of entry.tag)) (λ (entry : Triple). test entry.tag)
       (λ entry. same entry.tag) acl
 
-  for_owner : (b : Bool) → (requester.uid == owner) ≡ b → matching applies acl is_for_owner ≡ cond b (entries_of UserObj acl) []
-  for_owner true is = matching-is is_for_owner (λ tag. same_tag tag UserObj) (the_owner is)
+  for_owner : (b : Bool) → (requester.uid == owner) ≡ b → matching applies acl Owner ≡ cond b (entries_of UserObj acl) []
+  for_owner true is = matching-is Owner (λ tag. same_tag tag UserObj) (the_owner is)
   for_owner false not =
-      filter_twice-none (λ (entry : Triple). is_for_owner entry.tag) (λ (entry : Triple). applies (who_of entry.tag))
+      filter_twice-none (λ (entry : Triple). is_in Owner entry.tag) (λ (entry : Triple). applies (who_of entry.tag))
       (λ entry. no_owner not entry.tag) acl
 
   same_deciding : deciding applies acl ≡ deciding_set acl owner group requester
@@ -134,10 +136,10 @@ module _ (acl : List Triple) (valid : IsValid acl) (owner group : ℕ) (requeste
       ap first_nonempty
       (ap₂ (λ (entries : List Triple) (rest : List (List Triple)). entries ∷ rest) (for_owner (requester.uid == owner) refl)
       (ap₂ (λ (entries : List Triple) (rest : List (List Triple)). entries ∷ rest)
-      (matching-is is_for_user (λ tag. same_tag tag (User requester.uid)) the_user)
+      (matching-is Users (λ tag. same_tag tag (User requester.uid)) the_user)
       (ap₂ (λ (entries : List Triple) (rest : List (List Triple)). entries ∷ rest)
-      (matching-is is_for_group (is_for_group_of requester group) the_groups)
-      (ap (λ (entries : List Triple). entries ∷ []) (matching-is is_for_others (λ tag. same_tag tag Other) the_others)))))
+      (matching-is Groups (is_for_group_of requester group) the_groups)
+      (ap (λ (entries : List Triple). entries ∷ []) (matching-is Others (λ tag. same_tag tag Other) the_others)))))
 
   -- of a mode's bit the translation tells what a deciding entry has
   bit_allowed : (bit : ℕ) → has mode_bits bit ≡ true
@@ -145,8 +147,8 @@ module _ (acl : List Triple) (valid : IsValid acl) (owner group : ℕ) (requeste
       ≡ list_any (λ entry. has (effective_perms acl entry) (permission_of bit)) (deciding_set acl owner group requester)
   bit_allowed bit of_mode =
       allows-translation acl applies bit of_mode
-      (few acl valid applies is_for_owner UserObj (owners_alone applies))
-      (few acl valid applies is_for_user (User requester.uid) users_alone)
+      (few acl valid applies Owner UserObj (owners_alone applies))
+      (few acl valid applies Users (User requester.uid) users_alone)
       ∙ ap (list_any (λ (entry : Triple). has (effective_perms acl entry) (permission_of bit))) same_deciding
 
   grants_as_much : (perms : ℕ) → IsTrue (grants acl owner group requester perms) → Grants applies (translation acl) (mask_of perms)

@@ -1,7 +1,8 @@
 -- How many entries a translation has.
-use Rattle.std.proofs.Common.{◌≡◌, ℕ, ◌+◌, ◌*◌, ◌≤◌, Bool, true, false, cond, ◌==◌, refl, List, [], ◌∷◌, ◌++◌, length, length-append, arith, inl, inr}
+use Rattle.std.proofs.Common.{◌≡◌, ℕ, ◌+◌, ◌*◌, ◌≤◌, Bool, true, false, cond, ◌==◌, refl, List, [], ◌∷◌, length, length-append, arith, inl, inr}
 use Rattle.std.specs.Prelude.{flat_map}
 use Rattle.std.proofs.lemmas.Bool.{cases_Bool, or_parts}
+use Rattle.std.proofs.lemmas.List.Concat.{length-flat_map}
 use Rattle.acl_names.proofs.Counting.{count_by-cons}
 use Rattle.acl_posix.specs.Access.{effective_perms}
 use Rattle.acl_posix.specs.Canonical.{IsAcl}
@@ -14,7 +15,11 @@ use Rattle.acl_nfs4.specs.Mask.{mask_of, rest_of}
 use Rattle.acl_nfs4.specs.declared.ace.AceType.{AceType}
 use Rattle.acl_nfs4.specs.declared.ace.AceType.TheVariants.{Allow, Deny}
 use Rattle.acl_nfs4.specs.declared.who.Who.{Who}
-use Rattle.acl_bridge.specs.Translation.{who_of, is_for_owner, is_for_user, is_for_group, is_for_others, in_class, allowed_by, denied_by, settled_by, translation}
+use Rattle.acl_bridge.specs.Translation.{who_of, is_in, in_class, made_for, made_by, made_by_pass, passes, translation}
+use Rattle.acl_bridge.specs.declared.passes.Class.{Class}
+use Rattle.acl_bridge.specs.declared.passes.Class.TheVariants.{Owner, Users, Groups, Others}
+use Rattle.acl_bridge.specs.declared.passes.Part.{Part}
+use Rattle.acl_bridge.specs.declared.passes.Part.TheVariants.{Allowed, Denied, Settled}
 use Rattle.acl_bridge.specs.TranslationLaws.{most_translated}
 
 -- ---- how many entries are made of how many
@@ -26,43 +31,44 @@ length-unless_empty ace = elim (ace.mask == 0) as (λ b. length (cond b [] (ace 
 length-plain : (kind : AceType) (who : Who) (mask : ℕ) → length (plain kind who mask) ≤ 1
 length-plain kind who mask = length-unless_empty _
 
-length-flat_map : {X Y : Type 0} (most : ℕ) (f : X → List Y) → ((x : X) → length (f x) ≤ most) → (xs : List X)
+length-flat_map-most : {X Y : Type 0} (most : ℕ) (f : X → List Y) → ((x : X) → length (f x) ≤ most) → (xs : List X)
     → length (flat_map f xs) ≤ most * length xs
-length-flat_map most f each [] = omega arith
-length-flat_map most f each (x ∷ xs) =
-    omega (arith, length-append (f x) (flat_map f xs), each x, length-flat_map most f each xs)
+length-flat_map-most most f each [] = omega arith
+length-flat_map-most most f each (x ∷ xs) =
+    omega (arith, length-append (f x) (flat_map f xs), each x, length-flat_map-most most f each xs)
 
-module _ (acl : List Triple) where
-  length-allowed_by : (entry : Triple) → length (allowed_by acl entry) ≤ 1
-  length-allowed_by entry = length-plain Allow (who_of entry.tag) (mask_of (effective_perms acl entry))
+-- how many entries a pass makes of one at most
+abbrev most_of : Part → ℕ
+most_of Settled = 2
+most_of _ = 1
 
-  length-denied_by : (entry : Triple) → length (denied_by acl entry) ≤ 1
-  length-denied_by entry = length-plain Deny (who_of entry.tag) (rest_of (effective_perms acl entry))
+length-made_for : (part : Part) (who : Who) (perms : ℕ) → length (made_for part who perms) ≤ most_of part
+length-made_for Allowed who perms = length-plain Allow who (mask_of perms)
+length-made_for Denied who perms = length-plain Deny who (rest_of perms)
+length-made_for Settled who perms =
+    let both = length-append (plain Allow who (mask_of perms)) (plain Deny who (rest_of perms)) in
+    let allowed = length-plain Allow who (mask_of perms) in
+    let denied = length-plain Deny who (rest_of perms) in
+    omega arith
 
-  length-settled_by : (entry : Triple) → length (settled_by acl entry) ≤ 2
-  length-settled_by entry =
-      omega (arith, length-append (allowed_by acl entry) (denied_by acl entry), length-allowed_by entry, length-denied_by entry)
+length-pass : (class : Class) (part : Part) (acl : List Triple)
+    → length (made_by_pass (class, part) acl) ≤ most_of part * length (in_class class acl)
+length-pass class part acl =
+    length-flat_map-most (most_of part) (made_by part acl) (λ entry. length-made_for part (who_of entry.tag) (effective_perms acl entry))
+    (in_class class acl)
 
-  -- two of each entry at most but of the mask and the others'
-  length-translation : length (translation acl)
-      ≤ 2 * length (in_class is_for_owner acl) + 2 * length (in_class is_for_user acl) + 2 * length (in_class is_for_group acl)
-      + length (in_class is_for_others acl)
-  length-translation =
-      let owners = flat_map (settled_by acl) (in_class is_for_owner acl) in
-      let users = flat_map (settled_by acl) (in_class is_for_user acl) in
-      let allowed = flat_map (allowed_by acl) (in_class is_for_group acl) in
-      let denied = flat_map (denied_by acl) (in_class is_for_group acl) in
-      let others = flat_map (allowed_by acl) (in_class is_for_others acl) in
-      let n1 = length-append owners users in
-      let n2 = length-append (owners ++ users) allowed in
-      let n3 = length-append ((owners ++ users) ++ allowed) denied in
-      let n4 = length-append (((owners ++ users) ++ allowed) ++ denied) others in
-      let m1 = length-flat_map 2 (settled_by acl) length-settled_by (in_class is_for_owner acl) in
-      let m2 = length-flat_map 2 (settled_by acl) length-settled_by (in_class is_for_user acl) in
-      let m3 = length-flat_map 1 (allowed_by acl) length-allowed_by (in_class is_for_group acl) in
-      let m4 = length-flat_map 1 (denied_by acl) length-denied_by (in_class is_for_group acl) in
-      let m5 = length-flat_map 1 (allowed_by acl) length-allowed_by (in_class is_for_others acl) in
-      omega arith
+-- two of each entry at most but of the mask and the others'
+length-translation : (acl : List Triple)
+    → length (translation acl)
+    ≤ 2 * length (in_class Owner acl) + 2 * length (in_class Users acl) + 2 * length (in_class Groups acl) + length (in_class Others acl)
+length-translation acl =
+    let whole = length-flat_map (λ (pass : Class × Part). made_by_pass pass acl) passes in
+    let owners = length-pass Owner Settled acl in
+    let users = length-pass Users Settled acl in
+    let allowed = length-pass Groups Allowed acl in
+    let denied = length-pass Groups Denied acl in
+    let others = length-pass Others Allowed acl in
+    omega arith
 
 -- ---- how many entries a list has of each class
 
@@ -70,28 +76,28 @@ module _ (acl : List Triple) where
 abbrev one_if : Bool → ℕ
 one_if b = cond b 1 0
 
-length-in_class : (class : Tag → Bool) (entry : Triple) (acl : List Triple)
-    → length (in_class class (entry ∷ acl)) ≡ one_if (class entry.tag) + length (in_class class acl)
+length-in_class : (class : Class) (entry : Triple) (acl : List Triple)
+    → length (in_class class (entry ∷ acl)) ≡ one_if (is_in class entry.tag) + length (in_class class acl)
 length-in_class class entry acl =
-    elim (class entry.tag)
+    elim (is_in class entry.tag)
     as (λ b. length (cond b (entry ∷ in_class class acl) (in_class class acl)) ≡ one_if b + length (in_class class acl))
     [ true ↦ omega arith | false ↦ omega arith ]
 
 -- how many there are of each kind
 record Kinds (acl : List Triple) : Type 0 where
-  pub all : length (in_class is_for_owner acl) + length (in_class is_for_user acl) + length (in_class is_for_group acl)
-      + count_of Mask acl + length (in_class is_for_others acl) ≡ length acl
-  pub owners : length (in_class is_for_owner acl) ≡ count_of UserObj acl
-  pub others : length (in_class is_for_others acl) ≡ count_of Other acl
+  pub all : length (in_class Owner acl) + length (in_class Users acl) + length (in_class Groups acl)
+      + count_of Mask acl + length (in_class Others acl) ≡ length acl
+  pub owners : length (in_class Owner acl) ≡ count_of UserObj acl
+  pub others : length (in_class Others acl) ≡ count_of Other acl
   pub unnamed : names_someone acl ≡ false
-      → length (in_class is_for_user acl) + length (in_class is_for_group acl) ≡ count_of GroupObj acl
+      → length (in_class Users acl) + length (in_class Groups acl) ≡ count_of GroupObj acl
 
 record OneKind (tag : Tag) : Type 0 where
-  pub all : one_if (is_for_owner tag) + one_if (is_for_user tag) + one_if (is_for_group tag) + one_if (same_tag tag Mask)
-      + one_if (is_for_others tag) ≡ 1
-  pub owners : one_if (is_for_owner tag) ≡ one_if (same_tag tag UserObj)
-  pub others : one_if (is_for_others tag) ≡ one_if (same_tag tag Other)
-  pub unnamed : is_named tag ≡ false → one_if (is_for_user tag) + one_if (is_for_group tag) ≡ one_if (same_tag tag GroupObj)
+  pub all : one_if (is_in Owner tag) + one_if (is_in Users tag) + one_if (is_in Groups tag) + one_if (same_tag tag Mask)
+      + one_if (is_in Others tag) ≡ 1
+  pub owners : one_if (is_in Owner tag) ≡ one_if (same_tag tag UserObj)
+  pub others : one_if (is_in Others tag) ≡ one_if (same_tag tag Other)
+  pub unnamed : is_named tag ≡ false → one_if (is_in Users tag) + one_if (is_in Groups tag) ≡ one_if (same_tag tag GroupObj)
 
 one_kind : (tag : Tag) → OneKind tag
 one_kind UserObj = record { all = refl; owners = refl; others = refl; unnamed = λ no. refl }
@@ -106,10 +112,10 @@ kinds [] = record { all = refl; owners = refl; others = refl; unnamed = λ no. r
 kinds (entry ∷ acl) =
     let rest = kinds acl in
     let one = one_kind entry.tag in
-    let owners = length-in_class is_for_owner entry acl in
-    let users = length-in_class is_for_user entry acl in
-    let groups = length-in_class is_for_group entry acl in
-    let others = length-in_class is_for_others entry acl in
+    let owners = length-in_class Owner entry acl in
+    let users = length-in_class Users entry acl in
+    let groups = length-in_class Groups entry acl in
+    let others = length-in_class Others entry acl in
     let masks : count_of Mask (entry ∷ acl) ≡ one_if (same_tag entry.tag Mask) + count_of Mask acl =
     count_by-cons (λ (e : Triple). same_tag e.tag Mask) entry acl in
     let user_obj : count_of UserObj (entry ∷ acl) ≡ one_if (same_tag entry.tag UserObj) + count_of UserObj acl =

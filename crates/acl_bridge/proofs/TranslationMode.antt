@@ -18,7 +18,9 @@ use Rattle.acl_nfs4.specs.declared.who.Who.{Who}
 use Rattle.acl_nfs4.specs.declared.who.Who.TheVariants as whos
 use Rattle.acl_nfs4.proofs.MaskOfModes.{permission_of}
 use Rattle.acl_nfs4.proofs.EvaluationMode.{shown_to-allows}
-use Rattle.acl_bridge.specs.Translation.{who_of, is_for_owner, is_for_user, is_for_group, is_for_others, translation}
+use Rattle.acl_bridge.specs.Translation.{who_of, is_in, translation}
+use Rattle.acl_bridge.specs.declared.passes.Class.{Class}
+use Rattle.acl_bridge.specs.declared.passes.Class.TheVariants.{Owner, Users, Groups, Others}
 use Rattle.acl_bridge.specs.TranslationLaws.{translated_mode}
 use Rattle.acl_bridge.proofs.TranslationDecides.{few, owners_alone}
 use Rattle.acl_bridge.proofs.TranslationVerdicts.{allows-translation, matching, deciding}
@@ -36,7 +38,7 @@ module _ (acl : List Triple) (valid : IsValid acl) (small : HavePermissions acl)
   -- what is shown to those for whom one entry alone decides is what it has, as far as that is limited
   shown_by_one : (class : Who) (tag : Tag) (limit : ℕ → ℕ) → count_of tag acl ≡ 1
       → ((entry : Triple) → same_tag entry.tag tag ≡ true → effective_perms acl entry ≡ limit entry.perms)
-      → ((other : Tag) → is_for_user other ≡ true → of_class class (who_of other) ≡ true → same_tag other UserObj ≡ true)
+      → ((other : Tag) → is_in Users other ≡ true → of_class class (who_of other) ≡ true → same_tag other UserObj ≡ true)
       → ((entry : Triple) → entries_of tag acl ≡ entry ∷ [] → deciding (of_class class) acl ≡ entry ∷ [])
       → shown_to (of_class class) (translation acl) ≡ limit (perms_at tag acl)
   shown_by_one class tag limit one limited no_user alone = go (the_one has_tag acl (length-filter has_tag acl ∙ one))
@@ -52,24 +54,24 @@ module _ (acl : List Triple) (valid : IsValid acl) (small : HavePermissions acl)
           (effective-small (is_under_mask e.tag) (perms_of Mask acl) e.perms known.1)
           (λ bit of_mode.
           allows-translation acl (of_class class) bit of_mode
-          (few acl valid (of_class class) is_for_owner UserObj (owners_alone (of_class class)))
-          (few acl valid (of_class class) is_for_user UserObj no_user)
+          (few acl valid (of_class class) Owner UserObj (owners_alone (of_class class)))
+          (few acl valid (of_class class) Users UserObj no_user)
           ∙ ap (list_any (λ (entry : Triple). has (effective_perms acl entry) (permission_of bit))) (alone e is_alone)
           ∙ or_false (has (effective_perms acl e) (permission_of bit)))
           ∙ limited e known.0
           ∙ sym (ap (λ (o : Option Triple). limit (unwrap_or (option_map (λ (entry : Triple). entry.perms) o) 0)) is_found)
 
   -- the entries of a class to which these of a mode's apply, as those of one tag
-  all_of : (who : Who) (class test : Tag → Bool) → ((tag : Tag) → (class tag && of_class who (who_of tag)) ≡ test tag)
+  all_of : (who : Who) (class : Class) (test : Tag → Bool) → ((tag : Tag) → (is_in class tag && of_class who (who_of tag)) ≡ test tag)
       → matching (of_class who) acl class ≡ filter (λ entry. test entry.tag) acl
   all_of who class test same =
-      filter_twice (λ (entry : Triple). class entry.tag) (λ (entry : Triple). of_class who (who_of entry.tag))
+      filter_twice (λ (entry : Triple). is_in class entry.tag) (λ (entry : Triple). of_class who (who_of entry.tag))
       (λ (entry : Triple). test entry.tag) (λ entry. same entry.tag) acl
 
-  none_of : (who : Who) (class : Tag → Bool) → ((tag : Tag) → (class tag && of_class who (who_of tag)) ≡ false)
+  none_of : (who : Who) (class : Class) → ((tag : Tag) → (is_in class tag && of_class who (who_of tag)) ≡ false)
       → matching (of_class who) acl class ≡ []
   none_of who class none =
-      filter_twice-none (λ (entry : Triple). class entry.tag) (λ (entry : Triple). of_class who (who_of entry.tag)) (λ entry. none entry.tag) acl
+      filter_twice-none (λ (entry : Triple). is_in class entry.tag) (λ (entry : Triple). of_class who (who_of entry.tag)) (λ entry. none entry.tag) acl
 
   stop_at : (entries : List Triple) (rest : List (List Triple)) (entry : Triple) → entries ≡ entry ∷ []
       → first_nonempty (entries ∷ rest) ≡ entry ∷ []
@@ -81,7 +83,7 @@ module _ (acl : List Triple) (valid : IsValid acl) (small : HavePermissions acl)
   shown_to_owner : shown_to (of_class whos.Owner) (translation acl) ≡ perms_at UserObj acl
   shown_to_owner =
       shown_by_one whos.Owner UserObj (λ perms. perms) valid.user_obj own no_named
-      (λ entry one. stop_at _ _ entry (all_of whos.Owner is_for_owner (λ tag. same_tag tag UserObj) the_owner ∙ one))
+      (λ entry one. stop_at _ _ entry (all_of whos.Owner Owner (λ tag. same_tag tag UserObj) the_owner ∙ one))
     where
       own : (entry : Triple) → same_tag entry.tag UserObj ≡ true → effective_perms acl entry ≡ entry.perms
       own entry is = go entry.tag is
@@ -94,12 +96,12 @@ module _ (acl : List Triple) (valid : IsValid acl) (small : HavePermissions acl)
           go GroupObj is = absurd (true≢false (sym is))
           go (Group gid) is = absurd (true≢false (sym is))
 
-      no_named : (tag : Tag) → is_for_user tag ≡ true → of_class whos.Owner (who_of tag) ≡ true → same_tag tag UserObj ≡ true
+      no_named : (tag : Tag) → is_in Users tag ≡ true → of_class whos.Owner (who_of tag) ≡ true → same_tag tag UserObj ≡ true
       no_named UserObj is applies = refl
       no_named (User uid) is applies = absurd (true≢false (sym applies))
       no_named _ is applies = absurd (true≢false (sym is))
 
-      the_owner : (tag : Tag) → (is_for_owner tag && of_class whos.Owner (who_of tag)) ≡ same_tag tag UserObj
+      the_owner : (tag : Tag) → (is_in Owner tag && of_class whos.Owner (who_of tag)) ≡ same_tag tag UserObj
       the_owner UserObj = refl
       the_owner (User uid) = refl
       the_owner _ = refl
@@ -108,9 +110,9 @@ module _ (acl : List Triple) (valid : IsValid acl) (small : HavePermissions acl)
   shown_to_group =
       shown_by_one whos.Group GroupObj (masked (perms_of Mask acl)) valid.group_obj limited no_named
       (λ entry one.
-      pass_over _ _ (none_of whos.Group is_for_owner no_owner)
-      ∙ pass_over _ _ (none_of whos.Group is_for_user none_named)
-      ∙ stop_at _ _ entry (all_of whos.Group is_for_group (λ tag. same_tag tag GroupObj) the_group ∙ one))
+      pass_over _ _ (none_of whos.Group Owner no_owner)
+      ∙ pass_over _ _ (none_of whos.Group Users none_named)
+      ∙ stop_at _ _ entry (all_of whos.Group Groups (λ tag. same_tag tag GroupObj) the_group ∙ one))
     where
       limited : (entry : Triple) → same_tag entry.tag GroupObj ≡ true → effective_perms acl entry ≡ masked (perms_of Mask acl) entry.perms
       limited entry is = go entry.tag is
@@ -124,21 +126,21 @@ module _ (acl : List Triple) (valid : IsValid acl) (small : HavePermissions acl)
           go Mask is = absurd (true≢false (sym is))
           go Other is = absurd (true≢false (sym is))
 
-      no_named : (tag : Tag) → is_for_user tag ≡ true → of_class whos.Group (who_of tag) ≡ true → same_tag tag UserObj ≡ true
+      no_named : (tag : Tag) → is_in Users tag ≡ true → of_class whos.Group (who_of tag) ≡ true → same_tag tag UserObj ≡ true
       no_named UserObj is applies = refl
       no_named (User uid) is applies = absurd (true≢false (sym applies))
       no_named _ is applies = absurd (true≢false (sym is))
 
-      no_owner : (tag : Tag) → (is_for_owner tag && of_class whos.Group (who_of tag)) ≡ false
+      no_owner : (tag : Tag) → (is_in Owner tag && of_class whos.Group (who_of tag)) ≡ false
       no_owner UserObj = refl
       no_owner _ = refl
 
-      none_named : (tag : Tag) → (is_for_user tag && of_class whos.Group (who_of tag)) ≡ false
+      none_named : (tag : Tag) → (is_in Users tag && of_class whos.Group (who_of tag)) ≡ false
       none_named (User uid) = refl
       none_named UserObj = refl
       none_named _ = refl
 
-      the_group : (tag : Tag) → (is_for_group tag && of_class whos.Group (who_of tag)) ≡ same_tag tag GroupObj
+      the_group : (tag : Tag) → (is_in Groups tag && of_class whos.Group (who_of tag)) ≡ same_tag tag GroupObj
       the_group GroupObj = refl
       the_group (Group gid) = refl
       the_group _ = refl
@@ -147,10 +149,10 @@ module _ (acl : List Triple) (valid : IsValid acl) (small : HavePermissions acl)
   shown_to_everyone =
       shown_by_one whos.Everyone Other (λ perms. perms) valid.other own no_named
       (λ entry one.
-      pass_over _ _ (none_of whos.Everyone is_for_owner no_owner)
-      ∙ pass_over _ _ (none_of whos.Everyone is_for_user none_named)
-      ∙ pass_over _ _ (none_of whos.Everyone is_for_group no_group)
-      ∙ stop_at _ _ entry (all_of whos.Everyone is_for_others (λ tag. same_tag tag Other) the_other ∙ one))
+      pass_over _ _ (none_of whos.Everyone Owner no_owner)
+      ∙ pass_over _ _ (none_of whos.Everyone Users none_named)
+      ∙ pass_over _ _ (none_of whos.Everyone Groups no_group)
+      ∙ stop_at _ _ entry (all_of whos.Everyone Others (λ tag. same_tag tag Other) the_other ∙ one))
     where
       own : (entry : Triple) → same_tag entry.tag Other ≡ true → effective_perms acl entry ≡ entry.perms
       own entry is = go entry.tag is
@@ -163,26 +165,26 @@ module _ (acl : List Triple) (valid : IsValid acl) (small : HavePermissions acl)
           go GroupObj is = absurd (true≢false (sym is))
           go (Group gid) is = absurd (true≢false (sym is))
 
-      no_named : (tag : Tag) → is_for_user tag ≡ true → of_class whos.Everyone (who_of tag) ≡ true → same_tag tag UserObj ≡ true
+      no_named : (tag : Tag) → is_in Users tag ≡ true → of_class whos.Everyone (who_of tag) ≡ true → same_tag tag UserObj ≡ true
       no_named UserObj is applies = refl
       no_named (User uid) is applies = absurd (true≢false (sym applies))
       no_named _ is applies = absurd (true≢false (sym is))
 
-      no_owner : (tag : Tag) → (is_for_owner tag && of_class whos.Everyone (who_of tag)) ≡ false
+      no_owner : (tag : Tag) → (is_in Owner tag && of_class whos.Everyone (who_of tag)) ≡ false
       no_owner UserObj = refl
       no_owner _ = refl
 
-      none_named : (tag : Tag) → (is_for_user tag && of_class whos.Everyone (who_of tag)) ≡ false
+      none_named : (tag : Tag) → (is_in Users tag && of_class whos.Everyone (who_of tag)) ≡ false
       none_named (User uid) = refl
       none_named UserObj = refl
       none_named _ = refl
 
-      no_group : (tag : Tag) → (is_for_group tag && of_class whos.Everyone (who_of tag)) ≡ false
+      no_group : (tag : Tag) → (is_in Groups tag && of_class whos.Everyone (who_of tag)) ≡ false
       no_group GroupObj = refl
       no_group (Group gid) = refl
       no_group _ = refl
 
-      the_other : (tag : Tag) → (is_for_others tag && of_class whos.Everyone (who_of tag)) ≡ same_tag tag Other
+      the_other : (tag : Tag) → (is_in Others tag && of_class whos.Everyone (who_of tag)) ≡ same_tag tag Other
       the_other Other = refl
       the_other _ = refl
 

@@ -1,4 +1,4 @@
 pub mod Translation
 pub mod TranslationLaws
 pub mod Comparison
-pub mod Passes
+pub mod Effects

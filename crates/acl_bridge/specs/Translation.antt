@@ -1,5 +1,5 @@
 -- A POSIX access control list (1003.1e draft 17, section 23) as an NFSv4 one (RFC 8881, section 6.2).
-use Rattle.std.specs.Prelude.{ℕ, Bool, true, false, ◌+◌, ◌^◌, List, ◌++◌, map, flat_map}
+use Rattle.std.specs.Prelude.{ℕ, Bool, true, false, ◌+◌, ◌^◌, List, [], ◌∷◌, ◌++◌, map, flat_map}
 use Rattle.std.specs.List.{filter}
 use Rattle.acl_names.specs.Bits.{◌∪◌}
 use Rattle.acl_posix.specs.Access.{effective_perms}
@@ -12,6 +12,10 @@ use Rattle.acl_nfs4.specs.Mask.{mask_of, rest_of}
 use Rattle.acl_nfs4.specs.declared.ace.AceType.TheVariants.{Allow, Deny}
 use Rattle.acl_nfs4.specs.declared.who.Who.{Who}
 use Rattle.acl_nfs4.specs.declared.who.Who.TheVariants as whos
+use Rattle.acl_bridge.specs.declared.passes.Class.{Class}
+use Rattle.acl_bridge.specs.declared.passes.Class.TheVariants.{Owner, Users, Groups, Others}
+use Rattle.acl_bridge.specs.declared.passes.Part.{Part}
+use Rattle.acl_bridge.specs.declared.passes.Part.TheVariants.{Allowed, Denied, Settled}
 
 -- whom the entries that are made of one with this tag are about; of a mask none are made
 abbrev pub who_of : Tag → Who
@@ -21,47 +25,40 @@ who_of GroupObj = whos.Group
 who_of (Group gid) = whos.NamedGroup gid
 who_of _ = whos.Everyone
 
--- the classes of entries
-abbrev pub is_for_owner : Tag → Bool
-is_for_owner UserObj = true
-is_for_owner _ = false
-
-abbrev pub is_for_user : Tag → Bool
-is_for_user (User _) = true
-is_for_user _ = false
-
-abbrev pub is_for_group : Tag → Bool
-is_for_group GroupObj = true
-is_for_group (Group _) = true
-is_for_group _ = false
-
-abbrev pub is_for_others : Tag → Bool
-is_for_others Other = true
-is_for_others _ = false
+-- whether an entry with this tag is of the class; a mask is of none
+abbrev pub is_in : Class → Tag → Bool
+is_in Owner UserObj = true
+is_in Users (User _) = true
+is_in Groups GroupObj = true
+is_in Groups (Group _) = true
+is_in Others Other = true
+is_in _ _ = false
 
 -- the entries of a class, in their order
-abbrev pub in_class : (Tag → Bool) → List Triple → List Triple
-in_class class acl = filter (λ entry. class entry.tag) acl
+abbrev pub in_class : Class → List Triple → List Triple
+in_class class acl = filter (λ entry. is_in class entry.tag) acl
 
--- what an entry allows under the mask, and the rest, which it denies
-abbrev pub allowed_by : List Triple → Triple → List Nfsace4
-allowed_by acl entry = plain Allow (who_of entry.tag) (mask_of (effective_perms acl entry))
+-- what is made for one who has these permissions: what they allow, the rest, which is denied, or the one and then the other
+abbrev pub made_for : Part → Who → ℕ → List Nfsace4
+made_for Allowed who perms = plain Allow who (mask_of perms)
+made_for Denied who perms = plain Deny who (rest_of perms)
+made_for Settled who perms = plain Allow who (mask_of perms) ++ plain Deny who (rest_of perms)
 
-abbrev pub denied_by : List Triple → Triple → List Nfsace4
-denied_by acl entry = plain Deny (who_of entry.tag) (rest_of (effective_perms acl entry))
+-- what is made of an entry under the mask
+abbrev pub made_by : Part → List Triple → Triple → List Nfsace4
+made_by part acl entry = made_for part (who_of entry.tag) (effective_perms acl entry)
 
-abbrev pub settled_by : List Triple → Triple → List Nfsace4
-settled_by acl entry = allowed_by acl entry ++ denied_by acl entry
+-- what a pass over a list makes of the entries of its class
+abbrev pub made_by_pass : Class × Part → List Triple → List Nfsace4
+made_by_pass (class, part) acl = flat_map (made_by part acl) (in_class class acl)
 
 -- The owner and each user are settled one by one. Entries for groups join, so that none of them denies before all of them
 -- have allowed.
+abbrev pub passes : List (Class × Part)
+passes = (Owner, Settled) ∷ (Users, Settled) ∷ (Groups, Allowed) ∷ (Groups, Denied) ∷ (Others, Allowed) ∷ []
+
 abbrev pub translation : List Triple → List Nfsace4
-translation acl =
-    flat_map (settled_by acl) (in_class is_for_owner acl)
-    ++ flat_map (settled_by acl) (in_class is_for_user acl)
-    ++ flat_map (allowed_by acl) (in_class is_for_group acl)
-    ++ flat_map (denied_by acl) (in_class is_for_group acl)
-    ++ flat_map (allowed_by acl) (in_class is_for_others acl)
+translation acl = flat_map (λ pass. made_by_pass pass acl) passes
 
 -- the entry with further flags
 abbrev pub with_flags : ℕ → Nfsace4 → Nfsace4

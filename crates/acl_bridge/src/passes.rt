@@ -1,14 +1,14 @@
 //! The passes over a list that make its translation.
-ghost use Rattle.std.specs.Prelude.{◌≡◌, ◌<◌, ◌≤◌, false, [], ◌∷◌, ◌++◌, length, option_map, IsOk, OnOk};
+ghost use Rattle.std.specs.Prelude.{◌≡◌, ◌<◌, ◌≤◌, false, [], ◌∷◌, ◌++◌, length, option_map, if◌then◌else◌, IsOk, OnOk};
 ghost use Rattle.acl_names.specs.Bits.{◌∩◌};
+ghost use Rattle.acl_posix.specs.Access.{is_under_mask, masked};
 ghost use Rattle.acl_posix.specs.Perms.{bits_of};
 ghost use Rattle.acl_nfs4.specs.Ace.{is_idle, plain};
 ghost use Rattle.acl_nfs4.specs.declared.limits.TheConstants.{MAX_ACES};
 ghost use Rattle.acl_nfs4.specs.Flags.{flag_bits};
-ghost use Rattle.acl_nfs4.specs.Mask.{mask_bits, all_masks, mask_of, rest_of};
-ghost use Rattle.acl_nfs4.specs.declared.ace.AceType.TheVariants.{Allow, Deny};
-ghost use Rattle.acl_bridge.specs.Passes.{is_in, effective_under, made_by, made_of, flags_of, with_effect};
-ghost use Rattle.acl_bridge.specs.Translation.{who_of};
+ghost use Rattle.acl_nfs4.specs.Mask.{mask_bits, all_masks, rest_of};
+ghost use Rattle.acl_bridge.specs.Effects.{flags_of, with_effect};
+ghost use Rattle.acl_bridge.specs.Translation.{who_of, is_in, made_for, made_by_pass};
 
 use acl_nfs4::{Ace, AceFault, AceType, Acl4, Flags, Mask, Who, mask_of};
 use acl_posix::{Acl, Entry, Perms, Tag};
@@ -25,7 +25,7 @@ pub(crate) enum Class {
     Others,
 }
 
-/// What a pass makes of an entry.
+/// What a pass makes of each entry of its class.
 #[derive(Clone, Copy)]
 pub(crate) enum Part {
     /// What the entry allows.
@@ -44,6 +44,15 @@ pub(crate) enum Effect {
     /// On what is made below, and only there.
     Below,
 }
+
+/// The passes in their order. Entries for groups join: none of them denies before all of them have allowed.
+pub(crate) const PASSES: [(Class, Part); 5] = [
+    (Class::Owner, Part::Settled),
+    (Class::Users, Part::Settled),
+    (Class::Groups, Part::Allowed),
+    (Class::Groups, Part::Denied),
+    (Class::Others, Part::Allowed),
+];
 
 impl Class {
     /// Whether an entry with this tag is of the class.
@@ -91,7 +100,8 @@ pub(crate) fn who_of(tag: Tag) -> Who
 
 /// An entry's permissions as far as the mask, where there is one, leaves them.
 fn effective_perms(entry: &Entry, mask: Option<Perms>) -> Perms
-    ensures { bits_of result ≡ effective_under (option_map bits_of mask) entry.now }
+    ensures { bits_of result
+        ≡ (if is_under_mask entry.now.tag then masked (option_map bits_of mask) entry.now.perms else entry.now.perms) }
 {
     if !entry.tag.is_under_mask() {
         return entry.perms;
@@ -143,63 +153,70 @@ fn push_made(
     push(aces, Ace::new(kind, effect.flags(), who, mask))
 }
 
-/// Puts what an entry with this tag and these permissions allows behind the others.
-fn push_allowed(aces: &mut Acl4, tag: Tag, perms: Perms, effect: Effect) -> Result<(), AllocError>
-    requires room { length (aces.old ++ with_effect effect (plain Allow (who_of tag) (mask_of (bits_of perms)))) ≤ MAX_ACES }
-    ensures ok { OnOk result (aces.new ≡ aces.old ++ with_effect effect (plain Allow (who_of tag) (mask_of (bits_of perms)))) }
-    ensures short { length (aces.old ++ with_effect effect (plain Allow (who_of tag) (mask_of (bits_of perms)))) ≤ 16 → IsOk result }
+/// Appends what these permissions allow.
+fn append_allowed(aces: &mut Acl4, who: Who, perms: Perms, effect: Effect) -> Result<(), AllocError>
+    requires room { length (aces.old ++ with_effect effect (made_for Part.Allowed who (bits_of perms))) ≤ MAX_ACES }
+    ensures ok { OnOk result (aces.new ≡ aces.old ++ with_effect effect (made_for Part.Allowed who (bits_of perms))) }
+    ensures short { length (aces.old ++ with_effect effect (made_for Part.Allowed who (bits_of perms))) ≤ 16 → IsOk result }
 {
-    push_made(aces, AceType::Allow, who_of(tag), mask_of(perms), effect)
+    push_made(aces, AceType::Allow, who, mask_of(perms), effect)
 }
 
-/// Puts the rest, which it denies, behind the others.
-fn push_denied(aces: &mut Acl4, tag: Tag, perms: Perms, effect: Effect) -> Result<(), AllocError>
-    requires room { length (aces.old ++ with_effect effect (plain Deny (who_of tag) (rest_of (bits_of perms)))) ≤ MAX_ACES }
-    ensures ok { OnOk result (aces.new ≡ aces.old ++ with_effect effect (plain Deny (who_of tag) (rest_of (bits_of perms)))) }
-    ensures short { length (aces.old ++ with_effect effect (plain Deny (who_of tag) (rest_of (bits_of perms)))) ≤ 16 → IsOk result }
+/// Appends the rest, which is denied.
+fn append_denied(aces: &mut Acl4, who: Who, perms: Perms, effect: Effect) -> Result<(), AllocError>
+    requires room { length (aces.old ++ with_effect effect (made_for Part.Denied who (bits_of perms))) ≤ MAX_ACES }
+    ensures ok { OnOk result (aces.new ≡ aces.old ++ with_effect effect (made_for Part.Denied who (bits_of perms))) }
+    ensures short { length (aces.old ++ with_effect effect (made_for Part.Denied who (bits_of perms))) ≤ 16 → IsOk result }
 {
-    push_made(aces, AceType::Deny, who_of(tag), rest_of(perms), effect)
+    push_made(aces, AceType::Deny, who, rest_of(perms), effect)
 }
 
-/// Appends what an entry makes.
-fn append_entry(
+/// Appends what is made for one who has these permissions.
+fn append_made(
     aces: &mut Acl4,
-    entry: &Entry,
-    mask: Option<Perms>,
     part: Part,
+    who: Who,
+    perms: Perms,
     effect: Effect,
 ) -> Result<(), AllocError>
-    requires room { length (aces.old ++ with_effect effect (made_by part (option_map bits_of mask) entry.now)) ≤ MAX_ACES }
-    ensures ok { OnOk result (aces.new ≡ aces.old ++ with_effect effect (made_by part (option_map bits_of mask) entry.now)) }
-    ensures short { length (aces.old ++ with_effect effect (made_by part (option_map bits_of mask) entry.now)) ≤ 16 → IsOk result }
+    requires room { length (aces.old ++ with_effect effect (made_for part who (bits_of perms))) ≤ MAX_ACES }
+    ensures ok { OnOk result (aces.new ≡ aces.old ++ with_effect effect (made_for part who (bits_of perms))) }
+    ensures short { length (aces.old ++ with_effect effect (made_for part who (bits_of perms))) ≤ 16 → IsOk result }
 {
-    let perms = effective_perms(entry, mask);
     match part {
-        Part::Allowed => push_allowed(aces, entry.tag, perms, effect),
-        Part::Denied => push_denied(aces, entry.tag, perms, effect),
+        Part::Allowed => append_allowed(aces, who, perms, effect),
+        Part::Denied => append_denied(aces, who, perms, effect),
         Part::Settled => {
-            push_allowed(aces, entry.tag, perms, effect)?;
-            push_denied(aces, entry.tag, perms, effect)
+            // Both calls take it by value.
+            let denied = who;
+            append_allowed(aces, who, perms, effect)?;
+            append_denied(aces, denied, perms, effect)
         }
     }
 }
 
-/// Appends what the entries of a class make, in their order.
-pub(crate) fn append_class(
+/// Appends what a pass makes of the entries of its class, in their order.
+pub(crate) fn append_pass(
     aces: &mut Acl4,
     acl: &Acl,
-    class: Class,
-    part: Part,
+    pass: (Class, Part),
     effect: Effect,
 ) -> Result<(), AllocError>
-    requires room { length (aces.old ++ made_of class part effect acl.now) ≤ MAX_ACES }
-    ensures ok { OnOk result (aces.new ≡ aces.old ++ made_of class part effect acl.now) }
-    ensures short { length (aces.old ++ made_of class part effect acl.now) ≤ 16 → IsOk result }
+    requires room { length (aces.old ++ with_effect effect (made_by_pass pass acl.now)) ≤ MAX_ACES }
+    ensures ok { OnOk result (aces.new ≡ aces.old ++ with_effect effect (made_by_pass pass acl.now)) }
+    ensures short { length (aces.old ++ with_effect effect (made_by_pass pass acl.now)) ≤ 16 → IsOk result }
 {
+    let (class, part) = pass;
     let mask = acl.mask();
     for entry in acl.entries() {
         if class.contains(entry.tag) {
-            append_entry(aces, entry, mask, part, effect)?;
+            append_made(
+                aces,
+                part,
+                who_of(entry.tag),
+                effective_perms(entry, mask),
+                effect,
+            )?;
         }
     }
     Ok(())

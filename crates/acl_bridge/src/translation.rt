@@ -3,11 +3,11 @@ ghost use Rattle.std.specs.Prelude.{◌≡◌, ◌≤◌, length, map, IfOk, IsO
 ghost use Rattle.acl_posix.specs.Canonical.{IsAcl};
 ghost use Rattle.acl_nfs4.specs.Evaluation.{mode_of};
 ghost use Rattle.acl_nfs4.specs.Inheritance.{inherited_list};
-ghost use Rattle.acl_bridge.specs.Passes.{with_effect};
+ghost use Rattle.acl_bridge.specs.Effects.{with_effect};
 ghost use Rattle.acl_bridge.specs.Translation.{translation, default_translation, with_flags, handed_on};
 ghost use Rattle.acl_bridge.specs.TranslationLaws.{DecideAlike, GrantsAsMuch, translated_mode, most_translated};
 
-use crate::passes::{Class, Effect, Part, append_class};
+use crate::passes::{Effect, PASSES, append_pass};
 use acl_nfs4::{Acl4, Kind, MAX_ACES};
 use acl_posix::{Acl, MAX_ENTRIES};
 use std::alloc::{AllocError, Global};
@@ -24,11 +24,9 @@ fn translation_for(alloc: Global, acl: &Acl, effect: Effect) -> Result<Acl4, All
     // No entry makes more than two.
     let entries = acl.entries();
     let mut aces = Acl4::with_capacity(alloc, 2 * entries.len())?;
-    append_class(&mut aces, acl, Class::Owner, Part::Settled, effect)?;
-    append_class(&mut aces, acl, Class::Users, Part::Settled, effect)?;
-    append_class(&mut aces, acl, Class::Groups, Part::Allowed, effect)?;
-    append_class(&mut aces, acl, Class::Groups, Part::Denied, effect)?;
-    append_class(&mut aces, acl, Class::Others, Part::Allowed, effect)?;
+    for pass in PASSES {
+        append_pass(&mut aces, acl, pass, effect)?;
+    }
     Ok(aces)
 }
 

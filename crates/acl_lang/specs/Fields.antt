@@ -30,7 +30,7 @@ use Rattle.acl_posix.specs.declared.reading.PieceFault.TheVariants as entry
 use Rattle.acl_tree.specs.Path.{is_path}
 use Rattle.acl_tree.specs.declared.faults.LineFault.{LineFault}
 use Rattle.acl_tree.specs.declared.faults.LineFault.TheVariants.{Syntax, BadPath, BadMode, BadPerms, UnknownName, BadAcl, InvalidAcl, TooMany, InheritOnly}
-use Rattle.acl_lang.specs.Bytes.{digit_0, digit_7}
+use Rattle.acl_names.specs.Bytes.{digit_0, digit_7}
 use Rattle.acl_lang.specs.Refusals.{Asked}
 
 -- P: a path

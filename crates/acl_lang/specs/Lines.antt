@@ -5,7 +5,7 @@ use Rattle.acl_names.specs.Pieces.{trim}
 use Rattle.acl_tree.specs.declared.faults.LineFault.TheVariants.{LineTooLong}
 use Rattle.acl_tree.specs.declared.request.Request.{Request}
 use Rattle.acl_tree.specs.declared.request.Request.TheVariants.{Bad}
-use Rattle.acl_lang.specs.Bytes.{hash}
+use Rattle.acl_names.specs.Bytes.{hash}
 use Rattle.acl_lang.specs.Commands.{asked_by}
 use Rattle.acl_lang.specs.Refusals.{Asked}
 use Rattle.acl_lang.specs.declared.limits.TheConstants.{MAX_LINE_LEN}

@@ -1,6 +1,7 @@
 -- Answers as they are printed.
 use Rattle.std.specs.Prelude.{ℕ, ◌+◌, List, [], ◌∷◌, ◌++◌, Option, Some, None, codes, decimal}
 use Rattle.std.specs.List.{flat_map, join_with_byte}
+use Rattle.acl_names.specs.Bytes.{newline, space, digit_0}
 use Rattle.acl_names.specs.Directory.{Known, group_name, user_name}
 use Rattle.acl_names.specs.Ids.{id_text}
 use Rattle.acl_nfs4.specs.PrintedText.{aces_text}
@@ -20,7 +21,6 @@ use Rattle.acl_tree.specs.declared.reply.Reply.TheVariants.{Done, Node, Granted,
 use Rattle.acl_tree.specs.declared.faults.TreeFault.{TreeFault}
 use Rattle.acl_tree.specs.declared.faults.TreeFault.TheVariants as tree
 use Rattle.acl_tree.specs.declared.reply.View.{View}
-use Rattle.acl_lang.specs.Bytes.{digit_0, newline, space}
 use Rattle.acl_lang.specs.declared.answer.Answer.{Answer}
 
 -- the word of a fault
@@ -95,9 +95,8 @@ reply_text known Done = codes "ok" ++ newline ∷ []
 reply_text known Granted = codes "granted" ++ newline ∷ []
 reply_text known Denied = codes "denied" ++ newline ∷ []
 reply_text known (Node view) = view_text known view
--- (10 is a newline)
-reply_text known (Translated acl) = codes "translated" ++ 10 ∷ aces_text known acl
-reply_text known (TranslatedBoth access inherit) = codes "translated" ++ 10 ∷ (aces_text known access ++ aces_text known inherit)
+reply_text known (Translated acl) = codes "translated" ++ newline ∷ aces_text known acl
+reply_text known (TranslatedBoth access inherit) = codes "translated" ++ newline ∷ (aces_text known access ++ aces_text known inherit)
 reply_text known (Refused fault) = error_text (tree_fault_number fault) (tree_fault_word fault)
 reply_text known (Fault fault) = error_text (line_fault_number fault) (line_fault_word fault)
 

@@ -2,7 +2,7 @@
 
 ghost use Rattle.std.specs.Prelude.{◌≡◌, ◌++◌, ◌∷◌, [], ◌+◌, ◌<◌, ◌≤◌, length, take, codes, OnOk, OnErr};
 ghost use Rattle.acl_posix.specs.Perms.{bits_of};
-ghost use Rattle.acl_lang.specs.Bytes.{space};
+ghost use Rattle.acl_names.specs.Bytes.{space};
 ghost use Rattle.acl_lang.specs.Printed.{acl_text, answer_text, below_text, error_text, head_text, kind_text, line_fault_word, mode_text, owners_text, reply_text, style_text, tree_fault_word, view_text};
 
 use acl_names::{Directory, Gid, MAX_DOMAIN_LEN, Uid, push_id};

@@ -13,6 +13,7 @@ use Rattle.std.proofs.lemmas.Cmp.{nat_cmp_total, nat_list_cmp_total}
 use Rattle.std.proofs.lemmas.List.Sorted.{length_permutation, list_any-IsPermutation}
 use Rattle.std.proofs.lemmas.List.{length-map}
 use Rattle.std.proofs.lemmas.Option.{slice_get-map}
+use Rattle.acl_names.specs.declared.limits.TheConstants.{MAX_GROUPS_OF_USER}
 use Rattle.acl_names.specs.Ascending.{repeats}
 use Rattle.acl_names.specs.Directory.{KnownUser, KnownGroup, Known, AnswersAs, IsDirectory, IsRefusedFor, TellsNamesApart, as_requester, requester_of, fault_of, is_too_many, has_bad_name, repeats_name, repeats_id, has_unknown_group, user_named, group_named, user_with, group_with, groups_of, gid_of, first_of}
 use Rattle.acl_names.specs.Ids.{ReadBack, has_name_shape, has_domain_shape}
@@ -79,7 +80,7 @@ module _ (domain : List ℕ) (users sorted_users : List KnownUser) (groups sorte
 
   same_too_many : is_too_many parts ≡ is_too_many known
   same_too_many =
-      rw (length_permutation users sorted_users moved_users, length_permutation groups sorted_groups moved_groups, ← list_any-IsPermutation (λ (user : KnownUser). nat_lt 32 (length user.groups)) users sorted_users moved_users) refl
+      rw (length_permutation users sorted_users moved_users, length_permutation groups sorted_groups moved_groups, ← list_any-IsPermutation (λ (user : KnownUser). nat_lt MAX_GROUPS_OF_USER (length user.groups)) users sorted_users moved_users) refl
 
   same_bad_name : has_bad_name parts ≡ has_bad_name known
   same_bad_name =

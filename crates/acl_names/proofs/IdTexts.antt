@@ -11,7 +11,8 @@ use Rattle.std.specs.Str.Parse.{digits_value, IsNumeral}
 use Rattle.std.proofs.lemmas.Fmt.{decimal_is_IsNumeral, length-decimal-le}
 use Rattle.std.proofs.lemmas.Bool.{cases_lt}
 use Rattle.std.proofs.lemmas.Bool.Decides.{nat_tests}
-use Rattle.acl_names.specs.Ids.{Number, Name, written_id, number_or_name, decimal_value, is_decimal, has_name_shape, begins_name, continues_name, max_id, id_text, resolved, ReadBack}
+use Rattle.acl_names.specs.declared.limits.TheConstants.{MAX_NAME_LEN, MAX_DIGITS, MAX_ID}
+use Rattle.acl_names.specs.Ids.{Number, Name, written_id, number_or_name, decimal_value, is_decimal, has_name_shape, begins_name, continues_name, id_text, resolved, ReadBack}
 use Rattle.acl_names.proofs.Decimals.{digits_model}
 
 pub and_first : (a b : Bool) → (a && b) ≡ true → a ≡ true
@@ -29,7 +30,7 @@ name_byte_is_ascii byte is = grind (arith, nat_tests)
 pub name_is_utf8 : (name : List ℕ) → has_name_shape name ≡ true → IsUtf8 name
 name_is_utf8 [] shaped = cc
 name_is_utf8 (c ∷ cs) shaped =
-    let len = nat_le 1 (length (c ∷ cs)) && nat_le (length (c ∷ cs)) 32 in
+    let len = nat_le 1 (length (c ∷ cs)) && nat_le (length (c ∷ cs)) MAX_NAME_LEN in
     let bytes : list_all continues_name (c ∷ cs) ≡ true = and_second (len && begins_name c) (list_all continues_name (c ∷ cs)) shaped in
     let below : All (λ byte. byte < 128) (c ∷ cs) =
     All-weaker (λ byte. continues_name byte ≡ true) (λ byte. byte < 128) name_byte_is_ascii (c ∷ cs) (AllPass-from_list_all continues_name (c ∷ cs) bytes) in
@@ -44,7 +45,7 @@ letter_no_digit c begins = grind (arith, nat_tests)
 name_no_decimal : (name : List ℕ) → has_name_shape name ≡ true → decimal_value name ≡ None
 name_no_decimal [] shaped = cc
 name_no_decimal (c ∷ cs) shaped =
-    let len = nat_le 1 (length (c ∷ cs)) && nat_le (length (c ∷ cs)) 32 in
+    let len = nat_le 1 (length (c ∷ cs)) && nat_le (length (c ∷ cs)) MAX_NAME_LEN in
     let begins : begins_name c ≡ true = and_second len (begins_name c) (and_first (len && begins_name c) (list_all continues_name (c ∷ cs)) shaped) in
     rw (letter_no_digit c begins) refl
 
@@ -54,45 +55,45 @@ written_name name shaped = ap (λ number. number_or_name number name) (name_no_d
 at_most : (a b : ℕ) → a ≤ b → nat_le a b ≡ true
 at_most a b h = grind (arith, nat_tests)
 
-pub written_decimal : (n : ℕ) → n ≤ max_id → written_id (decimal n) ≡ Some (Number n)
+pub written_decimal : (n : ℕ) → n ≤ MAX_ID → written_id (decimal n) ≡ Some (Number n)
 written_decimal n small =
     let numeral : IsNumeral 10 (decimal n) × (digits_value 10 (decimal n) ≡ n) = decimal_is_IsNumeral n (omega arith) in
     let digits : list_all is_ascii_digit (decimal n) ≡ true = digits_model.from (decimal n) numeral.0.1 in
     let some : nat_le 1 (length (decimal n)) ≡ true = at_most 1 (length (decimal n)) numeral.0.0 in
-    let few : nat_le (length (decimal n)) 10 ≡ true = at_most (length (decimal n)) 10 (length-decimal-le 10 n (omega arith) (omega arith) (omega arith)) in
-    let low : nat_le (digits_value 10 (decimal n)) max_id ≡ true = at_most (digits_value 10 (decimal n)) max_id (rw numeral.1 small) in
+    let few : nat_le (length (decimal n)) MAX_DIGITS ≡ true = at_most (length (decimal n)) MAX_DIGITS (length-decimal-le 10 n (omega arith) (omega arith) (omega arith)) in
+    let low : nat_le (digits_value 10 (decimal n)) MAX_ID ≡ true = at_most (digits_value 10 (decimal n)) MAX_ID (rw numeral.1 small) in
     let is : is_decimal (decimal n) ≡ true = rw (digits, some, few, low) refl in
     ap (λ number. number_or_name number (decimal n)) (ap (λ t. cond t (Some (digits_value 10 (decimal n))) None) is ∙ ap Some numeral.1)
 
 -- what is printed of an id writes the id
-pub id_again : (id_of : List ℕ → Option ℕ) (name_of : ℕ → Option (List ℕ)) (id : ℕ) → ReadBack id_of name_of → id ≤ max_id
+pub id_again : (id_of : List ℕ → Option ℕ) (name_of : ℕ → Option (List ℕ)) (id : ℕ) → ReadBack id_of name_of → id ≤ MAX_ID
     → option_and_then (resolved id_of) (written_id (id_text name_of id)) ≡ Some id
 id_again id_of name_of id back small = by_name (name_of id) refl
   where
     by_name : (name : Option (List ℕ)) → name_of id ≡ name → option_and_then (resolved id_of) (written_id (unwrap_or name (decimal id))) ≡ Some id
-    by_name None e = ap (option_and_then (resolved id_of)) (written_decimal id small) ∙ ap (λ t. cond t (Some id) None) (at_most id max_id small)
+    by_name None e = ap (option_and_then (resolved id_of)) (written_decimal id small) ∙ ap (λ t. cond t (Some id) None) (at_most id MAX_ID small)
     by_name (Some name) e = ap (option_and_then (resolved id_of)) (written_name name (back id name e).0) ∙ (back id name e).1
 
 -- a name has 32 bytes at most
-pub name_is_short : (name : List ℕ) → has_name_shape name ≡ true → length name ≤ 32
+pub name_is_short : (name : List ℕ) → has_name_shape name ≡ true → length name ≤ MAX_NAME_LEN
 name_is_short name shaped =
-    let len = nat_le 1 (length name) && nat_le (length name) 32 in
+    let len = nat_le 1 (length name) && nat_le (length name) MAX_NAME_LEN in
     let both : len ≡ true = and_first len (begins_name (get_or name 0 0)) (and_first (len && begins_name (get_or name 0 0)) (list_all continues_name name) shaped) in
-    let few : nat_le (length name) 32 ≡ true = and_second (nat_le 1 (length name)) (nat_le (length name) 32) both in
+    let few : nat_le (length name) MAX_NAME_LEN ≡ true = and_second (nat_le 1 (length name)) (nat_le (length name) MAX_NAME_LEN) both in
     grind (arith, nat_tests)
 
 -- so has the name that is found for an id
 pub found_name_is_short : (id_of : List ℕ → Option ℕ) (name_of : ℕ → Option (List ℕ)) (id : ℕ) → ReadBack id_of name_of
-    → (name : Option (Bor (List ℕ))) → option_map (λ (found : Bor (List ℕ)). found.now) name ≡ name_of id → IfSome name (λ found. length found.now ≤ 32)
+    → (name : Option (Bor (List ℕ))) → option_map (λ (found : Bor (List ℕ)). found.now) name ≡ name_of id → IfSome name (λ found. length found.now ≤ MAX_NAME_LEN)
 found_name_is_short id_of name_of id back None is = tt
 found_name_is_short id_of name_of id back (Some name) is = name_is_short name.now (back id name.now (sym is)).0
 
 -- digits write their value, where there are 1 to 10 and it is an id
-pub decimal_is : (text : List ℕ) → list_all is_ascii_digit text ≡ true → 1 ≤ length text → length text ≤ 10 → digits_value 10 text ≤ max_id
+pub decimal_is : (text : List ℕ) → list_all is_ascii_digit text ≡ true → 1 ≤ length text → length text ≤ MAX_DIGITS → digits_value 10 text ≤ MAX_ID
     → decimal_value text ≡ Some (digits_value 10 text)
 decimal_is text digits some few small =
     let one : nat_le 1 (length text) ≡ true = at_most 1 (length text) some in
-    let ten : nat_le (length text) 10 ≡ true = at_most (length text) 10 few in
-    let low : nat_le (digits_value 10 text) max_id ≡ true = at_most (digits_value 10 text) max_id small in
+    let ten : nat_le (length text) MAX_DIGITS ≡ true = at_most (length text) MAX_DIGITS few in
+    let low : nat_le (digits_value 10 text) MAX_ID ≡ true = at_most (digits_value 10 text) MAX_ID small in
     let is : is_decimal text ≡ true = rw (digits, one, ten, low) refl in
     ap (λ t. cond t (Some (digits_value 10 text)) None) is

@@ -6,6 +6,7 @@ use Rattle.std.proofs.lemmas.List.{length-map, length-reverse, reverse-append}
 use Rattle.std.proofs.lemmas.List.Elements.{All-head, All-tail}
 use Rattle.std.proofs.lemmas.List.Sums.{sum_by-append, sum_by-cons}
 use Rattle.std.proofs.lemmas.List.Splits.{length-slice_split, slice_split-cons_no}
+use Rattle.acl_names.specs.Bytes.{newline, hash, comma}
 use Rattle.acl_names.specs.Pieces.{is_blank, trim_start, trim_end, trim, parts, trimmed_parts, content, pieces_of_content, pieces}
 use Rattle.acl_names.specs.Plain.{IsFront}
 use Rattle.acl_names.specs.ListText.{Say}
@@ -13,19 +14,19 @@ use Rattle.acl_names.proofs.PlainLines.{Lacks, LacksBlanks, plain_lacks_blanks, 
 use Rattle.acl_names.proofs.PlainLists.{IsLineFront, IsReadPlainly, whole_blanks, whole_newlines, whole_hashes}
 
 abbrev commas : List ℕ → ℕ
-commas = count_by (λ x. x == 44)
+commas = count_by (λ x. x == comma)
 
 commas-append : (xs ys : List ℕ) → commas (xs ++ ys) ≡ commas xs + commas ys
-commas-append = sum_by-append (λ x. cond (x == 44) 1 0)
+commas-append = sum_by-append (λ x. cond (x == comma) 1 0)
 
-commas-cons : (x : ℕ) (xs : List ℕ) → commas (x ∷ xs) ≡ cond (x == 44) 1 0 + commas xs
-commas-cons = sum_by-cons (λ x. cond (x == 44) 1 0)
+commas-cons : (x : ℕ) (xs : List ℕ) → commas (x ∷ xs) ≡ cond (x == comma) 1 0 + commas xs
+commas-cons = sum_by-cons (λ x. cond (x == comma) 1 0)
 
 -- a blank is no comma, so trimming takes none away
-no_comma : (x : ℕ) → is_blank x ≡ true → (x == 44) ≡ false
+no_comma : (x : ℕ) → is_blank x ≡ true → (x == comma) ≡ false
 no_comma x blank =
-    elim (cases_Bool (x == 44)) [
-      | inl comma ↦ let is : x ≡ 44 = eqb-true x 44 comma in absurd (false≢true (sym (ap is_blank is) ∙ blank))
+    elim (cases_Bool (x == comma)) [
+      | inl is_comma ↦ let is : x ≡ comma = eqb-true x comma is_comma in absurd (false≢true (sym (ap is_blank is) ∙ blank))
       | inr other ↦ other
     ]
 
@@ -72,33 +73,33 @@ trim_keeps x xs not_blank =
     rw same (omega (arith, length-reverse (trim_start (reverse (x ∷ xs)))))
 
 -- what stands before the first '#' begins with what has none
-before_hash_front : (xs ys : List ℕ) → Lacks 35 xs → (rest : List ℕ) × (before_first (λ x. x == 35) (xs ++ ys) ≡ xs ++ rest)
-before_hash_front [] ys lacks = (before_first (λ x. x == 35) ys, refl)
+before_hash_front : (xs ys : List ℕ) → Lacks hash xs → (rest : List ℕ) × (before_first (λ x. x == hash) (xs ++ ys) ≡ xs ++ rest)
+before_hash_front [] ys lacks = (before_first (λ x. x == hash) ys, refl)
 before_hash_front (x ∷ xs) ys lacks =
-    let more = before_hash_front xs ys (All-tail (λ y. (y == 35) ≡ false) x xs lacks) in
-    let on : 1 + position_or_len (λ x. x == 35) (xs ++ ys) ≡ suc (position_or_len (λ x. x == 35) (xs ++ ys)) = omega arith in
-    (more.0, rw (All-head (λ y. (y == 35) ≡ false) x xs lacks, on) (ap (λ zs. x ∷ zs) more.1))
+    let more = before_hash_front xs ys (All-tail (λ y. (y == hash) ≡ false) x xs lacks) in
+    let on : 1 + position_or_len (λ x. x == hash) (xs ++ ys) ≡ suc (position_or_len (λ x. x == hash) (xs ++ ys)) = omega arith in
+    (more.0, rw (All-head (λ y. (y == hash) ≡ false) x xs lacks, on) (ap (λ zs. x ∷ zs) more.1))
 
 -- the first line begins with what has no newline
-first_line : (xs ys : List ℕ) → Lacks 10 xs → (rest : List ℕ) × (lines : List (List ℕ)) × (parts 10 (xs ++ ys) ≡ (xs ++ rest) ∷ lines)
-first_line [] ys lacks = first_of (parts 10 ys) (omega (arith, length-slice_split (λ x. x == 10) ys))
+first_line : (xs ys : List ℕ) → Lacks newline xs → (rest : List ℕ) × (lines : List (List ℕ)) × (parts newline (xs ++ ys) ≡ (xs ++ rest) ∷ lines)
+first_line [] ys lacks = first_of (parts newline ys) (omega (arith, length-slice_split (λ x. x == newline) ys))
   where
     first_of : (lines : List (List ℕ)) → 0 < length lines → (rest : List ℕ) × (others : List (List ℕ)) × (lines ≡ rest ∷ others)
     first_of [] some = absurd (omega arith)
     first_of (line ∷ lines) some = (line, lines, refl)
 first_line (x ∷ xs) ys lacks =
-    let more = first_line xs ys (All-tail (λ y. (y == 10) ≡ false) x xs lacks) in (
+    let more = first_line xs ys (All-tail (λ y. (y == newline) ≡ false) x xs lacks) in (
       more.0,
       more.1,
-      slice_split-cons_no (λ y. y == 10) x (xs ++ ys) (All-head (λ y. (y == 10) ≡ false) x xs lacks) ∙ ap (onto_first x) more.2,
+      slice_split-cons_no (λ y. y == newline) x (xs ++ ys) (All-head (λ y. (y == newline) ≡ false) x xs lacks) ∙ ap (onto_first x) more.2,
     )
 
 count_parts : (bytes : List ℕ) → 0 < length bytes → length (pieces_of_content bytes) ≡ commas bytes + 1
 count_parts [] some = absurd (omega arith)
-count_parts (byte ∷ bytes) some = length-map (parts 44 (byte ∷ bytes)) trim ∙ length-slice_split (λ x. x == 44) (byte ∷ bytes)
+count_parts (byte ∷ bytes) some = length-map (parts comma (byte ∷ bytes)) trim ∙ length-slice_split (λ x. x == comma) (byte ∷ bytes)
 
 -- a line that begins with no blank has a piece more than its front has commas
-line_pieces_many : (xs ys : List ℕ) → 0 < length xs → LacksBlanks xs → Lacks 35 xs → commas xs + 1 ≤ length (pieces_of_content (content (xs ++ ys)))
+line_pieces_many : (xs ys : List ℕ) → 0 < length xs → LacksBlanks xs → Lacks hash xs → commas xs + 1 ≤ length (pieces_of_content (content (xs ++ ys)))
 line_pieces_many [] ys some blanks hashes = absurd (omega arith)
 line_pieces_many (x ∷ xs) ys some blanks hashes =
     let before = before_hash_front (x ∷ xs) ys hashes in
@@ -109,7 +110,7 @@ line_pieces_many (x ∷ xs) ys some blanks hashes =
     let both = commas-append (x ∷ xs) before.0 in
     rw is (omega arith)
 
-pieces_many : (xs ys : List ℕ) → 0 < length xs → LacksBlanks xs → Lacks 10 xs → Lacks 35 xs → commas xs + 1 ≤ length (pieces (xs ++ ys))
+pieces_many : (xs ys : List ℕ) → 0 < length xs → LacksBlanks xs → Lacks newline xs → Lacks hash xs → commas xs + 1 ≤ length (pieces (xs ++ ys))
 pieces_many xs ys some blanks newlines hashes =
     let first = first_line xs ys newlines in
     let is : pieces (xs ++ ys) ≡ pieces_of_content (content (xs ++ first.0)) ++ flat_map (λ line. pieces_of_content (content line)) first.1 =
@@ -122,10 +123,10 @@ pieces_many xs ys some blanks newlines hashes =
 commas_of_front : (line : List ℕ) (front : List (List ℕ)) → IsLineFront line front → commas line ≡ length front
 commas_of_front line front is =
     let lengths = ap (λ (xs : List (List ℕ)). length xs) (is.split []) in
-    let mapped = length-map (parts 44 (line ++ [])) trim in
-    let counted = length-slice_split (λ x. x == 44) (line ++ []) in
+    let mapped = length-map (parts comma (line ++ [])) trim in
+    let counted = length-slice_split (λ x. x == comma) (line ++ []) in
     let both = commas-append line [] in
-    let joined = length-append front (trimmed_parts 44 []) in
+    let joined = length-append front (trimmed_parts comma []) in
     omega arith
 
 said_lengths : {A F : Type 0} (value_of : List ℕ → Result A F) (texts : List (List ℕ)) (list : List A) → Say value_of texts list → length texts ≡ length list

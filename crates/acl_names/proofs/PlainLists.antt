@@ -5,6 +5,7 @@ use Rattle.std.proofs.lemmas.Bool.{eqb-true}
 use Rattle.std.proofs.lemmas.List.{append-nil, take_all}
 use Rattle.std.proofs.lemmas.List.Elements.{All-nil, All-cons, All-append}
 use Rattle.std.proofs.lemmas.List.Splits.{slice_split_at, slice_split_none}
+use Rattle.acl_names.specs.Bytes.{newline, hash, comma}
 use Rattle.acl_names.specs.Pieces.{is_blank, trim, parts, trimmed_parts, content, pieces_of_content, pieces}
 use Rattle.acl_names.specs.Plain.{IsPlain, IsFront}
 use Rattle.acl_names.specs.ListText.{Say}
@@ -14,58 +15,58 @@ use Rattle.acl_names.proofs.PlainLines.{Lacks, LacksBlanks, plain_lacks_blanks, 
 -- what has been read of a line: pieces, each with a comma behind it
 pub record IsLineFront (line : List ℕ) (front : List (List ℕ)) : Type 0 where
   pub blanks : LacksBlanks line
-  pub newlines : Lacks 10 line
-  pub hashes : Lacks 35 line
-  pub split : (more : List ℕ) → trimmed_parts 44 (line ++ more) ≡ front ++ trimmed_parts 44 more
+  pub newlines : Lacks newline line
+  pub hashes : Lacks hash line
+  pub split : (more : List ℕ) → trimmed_parts comma (line ++ more) ≡ front ++ trimmed_parts comma more
 
 pub nothing_read : IsLineFront [] []
 nothing_read = record {
   blanks = All-nil (λ x. is_blank x ≡ false);
-  newlines = All-nil (λ x. (x == 10) ≡ false);
-  hashes = All-nil (λ x. (x == 35) ≡ false);
+  newlines = All-nil (λ x. (x == newline) ≡ false);
+  hashes = All-nil (λ x. (x == hash) ≡ false);
   split = λ more. refl;
 }
 
 module _ (line : List ℕ) (front : List (List ℕ)) (is : IsLineFront line front) (piece : List ℕ) (plain : IsPlain piece) where
-  piece_and_comma : (more : List ℕ) → trimmed_parts 44 (piece ++ 44 ∷ more) ≡ piece ∷ trimmed_parts 44 more
+  piece_and_comma : (more : List ℕ) → trimmed_parts comma (piece ++ comma ∷ more) ≡ piece ∷ trimmed_parts comma more
   piece_and_comma more =
-      ap (map trim) (slice_split_at (λ x. x == 44) piece 44 more (plain_lacks_comma piece plain) refl)
-      ∙ ap (λ t. t ∷ trimmed_parts 44 more) (trim_same piece (plain_lacks_blanks piece plain))
+      ap (map trim) (slice_split_at (λ x. x == comma) piece comma more (plain_lacks_comma piece plain) refl)
+      ∙ ap (λ t. t ∷ trimmed_parts comma more) (trim_same piece (plain_lacks_blanks piece plain))
 
   -- a piece and a comma
-  pub comma_read : IsLineFront (line ++ (piece ++ 44 ∷ [])) (front ++ piece ∷ [])
+  pub comma_read : IsLineFront (line ++ (piece ++ comma ∷ [])) (front ++ piece ∷ [])
   comma_read = record {
-    blanks = All-append (λ x. is_blank x ≡ false) line (piece ++ 44 ∷ []) is.blanks
-        (All-append (λ x. is_blank x ≡ false) piece (44 ∷ []) (plain_lacks_blanks piece plain) (All-cons (λ x. is_blank x ≡ false) 44 [] refl (All-nil (λ x. is_blank x ≡ false))));
-    newlines = All-append (λ x. (x == 10) ≡ false) line (piece ++ 44 ∷ []) is.newlines
-        (All-append (λ x. (x == 10) ≡ false) piece (44 ∷ []) (plain_lacks_newline piece plain) (All-cons (λ x. (x == 10) ≡ false) 44 [] refl (All-nil (λ x. (x == 10) ≡ false))));
-    hashes = All-append (λ x. (x == 35) ≡ false) line (piece ++ 44 ∷ []) is.hashes
-        (All-append (λ x. (x == 35) ≡ false) piece (44 ∷ []) (plain_lacks_hash piece plain) (All-cons (λ x. (x == 35) ≡ false) 44 [] refl (All-nil (λ x. (x == 35) ≡ false))));
+    blanks = All-append (λ x. is_blank x ≡ false) line (piece ++ comma ∷ []) is.blanks
+        (All-append (λ x. is_blank x ≡ false) piece (comma ∷ []) (plain_lacks_blanks piece plain) (All-cons (λ x. is_blank x ≡ false) comma [] refl (All-nil (λ x. is_blank x ≡ false))));
+    newlines = All-append (λ x. (x == newline) ≡ false) line (piece ++ comma ∷ []) is.newlines
+        (All-append (λ x. (x == newline) ≡ false) piece (comma ∷ []) (plain_lacks_newline piece plain) (All-cons (λ x. (x == newline) ≡ false) comma [] refl (All-nil (λ x. (x == newline) ≡ false))));
+    hashes = All-append (λ x. (x == hash) ≡ false) line (piece ++ comma ∷ []) is.hashes
+        (All-append (λ x. (x == hash) ≡ false) piece (comma ∷ []) (plain_lacks_hash piece plain) (All-cons (λ x. (x == hash) ≡ false) comma [] refl (All-nil (λ x. (x == hash) ≡ false))));
     split = λ more.
-        ap (trimmed_parts 44) (append_assoc line (piece ++ 44 ∷ []) more ∙ ap (λ t. line ++ t) (append_assoc piece (44 ∷ []) more))
-        ∙ is.split (piece ++ 44 ∷ more)
+        ap (trimmed_parts comma) (append_assoc line (piece ++ comma ∷ []) more ∙ ap (λ t. line ++ t) (append_assoc piece (comma ∷ []) more))
+        ∙ is.split (piece ++ comma ∷ more)
         ∙ ap (λ t. front ++ t) (piece_and_comma more)
-        ∙ sym (append_assoc front (piece ∷ []) (trimmed_parts 44 more));
+        ∙ sym (append_assoc front (piece ∷ []) (trimmed_parts comma more));
   }
 
   pub whole_blanks : LacksBlanks (line ++ piece)
   whole_blanks = All-append (λ x. is_blank x ≡ false) line piece is.blanks (plain_lacks_blanks piece plain)
 
-  pub whole_newlines : Lacks 10 (line ++ piece)
-  whole_newlines = All-append (λ x. (x == 10) ≡ false) line piece is.newlines (plain_lacks_newline piece plain)
+  pub whole_newlines : Lacks newline (line ++ piece)
+  whole_newlines = All-append (λ x. (x == newline) ≡ false) line piece is.newlines (plain_lacks_newline piece plain)
 
-  pub whole_hashes : Lacks 35 (line ++ piece)
-  whole_hashes = All-append (λ x. (x == 35) ≡ false) line piece is.hashes (plain_lacks_hash piece plain)
+  pub whole_hashes : Lacks hash (line ++ piece)
+  whole_hashes = All-append (λ x. (x == hash) ≡ false) line piece is.hashes (plain_lacks_hash piece plain)
 
   content_is : content (line ++ piece) ≡ line ++ piece
   content_is = ap trim (before_no_hash (line ++ piece) whole_hashes) ∙ trim_same (line ++ piece) whole_blanks
 
-  last_part : trimmed_parts 44 piece ≡ piece ∷ []
+  last_part : trimmed_parts comma piece ≡ piece ∷ []
   last_part =
-      ap (map trim) (slice_split_none (λ y. y == 44) piece (plain_lacks_comma piece plain))
+      ap (map trim) (slice_split_none (λ y. y == comma) piece (plain_lacks_comma piece plain))
       ∙ ap (λ t. t ∷ []) (trim_same piece (plain_lacks_blanks piece plain))
 
-  some_content : (bytes : List ℕ) → 0 < length bytes → pieces_of_content bytes ≡ trimmed_parts 44 bytes
+  some_content : (bytes : List ℕ) → 0 < length bytes → pieces_of_content bytes ≡ trimmed_parts comma bytes
   some_content [] some = absurd (omega arith)
   some_content (byte ∷ bytes) some = refl
 
@@ -80,15 +81,15 @@ module _ (line : List ℕ) (front : List (List ℕ)) (is : IsLineFront line fron
     -- a piece and the end of the text
     pub end_read : pieces (line ++ piece) ≡ front ++ piece ∷ []
     end_read =
-        ap (flat_map (λ l. pieces_of_content (content l))) (slice_split_none (λ x. x == 10) (line ++ piece) whole_newlines)
+        ap (flat_map (λ l. pieces_of_content (content l))) (slice_split_none (λ x. x == newline) (line ++ piece) whole_newlines)
         ∙ append-nil (pieces_of_content (content (line ++ piece)))
         ∙ line_pieces
 
     -- a piece and a newline
-    pub newline_read : (more : List ℕ) → pieces (line ++ (piece ++ 10 ∷ more)) ≡ (front ++ piece ∷ []) ++ pieces more
+    pub newline_read : (more : List ℕ) → pieces (line ++ (piece ++ newline ∷ more)) ≡ (front ++ piece ∷ []) ++ pieces more
     newline_read more =
-        ap pieces (sym (append_assoc line piece (10 ∷ more)))
-        ∙ ap (flat_map (λ l. pieces_of_content (content l))) (slice_split_at (λ x. x == 10) (line ++ piece) 10 more whole_newlines refl)
+        ap pieces (sym (append_assoc line piece (newline ∷ more)))
+        ∙ ap (flat_map (λ l. pieces_of_content (content l))) (slice_split_at (λ x. x == newline) (line ++ piece) newline more whole_newlines refl)
         ∙ ap (λ t. t ++ pieces more) line_pieces
 
 -- a text that is read so far: the pieces of its whole lines, and those of a line
@@ -116,12 +117,12 @@ module _ {A F : Type 0} (value_of : List ℕ → Result A F) (text : List ℕ) w
         ∙ ap (λ t. so_far.before ++ t) (end_read so_far.line so_far.front so_far.is found.piece found.plain found.some) in
         rw all said_more
 
-    pub after_comma : (more : List ℕ) → behind ≡ 44 ∷ more → IsReadPlainly value_of text more (list ++ value ∷ [])
+    pub after_comma : (more : List ℕ) → behind ≡ comma ∷ more → IsReadPlainly value_of text more (list ++ value ∷ [])
     after_comma more next =
         let piece = found.piece in
-        let line = so_far.line ++ (piece ++ 44 ∷ []) in
+        let line = so_far.line ++ (piece ++ comma ∷ []) in
         let regrouped : so_far.line ++ rest ≡ line ++ more =
-        ap (λ t. so_far.line ++ t) (found.cut ∙ ap (λ t. piece ++ t) next ∙ sym (append_assoc piece (44 ∷ []) more)) ∙ sym (append_assoc so_far.line (piece ++ 44 ∷ []) more) in
+        ap (λ t. so_far.line ++ t) (found.cut ∙ ap (λ t. piece ++ t) next ∙ sym (append_assoc piece (comma ∷ []) more)) ∙ sym (append_assoc so_far.line (piece ++ comma ∷ []) more) in
         record {
           before = so_far.before;
           front = so_far.front ++ piece ∷ [];
@@ -131,7 +132,7 @@ module _ {A F : Type 0} (value_of : List ℕ → Result A F) (text : List ℕ) w
           said = said_more;
         }
 
-    pub after_newline : (more : List ℕ) → behind ≡ 10 ∷ more → IsReadPlainly value_of text more (list ++ value ∷ [])
+    pub after_newline : (more : List ℕ) → behind ≡ newline ∷ more → IsReadPlainly value_of text more (list ++ value ∷ [])
     after_newline more next =
         let piece = found.piece in
         let read = so_far.front ++ piece ∷ [] in
@@ -147,7 +148,7 @@ module _ {A F : Type 0} (value_of : List ℕ → Result A F) (text : List ℕ) w
           said = rw append-nil said_more;
         }
 
-    pub ended_by_newline : behind ≡ 10 ∷ [] → Say value_of (pieces text) (list ++ value ∷ [])
+    pub ended_by_newline : behind ≡ newline ∷ [] → Say value_of (pieces text) (list ++ value ∷ [])
     unfolding after_newline
     ended_by_newline next =
         let at_end = after_newline [] next in

@@ -1,7 +1,8 @@
 -- Reading step by step: what a value that is read says of each step.
 use Rattle.std.proofs.Common.{◌≡◌, ◌⊎◌, ℕ, Bool, true, false, cond, nat_le, List, Option, Some, None, Result, Ok, Err, refl, ap, ◌∙◌, inl, inr}
 use Rattle.std.specs.Prelude.{is_none, if◌then◌else◌}
-use Rattle.acl_names.specs.Ids.{Written, Number, Name, number_or_name, has_name_shape, resolved, max_id}
+use Rattle.acl_names.specs.declared.limits.TheConstants.{MAX_ID}
+use Rattle.acl_names.specs.Ids.{Written, Number, Name, number_or_name, has_name_shape, resolved}
 use Rattle.acl_names.specs.Steps.{◌>>=◌, or_fault}
 
 -- a step that succeeded
@@ -36,7 +37,7 @@ pub written_by : (id_of : List ℕ → Option ℕ) (text : List ℕ) (number : O
     → number_or_name number text ≡ Some w → resolved id_of w ≡ Some id → (number ≡ Some id) ⊎ ((has_name_shape text ≡ true) × (id_of text ≡ Some id))
 written_by id_of text (Some n) w id e f =
     let is : Number n ≡ w = cc in
-    let that = some_from_cond (nat_le n max_id) n id (ap (resolved id_of) is ∙ f) in
+    let that = some_from_cond (nat_le n MAX_ID) n id (ap (resolved id_of) is ∙ f) in
     inl (ap Some that.1)
 written_by id_of text None w id e f =
     let choice = some_from_cond (has_name_shape text) (Name text) w e in

@@ -1,23 +1,24 @@
 -- Pieces that stand in a text plainly, with no blank and no comment.
 use Rattle.std.specs.Prelude.{◌≡◌, ℕ, ◌<◌, Bool, true, not, ◌&&◌, ◌||◌, ◌==◌, List, ◌∷◌, ◌++◌, length, Option, Some, Result, Ok}
 use Rattle.std.specs.List.{All}
+use Rattle.acl_names.specs.Bytes.{newline, tab, space, hash, comma, colon}
 use Rattle.acl_names.specs.Ids.{decimal_value}
 use Rattle.acl_names.specs.Pieces.{is_blank}
 
 -- neither a blank nor a byte that cuts a text into pieces
 abbrev pub is_plain : ℕ → Bool
-is_plain byte = not (is_blank byte) && (not (byte == 10) && (not (byte == 35) && not (byte == 44)))
+is_plain byte = not (is_blank byte) && (not (byte == newline) && (not (byte == hash) && not (byte == comma)))
 
 abbrev pub IsPlain : List ℕ → Type 0
 IsPlain text = All (λ byte. is_plain byte ≡ true) text
 
 -- a byte that stands in a plain piece's field
 abbrev pub is_field_byte : ℕ → Bool
-is_field_byte byte = is_plain byte && not (byte == 58)
+is_field_byte byte = is_plain byte && not (byte == colon)
 
 -- a byte that ends one: a blank, or one that cuts a text into pieces or a piece into fields
 abbrev pub ends_field : ℕ → Bool
-ends_field byte = (byte == 32) || (byte == 9) || (byte == 58) || (byte == 44) || (byte == 35) || (byte == 10)
+ends_field byte = (byte == space) || (byte == tab) || (byte == colon) || (byte == comma) || (byte == hash) || (byte == newline)
 
 abbrev pub IsField : List ℕ → Type 0
 IsField text = All (λ byte. is_field_byte byte ≡ true) text

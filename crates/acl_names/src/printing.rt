@@ -2,6 +2,7 @@
 
 ghost use Rattle.std.specs.Prelude.{◌≡◌, ◌≤◌, ◌<◌, ◌+◌, ◌/◌, ◌%◌, [], ◌∷◌, ◌++◌, length, take, option_map, unwrap_or, decimal, vec_len, vec_capacity, OnOk, IfSome};
 ghost use Rattle.acl_names.specs.Digits.{pair};
+ghost use Rattle.acl_names.specs.declared.limits.TheConstants.{MAX_DIGITS, MAX_ID, MAX_NAME_LEN};
 
 use crate::directory::Directory;
 use crate::gid::Gid;
@@ -23,10 +24,10 @@ pub fn push_id(name: Option<&str>, id: u32, out: &mut Vec<u8>) -> Result<(), All
 /// Appends the name, or the decimal of an id that has none, where `out` has room for it.
 #[inline(always)]
 pub fn put_id(name: Option<&str>, id: u32, out: &mut Vec<u8>)
-    requires room { vec_len out.old + 32 ≤ vec_capacity out.old }
-    requires short { IfSome name (λ bytes. length bytes.now ≤ 32) }
+    requires room { vec_len out.old + MAX_NAME_LEN ≤ vec_capacity out.old }
+    requires short { IfSome name (λ bytes. length bytes.now ≤ MAX_NAME_LEN) }
     ensures text { out.new.items ≡ out.old.items ++ unwrap_or (option_map (λ bytes. bytes.now) name.entry) (decimal id) }
-    ensures len { vec_len out.new ≤ vec_len out.old + 32 }
+    ensures len { vec_len out.new ≤ vec_len out.old + MAX_NAME_LEN }
     ensures capacity { vec_capacity out.new ≡ vec_capacity out.old }
 {
     match name {
@@ -51,9 +52,9 @@ pub fn put_bytes(bytes: &[u8], out: &mut Vec<u8>)
 /// Appends the decimal, where `out` has room for it.
 #[inline(always)]
 pub fn put_decimal(number: u32, out: &mut Vec<u8>)
-    requires { vec_len out.old + 10 ≤ vec_capacity out.old }
+    requires { vec_len out.old + MAX_DIGITS ≤ vec_capacity out.old }
     ensures text { out.new.items ≡ out.old.items ++ decimal number }
-    ensures len { vec_len out.new ≤ vec_len out.old + 10 }
+    ensures len { vec_len out.new ≤ vec_len out.old + MAX_DIGITS }
     ensures capacity { vec_capacity out.new ≡ vec_capacity out.old }
 {
     if number < 10_000 {
@@ -129,28 +130,30 @@ fn put_two(number: u32, out: &mut Vec<u8>)
 
 impl Directory {
     ghost use Rattle.acl_names.specs.Directory.{group_name, user_name};
-    ghost use Rattle.acl_names.specs.Ids.{max_id, id_text};
+    ghost use Rattle.acl_names.specs.Ids.{id_text};
 
-    /// Appends the name of the user with this uid, or the decimal where none has one, where `out` has room for 32 bytes.
+    /// Appends the name of the user with this uid, or the decimal where none has one, where `out` has room for `MAX_NAME_LEN`
+    /// bytes.
     #[inline(always)]
     pub fn put_user(&self, uid: Uid, out: &mut Vec<u8>)
-        requires { vec_len out.old + 32 ≤ vec_capacity out.old }
+        requires { vec_len out.old + MAX_NAME_LEN ≤ vec_capacity out.old }
         ensures text { out.new.items ≡ out.old.items ++ id_text (user_name self.now) uid }
-        ensures in_range { uid ≤ max_id }
-        ensures len { vec_len out.new ≤ vec_len out.old + 32 }
+        ensures in_range { uid ≤ MAX_ID }
+        ensures len { vec_len out.new ≤ vec_len out.old + MAX_NAME_LEN }
         ensures capacity { vec_capacity out.new ≡ vec_capacity out.old }
     {
         self.tell_names_apart();
         put_id(self.user_name(uid), uid.value(), out);
     }
 
-    /// Appends the name of the group with this gid, or the decimal where none has one, where `out` has room for 32 bytes.
+    /// Appends the name of the group with this gid, or the decimal where none has one, where `out` has room for `MAX_NAME_LEN`
+    /// bytes.
     #[inline(always)]
     pub fn put_group(&self, gid: Gid, out: &mut Vec<u8>)
-        requires { vec_len out.old + 32 ≤ vec_capacity out.old }
+        requires { vec_len out.old + MAX_NAME_LEN ≤ vec_capacity out.old }
         ensures text { out.new.items ≡ out.old.items ++ id_text (group_name self.now) gid }
-        ensures in_range { gid ≤ max_id }
-        ensures len { vec_len out.new ≤ vec_len out.old + 32 }
+        ensures in_range { gid ≤ MAX_ID }
+        ensures len { vec_len out.new ≤ vec_len out.old + MAX_NAME_LEN }
         ensures capacity { vec_capacity out.new ≡ vec_capacity out.old }
     {
         self.tell_names_apart();

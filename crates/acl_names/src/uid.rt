@@ -1,6 +1,7 @@
 //! The numbers of users.
 
 ghost use Rattle.std.specs.Prelude.{◌≡◌, ℕ, ◌≤◌, nat_le, if◌then◌else◌};
+ghost use Rattle.acl_names.specs.declared.limits.TheConstants.{MAX_ID};
 
 use crate::limits::MAX_ID;
 use std::marker::Model;
@@ -16,13 +17,13 @@ impl Model for Uid {
 
     ghost view = { λ id. id.number };
 
-    ghost invariant = { λ id. id.number ≤ 4294967294 };
+    ghost invariant = { λ id. id.number ≤ MAX_ID };
 
     ghost inverse = { λ n. record { number = n } };
 }
 
 impl Uid {
-    /// The id of this number; none is above 4294967294.
+    /// The id of this number; none is above `MAX_ID`.
     pub fn new(number: u32) -> Option<Self>
         ensures { result ≡ (if nat_le number MAX_ID then Some number else None) }
     {
@@ -36,7 +37,7 @@ impl Uid {
     /// Its number.
     pub fn value(self) -> u32
         ensures value { result ≡ self }
-        ensures in_range { result ≤ 4294967294 }
+        ensures in_range { result ≤ MAX_ID }
     {
         self.number
     }

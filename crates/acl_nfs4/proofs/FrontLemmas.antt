@@ -1,6 +1,7 @@
 -- A text that begins with the fields of an entry begins with the piece that they make.
 use Rattle.std.proofs.Common.{◌≡◌, ℕ, List, [], ◌∷◌, ◌++◌, Some, Result, Ok, sym, ap, ◌∙◌, append_assoc, length-append, arith}
 use Rattle.std.specs.List.{AllByRecursion, join_with_byte}
+use Rattle.acl_names.specs.Bytes.{colon}
 use Rattle.acl_names.specs.Plain.{IsField, IsFront}
 use Rattle.acl_names.proofs.Fields.{fields_again, joined_plain}
 use Rattle.acl_nfs4.specs.AceText.{AceFields, as_fields, fields_of}
@@ -12,16 +13,16 @@ pub front_is : {A F : Type 0} (value_of : List ℕ → Result A F) (text : List 
 front_is value_of text fields rest value begins says =
     let more = fields.flags ∷ fields.who ∷ fields.letters ∷ [] in
     let are : AllByRecursion IsField (fields.kind ∷ more) = (begins.kind, (begins.flags, (begins.who, (begins.letters, tt)))) in
-    let piece = join_with_byte 58 (fields.kind ∷ more) in
-    let last = fields.who ++ 58 ∷ fields.letters in
+    let piece = join_with_byte colon (fields.kind ∷ more) in
+    let last = fields.who ++ colon ∷ fields.letters in
     let cut : fields_of piece ≡ Some fields = ap as_fields (fields_again fields.kind more are) in
     record {
       piece = piece;
       cut = begins.cut
-          ∙ sym (append_assoc fields.kind (58 ∷ (fields.flags ++ 58 ∷ last)) rest
-          ∙ ap (λ x. fields.kind ++ 58 ∷ x) (append_assoc fields.flags (58 ∷ last) rest
-          ∙ ap (λ x. fields.flags ++ 58 ∷ x) (append_assoc fields.who (58 ∷ fields.letters) rest)));
-      some = omega (arith, length-append fields.kind (58 ∷ join_with_byte 58 more));
+          ∙ sym (append_assoc fields.kind (colon ∷ (fields.flags ++ colon ∷ last)) rest
+          ∙ ap (λ x. fields.kind ++ colon ∷ x) (append_assoc fields.flags (colon ∷ last) rest
+          ∙ ap (λ x. fields.flags ++ colon ∷ x) (append_assoc fields.who (colon ∷ fields.letters) rest)));
+      some = omega (arith, length-append fields.kind (colon ∷ join_with_byte colon more));
       plain = joined_plain fields.kind more are;
       said = says piece cut;
     }

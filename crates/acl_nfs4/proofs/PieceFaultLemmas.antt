@@ -2,6 +2,7 @@
 use Rattle.std.proofs.Common.{◌≡◌, ◌≢◌, ◌↔◌, ℕ, Bool, true, false, cond, List, [], ◌∷◌, Option, Some, None, option_map, Result, Ok, Err, codes, refl, sym, ap, subst, ◌∙◌}
 use Rattle.std.specs.Str.{bytes_eq}
 use Rattle.std.proofs.lemmas.Slice.Eq.{bytes_eq-Decides}
+use Rattle.acl_names.specs.Bytes.{at_sign}
 use Rattle.acl_names.specs.Bits.{has}
 use Rattle.acl_names.specs.Directory.{Known, uid_of, gid_of, fault_of}
 use Rattle.acl_names.specs.Ids.{Written, Number, Name, written_id, has_name_shape, has_domain_shape, resolved}
@@ -265,7 +266,7 @@ written_elsewhere known piece e =
     let is_group = has parts.flags identifier_group in
     let ace_for : Who → Nfsace4 = λ who. ace_of parts.kind parts.flags who parts.mask in
     let lost = is_lost (resolved_who known is_group parts.written) ace_for parts.rest in
-    let there = who_somewhere known is_group parts.written lost (split_at_byte 64 parts.fields.who) parts.written_is in
+    let there = who_somewhere known is_group parts.written lost (split_at_byte at_sign parts.fields.who) parts.written_is in
     let written = written_with known there.known piece UnknownName parts there.who there.found in
     (there.known, there.faultless, (ace_for there.who, ace_of_parts there.known piece (ace_for there.who) written))
 

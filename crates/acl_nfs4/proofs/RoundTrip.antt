@@ -11,9 +11,11 @@ use Rattle.std.proofs.lemmas.List.Elements.{All-head, All-tail, All-cons, All-ap
 use Rattle.std.proofs.lemmas.List.Splits.{slice_split_at, slice_split_none}
 use Rattle.std.proofs.lemmas.List.Sums.{AllPass-from_list_all}
 use Rattle.std.proofs.lemmas.Slice.Eq.{bytes_eq-Decides}
+use Rattle.acl_names.specs.declared.limits.TheConstants.{MAX_NAME_LEN, MAX_ID}
+use Rattle.acl_names.specs.Bytes.{colon, at_sign}
 use Rattle.acl_names.specs.Bits.{has, without, ◌∩◌}
 use Rattle.acl_names.specs.Directory.{Known, TellsNamesApart, uid_of, gid_of, user_name, group_name}
-use Rattle.acl_names.specs.Ids.{Written, Number, Name, resolved, max_id, ReadBack, has_domain_shape, has_name_shape, stands_in_domain, continues_name, begins_name}
+use Rattle.acl_names.specs.Ids.{Written, Number, Name, resolved, ReadBack, has_domain_shape, has_name_shape, stands_in_domain, continues_name, begins_name}
 use Rattle.acl_names.specs.Letters.{letters_text}
 use Rattle.acl_names.specs.ListText.{Say, Spells}
 use Rattle.acl_names.specs.Pieces.{parts}
@@ -53,13 +55,13 @@ type_field Alarm = tested_field (codes "L") refl
 domain_byte_in_field : (byte : ℕ) → stands_in_domain byte ≡ true → is_field_byte byte ≡ true
 domain_byte_in_field byte is = grind (arith, nat_tests)
 
-domain_byte_no_at : (byte : ℕ) → stands_in_domain byte ≡ true → (byte == 64) ≡ false
+domain_byte_no_at : (byte : ℕ) → stands_in_domain byte ≡ true → (byte == at_sign) ≡ false
 domain_byte_no_at byte is = grind (arith, nat_tests)
 
-name_byte_no_at : (byte : ℕ) → continues_name byte ≡ true → (byte == 64) ≡ false
+name_byte_no_at : (byte : ℕ) → continues_name byte ≡ true → (byte == at_sign) ≡ false
 name_byte_no_at byte is = grind (arith, nat_tests)
 
-digit_no_at : (byte : ℕ) → is_ascii_digit byte ≡ true → (byte == 64) ≡ false
+digit_no_at : (byte : ℕ) → is_ascii_digit byte ≡ true → (byte == at_sign) ≡ false
 digit_no_at byte is = grind (arith, nat_tests)
 
 -- the bytes of a name, of a domain, of a decimal
@@ -67,14 +69,14 @@ name_bytes : (name : List ℕ) → has_name_shape name ≡ true → All (λ byte
 name_bytes [] shaped = absurd (cc)
 name_bytes (c ∷ cs) shaped =
     AllPass-from_list_all continues_name (c ∷ cs)
-    (and_second (nat_le 1 (length (c ∷ cs)) && nat_le (length (c ∷ cs)) 32 && begins_name c) (list_all continues_name (c ∷ cs)) shaped)
+    (and_second (nat_le 1 (length (c ∷ cs)) && nat_le (length (c ∷ cs)) MAX_NAME_LEN && begins_name c) (list_all continues_name (c ∷ cs)) shaped)
 
 domain_bytes : (domain : List ℕ) → has_domain_shape domain ≡ true → All (λ byte. stands_in_domain byte ≡ true) domain
 domain_bytes domain shaped =
     AllPass-from_list_all stands_in_domain domain
     (and_second (nat_le 1 (length domain) && nat_le (length domain) 255) (list_all stands_in_domain domain) shaped)
 
-decimal_bytes : (id : ℕ) → id ≤ max_id → All (λ byte. is_ascii_digit byte ≡ true) (decimal id)
+decimal_bytes : (id : ℕ) → id ≤ MAX_ID → All (λ byte. is_ascii_digit byte ≡ true) (decimal id)
 decimal_bytes id small =
     let numeral = decimal_is_IsNumeral id (omega arith) in
     AllPass-from_list_all is_ascii_digit (decimal id) (digits_model.from (decimal id) numeral.0.1)
@@ -87,24 +89,24 @@ at_again name (byte ∷ bytes) shaped domain_shaped =
     ap (λ written. name_at written (byte ∷ bytes)) (written_name name shaped)
     ∙ ap (λ b. cond b (Some (form.At name (byte ∷ bytes))) None) domain_shaped
 
-pub parts_at : (name domain : List ℕ) → has_name_shape name ≡ true → has_domain_shape domain ≡ true → parts 64 (name ++ 64 ∷ domain) ≡ name ∷ domain ∷ []
+pub parts_at : (name domain : List ℕ) → has_name_shape name ≡ true → has_domain_shape domain ≡ true → parts at_sign (name ++ at_sign ∷ domain) ≡ name ∷ domain ∷ []
 parts_at name domain shaped domain_shaped =
-    slice_split_at (λ x. x == 64) name 64 domain
-    (All-weaker (λ byte. continues_name byte ≡ true) (λ byte. (byte == 64) ≡ false) name_byte_no_at name (name_bytes name shaped)) refl
+    slice_split_at (λ x. x == at_sign) name at_sign domain
+    (All-weaker (λ byte. continues_name byte ≡ true) (λ byte. (byte == at_sign) ≡ false) name_byte_no_at name (name_bytes name shaped)) refl
     ∙ ap (λ rest. name ∷ rest)
-    (slice_split_none (λ x. x == 64) domain
-    (All-weaker (λ byte. stands_in_domain byte ≡ true) (λ byte. (byte == 64) ≡ false) domain_byte_no_at domain (domain_bytes domain domain_shaped)))
+    (slice_split_none (λ x. x == at_sign) domain
+    (All-weaker (λ byte. stands_in_domain byte ≡ true) (λ byte. (byte == at_sign) ≡ false) domain_byte_no_at domain (domain_bytes domain domain_shaped)))
 
 -- a text of one part
-pub parts_name : (name : List ℕ) → has_name_shape name ≡ true → parts 64 name ≡ name ∷ []
+pub parts_name : (name : List ℕ) → has_name_shape name ≡ true → parts at_sign name ≡ name ∷ []
 parts_name name shaped =
-    slice_split_none (λ x. x == 64) name
-    (All-weaker (λ byte. continues_name byte ≡ true) (λ byte. (byte == 64) ≡ false) name_byte_no_at name (name_bytes name shaped))
+    slice_split_none (λ x. x == at_sign) name
+    (All-weaker (λ byte. continues_name byte ≡ true) (λ byte. (byte == at_sign) ≡ false) name_byte_no_at name (name_bytes name shaped))
 
-pub parts_digits : (text : List ℕ) → All (λ byte. is_ascii_digit byte ≡ true) text → parts 64 text ≡ text ∷ []
+pub parts_digits : (text : List ℕ) → All (λ byte. is_ascii_digit byte ≡ true) text → parts at_sign text ≡ text ∷ []
 parts_digits text digits =
-    slice_split_none (λ x. x == 64) text
-    (All-weaker (λ byte. is_ascii_digit byte ≡ true) (λ byte. (byte == 64) ≡ false) digit_no_at text digits)
+    slice_split_none (λ x. x == at_sign) text
+    (All-weaker (λ byte. is_ascii_digit byte ≡ true) (λ byte. (byte == at_sign) ≡ false) digit_no_at text digits)
 
 -- ---- an entry's flags and mask are those of its parts
 
@@ -153,16 +155,16 @@ ace_of-same ace is = λ i. record {
 module _ (known : Known) (apart : TellsNamesApart known) where
   -- ---- the who
 
-  named_field : (id_of : List ℕ → Option ℕ) (name_of : ℕ → Option (List ℕ)) (id : ℕ) → ReadBack id_of name_of → id ≤ max_id
+  named_field : (id_of : List ℕ → Option ℕ) (name_of : ℕ → Option (List ℕ)) (id : ℕ) → ReadBack id_of name_of → id ≤ MAX_ID
       → IsField (named_text (name_of id) known.domain id)
   named_field id_of name_of id back small = go (name_of id) refl
     where
       go : (name : Option (List ℕ)) → name_of id ≡ name → IsField (named_text name known.domain id)
       go None e = All-weaker (λ byte. is_ascii_digit byte ≡ true) (λ byte. is_field_byte byte ≡ true) digit_in_field (decimal id) (decimal_bytes id small)
       go (Some name) e =
-          All-append (λ byte. is_field_byte byte ≡ true) name (64 ∷ known.domain)
+          All-append (λ byte. is_field_byte byte ≡ true) name (at_sign ∷ known.domain)
           (All-weaker (λ byte. continues_name byte ≡ true) (λ byte. is_field_byte byte ≡ true) name_byte_in_field name (name_bytes name (back id name e).0))
-          (All-cons (λ byte. is_field_byte byte ≡ true) 64 known.domain refl
+          (All-cons (λ byte. is_field_byte byte ≡ true) at_sign known.domain refl
           (All-weaker (λ byte. stands_in_domain byte ≡ true) (λ byte. is_field_byte byte ≡ true) domain_byte_in_field known.domain (domain_bytes known.domain apart.domain)))
 
   who_field : (who : Who) → HasId who → IsField (who_text known who)
@@ -181,7 +183,7 @@ module _ (known : Known) (apart : TellsNamesApart known) where
   same_domain : bytes_eq known.domain known.domain ≡ true
   same_domain = (bytes_eq-Decides known.domain known.domain).1 refl
 
-  named_again : (id_of : List ℕ → Option ℕ) (name_of : ℕ → Option (List ℕ)) (is_group : Bool) (tag : ℕ → Who) (id : ℕ) → ReadBack id_of name_of → id ≤ max_id
+  named_again : (id_of : List ℕ → Option ℕ) (name_of : ℕ → Option (List ℕ)) (is_group : Bool) (tag : ℕ → Who) (id : ℕ) → ReadBack id_of name_of → id ≤ MAX_ID
       → ((written : Written) → named known is_group written ≡ option_map tag (resolved id_of written))
       → ReadsAs (named_text (name_of id) known.domain id) is_group (tag id)
   named_again id_of name_of is_group tag id back small looks_up = go (name_of id) refl
@@ -193,7 +195,7 @@ module _ (known : Known) (apart : TellsNamesApart known) where
       go None e = record {
         written = form.Id (Number id);
         written_is = ap who_of_parts (parts_digits (decimal id) (decimal_bytes id small)) ∙ ap (option_map (λ written. form.Id written)) (written_decimal id small);
-        who_is = looks_up (Number id) ∙ ap (λ b. option_map tag (cond b (Some id) None)) (at_most id max_id small);
+        who_is = looks_up (Number id) ∙ ap (λ b. option_map tag (cond b (Some id) None)) (at_most id MAX_ID small);
       }
       go (Some name) e =
           let told = back id name e in
@@ -275,7 +277,7 @@ module _ (known : Known) (apart : TellsNamesApart known) where
   line_is : (ace : Nfsace4) → IsPrinted ace → IsLine ace
   line_is ace is =
       let rest = letters_text flag_table ace.flags ∷ who_text known ace.who ∷ letters_text mask_table ace.mask ∷ [] in (
-        omega (arith, length-append (type_text ace.kind) (58 ∷ join_with_byte 58 rest)),
+        omega (arith, length-append (type_text ace.kind) (colon ∷ join_with_byte colon rest)),
         joined_plain (type_text ace.kind) rest (fields_are ace is.has_id),
         nothing,
       )

@@ -7,9 +7,11 @@ use Rattle.std.specs.Str.Parse.{digits_value}
 use Rattle.std.proofs.lemmas.List.Splits.{join_with_byte-slice_split}
 use Rattle.std.proofs.lemmas.List.Sums.{AllPass-from_list_all}
 use Rattle.std.proofs.lemmas.Slice.Eq.{bytes_eq-Decides}
+use Rattle.acl_names.specs.declared.limits.TheConstants.{MAX_DIGITS, MAX_ID}
+use Rattle.acl_names.specs.Bytes.{at_sign}
 use Rattle.acl_names.specs.Bits.{has}
 use Rattle.acl_names.specs.Directory.{Known, uid_of, gid_of}
-use Rattle.acl_names.specs.Ids.{Written, Number, Name, written_id, number_or_name, decimal_value, is_decimal, has_name_shape, has_domain_shape, resolved, max_id}
+use Rattle.acl_names.specs.Ids.{Written, Number, Name, written_id, number_or_name, decimal_value, is_decimal, has_name_shape, has_domain_shape, resolved}
 use Rattle.acl_names.specs.Pieces.{parts}
 use Rattle.acl_names.proofs.IdTexts.{and_first, and_second, written_name}
 use Rattle.acl_names.proofs.StepLemmas.{some_from_cond, written_by}
@@ -89,41 +91,41 @@ id_says known false text written who w e =
 
 -- a name in the domain
 at_says : (known : Known) (is_group : Bool) (name : List ℕ) (who : Who) → has_name_shape name ≡ true → has_domain_shape known.domain ≡ true
-    → named known is_group (Name name) ≡ Some who → IsWho known is_group (name ++ 64 ∷ known.domain) who
+    → named known is_group (Name name) ≡ Some who → IsWho known is_group (name ++ at_sign ∷ known.domain) who
 at_says known true name who shaped domain_shaped e =
     let found = found_says (λ gid. one.NamedGroup gid) (gid_of known name) who e in
-    subst (IsWho known true (name ++ 64 ∷ known.domain)) found.2 (refl, inr (name, (shaped, inr (refl, domain_shaped)), found.1))
+    subst (IsWho known true (name ++ at_sign ∷ known.domain)) found.2 (refl, inr (name, (shaped, inr (refl, domain_shaped)), found.1))
 at_says known false name who shaped domain_shaped e =
     let found = found_says (λ uid. one.User uid) (uid_of known name) who e in
-    subst (IsWho known false (name ++ 64 ∷ known.domain)) found.2 (refl, inr (name, (shaped, inr (refl, domain_shaped)), found.1))
+    subst (IsWho known false (name ++ at_sign ∷ known.domain)) found.2 (refl, inr (name, (shaped, inr (refl, domain_shaped)), found.1))
 
 -- ---- the who
 
 -- a special identifier
 special_says : (known : Known) (is_group : Bool) (word : List ℕ) (written : WrittenWho) (who : Who)
-    → special_of word ≡ Some written → resolved_who known is_group written ≡ Some who → IsWho known is_group (word ++ 64 ∷ []) who
+    → special_of word ≡ Some written → resolved_who known is_group written ≡ Some who → IsWho known is_group (word ++ at_sign ∷ []) who
 special_says known is_group word written who e r =
     go (bytes_eq word (codes "OWNER")) refl (bytes_eq word (codes "GROUP")) refl (bytes_eq word (codes "EVERYONE")) refl e
   where
-    behind : (special : List ℕ) → bytes_eq word special ≡ true → word ++ 64 ∷ [] ≡ special ++ 64 ∷ []
-    behind special e = ap (λ (xs : List ℕ). xs ++ 64 ∷ []) (same_bytes word special e)
+    behind : (special : List ℕ) → bytes_eq word special ≡ true → word ++ at_sign ∷ [] ≡ special ++ at_sign ∷ []
+    behind special e = ap (λ (xs : List ℕ). xs ++ at_sign ∷ []) (same_bytes word special e)
 
     resolves : (w : WrittenWho) → w ≡ written → resolved_who known is_group w ≡ Some who
     resolves w same = ap (resolved_who known is_group) same ∙ r
 
-    is_owner : resolved_who known is_group form.Owner ≡ Some who → word ++ 64 ∷ [] ≡ codes "OWNER@" → IsWho known is_group (word ++ 64 ∷ []) who
-    is_owner f same = of_same (IsWho known is_group (word ++ 64 ∷ [])) one.Owner who (cc) same
+    is_owner : resolved_who known is_group form.Owner ≡ Some who → word ++ at_sign ∷ [] ≡ codes "OWNER@" → IsWho known is_group (word ++ at_sign ∷ []) who
+    is_owner f same = of_same (IsWho known is_group (word ++ at_sign ∷ [])) one.Owner who (cc) same
 
-    is_group_class : resolved_who known is_group form.Group ≡ Some who → word ++ 64 ∷ [] ≡ codes "GROUP@" → IsWho known is_group (word ++ 64 ∷ []) who
-    is_group_class f same = of_same (IsWho known is_group (word ++ 64 ∷ [])) one.Group who (cc) same
+    is_group_class : resolved_who known is_group form.Group ≡ Some who → word ++ at_sign ∷ [] ≡ codes "GROUP@" → IsWho known is_group (word ++ at_sign ∷ []) who
+    is_group_class f same = of_same (IsWho known is_group (word ++ at_sign ∷ [])) one.Group who (cc) same
 
-    is_everyone : resolved_who known is_group form.Everyone ≡ Some who → word ++ 64 ∷ [] ≡ codes "EVERYONE@" → IsWho known is_group (word ++ 64 ∷ []) who
-    is_everyone f same = of_same (IsWho known is_group (word ++ 64 ∷ [])) one.Everyone who (cc) same
+    is_everyone : resolved_who known is_group form.Everyone ≡ Some who → word ++ at_sign ∷ [] ≡ codes "EVERYONE@" → IsWho known is_group (word ++ at_sign ∷ []) who
+    is_everyone f same = of_same (IsWho known is_group (word ++ at_sign ∷ [])) one.Everyone who (cc) same
 
     go : (o : Bool) → bytes_eq word (codes "OWNER") ≡ o → (g : Bool) → bytes_eq word (codes "GROUP") ≡ g
         → (v : Bool) → bytes_eq word (codes "EVERYONE") ≡ v
         → cond o (Some form.Owner) (cond g (Some form.Group) (cond v (Some form.Everyone) None)) ≡ Some written
-        → IsWho known is_group (word ++ 64 ∷ []) who
+        → IsWho known is_group (word ++ at_sign ∷ []) who
     go true eo g eg v ev e = is_owner (resolves form.Owner (cc)) (behind (codes "OWNER") eo)
     go false eo true eg v ev e = is_group_class (resolves form.Group (cc)) (behind (codes "GROUP") eg)
     go false eo false eg true ev e = is_everyone (resolves form.Everyone (cc)) (behind (codes "EVERYONE") ev)
@@ -132,7 +134,7 @@ special_says known is_group word written who e r =
 -- a name in a domain, which is the directory's where it is resolved
 name_at_says : (known : Known) (is_group : Bool) (name domain : List ℕ) (written : WrittenWho) (who : Who)
     → name_at (written_id name) domain ≡ Some written → resolved_who known is_group written ≡ Some who
-    → IsWho known is_group (name ++ 64 ∷ domain) who
+    → IsWho known is_group (name ++ at_sign ∷ domain) who
 name_at_says known is_group name domain written who e r = go (written_id name) refl e
   where
     resolves : (n : List ℕ) → form.At n domain ≡ written → cond (bytes_eq domain known.domain) (named known is_group (Name n)) None ≡ Some who
@@ -143,20 +145,20 @@ name_at_says known is_group name domain written who e r = go (written_id name) r
     in_domain n true same f = (same_bytes domain known.domain same, f)
     in_domain n false same f = absurd (cc)
 
-    go : (w : Option Written) → written_id name ≡ w → name_at w domain ≡ Some written → IsWho known is_group (name ++ 64 ∷ domain) who
+    go : (w : Option Written) → written_id name ≡ w → name_at w domain ≡ Some written → IsWho known is_group (name ++ at_sign ∷ domain) who
     go None is e = absurd (cc)
     go (Some (Number n)) is e = absurd (cc)
     go (Some (Name n)) is e =
         let choice = some_from_cond (has_domain_shape domain) (form.At n domain) written e in
         let writes = name_says name n is in
         let inside = in_domain n (bytes_eq domain known.domain) refl (resolves n choice.1) in
-        subst (λ (d : List ℕ). IsWho known is_group (name ++ 64 ∷ d) who) (sym inside.0)
+        subst (λ (d : List ℕ). IsWho known is_group (name ++ at_sign ∷ d) who) (sym inside.0)
         (at_says known is_group name who writes.0 (ap has_domain_shape (sym inside.0) ∙ choice.0)
         (ap (λ (m : List ℕ). named known is_group (Name m)) writes.1 ∙ inside.1))
 
 -- by the parts round each '@'
 parts_say : (known : Known) (is_group : Bool) (written : WrittenWho) (who : Who) → resolved_who known is_group written ≡ Some who
-    → (texts : List (List ℕ)) → who_of_parts texts ≡ Some written → IsWho known is_group (join_with_byte 64 texts) who
+    → (texts : List (List ℕ)) → who_of_parts texts ≡ Some written → IsWho known is_group (join_with_byte at_sign texts) who
 parts_say known is_group written who r [] e = absurd (cc)
 parts_say known is_group written who r (id ∷ []) e = go (written_id id) refl e
   where
@@ -173,8 +175,8 @@ parts_say known is_group written who r (name ∷ (byte ∷ bytes) ∷ more ∷ r
 who_says : (known : Known) (is_group : Bool) (text : List ℕ) (written : WrittenWho) (who : Who)
     → written_who text ≡ Some written → resolved_who known is_group written ≡ Some who → IsWho known is_group text who
 who_says known is_group text written who e r =
-    subst (λ (t : List ℕ). IsWho known is_group t who) (join_with_byte-slice_split 64 text)
-    (parts_say known is_group written who r (parts 64 text) e)
+    subst (λ (t : List ℕ). IsWho known is_group t who) (join_with_byte-slice_split at_sign text)
+    (parts_say known is_group written who r (parts at_sign text) e)
 
 -- a who that is written so is read so
 record IsRead (known : Known) (is_group : Bool) (text : List ℕ) (who : Who) : Type 0 where
@@ -187,13 +189,13 @@ id_read : (known : Known) (is_group : Bool) (id_of : List ℕ → Option ℕ) (t
     → WritesId known id_of text id → IsRead known is_group text (tag id)
 id_read known is_group id_of tag text id looks_up (inl d) =
     let number = some_from_cond (is_decimal text) (digits_value 10 text) id d in
-    let low : nat_le id max_id ≡ true =
-    ap (λ (n : ℕ). nat_le n max_id) (sym number.1)
-    ∙ and_second (list_all is_ascii_digit text && nat_le 1 (length text) && nat_le (length text) 10) (nat_le (digits_value 10 text) max_id) number.0 in
+    let low : nat_le id MAX_ID ≡ true =
+    ap (λ (n : ℕ). nat_le n MAX_ID) (sym number.1)
+    ∙ and_second (list_all is_ascii_digit text && nat_le 1 (length text) && nat_le (length text) MAX_DIGITS) (nat_le (digits_value 10 text) MAX_ID) number.0 in
     let digits : list_all is_ascii_digit text ≡ true =
     and_first (list_all is_ascii_digit text) (nat_le 1 (length text))
-    (and_first (list_all is_ascii_digit text && nat_le 1 (length text)) (nat_le (length text) 10)
-    (and_first (list_all is_ascii_digit text && nat_le 1 (length text) && nat_le (length text) 10) (nat_le (digits_value 10 text) max_id) number.0)) in
+    (and_first (list_all is_ascii_digit text && nat_le 1 (length text)) (nat_le (length text) MAX_DIGITS)
+    (and_first (list_all is_ascii_digit text && nat_le 1 (length text) && nat_le (length text) MAX_DIGITS) (nat_le (digits_value 10 text) MAX_ID) number.0)) in
     record {
       written = form.Id (Number id);
       written_is = ap who_of_parts (parts_digits text (AllPass-from_list_all is_ascii_digit text digits))
@@ -202,13 +204,13 @@ id_read known is_group id_of tag text id looks_up (inl d) =
     }
 id_read known is_group id_of tag text id looks_up (inr (name, (shaped, inl alone), found)) = record {
   written = form.Id (Name name);
-  written_is = ap (λ (t : List ℕ). who_of_parts (parts 64 t)) alone ∙ ap who_of_parts (parts_name name shaped)
+  written_is = ap (λ (t : List ℕ). who_of_parts (parts at_sign t)) alone ∙ ap who_of_parts (parts_name name shaped)
       ∙ ap (option_map (λ written. form.Id written)) (written_name name shaped);
   who_is = looks_up (Name name) ∙ ap (option_map tag) found;
 }
 id_read known is_group id_of tag text id looks_up (inr (name, (shaped, inr (joined, domain_shaped)), found)) = record {
   written = form.At name known.domain;
-  written_is = ap (λ (t : List ℕ). who_of_parts (parts 64 t)) joined ∙ ap who_of_parts (parts_at name known.domain shaped domain_shaped)
+  written_is = ap (λ (t : List ℕ). who_of_parts (parts at_sign t)) joined ∙ ap who_of_parts (parts_at name known.domain shaped domain_shaped)
       ∙ at_again name known.domain shaped domain_shaped;
   who_is = ap (λ b. cond b (named known is_group (Name name)) None) ((bytes_eq-Decides known.domain known.domain).1 refl)
       ∙ looks_up (Name name) ∙ ap (option_map tag) found;

@@ -1,5 +1,6 @@
 -- The shapes of entries, field by field.
 use Rattle.std.specs.Prelude.{◌≡◌, ◌⊎◌, ℕ, Bool, true, false, List, ◌∷◌, ◌++◌, Option, Some, codes}
+use Rattle.acl_names.specs.Bytes.{at_sign}
 use Rattle.acl_names.specs.Bits.{has}
 use Rattle.acl_names.specs.Directory.{Known, uid_of, gid_of}
 use Rattle.acl_names.specs.Ids.{decimal_value, has_domain_shape, has_name_shape}
@@ -23,7 +24,7 @@ IsTypeLetter text Alarm = text ≡ codes "L"
 -- a name, alone or in the directory's domain
 abbrev pub WritesName : Known → List ℕ → List ℕ → Type 0
 WritesName known text name =
-    (has_name_shape name ≡ true) × ((text ≡ name) ⊎ ((text ≡ name ++ 64 ∷ known.domain) × (has_domain_shape known.domain ≡ true)))
+    (has_name_shape name ≡ true) × ((text ≡ name) ⊎ ((text ≡ name ++ at_sign ∷ known.domain) × (has_domain_shape known.domain ≡ true)))
 
 -- a decimal of this id, or the name of the one who has it
 abbrev pub WritesId : Known → (List ℕ → Option ℕ) → List ℕ → ℕ → Type 0

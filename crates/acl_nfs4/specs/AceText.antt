@@ -1,6 +1,7 @@
 -- How entries are written: `type:flags:who:letters`.
 use Rattle.std.specs.Prelude.{ℕ, List, [], ◌∷◌, Bool, true, false, Option, Some, None, Result, Ok, Err, codes, option_map, if◌then◌else◌}
 use Rattle.std.specs.Str.{bytes_eq}
+use Rattle.acl_names.specs.Bytes.{colon, at_sign}
 use Rattle.acl_names.specs.Bits.{has}
 use Rattle.acl_names.specs.Directory.{Known, uid_of, gid_of}
 use Rattle.acl_names.specs.Ids.{Written, Name, written_id, resolved, has_domain_shape}
@@ -30,7 +31,7 @@ as_fields _ = None
 
 -- four, which colons separate, each trimmed
 abbrev pub fields_of : List ℕ → Option AceFields
-fields_of piece = as_fields (trimmed_parts 58 piece)
+fields_of piece = as_fields (trimmed_parts colon piece)
 
 abbrev pub type_of : List ℕ → Option AceType
 type_of text =
@@ -67,7 +68,7 @@ who_of_parts (name ∷ (byte ∷ bytes) ∷ []) = name_at (written_id name) (byt
 who_of_parts _ = None
 
 abbrev pub written_who : List ℕ → Option WrittenWho
-written_who text = who_of_parts (parts 64 text)
+written_who text = who_of_parts (parts at_sign text)
 
 -- the user or, where the flag g stands, the group that has what is written
 abbrev pub named : Known → Bool → Written → Option Who

@@ -1,5 +1,6 @@
 -- Private steps, which no public clause cites: the fields of an entry with which a text begins.
 use Rattle.std.specs.Prelude.{◌≡◌, List, ℕ, ◌∷◌, ◌++◌}
+use Rattle.acl_names.specs.Bytes.{colon}
 use Rattle.acl_names.specs.Plain.{IsField}
 use Rattle.acl_nfs4.specs.AceText.{AceFields}
 
@@ -9,4 +10,4 @@ pub record BeginsWithFields (text : List ℕ) (fields : AceFields) (rest : List 
   pub flags : IsField fields.flags
   pub who : IsField fields.who
   pub letters : IsField fields.letters
-  pub cut : text ≡ fields.kind ++ 58 ∷ (fields.flags ++ 58 ∷ (fields.who ++ 58 ∷ (fields.letters ++ rest)))
+  pub cut : text ≡ fields.kind ++ colon ∷ (fields.flags ++ colon ∷ (fields.who ++ colon ∷ (fields.letters ++ rest)))

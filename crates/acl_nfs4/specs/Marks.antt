@@ -3,10 +3,11 @@ use Rattle.std.specs.Prelude.{◌≡◌, ℕ, ◌%◌, Bool, true, false, List, 
 use Rattle.std.specs.List.{list_any}
 use Rattle.acl_nfs4.specs.Ace.{Nfsace4}
 use Rattle.acl_nfs4.specs.Who.{id_of}
+use Rattle.acl_nfs4.specs.declared.marks.TheConstants.{MARKS}
 use Rattle.acl_nfs4.specs.declared.who.Who.{Who}
 
 abbrev pub mark_of : Who → ℕ
-mark_of who = id_of who % 64
+mark_of who = id_of who % MARKS
 
 -- where a who has no mark, no entry passes the test of this who
 abbrev pub IsMarked : (Who → Nfsace4 → Bool) → List Bool → List Nfsace4 → Type 0

@@ -1,6 +1,7 @@
 -- How lists of entries are printed.
 use Rattle.std.specs.Prelude.{ℕ, List, [], ◌∷◌, ◌++◌, Option, Some, None, codes, decimal}
 use Rattle.std.specs.List.{All, flat_map, join_with_byte}
+use Rattle.acl_names.specs.Bytes.{newline, colon, at_sign}
 use Rattle.acl_names.specs.Directory.{Known, user_name, group_name}
 use Rattle.acl_names.specs.Letters.{letters_text}
 use Rattle.acl_nfs4.specs.Ace.{Nfsace4}
@@ -19,7 +20,7 @@ type_text Alarm = codes "L"
 
 -- `name@domain` where there is a name, else the decimal
 abbrev pub named_text : Option (List ℕ) → List ℕ → ℕ → List ℕ
-named_text (Some name) domain id = name ++ 64 ∷ domain
+named_text (Some name) domain id = name ++ at_sign ∷ domain
 named_text None domain id = decimal id
 
 abbrev pub who_text : Known → Who → List ℕ
@@ -31,16 +32,16 @@ who_text known (NamedGroup gid) = named_text (group_name known gid) known.domain
 
 -- `type:flags:`
 abbrev pub front_text : Nfsace4 → List ℕ
-front_text ace = type_text ace.kind ++ 58 ∷ (letters_text flag_table ace.flags ++ 58 ∷ [])
+front_text ace = type_text ace.kind ++ colon ∷ (letters_text flag_table ace.flags ++ colon ∷ [])
 
 -- `type:flags:who:letters`
 abbrev pub ace_text : Known → Nfsace4 → List ℕ
 ace_text known ace =
-    join_with_byte 58 (type_text ace.kind ∷ letters_text flag_table ace.flags ∷ who_text known ace.who ∷ letters_text mask_table ace.mask ∷ [])
+    join_with_byte colon (type_text ace.kind ∷ letters_text flag_table ace.flags ∷ who_text known ace.who ∷ letters_text mask_table ace.mask ∷ [])
 
 -- one entry per line
 abbrev pub line_text : Known → Nfsace4 → List ℕ
-line_text known ace = ace_text known ace ++ 10 ∷ []
+line_text known ace = ace_text known ace ++ newline ∷ []
 
 abbrev pub aces_text : Known → List Nfsace4 → List ℕ
 aces_text known = flat_map (line_text known)

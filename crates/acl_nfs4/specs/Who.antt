@@ -1,6 +1,6 @@
 -- Whom an entry is about (RFC 8881, section 6.2.1.5).
 use Rattle.std.specs.Prelude.{ℕ, ◌^◌, ◌≤◌, Bool, true, false, ◌==◌}
-use Rattle.acl_names.specs.Ids.{max_id}
+use Rattle.acl_names.specs.declared.limits.TheConstants.{MAX_ID}
 use Rattle.acl_names.specs.Requester.{Identity, is_in_group}
 use Rattle.acl_nfs4.specs.Flags.{identifier_group}
 use Rattle.acl_nfs4.specs.declared.who.Who.{Who}
@@ -45,4 +45,4 @@ id_of _ = 0
 
 -- the id that it names is one
 abbrev pub HasId : Who → Type 0
-HasId who = id_of who ≤ max_id
+HasId who = id_of who ≤ MAX_ID

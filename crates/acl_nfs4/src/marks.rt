@@ -19,5 +19,5 @@ pub(crate) fn mark_of(who: &Who) -> usize
         Who::User(uid) => uid.value(),
         Who::NamedGroup(gid) => gid.value(),
     };
-    (id % 64) as usize
+    id as usize % MARKS
 }

@@ -4,6 +4,7 @@ use Rattle.std.specs.List.{AllByRecursion, join_with_byte}
 use Rattle.std.specs.Str.{bytes_eq}
 use Rattle.std.proofs.lemmas.List.{take-append-drop}
 use Rattle.std.proofs.lemmas.Slice.Eq.{bytes_eq-Decides}
+use Rattle.acl_names.specs.Bytes.{colon}
 use Rattle.acl_names.specs.Directory.{Known, uid_of, gid_of}
 use Rattle.acl_names.specs.Ids.{has_name_shape, written_id, resolved}
 use Rattle.acl_names.specs.Plain.{IsField, IsFront}
@@ -27,7 +28,7 @@ begins_with front text rest same is =
     ∙ ap (λ t. front ++ t) (sym is)
 
 -- a name says the tag of the user, or of the group, that has it
-pub user_front : (known : Known) (text name : List ℕ) (uid : ℕ) (rest : List ℕ) → text ≡ name ++ 58 ∷ rest → has_name_shape name ≡ true
+pub user_front : (known : Known) (text name : List ℕ) (uid : ℕ) (rest : List ℕ) → text ≡ name ++ colon ∷ rest → has_name_shape name ≡ true
     → Some uid ≡ uid_of known name → BeginsWithTag known text word.User (User uid) rest
 user_front known text name uid rest cut shaped found =
     let field = name_field name shaped in
@@ -39,7 +40,7 @@ user_front known text name uid rest cut shaped found =
           (ap (option_and_then (resolved (uid_of known))) (written_name name shaped) ∙ sym found);
     }
 
-pub group_front : (known : Known) (text name : List ℕ) (gid : ℕ) (rest : List ℕ) → text ≡ name ++ 58 ∷ rest → has_name_shape name ≡ true
+pub group_front : (known : Known) (text name : List ℕ) (gid : ℕ) (rest : List ℕ) → text ≡ name ++ colon ∷ rest → has_name_shape name ≡ true
     → Some gid ≡ gid_of known name → BeginsWithTag known text word.Group (Group gid) rest
 group_front known text name gid rest cut shaped found =
     let field = name_field name shaped in
@@ -59,14 +60,14 @@ front_is known text behind_word behind_tag rest word tag perms w t p =
     let more = t.qualifier ∷ three ∷ [] in
     let are : AllByRecursion IsField (w.written ∷ more) = (w.field, (t.field, (tested_field three (three_pass p.read p.write p.execute), tt))) in
     let fields : Fields = record { tag = w.written; qualifier = Some t.qualifier; perms = three } in
-    let piece = join_with_byte 58 (w.written ∷ more) in
+    let piece = join_with_byte colon (w.written ∷ more) in
     let cut : fields_of piece ≡ Some fields = ap as_fields (fields_again w.written more are) in
     let allowed : perms_of_text three ≡ Some perms = three_letters-read p.read p.write p.execute ∙ ap Some (sym p.says) in
     record {
       piece = piece;
-      cut = w.cut ∙ ap (λ x. w.written ++ 58 ∷ x) (t.cut ∙ ap (λ x. t.qualifier ++ 58 ∷ x) p.cut)
-          ∙ sym (append_assoc w.written (58 ∷ (t.qualifier ++ 58 ∷ three)) rest ∙ ap (λ x. w.written ++ 58 ∷ x) (append_assoc t.qualifier (58 ∷ three) rest));
-      some = omega (arith, length-append w.written (58 ∷ join_with_byte 58 more));
+      cut = w.cut ∙ ap (λ x. w.written ++ colon ∷ x) (t.cut ∙ ap (λ x. t.qualifier ++ colon ∷ x) p.cut)
+          ∙ sym (append_assoc w.written (colon ∷ (t.qualifier ++ colon ∷ three)) rest ∙ ap (λ x. w.written ++ colon ∷ x) (append_assoc t.qualifier (colon ∷ three) rest));
+      some = omega (arith, length-append w.written (colon ∷ join_with_byte colon more));
       plain = joined_plain w.written more are;
       said = read_parts known piece fields word perms tag cut w.says allowed t.says;
     }

@@ -1,8 +1,9 @@
 -- Which fault a piece has that is no entry.
 use Rattle.std.proofs.Common.{◌≡◌, ◌≢◌, ◌↔◌, ℕ, true, cond, nat_le, List, [], ◌∷◌, Option, Some, None, Result, Ok, Err, codes, refl, sym, ap, subst, ◌∙◌}
 use Rattle.std.proofs.lemmas.Slice.Eq.{bytes_eq-Decides}
+use Rattle.acl_names.specs.declared.limits.TheConstants.{MAX_ID}
 use Rattle.acl_names.specs.Directory.{Known, uid_of, gid_of, fault_of}
-use Rattle.acl_names.specs.Ids.{Written, Number, Name, written_id, number_or_name, decimal_value, has_name_shape, has_domain_shape, resolved, max_id}
+use Rattle.acl_names.specs.Ids.{Written, Number, Name, written_id, number_or_name, decimal_value, has_name_shape, has_domain_shape, resolved}
 use Rattle.acl_names.specs.Steps.{◌>>=◌, or_fault}
 use Rattle.acl_names.proofs.StepLemmas.{given, some_from_cond}
 use Rattle.acl_posix.specs.Entry.{Triple}
@@ -95,8 +96,8 @@ unfound_name id_of text w e lost = go (decimal_value text) refl e
     go : (number : Option ℕ) → decimal_value text ≡ number → number_or_name number text ≡ Some w → (has_name_shape text ≡ true) × (w ≡ Name text)
     go (Some n) is e =
         let number : Number n ≡ w = cc in
-        let none : cond (nat_le n max_id) (Some n) None ≡ None = ap (resolved id_of) number ∙ lost in
-        let some : cond (nat_le n max_id) (Some n) None ≡ Some n = ap (λ b. cond b (Some n) None) (decimal_within text n is) in
+        let none : cond (nat_le n MAX_ID) (Some n) None ≡ None = ap (resolved id_of) number ∙ lost in
+        let some : cond (nat_le n MAX_ID) (Some n) None ≡ Some n = ap (λ b. cond b (Some n) None) (decimal_within text n is) in
         cc
     go None is e = let choice = some_from_cond (has_name_shape text) (Name text) w e in (choice.0, sym choice.1)
 

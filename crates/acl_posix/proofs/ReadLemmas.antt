@@ -1,6 +1,7 @@
 -- What is read has known permissions.
 use Rattle.std.proofs.Common.{◌≡◌, ℕ, Bool, true, false, List, [], ◌∷◌, map, Some, Result, Ok, None, refl, subst, lit<, cond}
 use Rattle.std.proofs.lemmas.List.Elements.{All-nil, All-cons}
+use Rattle.acl_names.specs.Bytes.{letter_r, letter_w, letter_x}
 use Rattle.acl_names.specs.Directory.{Known}
 use Rattle.acl_names.specs.Letters.{occurs}
 use Rattle.acl_names.specs.ListText.{Say}
@@ -37,10 +38,10 @@ pub perms_of_text-IsPermissions : (text : List ℕ) (perms : ℕ) → perms_of_t
 unfolding perms_of_text
 perms_of_text-IsPermissions text perms is = go (is_perms_text text) is
   where
-    go : (b : Bool) → cond b (Some (perms_with (occurs 114 text) (occurs 119 text) (occurs 120 text))) None ≡ Some perms → IsPermissions perms
+    go : (b : Bool) → cond b (Some (perms_with (occurs letter_r text) (occurs letter_w text) (occurs letter_x text))) None ≡ Some perms → IsPermissions perms
     go true same =
-        let these : perms_with (occurs 114 text) (occurs 119 text) (occurs 120 text) ≡ perms = cc in
-        subst IsPermissions these (perms_with-IsPermissions (occurs 114 text) (occurs 119 text) (occurs 120 text))
+        let these : perms_with (occurs letter_r text) (occurs letter_w text) (occurs letter_x text) ≡ perms = cc in
+        subst IsPermissions these (perms_with-IsPermissions (occurs letter_r text) (occurs letter_w text) (occurs letter_x text))
     go false none = absurd (cc)
 
 abbrev ok : Triple → Result Triple PieceFault

@@ -3,7 +3,9 @@ use Rattle.std.proofs.Common.{◌≡◌, ℕ, ◌≤◌, ◌<◌, Bool, true, fa
 use Rattle.std.specs.List.{All, AllByRecursion, join_with_byte, list_all}
 use Rattle.std.proofs.lemmas.List.Elements.{All-nil, All-head, All-tail, All-weaker}
 use Rattle.std.proofs.lemmas.List.Sums.{AllPass-from_list_all}
-use Rattle.acl_names.specs.Ids.{ReadBack, Written, written_id, max_id, id_text, resolved}
+use Rattle.acl_names.specs.declared.limits.TheConstants.{MAX_ID}
+use Rattle.acl_names.specs.Bytes.{tab, colon}
+use Rattle.acl_names.specs.Ids.{ReadBack, Written, written_id, id_text, resolved}
 use Rattle.acl_names.specs.Directory.{Known, TellsNamesApart, uid_of, gid_of, user_name, group_name}
 use Rattle.acl_names.specs.Pieces.{pieces}
 use Rattle.acl_names.specs.ListText.{Say, Spells}
@@ -97,7 +99,7 @@ pub qualified_by : (tag : ℕ → Tag) (id_of : List ℕ → Option ℕ) (id : �
 qualified_by tag id_of id None e = cc
 qualified_by tag id_of id (Some w) e = ap (λ found. or_fault UnknownName found >>= (λ n. Ok (tag n))) e
 
-qualified_again : (tag : ℕ → Tag) (id_of : List ℕ → Option ℕ) (name_of : ℕ → Option (List ℕ)) (id : ℕ) → ReadBack id_of name_of → id ≤ max_id
+qualified_again : (tag : ℕ → Tag) (id_of : List ℕ → Option ℕ) (name_of : ℕ → Option (List ℕ)) (id : ℕ) → ReadBack id_of name_of → id ≤ MAX_ID
     → qualified tag id_of (id_text name_of id) ≡ Ok (tag id)
 qualified_again tag id_of name_of id back small = qualified_by tag id_of id (written_id (id_text name_of id)) (id_again id_of name_of id back small)
 
@@ -146,7 +148,7 @@ marked_three_pass false false true = refl
 marked_three_pass false false false = refl
 
 -- a mark is a comment
-mark_if : (limits : Bool) (left : ℕ) → IsMark (if limits then 9 ∷ codes "#effective:" ++ perms_text left else [])
+mark_if : (limits : Bool) (left : ℕ) → IsMark (if limits then tab ∷ codes "#effective:" ++ perms_text left else [])
 mark_if false left = nothing
 mark_if true left =
     let text = codes "effective:" ++ perms_text left in
@@ -163,7 +165,7 @@ IsLine known mask entry = (0 < length (entry_text known entry)) × IsPlain (entr
 line_is : (known : Known) (mask : Option ℕ) (entry : Triple) → TellsNamesApart known → HasId entry.tag → IsLine known mask entry
 line_is known mask entry is has =
     let rest = qualifier_text known entry.tag ∷ perms_text entry.perms ∷ [] in (
-      omega (arith, length-append (word_text entry.tag) (58 ∷ join_with_byte 58 rest)),
+      omega (arith, length-append (word_text entry.tag) (colon ∷ join_with_byte colon rest)),
       joined_plain (word_text entry.tag) rest (fields_are known entry is has),
       mark_is mask entry,
     )

@@ -5,8 +5,9 @@ use Rattle.std.specs.List.{list_all}
 use Rattle.std.specs.Str.{bytes_eq}
 use Rattle.std.specs.Str.Parse.{digits_value}
 use Rattle.std.proofs.lemmas.Slice.Eq.{bytes_eq-Decides}
+use Rattle.acl_names.specs.declared.limits.TheConstants.{MAX_DIGITS, MAX_ID}
 use Rattle.acl_names.specs.Directory.{Known, uid_of, gid_of}
-use Rattle.acl_names.specs.Ids.{is_decimal, written_id, number_or_name, decimal_value, has_name_shape, max_id, resolved}
+use Rattle.acl_names.specs.Ids.{is_decimal, written_id, number_or_name, decimal_value, has_name_shape, resolved}
 use Rattle.acl_names.proofs.IdTexts.{and_second, written_name}
 use Rattle.acl_names.proofs.StepLemmas.{bind_ok, given, some_from_cond, written_by}
 use Rattle.acl_posix.proofs.RoundTrip.{qualified_by, user_tag, group_tag, read_parts}
@@ -124,11 +125,11 @@ word_read text word.Mask is = elim is [ inl e ↦ ap tag_word e | inr e ↦ ap t
 word_read text word.Other is = elim is [ inl e ↦ ap tag_word e | inr e ↦ ap tag_word e ]
 
 -- a decimal is within the range of ids
-pub decimal_within : (text : List ℕ) (id : ℕ) → decimal_value text ≡ Some id → nat_le id max_id ≡ true
+pub decimal_within : (text : List ℕ) (id : ℕ) → decimal_value text ≡ Some id → nat_le id MAX_ID ≡ true
 decimal_within text id e =
     let read = some_from_cond (is_decimal text) (digits_value 10 text) id e in
-    let few = list_all is_ascii_digit text && nat_le 1 (length text) && nat_le (length text) 10 in
-    ap (λ n. nat_le n max_id) (sym read.1) ∙ and_second few (nat_le (digits_value 10 text) max_id) read.0
+    let few = list_all is_ascii_digit text && nat_le 1 (length text) && nat_le (length text) MAX_DIGITS in
+    ap (λ n. nat_le n MAX_ID) (sym read.1) ∙ and_second few (nat_le (digits_value 10 text) MAX_ID) read.0
 
 id_read : (id_of : List ℕ → Option ℕ) (text : List ℕ) (id : ℕ) → WritesId id_of text id → option_and_then (resolved id_of) (written_id text) ≡ Some id
 id_read id_of text id (inl e) =

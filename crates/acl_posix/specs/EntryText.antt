@@ -1,6 +1,7 @@
 -- How entries of POSIX ACLs are written: the long text form of 1003.1e draft 17, section 23.
 use Rattle.std.specs.Prelude.{ℕ, List, [], ◌∷◌, Bool, ◌||◌, Option, Some, None, Result, Ok, Err, codes, if◌then◌else◌}
 use Rattle.std.specs.Str.{bytes_eq}
+use Rattle.acl_names.specs.Bytes.{colon}
 use Rattle.acl_names.specs.Directory.{Known, uid_of, gid_of}
 use Rattle.acl_names.specs.Ids.{written_id, resolved}
 use Rattle.acl_names.specs.Pieces.{trimmed_parts}
@@ -27,7 +28,7 @@ as_fields _ = None
 
 -- fields are separated by ':', each trimmed
 abbrev pub fields_of : List ℕ → Option Fields
-fields_of piece = as_fields (trimmed_parts 58 piece)
+fields_of piece = as_fields (trimmed_parts colon piece)
 
 -- the text is this word, or its first letter
 abbrev pub is_word : List ℕ → List ℕ → List ℕ → Bool

@@ -1,5 +1,6 @@
 -- Private steps, which no public clause cites: an entry with which a text begins, its word, its qualifier and its permissions.
 use Rattle.std.specs.Prelude.{◌≡◌, ℕ, Bool, List, ◌∷◌, ◌++◌, Some, Ok}
+use Rattle.acl_names.specs.Bytes.{colon}
 use Rattle.acl_names.specs.Directory.{Known}
 use Rattle.acl_names.specs.Plain.{IsField}
 use Rattle.acl_posix.specs.EntryText.{tag_of, tag_word}
@@ -10,14 +11,14 @@ use Rattle.acl_posix.specs.declared.reading.TagWord.{TagWord}
 -- the text begins with a word for the kind of tag and a colon
 pub record BeginsWithWord (text : List ℕ) (word : TagWord) (rest : List ℕ) : Type 0 where
   pub written : List ℕ
-  pub cut : text ≡ written ++ 58 ∷ rest
+  pub cut : text ≡ written ++ colon ∷ rest
   pub field : IsField written
   pub says : tag_word written ≡ Some word
 
 -- the text behind the word begins with a qualifier and a colon, and they say the tag
 pub record BeginsWithTag (known : Known) (text : List ℕ) (word : TagWord) (tag : Tag) (rest : List ℕ) : Type 0 where
   pub qualifier : List ℕ
-  pub cut : text ≡ qualifier ++ 58 ∷ rest
+  pub cut : text ≡ qualifier ++ colon ∷ rest
   pub field : IsField qualifier
   pub says : tag_of known word (Some qualifier) ≡ Ok tag
 

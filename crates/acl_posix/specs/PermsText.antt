@@ -1,17 +1,18 @@
 -- How permissions are written.
 use Rattle.std.specs.Prelude.{ℕ, Bool, ◌&&◌, ◌||◌, ◌==◌, not, nat_le, List, [], ◌∷◌, length, Option, Some, None, if◌then◌else◌}
 use Rattle.std.specs.List.{list_all}
+use Rattle.acl_names.specs.Bytes.{hyphen, letter_r, letter_w, letter_x}
 use Rattle.acl_names.specs.Bits.{◌∪◌, has_all}
 use Rattle.acl_names.specs.Letters.{occurs, repeats}
 
 -- r, w, x or -
 abbrev pub is_perms_byte : ℕ → Bool
-is_perms_byte byte = (byte == 114) || (byte == 119) || (byte == 120) || (byte == 45)
+is_perms_byte byte = (byte == letter_r) || (byte == letter_w) || (byte == letter_x) || (byte == hyphen)
 
 -- 1 to 3 characters out of r, w, x and -, no letter twice; - may repeat
 abbrev pub is_perms_text : List ℕ → Bool
 is_perms_text text = nat_le 1 (length text) && nat_le (length text) 3 && list_all is_perms_byte text
-    && not (repeats 114 text) && not (repeats 119 text) && not (repeats 120 text)
+    && not (repeats letter_r text) && not (repeats letter_w text) && not (repeats letter_x text)
 
 -- the permissions to read, to write and to execute, of which there are these
 abbrev pub perms_with : Bool → Bool → Bool → ℕ
@@ -19,11 +20,11 @@ perms_with read write execute = (if read then 4 else 0) ∪ (if write then 2 els
 
 -- the permissions whose letters stand in the text
 unfoldable pub perms_of_text : List ℕ → Option ℕ
-perms_of_text text = if is_perms_text text then Some (perms_with (occurs 114 text) (occurs 119 text) (occurs 120 text)) else None
+perms_of_text text = if is_perms_text text then Some (perms_with (occurs letter_r text) (occurs letter_w text) (occurs letter_x text)) else None
 
 -- three characters: r or -, w or -, x or -
 abbrev pub three_letters : Bool → Bool → Bool → List ℕ
-three_letters read write execute = (if read then 114 else 45) ∷ (if write then 119 else 45) ∷ (if execute then 120 else 45) ∷ []
+three_letters read write execute = (if read then letter_r else hyphen) ∷ (if write then letter_w else hyphen) ∷ (if execute then letter_x else hyphen) ∷ []
 
 -- how permissions are printed
 abbrev pub perms_text : ℕ → List ℕ

@@ -1,9 +1,11 @@
 -- How POSIX ACLs are printed: the long text form of 1003.1e draft 17, section 23, and its marks of effective permissions.
 use Rattle.std.specs.Prelude.{ℕ, ◌≤◌, ◌&&◌, not, List, [], ◌∷◌, ◌++◌, Option, Some, None, codes, if◌then◌else◌}
 use Rattle.std.specs.List.{flat_map, join_with_byte, All}
+use Rattle.acl_names.specs.declared.limits.TheConstants.{MAX_ID}
+use Rattle.acl_names.specs.Bytes.{newline, tab, colon}
 use Rattle.acl_names.specs.Bits.{◌∩◌, has_all}
 use Rattle.acl_names.specs.Directory.{Known, group_name, user_name}
-use Rattle.acl_names.specs.Ids.{max_id, id_text}
+use Rattle.acl_names.specs.Ids.{id_text}
 use Rattle.acl_posix.specs.Access.{is_under_mask}
 use Rattle.acl_posix.specs.PermsText.{perms_text}
 use Rattle.acl_posix.specs.Entry.{Triple}
@@ -29,16 +31,16 @@ qualifier_text known Other = []
 
 -- `tag:qualifier:perms`
 abbrev pub entry_text : Known → Triple → List ℕ
-entry_text known entry = join_with_byte 58 (word_text entry.tag ∷ qualifier_text known entry.tag ∷ perms_text entry.perms ∷ [])
+entry_text known entry = join_with_byte colon (word_text entry.tag ∷ qualifier_text known entry.tag ∷ perms_text entry.perms ∷ [])
 
 -- one entry per line
 abbrev pub long_text : Known → List Triple → List ℕ
-long_text known = flat_map (λ entry. entry_text known entry ++ 10 ∷ [])
+long_text known = flat_map (λ entry. entry_text known entry ++ newline ∷ [])
 
 -- a tab, `#effective:` and three characters, where permissions are left by a mask that removes some
 abbrev pub mark_of : Option ℕ → List ℕ
 mark_of None = []
-mark_of (Some left) = 9 ∷ codes "#effective:" ++ perms_text left
+mark_of (Some left) = tab ∷ codes "#effective:" ++ perms_text left
 
 -- the mark of an entry, where the mask removes something from it
 abbrev pub effective_mark : Option ℕ → Triple → List ℕ
@@ -47,7 +49,7 @@ effective_mark (Some mask) entry = if is_under_mask entry.tag && not (has_all ma
 
 -- a line: the entry, its mark, and a newline
 abbrev pub line_text : Known → Option ℕ → Triple → List ℕ
-line_text known mask entry = entry_text known entry ++ (effective_mark mask entry ++ 10 ∷ [])
+line_text known mask entry = entry_text known entry ++ (effective_mark mask entry ++ newline ∷ [])
 
 -- one entry per line, with its mark
 abbrev pub effective_text : Known → Option ℕ → List Triple → List ℕ
@@ -59,8 +61,8 @@ default_text known mask = flat_map (λ entry. codes "default:" ++ line_text know
 
 -- an id within the range of ids; other tags have none
 abbrev pub HasId : Tag → Type 0
-HasId (User uid) = uid ≤ max_id
-HasId (Group gid) = gid ≤ max_id
+HasId (User uid) = uid ≤ MAX_ID
+HasId (Group gid) = gid ≤ MAX_ID
 HasId UserObj = Unit {0}
 HasId GroupObj = Unit {0}
 HasId Mask = Unit {0}

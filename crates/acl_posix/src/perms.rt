@@ -3,6 +3,7 @@
 ghost use Rattle.std.specs.Prelude.{⊤, ◌≡◌, ◌==◌, [], ◌∷◌, IfSome, codes, if◌then◌else◌, option_map};
 ghost use Rattle.std.specs.Int.RustNames.{bit_and, bit_or};
 ghost use Rattle.std.specs.List.{list_all};
+ghost use Rattle.acl_names.specs.Bytes.{hyphen};
 ghost use Rattle.acl_posix.specs.Front.{BeginsWithPerms};
 ghost use Rattle.acl_posix.specs.Perms.{bits_of, IsPermissions};
 ghost use Rattle.acl_posix.specs.PermsText.{is_perms_byte, perms_of_text, perms_with, three_letters};
@@ -150,7 +151,7 @@ fn perms_if(there: bool, perms: Perms) -> Perms
 }
 
 fn letter_or_dash(byte: u8, letter: u8) -> Option<bool>
-    ensures { IfSome result (λ stands. byte ≡ (if stands then letter else 45)) }
+    ensures { IfSome result (λ stands. byte ≡ (if stands then letter else hyphen)) }
 {
     if byte == letter {
         Some(true)

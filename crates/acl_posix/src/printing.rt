@@ -2,6 +2,7 @@
 
 ghost use Rattle.std.specs.Prelude.{◌≡◌, ◌≤◌, ◌<◌, ◌++◌, ◌∷◌, [], not, length, vec_len, vec_capacity, ◌+◌, ◌*◌, option_map, OnOk, OnErr, None, codes};
 ghost use Rattle.acl_names.specs.Bits.{has_all};
+ghost use Rattle.acl_names.specs.Bytes.{colon, newline};
 ghost use Rattle.acl_names.specs.ListText.{Spells};
 ghost use Rattle.acl_posix.specs.Entry.{HavePermissions, perms_of};
 ghost use Rattle.acl_posix.specs.EntryText.{entry_of};
@@ -120,10 +121,10 @@ fn put_default_lines(
 
 #[inline(always)]
 fn put_default_line(entry: &Entry, mask: Option<Perms>, directory: &Directory, out: &mut Vec<u8>)
-    requires { vec_len out.old + 66 ≤ vec_capacity out.old }
+    requires { vec_len out.old + MAX_DEFAULT_LINE ≤ vec_capacity out.old }
     ensures text { out.new.items
         ≡ out.old.items ++ (codes "default:" ++ line_text directory.now (option_map bits_of mask) entry.now) }
-    ensures len { vec_len out.new ≤ vec_len out.old + 66 }
+    ensures len { vec_len out.new ≤ vec_len out.old + MAX_DEFAULT_LINE }
     ensures capacity { vec_capacity out.new ≡ vec_capacity out.old }
 {
     put_bytes(b"default:", out);
@@ -132,10 +133,10 @@ fn put_default_line(entry: &Entry, mask: Option<Perms>, directory: &Directory, o
 
 #[inline(always)]
 fn put_line(entry: &Entry, mask: Option<Perms>, directory: &Directory, out: &mut Vec<u8>)
-    requires { vec_len out.old + 58 ≤ vec_capacity out.old }
+    requires { vec_len out.old + MAX_LINE ≤ vec_capacity out.old }
     ensures text { out.new.items ≡ out.old.items ++ line_text directory.now (option_map bits_of mask) entry.now }
     ensures has_id { HasId entry.now.tag }
-    ensures len { vec_len out.new ≤ vec_len out.old + 58 }
+    ensures len { vec_len out.new ≤ vec_len out.old + MAX_LINE }
     ensures capacity { vec_capacity out.new ≡ vec_capacity out.old }
 {
     put_tag(entry.tag, directory, out);
@@ -146,7 +147,7 @@ fn put_line(entry: &Entry, mask: Option<Perms>, directory: &Directory, out: &mut
 #[inline(always)]
 fn put_tag(tag: Tag, directory: &Directory, out: &mut Vec<u8>)
     requires { vec_len out.old + 38 ≤ vec_capacity out.old }
-    ensures text { out.new.items ≡ out.old.items ++ (word_text tag ++ 58 ∷ qualifier_text directory.now tag) }
+    ensures text { out.new.items ≡ out.old.items ++ (word_text tag ++ colon ∷ qualifier_text directory.now tag) }
     ensures has_id { HasId tag }
     ensures len { vec_len out.new ≤ vec_len out.old + 38 }
     ensures capacity { vec_capacity out.new ≡ vec_capacity out.old }
@@ -172,7 +173,7 @@ fn put_tag(tag: Tag, directory: &Directory, out: &mut Vec<u8>)
 fn put_perms(entry: &Entry, mask: Option<Perms>, out: &mut Vec<u8>)
     requires { vec_len out.old + 20 ≤ vec_capacity out.old }
     ensures text { out.new.items
-        ≡ out.old.items ++ (58 ∷ perms_text entry.now.perms ++ (effective_mark (option_map bits_of mask) entry.now ++ 10 ∷ [])) }
+        ≡ out.old.items ++ (colon ∷ perms_text entry.now.perms ++ (effective_mark (option_map bits_of mask) entry.now ++ newline ∷ [])) }
     ensures len { vec_len out.new ≤ vec_len out.old + 20 }
     ensures capacity { vec_capacity out.new ≡ vec_capacity out.old }
 {

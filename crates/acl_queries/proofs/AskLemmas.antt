@@ -3,6 +3,7 @@ use Rattle.std.proofs.Common.{◌≡◌, [], ◌∷◌, ℕ, List, Option, Some,
 use Rattle.std.proofs.lemmas.Slice.Eq.{bytes_eq-Decides}
 use Rattle.std.specs.Prelude.{Result, ◌↔◌, is_none}
 use Rattle.clap.specs.Words.{Row, Text, first_of, matches_of}
+use Rattle.acl_names.specs.Bytes.{comma}
 use Rattle.acl_names.specs.Ids.{decimal_value}
 use Rattle.acl_names.specs.ListText.{Say, Spells}
 use Rattle.acl_names.specs.Pieces.{parts}
@@ -81,7 +82,7 @@ module _ (words : List Text) where
   gids_in-given : (gids : List ℕ) → GiveGids words gids → gids_in rows ≡ Ok gids
   gids_in-given gids (inl (given, none)) = rw (given, none) refl
   gids_in-given gids (inr (text, given, written, within)) =
-      rw given (at_most_read-all id_of TooMany MAX_GROUPS_OF_USER (parts 44 text) gids (Say-Write _ _ written) within)
+      rw given (at_most_read-all id_of TooMany MAX_GROUPS_OF_USER (parts comma text) gids (Say-Write _ _ written) within)
 
   perms_in-given : (perms : ℕ) → GivePerms words perms → perms_in rows ≡ Ok perms
   perms_in-given perms (text, given, is) = rw (given, is) refl
@@ -98,7 +99,7 @@ module _ (words : List Text) where
   GiveGids-from : (gids : List ℕ) (text : Option Text) → first_of (codes "gids") rows ≡ text → gids_of text ≡ Ok gids → GiveGids words gids
   GiveGids-from gids None given is = inl (given, cc)
   GiveGids-from gids (Some text) given is =
-      let said = at_most_read-said id_of TooMany MAX_GROUPS_OF_USER (parts 44 text) gids is in
+      let said = at_most_read-said id_of TooMany MAX_GROUPS_OF_USER (parts comma text) gids is in
       inr (text, given, Write-Say _ _ said.0, said.1)
 
   GivePerms-read : (perms : ℕ) → perms_in rows ≡ Ok perms → GivePerms words perms

@@ -1,6 +1,7 @@
 -- Which question words ask, field by field.
 use Rattle.std.specs.Prelude.{◌≡◌, ◌≤◌, ◌↔◌, ◌⊎◌, ℕ, Bool, true, List, [], length, map, Some, None, codes}
 use Rattle.clap.specs.Words.{Text, first_of, matches_of}
+use Rattle.acl_names.specs.Bytes.{comma}
 use Rattle.acl_names.specs.Ids.{decimal_value}
 use Rattle.acl_names.specs.ListText.{Spells}
 use Rattle.acl_names.specs.Pieces.{parts}
@@ -27,10 +28,10 @@ GiveId words name id = (text : Text) × Give words name text × (decimal_value t
 abbrev pub Write : List Text → List ℕ → Type 0
 Write texts ids = map decimal_value texts ≡ map Some ids
 
--- the words give the gids, between commas (44), or nothing at all
+-- the words give the gids, between commas, or nothing at all
 abbrev pub GiveGids : List Text → List ℕ → Type 0
 GiveGids words gids = ((first_of (codes "gids") (matches_of decide_line words) ≡ None) × (gids ≡ []))
-    ⊎ ((text : Text) × Give words (codes "gids") text × Write (parts 44 text) gids × (length gids ≤ MAX_GROUPS_OF_USER))
+    ⊎ ((text : Text) × Give words (codes "gids") text × Write (parts comma text) gids × (length gids ≤ MAX_GROUPS_OF_USER))
 
 -- the words give permissions
 abbrev pub GivePerms : List Text → ℕ → Type 0

@@ -2,6 +2,7 @@
 use Rattle.std.specs.Prelude.{ℕ, Bool, false, List, [], Option, Some, None, Result, Ok, codes}
 use Rattle.std.specs.Str.{bytes_eq}
 use Rattle.clap.specs.Words.{Text, Row, first_of, matches_of}
+use Rattle.acl_names.specs.Bytes.{comma}
 use Rattle.acl_names.specs.Ids.{decimal_value}
 use Rattle.acl_names.specs.Pieces.{parts}
 use Rattle.acl_names.specs.ReadList.{at_most_read}
@@ -29,10 +30,10 @@ pub record Asked : Type 0 where
 abbrev pub id_of : Text → Result ℕ FieldFault
 id_of text = or_fault BadId (decimal_value text)
 
--- the ids between commas (44), at most 32 of them; without a text there are none
+-- the ids between commas, at most `MAX_GROUPS_OF_USER` of them; without a text there are none
 abbrev pub gids_of : Option Text → Result (List ℕ) FieldFault
 gids_of None = Ok []
-gids_of (Some text) = at_most_read TooMany MAX_GROUPS_OF_USER id_of (parts 44 text)
+gids_of (Some text) = at_most_read TooMany MAX_GROUPS_OF_USER id_of (parts comma text)
 
 -- the permissions that a text writes
 abbrev pub perms_of : Text → Result ℕ FieldFault

@@ -1,6 +1,7 @@
 -- What two lists decide differently, and how that is told.
 use Rattle.std.specs.Prelude.{◌≡◌, ◌⊎◌, ◌==◌, ⊤, ℕ, List, ◌∷◌, ◌++◌, Option, Some, None, codes, decimal, if◌then◌else◌}
 use Rattle.std.specs.List.{AllByRecursion}
+use Rattle.acl_names.specs.Bytes.{comma}
 use Rattle.acl_names.specs.Letters.{letters_text}
 use Rattle.acl_nfs4.specs.Comparison.{DecideAlike, Decider, IsDifference, decided_by}
 use Rattle.acl_nfs4.specs.Letters.{mask_table}
@@ -54,7 +55,7 @@ abbrev pub gids_text : Option ℕ → Option ℕ → List ℕ
 gids_text None None = codes "-"
 gids_text (Some gid) None = decimal gid
 gids_text None (Some gid) = decimal gid
-gids_text (Some gid) (Some other) = if gid == other then decimal gid else decimal gid ++ 44 ∷ decimal other
+gids_text (Some gid) (Some other) = if gid == other then decimal gid else decimal gid ++ comma ∷ decimal other
 
 -- the letters of the bits; - where there is none
 abbrev pub bits_text : ℕ → List ℕ

@@ -1,6 +1,7 @@
 -- The lines and the exit statuses of faults.
 use Rattle.std.specs.Prelude.{◌≡◌, ◌≢◌, ◌++◌, ◌∷◌, [], ℕ, List, Option, Some, None, Result, Err, IfSome, IsOk, codes, ⊤}
 use Rattle.std.specs.Io.KnownBytes.{Keeps}
+use Rattle.acl_names.specs.Bytes.{newline}
 use Rattle.clap.specs.Words.{Text, kind_of}
 use Rattle.clap.specs.declared.error.Error.{Error}
 use Rattle.clap.specs.declared.error.kind.ErrorKind.TheVariants.{OutOfMemory}
@@ -31,7 +32,7 @@ field_fault_words BadKind = codes "bad-kind"
 field_fault_words InheritOnly = codes "inherit-only"
 
 abbrev pub field_fault_line : FieldFault → List ℕ
-field_fault_line fault = codes "aclctl: " ++ field_fault_words fault ++ 10 ∷ []
+field_fault_line fault = codes "aclctl: " ++ field_fault_words fault ++ newline ∷ []
 
 -- the line of a fault, where it isn't the parser's
 abbrev pub fault_line : DecideFault → Option (List ℕ)

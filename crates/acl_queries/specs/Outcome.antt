@@ -1,6 +1,7 @@
 -- What `decide` comes to.
 use Rattle.std.specs.Prelude.{◌≡◌, ℕ, Bool, ◌++◌, ◌∷◌, [], List, Option, Result, Ok, Err, codes, if◌then◌else◌}
 use Rattle.std.specs.Io.KnownBytes.{Appends}
+use Rattle.acl_names.specs.Bytes.{newline}
 use Rattle.clap.specs.Words.{Kinds, Text, fault_of}
 use Rattle.acl_posix.specs.Access.{grants}
 use Rattle.acl_nfs4.specs.PrintedText.{aces_text}
@@ -27,7 +28,7 @@ is_granted asked = grants asked.acl asked.owner asked.group asked.requester aske
 
 -- the line that answers
 abbrev pub answer_line : Bool → List ℕ
-answer_line granted = if granted then codes "granted" ++ 10 ∷ [] else codes "denied" ++ 10 ∷ []
+answer_line granted = if granted then codes "granted" ++ newline ∷ [] else codes "denied" ++ newline ∷ []
 
 -- the entries of the NFSv4 list that an access control list translates to, one a line
 abbrev pub translation_text : List Triple → List ℕ

@@ -1,5 +1,6 @@
 -- What is said of a command that was understood and came to no end.
 use Rattle.std.specs.Prelude.{ℕ, List, [], ◌∷◌, ◌++◌, codes}
+use Rattle.acl_names.specs.Bytes.{newline}
 use Rattle.acl_queries.specs.declared.fault.RunFault.{RunFault}
 use Rattle.acl_queries.specs.declared.fault.RunFault.TheVariants.{Memory, Stopped, NoThread, Output}
 
@@ -11,4 +12,4 @@ run_fault_words Output = codes "output"
 
 -- the line of it
 abbrev pub run_fault_line : RunFault → List ℕ
-run_fault_line fault = codes "aclctl: run: " ++ run_fault_words fault ++ 10 ∷ []
+run_fault_line fault = codes "aclctl: run: " ++ run_fault_words fault ++ newline ∷ []

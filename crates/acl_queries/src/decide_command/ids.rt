@@ -1,5 +1,6 @@
 //! Ids, as the fields of `decide` write them: in decimal, for the directory has no names.
 ghost use Rattle.std.specs.Prelude.{◌≡◌, ◌≤◌, Some, Ok, IfErr, IfOk};
+ghost use Rattle.acl_names.specs.declared.limits.TheConstants.{MAX_ID};
 ghost use Rattle.acl_queries.specs.Asked.{gids_of, id_of};
 ghost use Rattle.acl_queries.specs.Faults.{Explains};
 
@@ -13,7 +14,7 @@ const MOST_GIDS: usize = MAX_GROUPS_OF_USER;
 /// The id that a text writes.
 fn read_id(text: &str) -> Result<u32, FieldFault>
     ensures value { result ≡ id_of text.now }
-    ensures in_range { IfOk result (λ id. id ≤ 4294967294) }
+    ensures in_range { IfOk result (λ id. id ≤ MAX_ID) }
 {
     read_decimal(text.as_bytes()).ok_or(FieldFault::BadId)
 }

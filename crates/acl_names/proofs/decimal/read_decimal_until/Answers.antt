@@ -1,7 +1,7 @@
 use Rattle.std.proofs.Common.{suc, ◌≡◌, ◌≤◌, ◌+◌, refl, sym, ap, ◌∙◌, arith, length, take, drop, get_or, ◌∷◌, ◌++◌, Some}
 use Rattle.std.proofs.Math.Seq.{split_at}
 use Rattle.std.proofs.lemmas.List.{length-take-le, take_rest}
-use Rattle.acl_names.specs.Ids.{max_id}
+use Rattle.acl_names.specs.declared.limits.TheConstants.{MAX_ID}
 use Rattle.acl_names.proofs.Decimals.{below_ten_more, one_digit_more, one_digit_worth}
 use Rattle.acl_names.proofs.IdTexts.{decimal_is}
 use Rattle.acl_names.proofs.decimal.read_decimal_until.Goals as goal
@@ -14,7 +14,7 @@ returns-then-byte-separator c =
     let len : length (take at text) ≡ at = length-take-le at text inside in
     let more : at + 1 ≡ suc at = omega arith in
     let value = c.loop-at.invariant.so_far in
-    let low : c.loop-at.value ≤ max_id = omega (arith, c.from.ensures, c.if-value-from.false) in
+    let low : c.loop-at.value ≤ MAX_ID = omega (arith, c.from.ensures, c.if-value-from.false) in
     record {
       digits = take at text;
       cut = split_at text at 0 c.loop-at-test.true ∙ ap (λ n. take at text ++ get_or text at 0 ∷ drop n text) (sym more) ∙ ap (λ x. take at text ++ x ∷ drop (at + 1) text) c.if-byte-separator.true

@@ -1,5 +1,6 @@
 use Rattle.std.proofs.Common.{sym, ◌∙◌, length, arith, rules}
 use Rattle.std.proofs.lemmas.List.{length_push}
+use Rattle.acl_names.specs.Bytes.{newline, comma}
 use Rattle.acl_names.proofs.PlainLists.{started, ended, after_comma, after_newline, ended_by_newline, from_first, no_element, only_element}
 use Rattle.acl_names.proofs.PlainCounts.{one_more_piece}
 use Rattle.acl_names.proofs.list.read_plainly.Goals as goal
@@ -26,7 +27,7 @@ loop-rest-preserved-then-separator-eq44 g c =
     let found = c.in-Some.ensures in
     let so_far = c.loop-rest.invariant.so_far in
     record {
-      so_far = rw c.in_ok-push.ensures.ok (after_comma value_of c.args.text.now c.loop-rest.rest.now c.loop-rest.list.items so_far c.in-Some.value c.in-Some.behind.now found _ (from_first c.in-Some.behind.now 44 (sym c.is_empty.ensures ∙ c.if-is_empty.false) c.if-separator-eq44.true));
+      so_far = rw c.in_ok-push.ensures.ok (after_comma value_of c.args.text.now c.loop-rest.rest.now c.loop-rest.list.items so_far c.in-Some.value c.in-Some.behind.now found _ (from_first c.in-Some.behind.now comma (sym c.is_empty.ensures ∙ c.if-is_empty.false) c.if-separator-eq44.true));
       room = omega (arith, c.loop-rest.invariant.room, c.in_ok-push.ensures.capacity);
     }
 
@@ -37,7 +38,7 @@ returns-then-is_empty-2-clause-read g c = λ _.
     let so_far = c.loop-rest.invariant.so_far in
     let none = sym c.is_empty-in-loop-rest.ensures ∙ c.if-is_empty-2.true in
     rw c.in_ok-push.ensures.ok (record {
-      said = ended_by_newline value_of c.args.text.now c.loop-rest.rest.now c.loop-rest.list.items so_far c.in-Some.value c.in-Some.behind.now found (only_element c.in-Some.behind.now 10 (sym c.is_empty.ensures ∙ c.if-is_empty.false) c.if-separator-ne10.false none);
+      said = ended_by_newline value_of c.args.text.now c.loop-rest.rest.now c.loop-rest.list.items so_far c.in-Some.value c.in-Some.behind.now found (only_element c.in-Some.behind.now newline (sym c.is_empty.ensures ∙ c.if-is_empty.false) c.if-separator-ne10.false none);
       within = rw length_push (omega arith);
     })
 
@@ -47,7 +48,7 @@ loop-rest-preserved g c =
     let found = c.in-Some.ensures in
     let so_far = c.loop-rest.invariant.so_far in
     record {
-      so_far = rw c.in_ok-push.ensures.ok (after_newline value_of c.args.text.now c.loop-rest.rest.now c.loop-rest.list.items so_far c.in-Some.value c.in-Some.behind.now found _ (from_first c.in-Some.behind.now 10 (sym c.is_empty.ensures ∙ c.if-is_empty.false) c.if-separator-ne10.false));
+      so_far = rw c.in_ok-push.ensures.ok (after_newline value_of c.args.text.now c.loop-rest.rest.now c.loop-rest.list.items so_far c.in-Some.value c.in-Some.behind.now found _ (from_first c.in-Some.behind.now newline (sym c.is_empty.ensures ∙ c.if-is_empty.false) c.if-separator-ne10.false));
       room = omega (arith, c.loop-rest.invariant.room, c.in_ok-push.ensures.capacity);
     }
 

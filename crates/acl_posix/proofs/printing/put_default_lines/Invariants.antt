@@ -1,5 +1,6 @@
 use Rattle.std.proofs.Common.{◌≡◌, ◌≤◌, ◌+◌, ◌*◌, ◌++◌, take, option_map}
 use Rattle.std.specs.Prelude.{vec_len, vec_capacity}
+use Rattle.acl_posix.specs.declared.limits.TheConstants.{MAX_DEFAULT_LINE}
 use Rattle.acl_posix.specs.Perms.{bits_of}
 use Rattle.acl_posix.specs.PrintedText.{default_text}
 use Rattle.acl_posix.proofs.printing.put_default_lines.Given as goal
@@ -8,6 +9,6 @@ use Rattle.acl_posix.proofs.printing.put_default_lines.Given as goal
 abbrev pub invariant-loop-entry : goal.invariant-loop-entry
 invariant-loop-entry l = record {
   text : l.text.items ≡ l.initial.text.items ++ default_text l.directory (option_map bits_of l.mask) (take l.entry-index l.entries);
-  len : vec_len l.text ≤ vec_len l.initial.text + l.entry-index * 66;
+  len : vec_len l.text ≤ vec_len l.initial.text + l.entry-index * MAX_DEFAULT_LINE;
   capacity : vec_capacity l.text ≡ vec_capacity l.initial.text;
 }

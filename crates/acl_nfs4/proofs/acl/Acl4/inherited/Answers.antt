@@ -1,5 +1,6 @@
 use Rattle.std.proofs.Common.{◌≤◌, ◌∙◌, ◌+◌, ◌++◌, sym, ap, drop, List, length, arith}
 use Rattle.std.specs.List.{cons_option}
+use Rattle.acl_nfs4.specs.declared.limits.TheConstants.{MAX_ACES}
 use Rattle.acl_nfs4.specs.Ace.{Nfsace4}
 use Rattle.acl_nfs4.specs.Inheritance.{inherited_entry, inherited_list}
 use Rattle.acl_nfs4.proofs.ListLemmas.{drop-here, shorter, length-filter_map}
@@ -15,5 +16,5 @@ push_within-requires c =
     ∙ sym (ap (inherited_list c.args.kind) (drop-here whole c.loop-ace.ace-index c.ace-item.result c.loop-ace-test.true c.ace-item.is)))
     ∙ c.loop-ace.invariant) in
     let short : length (inherited_list c.args.kind whole) ≤ length whole = length-filter_map (inherited_entry c.args.kind) whole in
-    let limit : length whole ≤ 128 = (rw c.aces-ace-items.ensures.value c.aces-ace-items.ensures.aces.within) in
+    let limit : length whole ≤ MAX_ACES = (rw c.aces-ace-items.ensures.value c.aces-ace-items.ensures.aces.within) in
     (omega arith, (omega arith, c.in-Some.ensures.effective))

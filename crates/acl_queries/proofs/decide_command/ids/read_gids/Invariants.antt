@@ -1,4 +1,5 @@
 use Rattle.std.proofs.Common.{◌≤◌, map, vec_len}
+use Rattle.acl_names.specs.declared.limits.TheConstants.{MAX_GROUPS_OF_USER}
 use Rattle.acl_names.specs.ListText.{Say}
 use Rattle.acl_queries.specs.Asked.{id_of}
 use Rattle.acl_queries.proofs.decide_command.ids.read_gids.Given as goal
@@ -7,5 +8,5 @@ use Rattle.acl_queries.proofs.decide_command.ids.read_gids.Given as goal
 abbrev pub invariant-loop-piece : goal.invariant-loop-piece
 invariant-loop-piece l = record {
   said : Say id_of (map (λ piece. piece.now) l.yielded) l.gids.items;
-  within : vec_len l.gids ≤ 32;
+  within : vec_len l.gids ≤ MAX_GROUPS_OF_USER;
 }
