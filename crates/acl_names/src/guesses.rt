@@ -1,8 +1,9 @@
 //! Guesses where the member of a name stands, by a hash of the name. A guess that is wrong costs a search and no more, so
 //! nothing is proved of hashes.
 
-ghost use Rattle.std.specs.Prelude.{◌≡◌, ◌++◌, ◌∷◌, Some, find, IfSome};
+ghost use Rattle.std.specs.Prelude.{◌≡◌, ◌==◌, false, ◌++◌, ◌∷◌, Some, find, IfSome};
 ghost use Rattle.std.specs.Cmp.Lexicographic.{slice_cmp};
+ghost use Rattle.std.specs.List.{list_any};
 ghost use Rattle.std.specs.Option.{option_copied};
 ghost use Rattle.std.specs.Ordering.{nat_cmp};
 ghost use Rattle.std.specs.Str.{bytes_eq};
@@ -66,9 +67,10 @@ fn guessed<'a, T: Named>(members: &'a [T], guesses: &[u16], hash: u64, name: &[u
 }
 
 /// What stands before the first separator, if it isn't longer than a name, and its hash, by which a directory finds who has the
-/// name; and what stands behind it.
+/// name; and what stands behind the separator.
 pub fn split_name(separator: u8, text: &[u8]) -> Option<(&[u8], u64, &[u8])>
-    ensures { IfSome result (λ found. text.now ≡ found.0.now ++ separator ∷ found.2.now) }
+    ensures parts { IfSome result (λ found. text.now ≡ found.0.now ++ separator ∷ found.2.now) }
+    ensures first { IfSome result (λ found. list_any (λ x. x == separator) found.0.now ≡ false) }
 {
     let mut hash: u64 = 0;
     for (at, byte) in text.iter().enumerate() {
