@@ -92,6 +92,23 @@ fn print_aces_under_a_refused_growth(rt: HostRuntime) -> Result<(), Fail> {
     Ok(())
 }
 
+/// The room that is asked for in advance is more than the text takes, so it may be refused where there is room for the text.
+#[test]
+fn print_aces_with_room_under_a_refused_growth(rt: HostRuntime) -> Result<(), Fail> {
+    let alloc = rt.alloc();
+    let mut refusals = Refusals::new();
+    let names = refusals.again(|| directory(alloc)).ok_or("the directory")?;
+    let list = long_acl(alloc, &names, &mut refusals)?;
+    // 9 lines of 8 bytes, and 8 of 9.
+    let mut out = refusals
+        .again(|| Vec::with_capacity(alloc, 144).ok())
+        .ok_or("room")?;
+    assert!(rt; list.print_aces(&names, &mut out).is_ok());
+    assert_eq!(rt; out.len(), 144);
+    println!(rt; "refusals: {}", refusals.told())?;
+    Ok(())
+}
+
 #[test]
 fn chmod4_under_a_refused_growth(rt: HostRuntime) -> Result<(), Fail> {
     let alloc = rt.alloc();
