@@ -135,7 +135,8 @@ fn push_named(
 ) -> Result<(), AllocError>
     ensures text { OnOk result (out.new.items ≡ out.old.items ++ named_text (option_map (λ name. name.now) name.entry) domain.now id) }
     ensures kept { take (length out.old.items) out.new.items ≡ out.old.items }
-    ensures room { OnErr result (vec_capacity out.old < vec_len out.old + length (named_text (option_map (λ name. name.now) name.entry) domain.now id)) }
+    ensures room { OnErr result (vec_capacity out.old
+        < vec_len out.old + length (named_text (option_map (λ name. name.now) name.entry) domain.now id)) }
     ensures capacity { vec_capacity out.old ≤ vec_capacity out.new }
 {
     match name {
