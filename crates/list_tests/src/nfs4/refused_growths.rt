@@ -1,5 +1,6 @@
 //! Calls that may want memory: one refused growth, wherever it falls, is told by the call in which it falls, leaves
-//! everything as it was, and the call may be made again.
+//! everything as it was, and the call may be made again. Room that is only asked for in advance may be refused and told by
+//! nobody.
 //!
 //! scripts/refused-growths refuses one growth of a test after the other. Each test here passes whichever growth that is,
 //! and prints how many refusals it was told of.
