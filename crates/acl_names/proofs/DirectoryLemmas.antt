@@ -4,6 +4,7 @@ use Rattle.std.specs.Cmp.Lexicographic.{slice_cmp}
 use Rattle.std.specs.List.{Contains, list_any, filter_map, slice_get}
 use Rattle.std.specs.List.Sorted.{IsPermutation}
 use Rattle.std.specs.Option.{option_and_then, option_map_or}
+use Rattle.std.specs.Prelude.{Result, Ok, Err, IsOk}
 use Rattle.std.specs.Ordering.{nat_cmp}
 use Rattle.std.specs.Str.{bytes_eq}
 use Rattle.std.proofs.lemmas.Bool.{or_parts}
@@ -175,6 +176,11 @@ module _ (domain : List ℕ) (users sorted_users : List KnownUser) (groups sorte
 pub none_from : (found : Option SetupFault) → ((fault : SetupFault) → found ≡ Some fault → ⊥) → found ≡ None
 none_from None never = refl
 none_from (Some fault) never = absurd (never fault refl)
+
+-- what has to succeed isn't without a value
+pub not_refused : {T E : Type 0} (r : Result T E) → ((x : T) → r ≡ Ok x → ⊥) → IsOk r → ⊥
+not_refused (Ok x) never ok = never x refl
+not_refused (Err e) never ok = absurd (cc)
 
 not_false : (b : Bool) → not b ≡ false → b ≡ true
 not_false true e = refl

@@ -1,7 +1,10 @@
 -- The letters of bits are read as those bits.
-use Rattle.std.proofs.Common.{◌≡◌, ℕ, ◌==◌, ◌+◌, ◌*◌, ◌^◌, ◌<◌, Bool, true, false, not, ◌&&◌, ◌||◌, cond, nat_le, min, max, List, [], ◌∷◌, ◌++◌, append_assoc, zero, suc, map, filter, Some, None, refl, sym, ap, subst, ◌∙◌, arith, bit_and, bit_or, fold}
+use Rattle.std.proofs.Common.{◌≡◌, ℕ, ◌==◌, ◌+◌, ◌*◌, ◌^◌, ◌<◌, ◌≤◌, Bool, true, false, not, ◌&&◌, ◌||◌, cond, nat_le, min, max, List, [], ◌∷◌, ◌++◌, append_assoc, zero, suc, map, filter, take, drop, length, get_or, length-append, Some, None, refl, sym, ap, subst, ◌∙◌, arith, bit_and, bit_or, fold}
 use Rattle.std.specs.List.{AllByRecursion, list_all, list_any}
 use Rattle.std.specs.Int.{bit_at}
+use Rattle.std.proofs.lemmas.List.{length-map, take-append-drop}
+use Rattle.std.proofs.lemmas.List.Elements.{filter-append}
+use Rattle.std.proofs.lemmas.List.Filters.{length-filter_more}
 use Rattle.std.proofs.lemmas.List.Sums.{sum_by-cons, sum_by-append}
 use Rattle.std.proofs.lemmas.Nat.Bits.{bit_at_and, bit_at_or, and_pow, same_from_bits, bit_at-lt, bit_at-zero}
 use Rattle.std.proofs.lemmas.Bool.Decides.{nat_tests, Decides-eqb}
@@ -187,3 +190,20 @@ letters_again table bits is within =
     ap (λ t. cond t (Some (bits_of_rows (rows_in table text))) None) shaped
     ∙ ap (λ rows. Some (bits_of_rows rows)) (rows_again set text table counted)
     ∙ ap Some (bits_again table bits is.bits within)
+
+-- what is not 0 counts
+counted : (n : ℕ) (t : Bool) → (n == 0) ≡ t → (n ≡ 0 → ⊥) → cond (not t) (suc zero) zero ≡ suc zero
+counted n true e some = absurd (some ((Decides-eqb n 0).0 e))
+counted n false e some = refl
+
+-- where a row comes whose bits are set, the letters so far are fewer than all
+pub letter_to_come : (table : List Letter) (bits i : ℕ) (row : Letter) → i < length table → (bit_and bits (get_or table i row).bit ≡ 0 → ⊥)
+    → length (letters_text (take i table) bits) + 1 ≤ length (letters_text table bits)
+letter_to_come table bits i row inside set =
+    let p = λ (r : Letter). not (bit_and bits r.bit == 0) in
+    let one : cond (p (get_or table i row)) (suc zero) zero ≡ suc zero = counted (bit_and bits (get_or table i row).bit) _ refl set in
+    let parted = ap (filter p) (sym (take-append-drop (i + 1) table)) ∙ filter-append p (take (i + 1) table) (drop (i + 1) table) in
+    let lengths = ap length parted ∙ length-append (filter p (take (i + 1) table)) (filter p (drop (i + 1) table)) in
+    let so_far = length-map (rows_set (take i table) bits) (λ (r : Letter). r.letter) in
+    let all = length-map (rows_set table bits) (λ (r : Letter). r.letter) in
+    omega (arith, so_far, all, lengths, length-filter_more p table i row inside, one)

@@ -1,8 +1,9 @@
 //! Guesses where the member of a name stands, by a hash of the name. A guess that is wrong costs a search and no more, so
 //! nothing is proved of hashes.
 
-ghost use Rattle.std.specs.Prelude.{◌≡◌, ◌++◌, ◌∷◌, Some, find, IfSome};
+ghost use Rattle.std.specs.Prelude.{◌≡◌, ◌==◌, false, ◌++◌, ◌∷◌, Some, find, length, IfSome, IsOk};
 ghost use Rattle.std.specs.Cmp.Lexicographic.{slice_cmp};
+ghost use Rattle.std.specs.List.{list_any};
 ghost use Rattle.std.specs.Option.{option_copied};
 ghost use Rattle.std.specs.Ordering.{nat_cmp};
 ghost use Rattle.std.specs.Str.{bytes_eq};
@@ -18,8 +19,14 @@ const GUESSES_PER_MEMBER: usize = 8;
 /// An odd number near the golden ratio of 2^64, by which the bits of a hash are spread.
 const SPREAD: u64 = 0x9E37_79B9_7F4A_7C15;
 
-/// The place of some member for each hash of a name; of two members that share one, that of the later.
-pub(crate) fn guesses_of<T: Named>(alloc: Global, members: &[T]) -> Result<Vec<u16>, AllocError> {
+/// The place of some member for each hash of a name; of two members that share one, that of the later. Of no members there is
+/// none, which takes no memory.
+pub(crate) fn guesses_of<T: Named>(alloc: Global, members: &[T]) -> Result<Vec<u16>, AllocError>
+    ensures { length members.now ≡ 0 → IsOk result }
+{
+    if members.is_empty() {
+        return Ok(Vec::new(alloc));
+    }
     let count = members.len().saturating_mul(GUESSES_PER_MEMBER);
     let mut guesses = Vec::from_elem(alloc, 0, count)?;
     for (place, member) in members.iter().enumerate() {
@@ -66,9 +73,10 @@ fn guessed<'a, T: Named>(members: &'a [T], guesses: &[u16], hash: u64, name: &[u
 }
 
 /// What stands before the first separator, if it isn't longer than a name, and its hash, by which a directory finds who has the
-/// name; and what stands behind it.
+/// name; and what stands behind the separator.
 pub fn split_name(separator: u8, text: &[u8]) -> Option<(&[u8], u64, &[u8])>
-    ensures { IfSome result (λ found. text.now ≡ found.0.now ++ separator ∷ found.2.now) }
+    ensures parts { IfSome result (λ found. text.now ≡ found.0.now ++ separator ∷ found.2.now) }
+    ensures first { IfSome result (λ found. list_any (λ x. x == separator) found.0.now ≡ false) }
 {
     let mut hash: u64 = 0;
     for (at, byte) in text.iter().enumerate() {

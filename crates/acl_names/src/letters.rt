@@ -1,6 +1,6 @@
 //! Texts that are sets of letters, by a table of letters and bits.
 
-ghost use Rattle.std.specs.Prelude.{◌≡◌, ◌==◌, ◌++◌, ◌∷◌, [], not, filter, take, length, bit_and, OnOk, OnErr};
+ghost use Rattle.std.specs.Prelude.{◌≡◌, ◌≤◌, ◌<◌, ◌+◌, ◌==◌, ◌++◌, ◌∷◌, [], not, filter, take, length, bit_and, vec_len, vec_capacity, OnOk, OnErr};
 ghost use Rattle.std.specs.List.{list_any};
 ghost use Rattle.acl_names.specs.Letters.{occurs, repeats, is_letter_of, letters_of, letters_text, bits_of_rows, IsTable, HasBitsOf};
 
@@ -57,14 +57,17 @@ fn bits_of_letter(table: &[Letter], letter: u8) -> u32
     bits
 }
 
-/// Appends the letters of the bits that are set, in the order of the table. `Err` is want of memory; the letters that
-/// found room stand in `out` then.
+/// Appends the letters of the bits that are set, in the order of the table. `Err` is want of memory, only where `out` has no
+/// room for them; the letters that found room stand in `out` then.
+#[tactic(auto, using(crate::proofs::LettersAgain::letters_again))]
 pub fn push_letters(table: &[Letter], bits: u32, out: &mut Vec<u8>) -> Result<(), AllocError>
     ensures text { OnOk result (out.new.items ≡ out.old.items ++ letters_text table.now bits) }
     // What is printed is read as these bits.
     ensures read_again { IsTable table.now → HasBitsOf table.now bits
         → letters_of table.now (letters_text table.now bits) ≡ Some bits }
     ensures kept { take (length out.old.items) out.new.items ≡ out.old.items }
+    ensures room { OnErr result (vec_capacity out.old < vec_len out.old + length (letters_text table.now bits)) }
+    ensures capacity { vec_capacity out.old ≤ vec_capacity out.new }
 {
     for row in table {
         if bits & row.bit != 0 {

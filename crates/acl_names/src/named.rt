@@ -1,6 +1,6 @@
 //! Lists of what has a name and an id, in which both are found by binary search.
 
-ghost use Rattle.std.specs.Prelude.{◌≡◌, ◌==◌, ℕ, false, not, nat_eq, List, find, map, length, option_map, IfOk, IsTrue};
+ghost use Rattle.std.specs.Prelude.{◌≡◌, ◌==◌, ℕ, false, not, nat_eq, List, find, map, length, option_map, IfOk, IsOk, IsTrue};
 ghost use Rattle.std.specs.List.{list_any};
 ghost use Rattle.std.specs.List.Sorted.{IsPermutation};
 ghost use Rattle.std.specs.Cmp.Lexicographic.{slice_cmp};
@@ -77,7 +77,8 @@ pub(crate) fn index_by_id<T: Named>(
     members: &[T],
 ) -> Result<Vec<(u32, usize)>, AllocError>
     requires { repeats nat_eq T.id_of members.now ≡ false }
-    ensures { IfOk result (λ index. IsIndexOf T.id_of members.now index.items) }
+    ensures index { IfOk result (λ index. IsIndexOf T.id_of members.now index.items) }
+    ensures empty { length members.now ≡ 0 → IsOk result }
 {
     let mut index = ids_with_places(alloc, members)?;
     index.sort_unstable_by_key(|entry| entry.0);
@@ -85,8 +86,12 @@ pub(crate) fn index_by_id<T: Named>(
 }
 
 fn ids_with_places<T: Named>(alloc: Global, members: &[T]) -> Result<Vec<(u32, usize)>, AllocError>
-    ensures { IfOk result (λ entries. entries.items ≡ ids_with_places T.id_of members.now) }
+    ensures entries { IfOk result (λ entries. entries.items ≡ ids_with_places T.id_of members.now) }
+    ensures empty { length members.now ≡ 0 → IsOk result }
 {
+    if members.is_empty() {
+        return Ok(Vec::new(alloc));
+    }
     members
         .iter()
         .enumerate()

@@ -1,6 +1,6 @@
 //! Printing ids.
 
-ghost use Rattle.std.specs.Prelude.{◌≡◌, ◌≤◌, ◌<◌, ◌+◌, ◌/◌, ◌%◌, [], ◌∷◌, ◌++◌, length, take, option_map, unwrap_or, decimal, vec_len, vec_capacity, OnOk, IfSome};
+ghost use Rattle.std.specs.Prelude.{◌≡◌, ◌≤◌, ◌<◌, ◌+◌, ◌/◌, ◌%◌, [], ◌∷◌, ◌++◌, length, take, option_map, unwrap_or, decimal, vec_len, vec_capacity, OnOk, OnErr, IfSome};
 ghost use Rattle.acl_names.specs.Digits.{pair};
 ghost use Rattle.acl_names.specs.declared.limits.TheConstants.{MAX_DIGITS, MAX_ID, MAX_NAME_LEN};
 
@@ -10,10 +10,14 @@ use crate::uid::Uid;
 use itoa::Buffer;
 use std::alloc::AllocError;
 
-/// Appends the name, or the decimal of an id that has none. On an `Err` what `out` held still stands in front.
+/// Appends the name, or the decimal of an id that has none. `Err` is want of memory, only where `out` has no room for that;
+/// what `out` held still stands in front then.
 pub fn push_id(name: Option<&str>, id: u32, out: &mut Vec<u8>) -> Result<(), AllocError>
     ensures text { OnOk result (out.new.items ≡ out.old.items ++ unwrap_or (option_map (λ bytes. bytes.now) name.entry) (decimal id)) }
     ensures kept { take (length out.old.items) out.new.items ≡ out.old.items }
+    ensures room { OnErr result (vec_capacity out.old
+        < vec_len out.old + length (unwrap_or (option_map (λ bytes. bytes.now) name.entry) (decimal id))) }
+    ensures capacity { vec_capacity out.old ≤ vec_capacity out.new }
 {
     match name {
         Some(name) => out.extend_from_slice(name.as_bytes()),

@@ -26,3 +26,4 @@ pub mod PieceFaultLemmas
 pub mod EvaluationMode
 pub mod EvaluationLemmas
 pub mod FrontLemmas
+pub mod PrintedLengths

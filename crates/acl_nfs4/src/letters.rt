@@ -1,6 +1,6 @@
 //! The letters that flags and the bits of a mask have in texts.
 
-ghost use Rattle.std.specs.Prelude.{◌≡◌, ◌++◌, length, take, option_map, OnOk};
+ghost use Rattle.std.specs.Prelude.{◌≡◌, ◌≤◌, ◌<◌, ◌+◌, ◌++◌, length, take, option_map, vec_len, vec_capacity, OnOk, OnErr};
 ghost use Rattle.acl_names.specs.Letters.{letters_of, letters_text, IsTable};
 ghost use Rattle.acl_nfs4.specs.Flags.{flag_bits};
 ghost use Rattle.acl_nfs4.specs.Letters.{flag_table, mask_table};
@@ -125,11 +125,13 @@ pub(crate) fn read_flags(text: &[u8]) -> Option<Flags>
     }
 }
 
-/// Appends the letters of the mask's bits, in the order `rwaxdDtTnNcCoy`. It is refused only for want of memory, and what was
-/// there stays then.
+/// Appends the letters of the mask's bits, in the order `rwaxdDtTnNcCoy`. `Err` is want of memory, only where `out` has no room
+/// for them; what was there stays then.
 pub fn push_mask(mask: Mask, out: &mut Vec<u8>) -> Result<(), AllocError>
     ensures text { OnOk result (out.new.items ≡ out.old.items ++ letters_text mask_table (mask_bits mask)) }
     ensures kept { take (length out.old.items) out.new.items ≡ out.old.items }
+    ensures room { OnErr result (vec_capacity out.old < vec_len out.old + length (letters_text mask_table (mask_bits mask))) }
+    ensures capacity { vec_capacity out.old ≤ vec_capacity out.new }
 {
     push_letters_of(&MASK_TABLE, mask.bits(), out)
 }
@@ -138,6 +140,8 @@ pub fn push_mask(mask: Mask, out: &mut Vec<u8>) -> Result<(), AllocError>
 pub(crate) fn push_flags(flags: Flags, out: &mut Vec<u8>) -> Result<(), AllocError>
     ensures text { OnOk result (out.new.items ≡ out.old.items ++ letters_text flag_table (flag_bits flags)) }
     ensures kept { take (length out.old.items) out.new.items ≡ out.old.items }
+    ensures room { OnErr result (vec_capacity out.old < vec_len out.old + length (letters_text flag_table (flag_bits flags))) }
+    ensures capacity { vec_capacity out.old ≤ vec_capacity out.new }
 {
     push_letters_of(&FLAG_TABLE, u32::from(flags.bits()), out)
 }

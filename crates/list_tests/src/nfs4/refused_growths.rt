@@ -1,5 +1,6 @@
 //! Calls that may want memory: one refused growth, wherever it falls, is told by the call in which it falls, leaves
-//! everything as it was, and the call may be made again.
+//! everything as it was, and the call may be made again. Room that is only asked for in advance may be refused and told by
+//! nobody.
 //!
 //! scripts/refused-growths refuses one growth of a test after the other. Each test here passes whichever growth that is,
 //! and prints how many refusals it was told of.
@@ -88,6 +89,23 @@ fn print_aces_under_a_refused_growth(rt: HostRuntime) -> Result<(), Fail> {
     // 9 lines of 8 bytes, and 8 of 9, after the one that stood there.
     assert_eq!(rt; out.len(), 145);
     assert!(rt; out.starts_with(b">A:f:1:r\nA:f:2:r\n".as_slice()));
+    println!(rt; "refusals: {}", refusals.told())?;
+    Ok(())
+}
+
+/// The room that is asked for in advance is more than the text takes, so it may be refused where there is room for the text.
+#[test]
+fn print_aces_with_room_under_a_refused_growth(rt: HostRuntime) -> Result<(), Fail> {
+    let alloc = rt.alloc();
+    let mut refusals = Refusals::new();
+    let names = refusals.again(|| directory(alloc)).ok_or("the directory")?;
+    let list = long_acl(alloc, &names, &mut refusals)?;
+    // 9 lines of 8 bytes, and 8 of 9.
+    let mut out = refusals
+        .again(|| Vec::with_capacity(alloc, 144).ok())
+        .ok_or("room")?;
+    assert!(rt; list.print_aces(&names, &mut out).is_ok());
+    assert_eq!(rt; out.len(), 144);
     println!(rt; "refusals: {}", refusals.told())?;
     Ok(())
 }

@@ -1,10 +1,11 @@
-use Rattle.std.proofs.Common.{◌≡◌, ◌∙◌, ap, ap₂, List, ◌++◌, ◌∷◌, [], append_assoc, ℕ}
-use Rattle.std.proofs.lemmas.Result.{IfOk-equal}
+use Rattle.std.proofs.Common.{◌≡◌, ◌∙◌, ap, ap₂, List, length, ◌++◌, ◌∷◌, [], append_assoc, ℕ, arith}
+use Rattle.std.proofs.lemmas.Result.{IfOk-equal, err_from_is_err_and, on_err_weaker}
 use Rattle.acl_names.specs.Bytes.{colon}
-use Rattle.acl_names.proofs.Prefixes.{keeps_front}
+use Rattle.acl_names.proofs.Prefixes.{keeps_front, longer_by}
 use Rattle.acl_names.specs.Letters.{letters_text}
 use Rattle.acl_nfs4.specs.Letters.{flag_table, mask_table}
 use Rattle.acl_nfs4.specs.PrintedText.{front_text, type_text, who_text}
+use Rattle.acl_nfs4.proofs.PrintedLengths.{ace_length}
 use Rattle.acl_nfs4.proofs.printing.push_ace.Goals as goal
 use Rattle.acl_nfs4.proofs.printing.push_ace.Goals.{After-push_mask}
 
@@ -34,3 +35,55 @@ returns-clause-kept c =
     keeps_front c.args.out.now.items ((front_text c.args.ace.now ++ who_text c.args.directory.now c.args.ace.now.who) ++ colon ∷ [])
     c.push.new.self.items c.push_mask.new.out.items
     (front c ∙ simp append_assoc) c.push_mask.ensures.kept
+
+pub returns-in_err-push_front-clause-room : goal.returns-in_err-push_front-clause-room
+returns-in_err-push_front-clause-room c =
+    let p = err_from_is_err_and c.from_residual.result c.from_residual.ensures.1 in
+    rw p.1 (omega (arith, ace_length c.args.directory.now c.args.ace.now, c.in_err-push_front.ensures.room))
+
+pub returns-in_err-push_who-clause-room : goal.returns-in_err-push_who-clause-room
+returns-in_err-push_who-clause-room c =
+    let p = err_from_is_err_and c.from_residual-in_err-push_who.result c.from_residual-in_err-push_who.ensures.1 in
+    let longer = longer_by c.args.out.now c.push_front.new.out _ c.in_ok-push_front.ensures.text in
+    let who = ap (λ who. length (who_text c.args.directory.now who)) c.who.ensures in
+    rw p.1 (omega (arith, ace_length c.args.directory.now c.args.ace.now, longer, who, c.in_err-push_who.ensures.room, c.push_front.ensures.capacity))
+
+pub returns-in_err-push-clause-room : goal.returns-in_err-push-clause-room
+returns-in_err-push-clause-room c =
+    let p = err_from_is_err_and c.from_residual-in_err-push.result c.from_residual-in_err-push.ensures.1 in
+    let longer = longer_by c.args.out.now c.push_front.new.out _ c.in_ok-push_front.ensures.text in
+    let longer_still = longer_by c.push_front.new.out c.push_who.new.out _ c.in_ok-push_who.ensures.text in
+    let who = ap (λ who. length (who_text c.args.directory.now who)) c.who.ensures in
+    rw p.1
+    (omega (
+      arith,
+      ace_length c.args.directory.now c.args.ace.now,
+      longer,
+      longer_still,
+      who,
+      c.in_err-push.ensures.full,
+      c.push_front.ensures.capacity,
+      c.push_who.ensures.capacity,
+    ))
+
+pub returns-clause-room : goal.returns-clause-room
+returns-clause-room c =
+    let longer = longer_by c.args.out.now c.push_front.new.out _ c.in_ok-push_front.ensures.text in
+    let longer_still = longer_by c.push_front.new.out c.push_who.new.out _ c.in_ok-push_who.ensures.text in
+    let who = ap (λ who. length (who_text c.args.directory.now who)) c.who.ensures in
+    let mask = ap (λ bits. length (letters_text mask_table bits)) c.mask.ensures.value in
+    on_err_weaker c.push_mask.result
+    (λ full. omega (
+      arith,
+      full,
+      ace_length c.args.directory.now c.args.ace.now,
+      longer,
+      longer_still,
+      who,
+      mask,
+      c.in_ok-push.ensures.len,
+      c.push_front.ensures.capacity,
+      c.push_who.ensures.capacity,
+      c.push.ensures.capacity,
+    ))
+    c.push_mask.ensures.room

@@ -1,7 +1,8 @@
-use Rattle.std.proofs.Common.{◌≡◌, ◌∙◌, not, sym, ap, None}
+use Rattle.std.proofs.Common.{◌≡◌, ◌∙◌, not, length, sym, ap, None}
+use Rattle.std.proofs.lemmas.List.Sorted.{length_permutation}
 use Rattle.std.specs.String.{string_bytes}
 use Rattle.acl_names.specs.Directory.{Known, fault_of}
-use Rattle.acl_names.proofs.DirectoryLemmas.{answers_alike, fault_of-moved, no_name_twice, none_from, refused_for}
+use Rattle.acl_names.proofs.DirectoryLemmas.{answers_alike, fault_of-moved, no_name_twice, none_from, not_refused, refused_for}
 use Rattle.acl_names.proofs.directory.Directory.from_parts.Goals as goal
 
 pub returns-in-Some-clause-refused : goal.returns-in-Some-clause-refused
@@ -42,6 +43,31 @@ returns-in_default-guesses_of-2-clause-refused c =
     fault_of-moved (string_bytes c.args.domain) c.args.users.items c.sort-user_keys.new.members.items c.args.groups.items c.sort-group_keys.new.members.items
     c.sort-user_keys.ensures.permutation c.sort-group_keys.ensures.permutation ∙ sym found ∙ none_from _ c.in_default.not-Some
 
+pub returns-in_default-index_by_id-clause-empty : goal.returns-in_default-index_by_id-clause-empty
+returns-in_default-index_by_id-clause-empty c no_users no_groups =
+    λ _. not_refused c.index_by_id.result c.in_default-index_by_id.not-Ok
+    (c.index_by_id.ensures.empty (ap length c.deref-4.ensures.value ∙ length_permutation _ _ c.sort-user_keys.ensures.permutation ∙ no_users))
+
+pub returns-in_default-index_by_id-2-clause-empty : goal.returns-in_default-index_by_id-2-clause-empty
+returns-in_default-index_by_id-2-clause-empty c no_users no_groups =
+    λ _. not_refused c.index_by_id-2.result c.in_default-index_by_id-2.not-Ok
+    (c.index_by_id-2.ensures.empty (ap length c.deref-5.ensures.value ∙ length_permutation _ _ c.sort-group_keys.ensures.permutation ∙ no_groups))
+
+pub returns-in_default-requesters-clause-empty : goal.returns-in_default-requesters-clause-empty
+returns-in_default-requesters-clause-empty c no_users no_groups =
+    λ _. not_refused c.requesters.result c.in_default-requesters.not-Ok
+    (c.requesters.ensures.empty (ap length c.deref-6.ensures.value ∙ length_permutation _ _ c.sort-user_keys.ensures.permutation ∙ no_users))
+
+pub returns-in_default-guesses_of-clause-empty : goal.returns-in_default-guesses_of-clause-empty
+returns-in_default-guesses_of-clause-empty c no_users no_groups =
+    λ _. not_refused c.guesses_of.result c.in_default-guesses_of.not-Ok
+    (c.guesses_of.ensures (ap length c.deref-8.ensures.value ∙ length_permutation _ _ c.sort-user_keys.ensures.permutation ∙ no_users))
+
+pub returns-in_default-guesses_of-2-clause-empty : goal.returns-in_default-guesses_of-2-clause-empty
+returns-in_default-guesses_of-2-clause-empty c no_users no_groups =
+    λ _. not_refused c.guesses_of-2.result c.in_default-guesses_of-2.not-Ok
+    (c.guesses_of-2.ensures (ap length c.deref-9.ensures.value ∙ length_permutation _ _ c.sort-group_keys.ensures.permutation ∙ no_groups))
+
 pub returns-clause-made : goal.returns-clause-made
 returns-clause-made c =
     let found = rw (c.deref.ensures, c.deref-2.ensures.value, c.deref-3.ensures.value) at c.first_fault.ensures in
@@ -62,7 +88,7 @@ invariant_of-result c =
       faultless = faultless;
       users = c.sort-user_keys.ensures.ascending (c.sort-user_keys.ensures.names ∙ ap not once.0);
       groups = c.sort-group_keys.ensures.ascending (c.sort-group_keys.ensures.names ∙ ap not once.1);
-      user_places_are = rw c.deref-4.ensures.value at c.in-Ok.ensures;
-      group_places_are = rw c.deref-5.ensures.value at c.in-Ok-index_by_id.ensures;
-      requesters_are = rw (c.deref-6.ensures.value, c.deref-7.ensures.value) at c.in-Ok-requesters.ensures;
+      user_places_are = rw c.deref-4.ensures.value at c.in-Ok.ensures.index;
+      group_places_are = rw c.deref-5.ensures.value at c.in-Ok-index_by_id.ensures.index;
+      requesters_are = rw (c.deref-6.ensures.value, c.deref-7.ensures.value) at c.in-Ok-requesters.ensures.each;
     }
