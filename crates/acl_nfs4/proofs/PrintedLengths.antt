@@ -1,5 +1,6 @@
 -- How long the parts of a printed entry are.
 use Rattle.std.proofs.Common.{◌≡◌, ◌+◌, [], ◌∷◌, ◌++◌, length, length-append, arith}
+use Rattle.acl_names.specs.Bytes.{colon}
 use Rattle.acl_names.specs.Directory.{Known}
 use Rattle.acl_names.specs.Letters.{letters_text}
 use Rattle.acl_nfs4.specs.Ace.{Nfsace4}
@@ -16,9 +17,9 @@ ace_length known ace =
     let mask = letters_text mask_table ace.mask in
     omega (
       arith,
-      length-append kind (58 ∷ (flags ++ 58 ∷ (who ++ 58 ∷ mask))),
-      length-append flags (58 ∷ (who ++ 58 ∷ mask)),
-      length-append who (58 ∷ mask),
-      length-append kind (58 ∷ (flags ++ 58 ∷ [])),
-      length-append flags (58 ∷ []),
+      length-append kind (colon ∷ (flags ++ colon ∷ (who ++ colon ∷ mask))),
+      length-append flags (colon ∷ (who ++ colon ∷ mask)),
+      length-append who (colon ∷ mask),
+      length-append kind (colon ∷ (flags ++ colon ∷ [])),
+      length-append flags (colon ∷ []),
     )
