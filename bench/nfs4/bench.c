@@ -28,6 +28,7 @@ size_t acl_print_translated(const char *text, size_t length, char *printed, size
 enum who { OWNER, GROUP, EVERYONE, USER, NAMED };
 struct ace { char kind; uint8_t flags, who; uint32_t id, mask; };
 struct list { struct ace *aces; size_t count, room; };
+enum { FILES = 1, DIRS = 2, STOPS = 4, ONLY = 8, NAMES_GROUP = 64, MODE_BITS = 0x27 };
 
 static const char flag_letters[] = "fdniSFg", mask_letters[] = "rwaxdDtTnNcCoy";
 static const uint32_t mask_bits[] = {1, 2, 4, 0x20, 0x10000, 0x40, 0x80, 0x100, 8, 0x10, 0x20000, 0x40000, 0x80000, 0x100000};
@@ -172,6 +173,7 @@ static int grants(const struct list *list, uint32_t owner, uint32_t group, uint3
 {
     for (size_t i = 0; i < list->count && open; i++) {
         const struct ace *ace = &list->aces[i];
+        if (ace->flags & ONLY) continue;
         int is = ace->who == EVERYONE || (ace->who == OWNER && uid == owner) || (ace->who == USER && uid == ace->id);
         if (ace->kind != 'A' && ace->kind != 'D') continue;
         if (ace->who == GROUP || ace->who == NAMED)
@@ -182,8 +184,6 @@ static int grants(const struct list *list, uint32_t owner, uint32_t group, uint3
     }
     return !open;
 }
-
-enum { FILES = 1, DIRS = 2, STOPS = 4, ONLY = 8, NAMES_GROUP = 64, MODE_BITS = 0x27 };
 
 static uint32_t bits_of(int perms) { return (perms & 4 ? 1 : 0) | (perms & 2 ? 6 : 0) | (perms & 1 ? 0x20 : 0); }
 
@@ -386,13 +386,17 @@ static void compare(int lists)
             good = inherit(&list, is_dir, &made);
             same("inherited", text, &made, good, printed, aces_print_inherited(text, strlen(text), is_dir, printed, sizeof printed));
         }
+        uint32_t gids[2] = {3000 + below(20), 3000 + below(20)};
+        uint64_t granted = 0;
+        for (int uid = 0; uid < 22; uid++) granted += grants(&list, 1, 2, 3000 + uid, gids, 2, 1);
+        if (granted != aces_times_checked(text, strlen(text), 3000, 22, gids, 2, 1)) { printf("decided otherwise:\n%s\n", text); exit(1); }
         free(list.aces);
         int users = below(30);
         make_posix(&posix, text, users, below(30), below(100), -1, -1);
         good = translated(&posix, &made);
         same("translation", text, &made, good, printed, acl_print_translated(text, strlen(text), printed, sizeof printed));
     }
-    printf("%d random lists: modes set (%d times refused as too long), inherited by files and directories and translated alike\n\n", lists, refused);
+    printf("%d random lists: 22 requesters of each decided, modes set (%d times refused as too long), inherited by files and directories\nand translated alike\n\n", lists, refused);
 }
 
 /* What lists of up to 16 entries allocate, which is nothing. */
