@@ -1,11 +1,14 @@
--- How long the parts of a printed entry are.
-use Rattle.std.proofs.Common.{◌≡◌, ◌+◌, [], ◌∷◌, ◌++◌, length, length-append, arith}
-use Rattle.acl_names.specs.Bytes.{colon}
+-- How long printed entries and their parts are.
+use Rattle.std.proofs.Common.{◌≡◌, ◌≤◌, ◌+◌, ◌*◌, List, [], ◌∷◌, ◌++◌, length, length-append, refl, arith}
+use Rattle.acl_names.specs.Bytes.{colon, newline}
 use Rattle.acl_names.specs.Directory.{Known}
 use Rattle.acl_names.specs.Letters.{letters_text}
 use Rattle.acl_nfs4.specs.Ace.{Nfsace4}
 use Rattle.acl_nfs4.specs.Letters.{flag_table, mask_table}
-use Rattle.acl_nfs4.specs.PrintedText.{ace_text, front_text, type_text, who_text}
+use Rattle.acl_nfs4.specs.PrintedText.{ace_text, aces_text, front_text, line_text, type_text, who_text}
+use Rattle.acl_nfs4.specs.declared.ace.AceType.{AceType}
+use Rattle.acl_nfs4.specs.declared.ace.AceType.TheVariants.{Allow, Deny, Audit, Alarm}
+use Rattle.acl_nfs4.specs.declared.printing.TheConstants.{SHORTEST_LINE}
 
 -- an entry is as long as its front, its who, a colon and its letters
 pub ace_length : (known : Known) (ace : Nfsace4)
@@ -23,3 +26,31 @@ ace_length known ace =
       length-append kind (colon ∷ (flags ++ colon ∷ [])),
       length-append flags (colon ∷ []),
     )
+
+type_length : (kind : AceType) → length (type_text kind) ≡ 1
+type_length Allow = refl
+type_length Deny = refl
+type_length Audit = refl
+type_length Alarm = refl
+
+-- a line is no shorter than the shortest
+line_length : (known : Known) (ace : Nfsace4) → SHORTEST_LINE ≤ length (line_text known ace)
+line_length known ace =
+    let kind = type_text ace.kind in
+    let flags = letters_text flag_table ace.flags in
+    omega (
+      arith,
+      type_length ace.kind,
+      ace_length known ace,
+      length-append kind (colon ∷ (flags ++ colon ∷ [])),
+      length-append flags (colon ∷ []),
+      length-append (ace_text known ace) (newline ∷ []),
+    )
+
+-- the lines are no shorter than as many of the shortest
+pub lines_length : (known : Known) (aces : List Nfsace4) → length aces * SHORTEST_LINE ≤ length (aces_text known aces)
+lines_length known [] = omega arith
+lines_length known (ace ∷ aces) =
+    let here = line_length known ace in
+    let more = lines_length known aces in
+    omega (arith, here, more, length-append (line_text known ace) (aces_text known aces))

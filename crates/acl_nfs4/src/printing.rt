@@ -1,10 +1,12 @@
 //! Printing lists of entries.
 
-ghost use Rattle.std.specs.Prelude.{◌≡◌, ◌≤◌, ◌<◌, ◌+◌, ◌++◌, length, take, option_map, vec_len, vec_capacity, OnOk, OnErr};
+ghost use Rattle.std.specs.Prelude.{◌≡◌, ◌≤◌, ◌<◌, ◌+◌, ◌*◌, ◌++◌, length, take, option_map, vec_len, vec_capacity, OnOk, OnErr};
 ghost use Rattle.acl_names.specs.ListText.{Spells};
 ghost use Rattle.acl_nfs4.specs.AceText.{piece_value};
 ghost use Rattle.acl_nfs4.specs.PrintedText.{ace_text, aces_text, front_text, HaveIds, line_text, named_text, type_text, who_text};
 ghost use Rattle.acl_nfs4.specs.Who.{HasId};
+ghost use Rattle.acl_nfs4.specs.declared.limits.TheConstants.{MAX_ACES};
+ghost use Rattle.acl_nfs4.specs.declared.printing.TheConstants.{SHORTEST_LINE};
 
 use crate::letters::{push_flags, push_mask};
 use crate::limits::MAX_ACES;
@@ -14,6 +16,9 @@ use std::alloc::AllocError;
 
 /// How many bytes a line mostly has at the most.
 const USUAL_LINE: usize = 32;
+
+/// How many bytes each line has at the least: a type, three colons and a newline.
+const SHORTEST_LINE: usize = 5;
 
 impl Acl4 {
     /// Appends the entries in order, one per line: `type:flags:who:letters` and a newline. `who` is the special word,
@@ -27,13 +32,29 @@ impl Acl4 {
         ensures read_again { OnOk result (Spells (piece_value directory.now) MAX_ACES (aces_text directory.now self.now) self.now) }
     {
         directory.tell_names_apart();
+        let aces = self.aces();
+        ask_for_lines(aces.len(), out)?;
         let old_len = out.len();
-        let printed = push_lines(self.aces(), directory, out);
+        let printed = push_lines(aces, directory, out);
         if printed.is_err() {
             out.truncate(old_len);
         }
         printed
     }
+}
+
+/// Asks for room for so many usual lines at once, where `out` lacks it even for the shortest.
+fn ask_for_lines(count: usize, out: &mut Vec<u8>) -> Result<(), AllocError>
+    requires { count ≤ MAX_ACES }
+    ensures items { out.new.items ≡ out.old.items }
+    ensures len { vec_len out.new ≡ vec_len out.old }
+    ensures room { OnErr result (vec_capacity out.old < vec_len out.old + count * SHORTEST_LINE) }
+    ensures capacity { vec_capacity out.old ≤ vec_capacity out.new }
+{
+    if out.capacity() - out.len() < count * SHORTEST_LINE {
+        out.reserve(count * USUAL_LINE)?;
+    }
+    Ok(())
 }
 
 fn push_lines(aces: &[Ace], directory: &Directory, out: &mut Vec<u8>) -> Result<(), AllocError>
@@ -42,8 +63,6 @@ fn push_lines(aces: &[Ace], directory: &Directory, out: &mut Vec<u8>) -> Result<
     ensures kept { take (length out.old.items) out.new.items ≡ out.old.items }
     ensures room { OnErr result (vec_capacity out.old < vec_len out.old + length (aces_text directory.now aces.now)) }
 {
-    // Room that is asked for in advance may be refused: the lines may be shorter, and ask for their own.
-    let _ = out.reserve(aces.len().min(MAX_ACES) * USUAL_LINE);
     for ace in aces {
         push_line(ace, directory, out)?;
     }

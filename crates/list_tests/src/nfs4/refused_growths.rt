@@ -1,6 +1,5 @@
 //! Calls that may want memory: one refused growth, wherever it falls, is told by the call in which it falls, leaves
-//! everything as it was, and the call may be made again. Room that is only asked for in advance may be refused and told by
-//! nobody.
+//! everything as it was, and the call may be made again.
 //!
 //! scripts/refused-growths refuses one growth of a test after the other. Each test here passes whichever growth that is,
 //! and prints how many refusals it was told of.
@@ -93,7 +92,27 @@ fn print_aces_under_a_refused_growth(rt: HostRuntime) -> Result<(), Fail> {
     Ok(())
 }
 
-/// The room that is asked for in advance is more than the text takes, so it may be refused where there is room for the text.
+/// Room for the shortest lines and not for these: the output grows on the way, and what was printed by then goes again.
+#[test]
+fn print_aces_with_little_room_under_a_refused_growth(rt: HostRuntime) -> Result<(), Fail> {
+    let alloc = rt.alloc();
+    let mut refusals = Refusals::new();
+    let names = refusals.again(|| directory(alloc)).ok_or("the directory")?;
+    let list = long_acl(alloc, &names, &mut refusals)?;
+    let mut out = refusals
+        .again(|| Vec::with_capacity(alloc, 100).ok())
+        .ok_or("room")?;
+    if list.print_aces(&names, &mut out).is_err() {
+        refusals.one_more();
+        assert!(rt; out.is_empty());
+        list.print_aces(&names, &mut out)?;
+    }
+    assert_eq!(rt; out.len(), 144);
+    println!(rt; "refusals: {}", refusals.told())?;
+    Ok(())
+}
+
+/// Where there is room for the text nothing grows, so that no refusal falls in the call.
 #[test]
 fn print_aces_with_room_under_a_refused_growth(rt: HostRuntime) -> Result<(), Fail> {
     let alloc = rt.alloc();
