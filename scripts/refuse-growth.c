@@ -1,7 +1,7 @@
 /*
  * Refuses one growth of memory. Preloaded into a program of tests by scripts/refused-growths, it counts the calls that
  * take memory, and lets the one fail whose number is in the environment as REFUSED_GROWTH (none, if it is 0). How many
- * were made is written at the end to the file GROWTHS_FILE, if that is set.
+ * were made, and the bytes that the largest asked for, are written at the end to the file GROWTHS_FILE, if that is set.
  */
 #define _GNU_SOURCE
 #include <errno.h>
@@ -17,6 +17,7 @@ void *__libc_realloc(void *old, size_t size);
 void *__libc_memalign(size_t alignment, size_t size);
 
 static atomic_long growths;
+static atomic_size_t largest;
 static long refused;
 static atomic_bool armed;
 
@@ -25,6 +26,7 @@ __attribute__((constructor)) static void begin(void)
     const char *number = getenv("REFUSED_GROWTH");
     refused = number ? atol(number) : 0;
     growths = 0;
+    largest = 0;
     armed = 1;
 }
 
@@ -34,7 +36,7 @@ __attribute__((destructor)) static void end(void)
     armed = 0;
     FILE *file = path ? fopen(path, "w") : NULL;
     if (file) {
-        fprintf(file, "%ld\n", (long)growths);
+        fprintf(file, "%ld %zu\n", (long)growths, (size_t)largest);
         fclose(file);
     }
 }
@@ -47,9 +49,14 @@ void _exit(int status)
         syscall(SYS_exit_group, status);
 }
 
-static int is_refused(void)
+static int is_refused(size_t size)
 {
-    if (!armed || ++growths != refused)
+    if (!armed)
+        return 0;
+    size_t before = largest;
+    while (before < size && !atomic_compare_exchange_weak(&largest, &before, size))
+        ;
+    if (++growths != refused)
         return 0;
     errno = ENOMEM;
     return 1;
@@ -57,15 +64,15 @@ static int is_refused(void)
 
 void *malloc(size_t size)
 {
-    return is_refused() ? NULL : __libc_malloc(size);
+    return is_refused(size) ? NULL : __libc_malloc(size);
 }
 
 void *realloc(void *old, size_t size)
 {
-    return is_refused() ? NULL : __libc_realloc(old, size);
+    return is_refused(size) ? NULL : __libc_realloc(old, size);
 }
 
 void *aligned_alloc(size_t alignment, size_t size)
 {
-    return is_refused() ? NULL : __libc_memalign(alignment, size);
+    return is_refused(size) ? NULL : __libc_memalign(alignment, size);
 }
