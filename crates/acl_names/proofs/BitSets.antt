@@ -1,10 +1,9 @@
 -- Sets of bits: what the operations leave of a bit, and sets with the same bits.
-use Rattle.std.proofs.Common.{◌≡◌, ℕ, zero, suc, ◌+◌, ◌^◌, ◌<◌, ◌≤◌, min, max, false, not, ◌&&◌, ◌||◌, refl, sym, ap, ◌∙◌, arith, ◌-◌, inl, inr, ◌⊎◌}
-use mir.Val.{bits}
-use Rattle.std.specs.Int.{bit_at, bit_not, Width}
+use Rattle.std.proofs.Common.{◌≡◌, ℕ, zero, suc, ◌+◌, ◌^◌, ◌<◌, ◌≤◌, min, max, false, not, ◌&&◌, ◌||◌, refl, sym, ap, ◌∙◌, arith}
+use Rattle.std.specs.Int.{bit_at}
 use Rattle.std.specs.Prelude.{bit_and, bit_or, ◌%◌, ◌==◌}
-use Rattle.std.proofs.lemmas.Nat.Bits.{bit_at_and, bit_at_or, bit_at_xor, bit_at-lt, bit_at-zero, same_from_bits, bit_at_above, bit_at_not}
-use Rattle.std.proofs.lemmas.Bool.{true≢false, cases_lt}
+use Rattle.std.proofs.lemmas.Nat.Bits.{bit_at_and, bit_at_or, bit_at_xor, bit_at-lt, bit_at-zero, same_from_bits, bit_at_above}
+use Rattle.std.proofs.lemmas.Bool.{true≢false}
 use Rattle.acl_names.specs.Bits.{has, without}
 
 one_of_min : (x y : ℕ) → x < 2 → y < 2 → (min x y == 1) ≡ ((x == 1) && (y == 1))
@@ -74,25 +73,3 @@ same_bits a b same = same_from_bits a b (λ k. same_digit _ _ (bit_at-lt a k) (b
 -- a set with no bit is empty
 pub no_bits : (a : ℕ) → ((k : ℕ) → has a k ≡ false) → a ≡ 0
 no_bits a none = same_bits a 0 (λ k. none k ∙ sym (has-zero k))
-
-not_digit : (y : ℕ) → y < 2 → (1 - y == 1) ≡ not (y == 1)
-not_digit zero small = refl
-not_digit (suc zero) small = refl
-not_digit (suc (suc y)) small = absurd (omega arith)
-
-has-bit_not : (w : Width) (set k : ℕ) → set < 2 ^ bits w → k < bits w → has (bit_not w set) k ≡ not (has set k)
-unfolding has
-has-bit_not w set k small below = ap (λ x. x == 1) (bit_at_not w set k small below) ∙ not_digit (bit_at set k) (bit_at-lt set k)
-
--- `set & !removed` at a width
-pub and_not : (w : Width) (set removed : ℕ) → set < 2 ^ bits w → removed < 2 ^ bits w → bit_and set (bit_not w removed) ≡ without set removed
-and_not w set removed small_set small_removed = same_bits _ _ (λ k. has-and set (bit_not w removed) k ∙ go k (cases_lt k (bits w)) ∙ sym (has-without set removed k))
-  where
-    inside : (k : ℕ) → k < bits w → has (bit_not w removed) k ≡ not (has removed k)
-    inside k below = has-bit_not w removed k small_removed below
-
-    go : (k : ℕ) → (k < bits w) ⊎ (bits w ≤ k) → (has set k && has (bit_not w removed) k) ≡ (has set k && not (has removed k))
-    go k (inl below) = ap (λ b. has set k && b) (inside k below)
-    go k (inr above) =
-        let none : has set k ≡ false = has-above (bits w) set k small_set above in
-        ap (λ b. b && has (bit_not w removed) k) none ∙ sym (ap (λ b. b && not (has removed k)) none)

@@ -1,5 +1,5 @@
 -- Decimals, two and four digits at a time.
-use Rattle.std.proofs.Common.{◌≡◌, ◌∙◌, ℕ, ◌/◌, ◌%◌, ◌^◌, ◌<◌, ◌≤◌, List, ◌++◌, arith, ap, decimal, append_assoc}
+use Rattle.std.proofs.Common.{◌≡◌, ◌∙◌, ℕ, ◌/◌, ◌%◌, ◌^◌, ◌<◌, ◌≤◌, ◌++◌, arith, ap, decimal, append_assoc}
 use Rattle.itoa.proofs.Decimal.{decimal_four}
 use Rattle.acl_names.specs.Digits.{pair}
 

@@ -1,16 +1,16 @@
 -- Letters that are read one after the other.
-use Rattle.std.proofs.Common.{◌≡◌, ℕ, ◌==◌, ◌+◌, ◌<◌, ◌≤◌, Bool, true, false, not, ◌&&◌, ◌||◌, cond, nat_le, nat_lt, max, List, [], ◌∷◌, ◌++◌, length, take, drop, get_or, filter, Option, Some, None, refl, sym, ap, ◌∙◌, arith, bit_or, inl, inr}
-use Rattle.std.specs.List.{list_all, list_any, count_by}
+use Rattle.std.proofs.Common.{◌≡◌, ℕ, ◌==◌, ◌+◌, ◌<◌, Bool, true, false, not, ◌&&◌, ◌||◌, cond, nat_le, nat_lt, max, List, [], ◌∷◌, length, take, drop, get_or, filter, Some, None, refl, sym, ap, ◌∙◌, arith, bit_or, inl, inr}
+use Rattle.std.specs.List.{list_all, list_any}
 use Rattle.std.specs.Int.{bit_at}
 use Rattle.std.proofs.lemmas.Bool.{cases_Bool, eqb-true}
 use Rattle.std.proofs.lemmas.Bool.Decides.{nat_tests}
 use Rattle.std.proofs.lemmas.List.{take_more, take-append-drop}
-use Rattle.std.proofs.lemmas.List.Folds.{list_all_more, list_all_at, list_any_at}
-use Rattle.std.proofs.lemmas.Nat.Bits.{bit_at_or, bit_at-zero, same_from_bits}
+use Rattle.std.proofs.lemmas.List.Folds.{list_all_more, list_all_at}
+use Rattle.std.proofs.lemmas.Nat.Bits.{bit_at_or, same_from_bits}
 use Rattle.acl_names.specs.declared.letters.Letter.{Letter}
 use Rattle.acl_names.specs.Letters.{occurrences, occurs, repeats, is_letter_of, is_letters_text, bits_of_rows, rows_in, letters_of}
 use Rattle.acl_names.proofs.LettersAgain.{bits_from, occurrences-append, occurrences-cons}
-use Rattle.acl_names.proofs.Counting.{list_any-count_by, two_counted}
+use Rattle.acl_names.proofs.Counting.{list_any-count_by}
 
 -- ---- one more letter
 counted_more : (letter : ℕ) (text : List ℕ) (i : ℕ) → i < length text

@@ -1,16 +1,16 @@
 -- How many pieces a text has at least whose front was read plainly.
-use Rattle.std.proofs.Common.{◌≡◌, ℕ, ◌==◌, ◌+◌, ◌<◌, ◌≤◌, suc, true, false, cond, List, [], ◌∷◌, ◌++◌, length, map, reverse, take, length-append, inl, inr, Result, Ok, refl, sym, ap, ◌∙◌, append_assoc, arith}
-use Rattle.std.specs.List.{All, flat_map, before_first, position_or_len, count_by, onto_first}
+use Rattle.std.proofs.Common.{◌≡◌, ℕ, ◌==◌, ◌+◌, ◌<◌, ◌≤◌, suc, true, false, cond, List, [], ◌∷◌, ◌++◌, length, reverse, length-append, inl, inr, Result, Ok, refl, sym, ap, ◌∙◌, append_assoc, arith}
+use Rattle.std.specs.List.{flat_map, before_first, position_or_len, count_by, onto_first}
 use Rattle.std.proofs.lemmas.Bool.{cases_Bool, eqb-true, false≢true}
 use Rattle.std.proofs.lemmas.List.{length-map, length-reverse, reverse-append}
 use Rattle.std.proofs.lemmas.List.Elements.{All-head, All-tail}
 use Rattle.std.proofs.lemmas.List.Sums.{sum_by-append, sum_by-cons}
 use Rattle.std.proofs.lemmas.List.Splits.{length-slice_split, slice_split-cons_no}
 use Rattle.acl_names.specs.Bytes.{newline, hash, comma}
-use Rattle.acl_names.specs.Pieces.{is_blank, trim_start, trim_end, trim, parts, trimmed_parts, content, pieces_of_content, pieces}
+use Rattle.acl_names.specs.Pieces.{is_blank, trim_start, trim, parts, trimmed_parts, content, pieces_of_content, pieces}
 use Rattle.acl_names.specs.Plain.{IsFront}
 use Rattle.acl_names.specs.ListText.{Say}
-use Rattle.acl_names.proofs.PlainLines.{Lacks, LacksBlanks, plain_lacks_blanks, plain_lacks_newline, plain_lacks_hash}
+use Rattle.acl_names.proofs.PlainLines.{Lacks, LacksBlanks}
 use Rattle.acl_names.proofs.PlainLists.{IsLineFront, IsReadPlainly, whole_blanks, whole_newlines, whole_hashes}
 
 abbrev commas : List ℕ → ℕ

@@ -1,12 +1,12 @@
 -- A text of plain pieces, between which a comma or a newline stands, read piece by piece.
-use Rattle.std.proofs.Common.{◌≡◌, ℕ, ◌==◌, ◌<◌, ◌≤◌, Bool, true, false, List, [], ◌∷◌, ◌++◌, length, map, length-append, get_or, take, drop, ◌-◌, Result, refl, sym, ap, ◌∙◌, append_assoc, arith}
-use Rattle.std.specs.List.{All, flat_map}
+use Rattle.std.proofs.Common.{◌≡◌, ℕ, ◌==◌, ◌<◌, true, false, List, [], ◌∷◌, ◌++◌, length, map, length-append, get_or, take, drop, ◌-◌, Result, refl, sym, ap, ◌∙◌, append_assoc, arith}
+use Rattle.std.specs.List.{flat_map}
 use Rattle.std.proofs.lemmas.Bool.{eqb-true}
 use Rattle.std.proofs.lemmas.List.{append-nil, take_all}
 use Rattle.std.proofs.lemmas.List.Elements.{All-nil, All-cons, All-append}
 use Rattle.std.proofs.lemmas.List.Splits.{slice_split_at, slice_split_none}
 use Rattle.acl_names.specs.Bytes.{newline, hash, comma}
-use Rattle.acl_names.specs.Pieces.{is_blank, trim, parts, trimmed_parts, content, pieces_of_content, pieces}
+use Rattle.acl_names.specs.Pieces.{is_blank, trim, trimmed_parts, content, pieces_of_content, pieces}
 use Rattle.acl_names.specs.Plain.{IsPlain, IsFront}
 use Rattle.acl_names.specs.ListText.{Say}
 use Rattle.acl_names.proofs.ListTextLemmas.{Say-push}

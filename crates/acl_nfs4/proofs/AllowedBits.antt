@@ -1,9 +1,9 @@
 -- Which of some bits a list allows, as a loop over its entries finds them.
-use Rattle.std.proofs.Common.{◌≡◌, ◌≢◌, ◌↔◌, ◌+◌, ◌<◌, ℕ, Bool, true, false, cond, not, ◌&&◌, ◌||◌, refl, sym, ap, ap₂, subst, ◌∙◌, List, [], ◌∷◌, Option, Some, None, length, drop, get_or}
+use Rattle.std.proofs.Common.{◌≡◌, ◌≢◌, ◌↔◌, ◌+◌, ◌<◌, ℕ, Bool, true, false, cond, not, ◌&&◌, ◌||◌, refl, sym, ap, ap₂, subst, ◌∙◌, List, ◌∷◌, Option, Some, None, length, drop, get_or}
 use Rattle.std.specs.Prelude.{MatchOption}
 use Rattle.std.proofs.lemmas.Bool.{true≢false, and_parts}
 use Rattle.acl_names.specs.Bits.{has, without, ◌∩◌, ◌∪◌}
-use Rattle.acl_names.proofs.AnyLemmas.{and_false, or_false}
+use Rattle.acl_names.proofs.AnyLemmas.{or_false}
 use Rattle.acl_names.proofs.BitSets.{has-and, has-or, has-without, has-zero, same_bits, no_bits}
 use Rattle.acl_nfs4.specs.Ace.{Nfsace4, decides, is_allow}
 use Rattle.acl_names.specs.Asker.{identity_of}
@@ -76,10 +76,6 @@ module _ (applies : Who → Bool) (whole : List Nfsace4) (bits : ℕ) where
       ∙ ap (λ u. found (has allowed bit) u (allows applies bit rest)) (ap (λ m. has m bit) none ∙ has-zero bit)
       ∙ or_false (has allowed bit))
 
-  pub AreFound-end : (allowed undecided : ℕ) → AreFound applies whole bits [] allowed undecided → AreAllowed applies whole bits allowed
-  AreFound-end allowed undecided so_far bit =
-      sym (so_far bit ∙ ap (λ b. has allowed bit || b) (and_false (has undecided bit)) ∙ or_false (has allowed bit))
-
   -- one entry further down the list
   pub AreFound-step : (i : ℕ) (ace : Nfsace4) (allowed undecided allowed' undecided' : ℕ) → i < length whole → ace ≡ get_or whole i ace
       → (AreFound applies whole bits (ace ∷ drop (i + 1) whole) allowed undecided
@@ -93,15 +89,6 @@ module _ (applies : Who → Bool) (whole : List Nfsace4) (bits : ℕ) where
 
 module _ (applies : Who → Bool) (first second : List Nfsace4) (bits before after : ℕ)
     (are_before : AreAllowed applies first bits before) (are_after : AreAllowed applies second bits after) where
-  -- where they allow the same of the bits, they decide each alike
-  pub alike_from_same : before ≡ after → (bit : ℕ) → has bits bit ≡ true → allows applies bit first ≡ allows applies bit second
-  alike_from_same same bit asked =
-      sym (ap (λ b. b && allows applies bit first) asked)
-      ∙ sym (are_before bit)
-      ∙ ap (λ m. has m bit) same
-      ∙ are_after bit
-      ∙ ap (λ b. b && allows applies bit second) asked
-
   only_one : (b x y : Bool) → ((b && x) && not (b && y)) ≡ (b && (x && not y))
   only_one true x y = refl
   only_one false x y = refl

@@ -16,10 +16,6 @@ abbrev pub or_else : {A : Type 0} → Option A → Option A → Option A
 or_else None second = second
 or_else (Some answer) second = Some answer
 
-pub or_else-none : {A : Type 0} (answer : Option A) → or_else answer None ≡ answer
-or_else-none None = refl
-or_else-none (Some answer) = refl
-
 module _ (applies : Who → Bool) (bit : ℕ) where
   pub verdict-append : (xs ys : List Nfsace4) → verdict applies bit (xs ++ ys) ≡ or_else (verdict applies bit xs) (verdict applies bit ys)
   verdict-append [] ys = refl

@@ -4,7 +4,7 @@ use Rattle.std.specs.Prelude.{◌==◌, IsTrue, find, option_map, unwrap_or, bit
 use Rattle.std.proofs.lemmas.Bool.{true≢false, and_parts, and_from, eqb-true, eq-eqb}
 use Rattle.acl_names.specs.Bits.{has, without, ◌∩◌, ◌∪◌}
 use Rattle.acl_nfs4.specs.Ace.{decides, is_allow, Nfsace4}
-use Rattle.acl_names.proofs.AnyLemmas.{and_false, or_false}
+use Rattle.acl_names.proofs.AnyLemmas.{or_false}
 use Rattle.acl_nfs4.specs.Mask.{mode_bits}
 use Rattle.acl_nfs4.proofs.ListLemmas.{drop-here}
 use Rattle.acl_nfs4.specs.Evaluation.{speaks, allows, Grants}
@@ -197,11 +197,6 @@ module _ (applies : Who → Bool) (whole : List Nfsace4) where
       sym (so_far bit of_mode
       ∙ ap (λ u. found (has allowed bit) u (allows applies bit rest)) (ap (λ m. has m bit) none ∙ has-zero bit)
       ∙ or_false (has allowed bit))
-
-  pub IsFound-end : (allowed undecided : ℕ) → IsFound applies whole [] allowed undecided
-      → (bit : ℕ) → has mode_bits bit ≡ true → has allowed bit ≡ allows applies bit whole
-  IsFound-end allowed undecided so_far bit of_mode =
-      sym (so_far bit of_mode ∙ ap (λ b. has allowed bit || b) (and_false (has undecided bit)) ∙ or_false (has allowed bit))
 
   -- one entry further down the list
   pub IsFound-step : (i : ℕ) (ace : Nfsace4) (allowed undecided allowed' undecided' : ℕ) → i < length whole → ace ≡ get_or whole i ace

@@ -69,9 +69,6 @@ or_assoc a b c = same_bits _ _ (λ k.
 pub or-zero : (a : ℕ) → a ∪ 0 ≡ a
 or-zero a = same_bits _ _ (λ k. has-or a 0 k ∙ ap (λ b. has a k || b) (has-zero k) ∙ or_false (has a k))
 
-pub zero-or : (a : ℕ) → 0 ∪ a ≡ a
-zero-or a = same_bits _ _ (λ k. has-or 0 a k ∙ ap (λ b. b || has a k) (has-zero k))
-
 -- one more entry is looked at
 pub denied_to-step : (who : Who) (ace : Nfsace4) (rest : List Nfsace4) (so_far next total : ℕ) (denied : Bool)
     → (decides ace && (is_deny ace.kind && same_who ace.who who)) ≡ denied → next ≡ cond denied (so_far ∪ ace.mask) so_far

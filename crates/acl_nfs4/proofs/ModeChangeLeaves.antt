@@ -27,10 +27,6 @@ use Rattle.acl_names.proofs.AnyLemmas.{or_false, and_false}
 -- ---- a function of lists that goes entry by entry, and that a change of mode leaves as it is
 
 module _ (read : List Nfsace4 → List Nfsace4) (read-nil : read [] ≡ []) (read-append : (xs ys : List Nfsace4) → read (xs ++ ys) ≡ read xs ++ read ys) where
-  -- a mode's own entries are not read
-  abbrev Ignores : (AceType → Who → ℕ → Type 0)
-  Ignores kind who mask = read (plain kind who mask) ≡ []
-
   read-flat_map : (f : Who → List Nfsace4) → ((who : Who) → read (f who) ≡ []) → (whos : List Who) → read (flat_map f whos) ≡ []
   read-flat_map f none [] = read-nil
   read-flat_map f none (who ∷ whos) = read-append (f who) (flat_map f whos) ∙ ap₂ (λ xs ys. xs ++ ys) (none who) (read-flat_map f none whos)

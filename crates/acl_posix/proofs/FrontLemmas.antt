@@ -1,5 +1,5 @@
 -- A text that begins with an entry field by field begins with it.
-use Rattle.std.proofs.Common.{◌≡◌, ℕ, ◌<◌, List, [], ◌∷◌, ◌++◌, length, take, drop, Some, Ok, option_and_then, sym, ap, ◌∙◌, append_assoc, length-append, arith, true}
+use Rattle.std.proofs.Common.{◌≡◌, ℕ, List, [], ◌∷◌, ◌++◌, length, take, drop, Some, option_and_then, sym, ap, ◌∙◌, append_assoc, length-append, arith, true}
 use Rattle.std.specs.List.{AllByRecursion, join_with_byte}
 use Rattle.std.specs.Str.{bytes_eq}
 use Rattle.std.proofs.lemmas.List.{take-append-drop}
@@ -10,7 +10,6 @@ use Rattle.acl_names.specs.Ids.{has_name_shape, written_id, resolved}
 use Rattle.acl_names.specs.Plain.{IsField, IsFront}
 use Rattle.acl_names.proofs.Fields.{fields_again, joined_plain, name_field, tested_field}
 use Rattle.acl_names.proofs.IdTexts.{written_name}
-use Rattle.acl_posix.specs.Entry.{Triple}
 use Rattle.acl_posix.specs.EntryText.{Fields, as_fields, fields_of, entry_of}
 use Rattle.acl_posix.specs.Front.{BeginsWithWord, BeginsWithTag, BeginsWithPerms}
 use Rattle.acl_posix.specs.PermsText.{perms_of_text, three_letters}

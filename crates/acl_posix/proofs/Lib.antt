@@ -7,7 +7,6 @@ pub mod AccessLemmas
 pub mod OrderLemmas
 pub mod InOrderLemmas
 pub mod InsertLemmas
-pub mod PartLemmas
 pub mod FoundLemmas
 pub mod FaultLemmas
 pub mod KindLemmas

@@ -38,9 +38,6 @@ inside_of sessions session place unknown = elim (leb_tells sessions session) [
 ]
 
 module _ {State I R : Type 0} (next : State → I → State) (reply : State → I → R) (is_error : R → Bool) where
-  pub takes_on_none : (taker : TakerState State I R) (limits : Limits) → TakesOn next reply is_error taker limits taker limits
-  takes_on_none taker limits = record { pairs = λ ends are. are; keeps = λ opening keeps. keeps; limits = λ opening limit keeps limited. limited }
-
   pub takes_on_then : (a b c : TakerState State I R) (p q r : Limits) → TakesOn next reply is_error a p b q → TakesOn next reply is_error b q c r → TakesOn next reply is_error a p c r
   takes_on_then a b c p q r first second = record {
     pairs = λ ends are. second.pairs ends (first.pairs ends are);

@@ -118,9 +118,6 @@ module _ {C State I R : Type 0} (rest : C → List I) (next : State → I → St
   all_more [] list all one = (one, tt)
   all_more (first ∷ lists) list all one = (all.0, all_more lists list all.1 one)
 
-  pub first_none : (run : Run C State I R) (more : Bool) → TurnsOfFirst rest next reply text 0 run more run
-  first_none run more = record { count = refl; rests_are = refl; journal = sym (append-nil run.journal.items); answered = λ opening was. was; none = λ is. tt }
-
   pub first_more : (old now new : Run C State I R) (session : ℕ) (more did more' : Bool) → session < length old.sessions.items → TurnsOfFirst rest next reply text session old more now → Turns rest next reply text session now did new → (more' ≡ false → (more ≡ false) × (did ≡ false)) → TurnsOfFirst rest next reply text (session + 1) old more' new
   first_more old now new session more did more' below first turn either =
       let lists = rests rest old in
@@ -143,23 +140,6 @@ module _ {C State I R : Type 0} (rest : C → List I) (next : State → I → St
         answered = λ opening was. turn.answered opening (first.answered opening was);
         none = λ is. subst (λ all. AllByRecursion (λ list. list ≡ []) all) (sym taken) (all_more (take session lists) list (first.none (either is).0) (sym now_list ∙ turn.none (either is).1));
       }
-
-  pub rounds_all : (old new : Run C State I R) (more : Bool) (sessions : ℕ) → sessions ≡ length old.sessions.items → TurnsOfFirst rest next reply text sessions old more new → Rounds rest next reply text old more new
-  rounds_all old new more sessions all first =
-      let lists = rests rest old in
-      let many : sessions ≡ length lists = all ∙ sym (length-map old.sessions.items (λ (s : Progress C R). rest s.requests)) in
-      let whole : take sessions lists ≡ lists = ap (λ n. take n lists) many ∙ take-length lists in
-      let none_left : drop sessions lists ≡ [] = ap (λ n. drop n lists) many ∙ drop-length lists in
-      record {
-        count = first.count;
-        rests_are = first.rests_are ∙ ap (λ back. map (drop 1) (take sessions lists) ++ back) none_left ∙ append-nil (map (drop 1) (take sessions lists)) ∙ ap (λ all. map (drop 1) all) whole;
-        journal = first.journal ∙ ap (λ all. old.journal.items ++ heads 0 all) whole;
-        answered = first.answered;
-        none = λ is. subst (λ all. AllByRecursion (λ list. list ≡ []) all) whole (first.none is);
-      }
-
-  pub left_all : (n : ℕ) (run : Run C State I R) → WithRoundsLeft rest next reply text n n run run
-  left_all n run = record { count = refl; journal = refl; answered = λ opening was. was }
 
   pub left_fewer : (left left' n : ℕ) (old now new : Run C State I R) (more : Bool) → left ≡ suc left' → WithRoundsLeft rest next reply text left n old now → Rounds rest next reply text now more new → WithRoundsLeft rest next reply text left' n old new
   left_fewer left left' n old now new more is was round = record {

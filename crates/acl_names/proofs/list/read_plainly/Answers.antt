@@ -1,4 +1,4 @@
-use Rattle.std.proofs.Common.{sym, ◌∙◌, length, arith, rules}
+use Rattle.std.proofs.Common.{sym, ◌∙◌, arith, rules}
 use Rattle.std.proofs.lemmas.List.{length_push}
 use Rattle.acl_names.specs.Bytes.{newline, comma}
 use Rattle.acl_names.proofs.PlainLists.{started, ended, after_comma, after_newline, ended_by_newline, from_first, no_element, only_element}

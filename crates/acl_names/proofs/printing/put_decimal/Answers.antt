@@ -1,4 +1,4 @@
-use Rattle.std.proofs.Common.{◌∙◌, ap, sym, ◌++◌, ◌<◌, ◌^◌, arith, append_assoc, refl}
+use Rattle.std.proofs.Common.{arith, append_assoc, refl}
 use Rattle.itoa.proofs.Decimal.{decimal_four}
 use Rattle.acl_names.proofs.DigitLemmas.{decimal_long}
 use Rattle.acl_names.proofs.printing.put_decimal.Goals as goal

@@ -1,4 +1,4 @@
-use Rattle.std.proofs.Common.{◌<◌, ◌^◌, arith, append_assoc, refl}
+use Rattle.std.proofs.Common.{arith, append_assoc, refl}
 use Rattle.itoa.proofs.Decimal.{decimal_pair}
 use Rattle.acl_names.proofs.printing.put_first_four.Goals as goal
 

@@ -3,7 +3,6 @@ use Rattle.std.specs.List.Sorted.{IsPartitionedBy, IsPartitionPoint, IsPermutati
 use Rattle.std.proofs.lemmas.Fn.{always_returns_same}
 use Rattle.acl_posix.specs.Canonical.{tag_cmp, tag_of}
 use Rattle.acl_posix.specs.Entry.{Triple}
-use Rattle.acl_posix.proofs.CanonicalLemmas.{sorted_by_tag}
 use Rattle.acl_posix.proofs.CopyLemmas.{copy_is}
 use Rattle.acl_posix.proofs.InOrderLemmas.{precedes}
 use Rattle.acl_posix.proofs.InsertLemmas.{copy_with, parted}

@@ -1,4 +1,4 @@
-use Rattle.std.proofs.Common.{◌≡◌, ◌≤◌, ◌+◌, ◌*◌, ◌++◌, take, length, option_map}
+use Rattle.std.proofs.Common.{◌≡◌, ◌≤◌, ◌+◌, ◌*◌, ◌++◌, take, option_map}
 use Rattle.std.specs.Prelude.{vec_len, vec_capacity}
 use Rattle.acl_posix.specs.declared.limits.TheConstants.{MAX_LINE}
 use Rattle.acl_posix.specs.Perms.{bits_of}
