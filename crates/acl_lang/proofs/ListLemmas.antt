@@ -1,10 +1,7 @@
 -- What the readers of lists say of a text, as what a line's field says.
-use Rattle.std.proofs.Common.{◌≡◌, ◌∙◌, [], ◌∷◌, ℕ, List, Ok, Err, ap, refl, map}
-use Rattle.std.specs.Prelude.{Result}
+use Rattle.std.proofs.Common.{◌≡◌, ℕ, List, Ok, Err, ap}
 use Rattle.acl_names.specs.Directory.{Known}
-use Rattle.acl_names.specs.ListText.{IsFaultOf, Say, Spells}
-use Rattle.acl_names.specs.Pieces.{pieces}
-use Rattle.acl_names.specs.declared.list.ListFault.TheVariants as list
+use Rattle.acl_names.specs.ListText.{Spells}
 use Rattle.acl_nfs4.specs.Ace.{Nfsace4}
 use Rattle.acl_nfs4.specs.AceText.{piece_value}
 use Rattle.acl_nfs4.specs.ReadFault as aces_fault
@@ -15,7 +12,6 @@ use Rattle.acl_posix.specs.EntryText.{entry_of}
 use Rattle.acl_posix.specs.ReadFault as entries_fault
 use Rattle.acl_posix.specs.declared.entries.TextFault.{TextFault}
 use Rattle.acl_posix.specs.declared.entries.TextFault.TheVariants as refusal
-use Rattle.acl_tree.specs.declared.faults.LineFault.{LineFault}
 use Rattle.acl_tree.specs.declared.faults.LineFault.TheVariants.{TooMany}
 use Rattle.acl_lang.specs.Fields.{aces_of, as_ace, as_entry, entries_of}
 use Rattle.acl_names.proofs.ReadListLemmas.{read-fault, read-many, read-spelt}

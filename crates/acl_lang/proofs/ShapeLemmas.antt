@@ -1,15 +1,13 @@
 -- What a line asks for is what its words say, both ways.
-use Rattle.std.proofs.Common.{◌≡◌, ◌≢◌, ◌∙◌, ℕ, ◌≤◌, List, [], ◌∷◌, Option, Some, None, Ok, Err, Bool, true, false, ◌⊎◌, ap, ap₂, codes, inl, inr, length, ltb, map, refl, subst, sym, take, arith}
-use Rattle.std.proofs.lemmas.List.{take_all}
-use Rattle.std.proofs.lemmas.Bool.Decides.{nat_tests}
+use Rattle.std.proofs.Common.{◌≡◌, ◌≢◌, ◌∙◌, ℕ, List, [], ◌∷◌, Option, Some, None, Ok, Err, Bool, true, false, ◌⊎◌, ap, ap₂, codes, inl, inr, refl, subst}
 use Rattle.std.proofs.lemmas.Slice.Eq.{bytes_eq-Decides}
 use Rattle.std.specs.Prelude.{Result, is_none, if◌then◌else◌}
 use Rattle.std.specs.Str.{bytes_eq}
 use Rattle.acl_names.proofs.ReadListLemmas.{spelt-read}
 use Rattle.acl_names.proofs.StepLemmas.{bind_ok, if_then, is_none-true}
 use Rattle.acl_names.specs.Directory.{Known}
-use Rattle.acl_names.specs.ListText.{Say, Spells}
-use Rattle.acl_names.specs.Pieces.{after_word, first_word, pieces}
+use Rattle.acl_names.specs.ListText.{Spells}
+use Rattle.acl_names.specs.Pieces.{after_word, first_word}
 use Rattle.acl_names.specs.Steps.{◌>>=◌}
 use Rattle.acl_nfs4.specs.Ace.{Nfsace4}
 use Rattle.acl_nfs4.specs.AceText.{piece_value}
@@ -21,7 +19,6 @@ use Rattle.acl_posix.proofs.ValidityLemmas.{valid_iff}
 use Rattle.acl_posix.specs.Entry.{Triple}
 use Rattle.acl_posix.specs.EntryText.{entry_of}
 use Rattle.acl_posix.specs.Validity.{fault_of}
-use Rattle.acl_posix.specs.declared.acl.Invalid.{Invalid}
 use Rattle.acl_posix.specs.declared.limits.TheConstants.{MAX_ENTRIES}
 use Rattle.acl_posix.specs.declared.reading.PieceFault as entries
 use Rattle.acl_tree.specs.Path.{is_path}
