@@ -1,5 +1,5 @@
 -- The lines and the exit statuses of runs that come to nothing.
-use Rattle.std.specs.Prelude.{◌≡◌, ◌≢◌, ◌<◌, ◌≤◌, ◌++◌, ◌∷◌, [], ⊤, ℕ, List, codes, length}
+use Rattle.std.specs.Prelude.{◌≢◌, ◌<◌, ◌≤◌, ◌++◌, ◌∷◌, [], ⊤, ℕ, List, codes}
 use Rattle.acl_broker.specs.declared.limits.TheConstants.{SESSIONS}
 use Rattle.acl_service.specs.Opened.{IsRefusedSetup}
 use Rattle.acl_service.specs.SetupFaults.{setup_error_words}

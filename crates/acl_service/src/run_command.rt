@@ -1,11 +1,12 @@
 //! The command `run`.
-ghost use Rattle.std.specs.Prelude.{◌≡◌, ◌≢◌, ◌<◌, ◌≤◌, ◌↔◌, All, Some, length, map};
-ghost use Rattle.std.specs.Io.KnownBytes.{Keeps};
+ghost use Rattle.std.specs.Prelude.{◌≡◌, ◌≢◌, ◌<◌, ◌≤◌, ◌↔◌, ◌⊎◌, All, Some, length, map};
+ghost use Rattle.std.specs.Io.KnownBytes.{Appends, Keeps};
 ghost use Rattle.clap.specs.Words.{found_of, rows_of};
 ghost use Rattle.acl_lang.specs.declared.limits.TheConstants.{MAX_TEXT_LEN};
 ghost use Rattle.acl_broker.specs.declared.limits.TheConstants.{SESSIONS};
+ghost use Rattle.acl_queries.specs.Output.{AppendsFront};
 ghost use Rattle.acl_service.specs.TextsFaults.{RefusesSetup};
-ghost use Rattle.acl_service.specs.RunTexts.{GrowsByRun};
+ghost use Rattle.acl_service.specs.RunTexts.{RunsTexts};
 ghost use Rattle.acl_service.specs.RunWords.{RunTakes, RunsWords, run_rows};
 
 mod command_line;
@@ -58,12 +59,16 @@ pub fn run_texts<R: Threads + Wait + Clock + Sync, G: Gate, W: Write, E: Write>(
     requires short { All (λ text. length text.items ≤ MAX_TEXT_LEN) texts.now }
     requires some { max_errors ≢ Some 0 }
     ensures statuses { result ≤ 3 }
-    ensures printed { result ≡ 0 → GrowsByRun setup.now texts.now journal max_errors (W.contents out.old) (W.contents out.new) }
+    ensures printed { result ≡ 0 → RunsTexts setup.now texts.now journal max_errors (Appends (W.contents out.old) (W.contents out.new)) }
     ensures refused_setup { result ≡ 1 → RefusesSetup setup.now }
     ensures too_many { (result ≡ 2) ↔ (SESSIONS < length texts.now) }
 
     // Nothing is written where the run is refused.
     ensures silent { 1 ≤ result → result ≤ 2 → Keeps (W.contents out.old) (W.contents out.new) }
+
+    // If the run lacks something, or a write fails, nothing went out or a front of what the texts print.
+    ensures cut { result ≡ 3 → Keeps (W.contents out.old) (W.contents out.new)
+        ⊎ RunsTexts setup.now texts.now journal max_errors (AppendsFront (W.contents out.old) (W.contents out.new)) }
 {
     let options = Options {
         journal,
@@ -102,10 +107,15 @@ where
     E: Write,
     ensures statuses { result ≤ 3 }
     ensures taken { result ≡ 0 → RunTakes (map S.text words.now) }
-    ensures printed { result ≡ 0 → RunsWords (F.bytes_of files.now) (I.remaining input.old) (run_rows (map S.text words.now)) (W.contents out.old) (W.contents out.new) }
+    ensures printed { result ≡ 0 → RunsWords (F.bytes_of files.now) (I.remaining input.old) (run_rows (map S.text words.now))
+        (Appends (W.contents out.old) (W.contents out.new)) }
 
     // Nothing is written where the words, a file or the setup are refused.
     ensures silent { 1 ≤ result → result ≤ 2 → Keeps (W.contents out.old) (W.contents out.new) }
+
+    // If the run lacks something, or a write fails, nothing went out or a front of what the files print.
+    ensures cut { result ≡ 3 → Keeps (W.contents out.old) (W.contents out.new)
+        ⊎ RunsWords (F.bytes_of files.now) (I.remaining input.old) (run_rows (map S.text words.now)) (AppendsFront (W.contents out.old) (W.contents out.new)) }
 {
     match parse(alloc, words) {
         Ok(matches) => run_files(rt, alloc, files, &matches, input, out, err),
@@ -130,8 +140,11 @@ where
     W: Write,
     E: Write,
     ensures statuses { result ≤ 3 }
-    ensures printed { result ≡ 0 → RunsWords (F.bytes_of files.now) (I.remaining input.old) (rows_of (found_of matches.now)) (W.contents out.old) (W.contents out.new) }
+    ensures printed { result ≡ 0 → RunsWords (F.bytes_of files.now) (I.remaining input.old) (rows_of (found_of matches.now))
+        (Appends (W.contents out.old) (W.contents out.new)) }
     ensures silent { 1 ≤ result → result ≤ 2 → Keeps (W.contents out.old) (W.contents out.new) }
+    ensures cut { result ≡ 3 → Keeps (W.contents out.old) (W.contents out.new)
+        ⊎ RunsWords (F.bytes_of files.now) (I.remaining input.old) (rows_of (found_of matches.now)) (AppendsFront (W.contents out.old) (W.contents out.new)) }
 {
     let Some(names) = session_fields(matches) else {
         return FilesFault::SessionCount.report(err);

@@ -1,6 +1,6 @@
 -- What the program comes to.
 use Rattle.std.specs.Prelude.{◌≡◌, ◌≤◌, ℕ, ◌⊎◌, ◌++◌, List, [], ◌∷◌, Option, Some, None, codes, if◌then◌else◌}
-use Rattle.std.specs.Io.KnownBytes.{IsAtEnd, Keeps}
+use Rattle.std.specs.Io.KnownBytes.{Appends, IsAtEnd, Keeps}
 use Rattle.std.specs.Str.{bytes_eq}
 use Rattle.acl_queries.specs.CompareOutcome.{EndsAsCompared}
 use Rattle.acl_queries.specs.Outcome.{EndsAs, Outcome, outcome_of}
@@ -41,7 +41,7 @@ version_text = codes "aclctl 0.1.0" ++ 10 ∷ []
 
 -- sessions ended so: with their outputs, or with nothing written where they were refused
 pub record EndsAsRun (files : Files) (input : Option (List ℕ)) (words : List (List ℕ)) (old new : Option (List ℕ)) (status : ℕ) : Type 0 where
-  pub printed : status ≡ 0 → RunsWords files input (run_rows words) old new
+  pub printed : status ≡ 0 → RunsWords files input (run_rows words) (Appends old new)
   pub silent : 1 ≤ status → status ≤ 2 → Keeps old new
 
 -- with these files and this standard input, a run ended as these words of the command come to
