@@ -41,7 +41,8 @@ use usage::report_usage;
 /// nothing.
 ///
 /// It returns the exit status: 0 with the outputs; 1 where the setup is refused; 2 for more than 64 texts, before the setup
-/// is read; and 3 where memory runs out, the gate stops the run, a thread can't be started or `out` can't be written.
+/// is read; and 3 where memory runs out, the gate stops the run, a thread can't be started or `out` can't be written. At 1 and 2
+/// nothing was written, and at 3 nothing or a front of what the run prints.
 ///
 /// There is at least one text, each text has at most 1,048,576 bytes, and an error limit is at least 1.
 pub fn run_texts<R: Threads + Wait + Clock + Sync, G: Gate, W: Write, E: Write>(
@@ -88,7 +89,8 @@ pub fn run_texts<R: Threads + Wait + Clock + Sync, G: Gate, W: Write, E: Write>(
 ///
 /// It returns the exit status: 0 with the outputs; 1 where a file can't be opened or read or is too long, or the setup is
 /// refused; 2 where the parser of command lines refuses the words, or there are more than 64 sessions or two of them `-`,
-/// before any file is opened; and 3 where memory runs out, a thread can't be started or `out` can't be written.
+/// before any file is opened; and 3 where memory runs out, a thread can't be started or `out` can't be written. At 1 and 2 nothing
+/// was written, and at 3 nothing or a front of what the run prints.
 pub fn run<R, F, S, I, W, E>(
     rt: &R,
     alloc: Global,
