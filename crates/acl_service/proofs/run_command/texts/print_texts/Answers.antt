@@ -1,9 +1,11 @@
 use Rattle.std.specs.Option.{is_some}
 use Rattle.std.proofs.lemmas.Bool.{true≢false}
-use Rattle.std.proofs.Common.{◌≡◌, ◌∷◌, [], ℕ, Option, Some, None, false, inl, inr, refl, rules}
+use Rattle.std.proofs.Common.{◌≡◌, ◌∷◌, [], ℕ, Bool, List, Option, Some, None, Vec, Global, false, inl, inr, refl, rules}
 use Rattle.std.proofs.lemmas.Result.{on_ok_weaker}
+use Rattle.acl_names.specs.Directory.{Known}
+use Rattle.acl_tree.specs.Tree.{NodesUnderUmask}
 use Rattle.acl_service.specs.Opened.{Opens}
-use Rattle.acl_service.specs.RunTexts.{Prints}
+use Rattle.acl_service.specs.RunTexts.{IsOfReport, Prints, RunsTexts}
 use Rattle.acl_service.specs.Runs.{session_text}
 use Rattle.acl_service.proofs.PrintLemmas.{only_one}
 use Rattle.acl_service.proofs.run_command.texts.print_texts.Given as given
@@ -12,6 +14,12 @@ use Rattle.acl_service.proofs.run_command.texts.print_texts.Goals as goal
 none_held : (limit : Option ℕ) → is_some limit ≡ false → limit ≡ None
 none_held None none = refl
 none_held (Some errors) none = absurd (true≢false none)
+
+-- what a report explains over what the setup opens, the texts print
+over_report : (setup : List ℕ) (known : Known) (tree : NodesUnderUmask) (texts : List (Vec ℕ Global)) (journal : Bool) (limit : Option ℕ) (WentOut : List ℕ → Type 0)
+    → Opens setup known tree → (text : List ℕ) × IsOfReport known tree texts journal limit text × WentOut text → RunsTexts setup texts journal limit WentOut
+over_report setup known tree texts journal limit WentOut opened (text, is, out) =
+    record { printed = text; prints = record { known = known; tree = tree; opened = opened; is = inr is }; out = out }
 
 -- one session by itself is what the texts print
 prints_alone : (g : given.Over) (c : goal.After-drop-directory-inside-in-len1-7 g)
@@ -45,21 +53,7 @@ returns-in-len1-clause-cut g c lost =
 
 pub returns-clause-printed : goal.returns-clause-printed
 returns-clause-printed g c =
-    let known = c.in_ok-directory.directory in
-    let tree = c.in_ok-directory.tree in
-    let opened : Opens c.args.setup.now known tree = c.in_ok-directory.ensures.opened in
-    on_ok_weaker c.print_sessions.result (λ (text, is, written). record {
-      printed = text;
-      prints = record { known = known; tree = tree; opened = opened; is = inr is };
-      out = written;
-    }) c.print_sessions.ensures.printed
+    on_ok_weaker c.print_sessions.result (over_report _ _ _ _ _ _ _ c.in_ok-directory.ensures.opened) c.print_sessions.ensures.printed
 
 pub returns-clause-cut : goal.returns-clause-cut
-returns-clause-cut g c lost =
-    let cut = c.print_sessions.ensures.cut lost in
-    let opened : Opens c.args.setup.now c.in_ok-directory.directory c.in_ok-directory.tree = c.in_ok-directory.ensures.opened in
-    record {
-      printed = cut.0;
-      prints = record { known = c.in_ok-directory.directory; tree = c.in_ok-directory.tree; opened = opened; is = inr cut.1 };
-      out = cut.2;
-    }
+returns-clause-cut g c lost = over_report _ _ _ _ _ _ _ c.in_ok-directory.ensures.opened (c.print_sessions.ensures.cut lost)
