@@ -4,3 +4,4 @@ pub mod TextLengths
 pub mod SessionLemmas
 pub mod PrintLemmas
 pub mod FileLemmas
+pub mod CutLemmas

@@ -2,6 +2,7 @@
 use Rattle.std.proofs.Common.{ℕ, ◌+◌, ◌≤◌, List, [], ◌∷◌, length, length-append, arith, ◌==◌}
 use Rattle.std.proofs.lemmas.List.Splits.{length-slice_split}
 use Rattle.std.proofs.lemmas.List.Sums.{count_by-le-length}
+use Rattle.acl_names.specs.Bytes.{newline}
 use Rattle.acl_names.specs.Directory.{Known}
 use Rattle.acl_names.specs.Pieces.{lines_of, parts, without_empty_last}
 use Rattle.acl_lang.specs.Lines.{line_of}
@@ -28,4 +29,4 @@ fewer_requests known before (line ∷ lines) =
 -- a text has at most one request more than bytes
 pub few_requests : (known : Known) (text : List ℕ) → length (requests_of known text) ≤ length text + 1
 few_requests known text =
-    omega (arith, fewer_requests known 0 (lines_of text), fewer_parts (parts 10 text), length-slice_split (λ byte. byte == 10) text, count_by-le-length (λ byte. byte == 10) text)
+    omega (arith, fewer_requests known 0 (lines_of text), fewer_parts (parts newline text), length-slice_split (λ byte. byte == newline) text, count_by-le-length (λ byte. byte == newline) text)

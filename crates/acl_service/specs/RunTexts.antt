@@ -1,6 +1,5 @@
 -- What a run of sessions prints.
 use Rattle.std.specs.Prelude.{◌≡◌, ◌⊎◌, ℕ, Bool, false, List, [], ◌∷◌, Option, None, Vec, map}
-use Rattle.std.specs.Io.KnownBytes.{Appends}
 use Rattle.std.specs.declared.alloc.Global.{Global}
 use Rattle.acl_names.specs.Directory.{Known}
 use Rattle.acl_tree.specs.Tree.{NodesUnderUmask}
@@ -24,12 +23,6 @@ pub record IsOfReport (known : Known) (tree : NodesUnderUmask) (texts : List (Ve
   pub explains : ExplainsSessions known tree limit texts report
   pub is : printed ≡ run_text with_journal report.journal.items (map (λ output. output.items) report.outputs.items)
 
--- the output grew by what a report explains
-pub record GrowsByReport (known : Known) (tree : NodesUnderUmask) (texts : List (Vec ℕ Global)) (with_journal : Bool) (limit : Option ℕ) (old new : Option (List ℕ)) : Type 0 where
-  pub printed : List ℕ
-  pub is : IsOfReport known tree texts with_journal limit printed
-  pub written : Appends old new printed
-
 -- over the directory and the tree that the setup opens, the texts print this
 pub record Prints (setup : List ℕ) (texts : List (Vec ℕ Global)) (with_journal : Bool) (limit : Option ℕ) (printed : List ℕ) : Type 0 where
   pub known : Known
@@ -37,8 +30,8 @@ pub record Prints (setup : List ℕ) (texts : List (Vec ℕ Global)) (with_journ
   pub opened : Opens setup known tree
   pub is : IsOfOne known tree texts with_journal limit printed ⊎ IsOfReport known tree texts with_journal limit printed
 
--- the output grew by what the texts print
-pub record GrowsByRun (setup : List ℕ) (texts : List (Vec ℕ Global)) (with_journal : Bool) (limit : Option ℕ) (old new : Option (List ℕ)) : Type 0 where
+-- what the texts print went out so: all of it, or a front
+pub record RunsTexts (setup : List ℕ) (texts : List (Vec ℕ Global)) (with_journal : Bool) (limit : Option ℕ) (WentOut : List ℕ → Type 0) : Type 0 where
   pub printed : List ℕ
   pub prints : Prints setup texts with_journal limit printed
-  pub written : Appends old new printed
+  pub out : WentOut printed

@@ -1,14 +1,13 @@
 -- What the words of `run` ask, and what comes of it.
-use Rattle.std.specs.Prelude.{◌≡◌, ⊤, ℕ, ◌^◌, ◌<◌, Bool, List, [], ◌∷◌, Option, Some, None, codes, IfSome, unwrap_or, Vec, fold, if◌then◌else◌}
+use Rattle.std.specs.Prelude.{◌≡◌, ⊤, ℕ, ◌^◌, ◌<◌, List, [], ◌∷◌, Option, Some, None, codes, IfSome, unwrap_or, Vec, fold, if◌then◌else◌}
 use Rattle.std.specs.Str.{bytes_eq}
 use Rattle.std.specs.Str.Parse.{IsNumeral, digits_value, without_leading_plus}
 use Rattle.std.specs.declared.alloc.Global.{Global}
-use Rattle.clap.specs.Words.{App, Row, Rule, Text, all_of, fault_of, first_of, matches_of, new_app, new_rule, with_rule}
-use Rattle.clap.specs.declared.builder.range.ValueRange.{ValueRange}
+use Rattle.clap.specs.Words.{App, Row, Rule, Text, all_of, fault_of, first_of, matches_of, new_app, with_rule}
 use Rattle.clap.specs.declared.builder.value_parser.ValueParser.TheVariants.{Unsigned}
 use Rattle.acl_queries.specs.Asked.{flag_in}
 use Rattle.acl_queries.specs.CommandLine.{flag, optional_option, required_option, required_word}
-use Rattle.acl_service.specs.RunTexts.{GrowsByRun}
+use Rattle.acl_service.specs.RunTexts.{RunsTexts}
 use Rattle.acl_service.specs.declared.run_command.files.FilesFault.{FilesFault}
 use Rattle.acl_service.specs.declared.run_command.files.FilesFault.TheVariants.{SessionCount, InputTwice, CannotRead, Memory}
 
@@ -71,12 +70,12 @@ files_status InputTwice = 2
 files_status (CannotRead name) = 1
 files_status Memory = 3
 
--- the output grew by what the files print that the words name
-pub record RunsWords (bytes_of : Text → Option (List ℕ)) (input : Option (List ℕ)) (rows : List Row) (old new : Option (List ℕ)) : Type 0 where
+-- what the files print that the words name went out so: all of it, or a front
+pub record RunsWords (bytes_of : Text → Option (List ℕ)) (input : Option (List ℕ)) (rows : List Row) (WentOut : List ℕ → Type 0) : Type 0 where
   pub setup : List ℕ
   pub texts : List (Vec ℕ Global)
   pub limit : Option ℕ
   pub limit_is : HasLimit rows limit
   pub setup_is : IsTold (bytes_of (setup_in rows)) setup
   pub texts_are : AreTold bytes_of input (sessions_in rows) texts
-  pub grows : GrowsByRun setup texts (flag_in (codes "journal") rows) limit old new
+  pub runs : RunsTexts setup texts (flag_in (codes "journal") rows) limit WentOut

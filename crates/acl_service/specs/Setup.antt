@@ -1,6 +1,7 @@
 -- What a setup says, as a function of its table.
 use Rattle.std.specs.Prelude.{ℕ, ◌-◌, ◌&&◌, Bool, nat_le, List, [], ◌∷◌, Option, Some, None, codes, if◌then◌else◌}
 use Rattle.std.specs.Str.{bytes_eq}
+use Rattle.acl_names.specs.Bytes.{digit_0, digit_7}
 use Rattle.acl_names.specs.Directory.{Known, KnownGroup, KnownUser}
 use Rattle.acl_posix.specs.Mode.{Classes}
 use Rattle.acl_tree.specs.declared.node_acl.Style.{Style}
@@ -22,13 +23,13 @@ pub record Setup : Type 0 where
 
 -- an octal digit
 abbrev pub is_octal : ℕ → Bool
-is_octal byte = nat_le 48 byte && nat_le byte 55
+is_octal byte = nat_le digit_0 byte && nat_le byte digit_7
 
 -- a mode: three octal digits
 abbrev pub mode_of : List ℕ → Option Classes
 mode_of (user ∷ group ∷ other ∷ []) =
     if is_octal user && is_octal group && is_octal other
-    then Some (record { user = user - 48; group = group - 48; other = other - 48 })
+    then Some (record { user = user - digit_0; group = group - digit_0; other = other - digit_0 })
     else None
 mode_of _ = None
 

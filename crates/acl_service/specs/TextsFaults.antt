@@ -1,5 +1,6 @@
 -- The lines and the exit statuses of runs that come to nothing.
-use Rattle.std.specs.Prelude.{◌≡◌, ◌≢◌, ◌<◌, ◌≤◌, ◌++◌, ◌∷◌, [], ⊤, ℕ, List, codes, length}
+use Rattle.std.specs.Prelude.{◌≢◌, ◌<◌, ◌≤◌, ◌++◌, ◌∷◌, [], ⊤, ℕ, List, codes}
+use Rattle.acl_names.specs.Bytes.{newline}
 use Rattle.acl_broker.specs.declared.limits.TheConstants.{SESSIONS}
 use Rattle.acl_service.specs.Opened.{IsRefusedSetup}
 use Rattle.acl_service.specs.SetupFaults.{setup_error_words}
@@ -20,7 +21,7 @@ texts_fault_words (Setup error) = codes "setup: " ++ setup_error_words error
 texts_fault_words (Run fault) = codes "run: " ++ run_fault_words fault
 
 abbrev pub texts_fault_line : TextsFault → List ℕ
-texts_fault_line fault = codes "aclctl: " ++ texts_fault_words fault ++ 10 ∷ []
+texts_fault_line fault = codes "aclctl: " ++ texts_fault_words fault ++ newline ∷ []
 
 -- the exit status of a fault
 abbrev pub texts_status : TextsFault → ℕ

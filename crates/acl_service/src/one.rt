@@ -2,10 +2,12 @@
 ghost use Rattle.std.specs.Prelude.{◌≡◌, ◌≤◌, ◌++◌, length, IfOk, IsErrOf, OnOk};
 ghost use Rattle.std.specs.Io.KnownBytes.{Appends, Keeps};
 ghost use Rattle.acl_lang.specs.Texts.{requests_of};
+ghost use Rattle.acl_queries.specs.Output.{AppendsFront};
 ghost use Rattle.acl_service.specs.Runs.{session_text, tree_after};
 
 use acl_lang::{Answer, MAX_TEXT_LEN, Requests, render};
 use acl_names::Directory;
+use acl_queries::write_text;
 use acl_tree::Tree;
 use std::alloc::{AllocError, Global};
 use std::io::Write;
@@ -15,7 +17,7 @@ use std::io::Write;
 pub enum OneFault {
     /// Memory ran out. Nothing was written.
     Memory,
-    /// The answers couldn't be written.
+    /// The answers couldn't be written. A front of them went out.
     Write,
 }
 
@@ -59,13 +61,14 @@ pub fn run_one<W: Write>(
     ensures tree { IfOk result (λ after. after ≡ tree_after directory.now tree (requests_of directory.now text.now)) }
     ensures written { OnOk result (Appends (W.contents out.old) (W.contents out.new) (session_text directory.now tree text.now)) }
     ensures memory { IsErrOf result OneFault.Memory → Keeps (W.contents out.old) (W.contents out.new) }
+    ensures cut { IsErrOf result OneFault.Write → AppendsFront (W.contents out.old) (W.contents out.new) (session_text directory.now tree text.now) }
 {
     let mut tree = tree;
     let mut printed = Vec::new(alloc);
     if answer_lines(alloc, directory, &mut tree, text, &mut printed).is_err() {
         return Err(OneFault::Memory);
     }
-    match out.write_all(printed.as_slice()) {
+    match write_text(printed.as_slice(), out) {
         Ok(()) => Ok(tree),
         Err(_) => Err(OneFault::Write),
     }

@@ -1,11 +1,12 @@
 //! The command `run`.
-ghost use Rattle.std.specs.Prelude.{◌≡◌, ◌≢◌, ◌<◌, ◌≤◌, ◌↔◌, All, Some, length, map};
-ghost use Rattle.std.specs.Io.KnownBytes.{Keeps};
+ghost use Rattle.std.specs.Prelude.{◌≡◌, ◌≢◌, ◌<◌, ◌≤◌, ◌↔◌, ◌⊎◌, All, Some, length, map};
+ghost use Rattle.std.specs.Io.KnownBytes.{Appends, Keeps};
 ghost use Rattle.clap.specs.Words.{found_of, rows_of};
 ghost use Rattle.acl_lang.specs.declared.limits.TheConstants.{MAX_TEXT_LEN};
 ghost use Rattle.acl_broker.specs.declared.limits.TheConstants.{SESSIONS};
+ghost use Rattle.acl_queries.specs.Output.{AppendsFront};
 ghost use Rattle.acl_service.specs.TextsFaults.{RefusesSetup};
-ghost use Rattle.acl_service.specs.RunTexts.{GrowsByRun};
+ghost use Rattle.acl_service.specs.RunTexts.{RunsTexts};
 ghost use Rattle.acl_service.specs.RunWords.{RunTakes, RunsWords, run_rows};
 
 mod command_line;
@@ -40,7 +41,8 @@ use usage::report_usage;
 /// nothing.
 ///
 /// It returns the exit status: 0 with the outputs; 1 where the setup is refused; 2 for more than 64 texts, before the setup
-/// is read; and 3 where memory runs out, the gate stops the run, a thread can't be started or `out` can't be written.
+/// is read; and 3 where memory runs out, the gate stops the run, a thread can't be started or `out` can't be written. At 1 and 2
+/// nothing was written, and at 3 nothing or a front of what the run prints.
 ///
 /// There is at least one text, each text has at most 1,048,576 bytes, and an error limit is at least 1.
 pub fn run_texts<R: Threads + Wait + Clock + Sync, G: Gate, W: Write, E: Write>(
@@ -58,12 +60,16 @@ pub fn run_texts<R: Threads + Wait + Clock + Sync, G: Gate, W: Write, E: Write>(
     requires short { All (λ text. length text.items ≤ MAX_TEXT_LEN) texts.now }
     requires some { max_errors ≢ Some 0 }
     ensures statuses { result ≤ 3 }
-    ensures printed { result ≡ 0 → GrowsByRun setup.now texts.now journal max_errors (W.contents out.old) (W.contents out.new) }
+    ensures printed { result ≡ 0 → RunsTexts setup.now texts.now journal max_errors (Appends (W.contents out.old) (W.contents out.new)) }
     ensures refused_setup { result ≡ 1 → RefusesSetup setup.now }
     ensures too_many { (result ≡ 2) ↔ (SESSIONS < length texts.now) }
 
     // Nothing is written where the run is refused.
     ensures silent { 1 ≤ result → result ≤ 2 → Keeps (W.contents out.old) (W.contents out.new) }
+
+    // If the run lacks something, or a write fails, nothing went out or a front of what the texts print.
+    ensures cut { result ≡ 3 → Keeps (W.contents out.old) (W.contents out.new)
+        ⊎ RunsTexts setup.now texts.now journal max_errors (AppendsFront (W.contents out.old) (W.contents out.new)) }
 {
     let options = Options {
         journal,
@@ -83,7 +89,8 @@ pub fn run_texts<R: Threads + Wait + Clock + Sync, G: Gate, W: Write, E: Write>(
 ///
 /// It returns the exit status: 0 with the outputs; 1 where a file can't be opened or read or is too long, or the setup is
 /// refused; 2 where the parser of command lines refuses the words, or there are more than 64 sessions or two of them `-`,
-/// before any file is opened; and 3 where memory runs out, a thread can't be started or `out` can't be written.
+/// before any file is opened; and 3 where memory runs out, a thread can't be started or `out` can't be written. At 1 and 2 nothing
+/// was written, and at 3 nothing or a front of what the run prints.
 pub fn run<R, F, S, I, W, E>(
     rt: &R,
     alloc: Global,
@@ -102,10 +109,15 @@ where
     E: Write,
     ensures statuses { result ≤ 3 }
     ensures taken { result ≡ 0 → RunTakes (map S.text words.now) }
-    ensures printed { result ≡ 0 → RunsWords (F.bytes_of files.now) (I.remaining input.old) (run_rows (map S.text words.now)) (W.contents out.old) (W.contents out.new) }
+    ensures printed { result ≡ 0 → RunsWords (F.bytes_of files.now) (I.remaining input.old) (run_rows (map S.text words.now))
+        (Appends (W.contents out.old) (W.contents out.new)) }
 
     // Nothing is written where the words, a file or the setup are refused.
     ensures silent { 1 ≤ result → result ≤ 2 → Keeps (W.contents out.old) (W.contents out.new) }
+
+    // If the run lacks something, or a write fails, nothing went out or a front of what the files print.
+    ensures cut { result ≡ 3 → Keeps (W.contents out.old) (W.contents out.new)
+        ⊎ RunsWords (F.bytes_of files.now) (I.remaining input.old) (run_rows (map S.text words.now)) (AppendsFront (W.contents out.old) (W.contents out.new)) }
 {
     match parse(alloc, words) {
         Ok(matches) => run_files(rt, alloc, files, &matches, input, out, err),
@@ -130,8 +142,11 @@ where
     W: Write,
     E: Write,
     ensures statuses { result ≤ 3 }
-    ensures printed { result ≡ 0 → RunsWords (F.bytes_of files.now) (I.remaining input.old) (rows_of (found_of matches.now)) (W.contents out.old) (W.contents out.new) }
+    ensures printed { result ≡ 0 → RunsWords (F.bytes_of files.now) (I.remaining input.old) (rows_of (found_of matches.now))
+        (Appends (W.contents out.old) (W.contents out.new)) }
     ensures silent { 1 ≤ result → result ≤ 2 → Keeps (W.contents out.old) (W.contents out.new) }
+    ensures cut { result ≡ 3 → Keeps (W.contents out.old) (W.contents out.new)
+        ⊎ RunsWords (F.bytes_of files.now) (I.remaining input.old) (rows_of (found_of matches.now)) (AppendsFront (W.contents out.old) (W.contents out.new)) }
 {
     let Some(names) = session_fields(matches) else {
         return FilesFault::SessionCount.report(err);

@@ -47,9 +47,7 @@ pub fn serve<R: Threads + Wait + Clock + Sync, G: Gate>(
     requires some { max_errors ≢ Some 0 }
     ensures { IfOk result (ExplainsSessions directory.now tree max_errors texts.now) }
 {
-    let Ok(sessions) = open_all(alloc, directory, texts) else {
-        return Err(ServeFault::Memory);
-    };
+    let sessions = open_all(alloc, directory, texts)?;
     let printer = Printer { directory };
     let service = Served {
         alloc,
@@ -75,9 +73,7 @@ pub(crate) fn serve_in_print<'a, R: Threads + Wait + Clock + Sync, G: Gate>(
     requires some { max_errors ≢ Some 0 }
     ensures { IfOk result (λ run. ExplainsSessions directory.now tree max_errors texts.now (told run)) }
 {
-    let Ok(sessions) = open_all(alloc, directory, texts) else {
-        return Err(ServeFault::Memory);
-    };
+    let sessions = open_all(alloc, directory, texts)?;
     let alone = PrinterAlone { directory };
     let service = Served {
         alloc,
@@ -105,9 +101,7 @@ pub fn serve_rounds(
     ensures journal { IfOk result (λ report. AreRounds (requests_of_each directory.now texts.now) report.journal.items) }
     ensures fault { IfErr result (λ fault. fault ≡ ServeFault.Memory) }
 {
-    let Ok(sessions) = open_all(alloc, directory, texts) else {
-        return Err(ServeFault::Memory);
-    };
+    let sessions = open_all(alloc, directory, texts)?;
     let printer = Printer { directory };
     let service = Served {
         alloc,

@@ -1,5 +1,6 @@
 -- The lines and the exit statuses of the program's faults.
 use Rattle.std.specs.Prelude.{ℕ, List, ◌++◌, ◌∷◌, [], codes}
+use Rattle.acl_names.specs.Bytes.{newline}
 use Rattle.acl_queries.specs.declared.input.CapFault.{CapFault}
 use Rattle.acl_queries.specs.declared.input.CapFault.TheVariants as cap
 use Rattle.acl_queries.specs.declared.words.WordsFault.{WordsFault}
@@ -15,7 +16,7 @@ fault_words NoCommand = codes "no command"
 fault_words Memory = codes "run: memory"
 
 abbrev pub fault_line : ProgramFault → List ℕ
-fault_line fault = codes "aclctl: " ++ fault_words fault ++ 10 ∷ []
+fault_line fault = codes "aclctl: " ++ fault_words fault ++ newline ∷ []
 
 abbrev pub status_of : ProgramFault → ℕ
 status_of CannotRead = 1

@@ -1,7 +1,8 @@
 -- What the program comes to.
 use Rattle.std.specs.Prelude.{◌≡◌, ◌≤◌, ℕ, ◌⊎◌, ◌++◌, List, [], ◌∷◌, Option, Some, None, codes, if◌then◌else◌}
-use Rattle.std.specs.Io.KnownBytes.{IsAtEnd, Keeps}
+use Rattle.std.specs.Io.KnownBytes.{Appends, IsAtEnd, Keeps}
 use Rattle.std.specs.Str.{bytes_eq}
+use Rattle.acl_names.specs.Bytes.{newline}
 use Rattle.acl_queries.specs.CompareOutcome.{EndsAsCompared}
 use Rattle.acl_queries.specs.Outcome.{EndsAs, Outcome, outcome_of}
 use Rattle.acl_service.specs.RunWords.{RunsWords, run_rows}
@@ -37,11 +38,11 @@ command_of name =
 
 -- what `--version` prints
 abbrev pub version_text : List ℕ
-version_text = codes "aclctl 0.1.0" ++ 10 ∷ []
+version_text = codes "aclctl 0.1.0" ++ newline ∷ []
 
 -- sessions ended so: with their outputs, or with nothing written where they were refused
 pub record EndsAsRun (files : Files) (input : Option (List ℕ)) (words : List (List ℕ)) (old new : Option (List ℕ)) (status : ℕ) : Type 0 where
-  pub printed : status ≡ 0 → RunsWords files input (run_rows words) old new
+  pub printed : status ≡ 0 → RunsWords files input (run_rows words) (Appends old new)
   pub silent : 1 ≤ status → status ≤ 2 → Keeps old new
 
 -- with these files and this standard input, a run ended as these words of the command come to

@@ -1,11 +1,15 @@
 //! What is printed of a run.
 ghost use Rattle.std.specs.Prelude.{◌≡◌, ◌++◌, map, IfOk, OnOk};
 ghost use Rattle.std.specs.Io.KnownBytes.{Appends};
+ghost use Rattle.std.specs.List.{flat_map};
+ghost use Rattle.acl_queries.specs.Output.{AppendsFront};
 ghost use Rattle.acl_service.specs.RunText.{entry_text, journal_text, outputs_text, sessions_text};
 
 use acl_broker::JournalEntry;
 use acl_lang::Numbered;
 use acl_names::{put_bytes, put_decimal};
+use acl_queries::write_text;
+use itoa::Buffer;
 use std::alloc::{AllocError, Global};
 use std::io;
 use std::io::Write;
@@ -40,23 +44,40 @@ pub(super) fn print_journal(
     Ok(text)
 }
 
+/// Writes texts, one behind the other. If a write fails, a front of them all went out.
+fn write_texts<W: Write>(texts: &[&[u8]], out: &mut W) -> io::Result<()>
+    ensures written { OnOk result (Appends (W.contents out.old) (W.contents out.new) (flat_map (λ text. text.now) texts.now)) }
+    ensures front { AppendsFront (W.contents out.old) (W.contents out.new) (flat_map (λ text. text.now) texts.now) }
+{
+    for text in texts {
+        write_text(text, out)?;
+    }
+    Ok(())
+}
+
 /// Writes the output of each session behind a line that tells which it is.
 fn write_sessions<W: Write>(outputs: &[Vec<u8>], out: &mut W) -> io::Result<()>
-    ensures { OnOk result (Appends (W.contents out.old) (W.contents out.new) (sessions_text 0 (map (λ output. output.items) outputs.now))) }
+    ensures written { OnOk result (Appends (W.contents out.old) (W.contents out.new) (sessions_text 0 (map (λ output. output.items) outputs.now))) }
+    ensures front { AppendsFront (W.contents out.old) (W.contents out.new) (sessions_text 0 (map (λ output. output.items) outputs.now)) }
 {
+    let mut buffer = Buffer::new();
     for session in 0..outputs.len() {
-        writeln!(out, "session {session}")?;
-        out.write_all(outputs[session].as_slice())?;
+        let number = buffer.format(session).as_bytes();
+        write_texts(
+            &[b"session ", number, b"\n", outputs[session].as_slice()],
+            out,
+        )?;
     }
     Ok(())
 }
 
 /// Writes the outputs of the sessions. That of a single one stands by itself.
 pub(super) fn write_outputs<W: Write>(outputs: &[Vec<u8>], out: &mut W) -> io::Result<()>
-    ensures { OnOk result (Appends (W.contents out.old) (W.contents out.new) (outputs_text (map (λ output. output.items) outputs.now))) }
+    ensures written { OnOk result (Appends (W.contents out.old) (W.contents out.new) (outputs_text (map (λ output. output.items) outputs.now))) }
+    ensures front { AppendsFront (W.contents out.old) (W.contents out.new) (outputs_text (map (λ output. output.items) outputs.now)) }
 {
     match outputs {
-        [output] => out.write_all(output.as_slice()),
+        [output] => write_text(output.as_slice(), out),
         _ => write_sessions(outputs, out),
     }
 }

@@ -1,11 +1,12 @@
 //! Sessions whose texts are at hand.
-ghost use Rattle.std.specs.Prelude.{◌≡◌, ◌≢◌, ◌≤◌, All, IfErr, OnOk, Some, length, map};
+ghost use Rattle.std.specs.Prelude.{◌≡◌, ◌≢◌, ◌≤◌, ℕ, All, IfErr, IsErrOf, List, OnOk, Some, length, map};
 ghost use Rattle.std.specs.Io.KnownBytes.{Appends, Keeps};
 ghost use Rattle.acl_lang.specs.declared.limits.TheConstants.{MAX_TEXT_LEN};
 ghost use Rattle.acl_broker.specs.declared.limits.TheConstants.{SESSIONS};
+ghost use Rattle.acl_queries.specs.Output.{AppendsFront};
 ghost use Rattle.acl_service.specs.TextsFaults.{IsRunFault, IsTextsFault, lost_output};
 ghost use Rattle.acl_service.specs.RunText.{run_text};
-ghost use Rattle.acl_service.specs.RunTexts.{GrowsByReport, GrowsByRun};
+ghost use Rattle.acl_service.specs.RunTexts.{IsOfReport, RunsTexts};
 ghost use Rattle.acl_service.specs.Runs.{session_text};
 
 use super::fault::TextsFault;
@@ -14,6 +15,7 @@ use crate::sessions::{PrintedAnswer, serve_in_print};
 use crate::{Served, read_setup, run_one};
 use acl_broker::SESSIONS;
 use acl_names::Directory;
+use acl_queries::write_text;
 use acl_runs::{Gate, RunReport};
 use acl_tree::Tree;
 use std::alloc::Global;
@@ -41,6 +43,8 @@ fn print_report<W: Write>(
     ensures printed { OnOk result (Appends (W.contents out.old) (W.contents out.new)
         (run_text journal report.now.journal.items (map (λ output. output.items) report.now.outputs.items))) }
     ensures silent { IfErr result (λ fault. fault ≢ lost_output → Keeps (W.contents out.old) (W.contents out.new)) }
+    ensures cut { IsErrOf result lost_output → AppendsFront (W.contents out.old) (W.contents out.new)
+        (run_text journal report.now.journal.items (map (λ output. output.items) report.now.outputs.items)) }
     ensures fault { IfErr result IsRunFault }
 {
     let entries = if journal {
@@ -49,7 +53,7 @@ fn print_report<W: Write>(
         Vec::new(alloc)
     };
     write_outputs(report.outputs.as_slice(), out)?;
-    out.write_all(entries.as_slice())?;
+    write_text(entries.as_slice(), out)?;
     Ok(())
 }
 
@@ -64,6 +68,7 @@ fn print_session<W: Write>(
     requires { length text.now ≤ MAX_TEXT_LEN }
     ensures printed { OnOk result (Appends (W.contents out.old) (W.contents out.new) (session_text directory.now tree text.now)) }
     ensures silent { IfErr result (λ fault. fault ≢ lost_output → Keeps (W.contents out.old) (W.contents out.new)) }
+    ensures cut { IsErrOf result lost_output → AppendsFront (W.contents out.old) (W.contents out.new) (session_text directory.now tree text.now) }
     ensures fault { IfErr result IsRunFault }
 {
     run_one(alloc, directory, tree, text, out)?;
@@ -84,8 +89,11 @@ fn print_sessions<R: Threads + Wait + Clock + Sync, G: Gate, W: Write>(
     requires count { (1 ≤ length texts.now) × (length texts.now ≤ SESSIONS) }
     requires short { All (λ text. length text.items ≤ MAX_TEXT_LEN) texts.now }
     requires some { options.max_errors ≢ Some 0 }
-    ensures printed { OnOk result (GrowsByReport directory.now tree texts.now options.journal options.max_errors (W.contents out.old) (W.contents out.new)) }
+    ensures printed { OnOk result ((text : List ℕ) × IsOfReport directory.now tree texts.now options.journal options.max_errors text
+        × Appends (W.contents out.old) (W.contents out.new) text) }
     ensures silent { IfErr result (λ fault. fault ≢ lost_output → Keeps (W.contents out.old) (W.contents out.new)) }
+    ensures cut { IsErrOf result lost_output → (text : List ℕ) × IsOfReport directory.now tree texts.now options.journal options.max_errors text
+        × AppendsFront (W.contents out.old) (W.contents out.new) text }
     ensures fault { IfErr result IsRunFault }
 {
     let report = serve_in_print(rt, alloc, gate, directory, tree, texts, options.max_errors)?;
@@ -106,8 +114,9 @@ pub(super) fn print_texts<R: Threads + Wait + Clock + Sync, G: Gate, W: Write>(
     requires short { All (λ text. length text.items ≤ MAX_TEXT_LEN) texts.now }
     requires some { options.max_errors ≢ Some 0 }
     ensures few { OnOk result (length texts.now ≤ SESSIONS) }
-    ensures printed { OnOk result (GrowsByRun setup.now texts.now options.journal options.max_errors (W.contents out.old) (W.contents out.new)) }
+    ensures printed { OnOk result (RunsTexts setup.now texts.now options.journal options.max_errors (Appends (W.contents out.old) (W.contents out.new))) }
     ensures silent { IfErr result (λ fault. fault ≢ lost_output → Keeps (W.contents out.old) (W.contents out.new)) }
+    ensures cut { IsErrOf result lost_output → RunsTexts setup.now texts.now options.journal options.max_errors (AppendsFront (W.contents out.old) (W.contents out.new)) }
     ensures refused { IfErr result (IsTextsFault setup.now (length texts.now)) }
 {
     if texts.len() > SESSIONS as usize {

@@ -1,5 +1,5 @@
 //! The texts of sessions as they are read.
-ghost use Rattle.std.specs.Prelude.{◌≡◌, ◌≤◌, ◌<◌, ◌^◌, All, IfOk, length, map};
+ghost use Rattle.std.specs.Prelude.{◌≡◌, ◌≤◌, ◌<◌, ◌^◌, All, IfErr, IfOk, length, map};
 ghost use Rattle.acl_lang.specs.Texts.{requests_of};
 ghost use Rattle.acl_lang.specs.declared.limits.TheConstants.{MAX_TEXT_LEN};
 ghost use Rattle.acl_service.specs.Cursor.{rest_of};
@@ -7,7 +7,7 @@ ghost use Rattle.acl_service.specs.Sessions.{requests_of_each};
 
 use acl_lang::{MAX_TEXT_LEN, Numbered, Requests};
 use acl_names::Directory;
-use acl_runs as runs;
+use acl_runs::{self as runs, ServeFault};
 use std::alloc::{AllocError, Global};
 
 /// The requests of a session's text that are still to come, read line by line.
@@ -44,12 +44,15 @@ pub(super) fn open_all<'a>(
     alloc: Global,
     directory: &'a Directory,
     texts: &'a [Vec<u8>],
-) -> Result<Vec<Cursor<'a>>, AllocError>
+) -> Result<Vec<Cursor<'a>>, ServeFault>
     requires { All (λ text. length text.items ≤ MAX_TEXT_LEN) texts.now }
     ensures requests { IfOk result (λ cursors. map rest_of cursors.items ≡ requests_of_each directory.now texts.now) }
     ensures few { IfOk result (λ cursors. All (λ cursor. length (rest_of cursor) < 2 ^ 32) cursors.items) }
+    ensures fault { IfErr result (λ fault. fault ≡ ServeFault.Memory) }
 {
-    let mut cursors = Vec::with_capacity(alloc, texts.len())?;
+    let Ok(mut cursors) = Vec::with_capacity(alloc, texts.len()) else {
+        return Err(ServeFault::Memory);
+    };
     for text in texts {
         cursors.push_reserved(Cursor::new(alloc, directory, text.as_slice()));
     }

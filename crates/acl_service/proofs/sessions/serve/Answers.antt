@@ -7,4 +7,4 @@ use Rattle.acl_service.proofs.sessions.serve.Goals as goal
 pub returns : goal.returns
 returns g c =
     let served : Served = record { alloc = c.args.alloc; directory = c.args.directory; tree = c.args.tree } in
-    explained served c.args.max_errors c.args.texts.now (map rest_of c.in-Ok.sessions.items) c.in_ok-run.run' c.report_of.result c.in-Ok.ensures.requests c.report_of.ensures c.in_ok-run.ensures
+    explained served c.args.max_errors c.args.texts.now (map rest_of c.in_ok-sessions.sessions.items) c.in_ok-run.run' c.report_of.result c.in_ok-sessions.ensures.requests c.report_of.ensures c.in_ok-run.ensures

@@ -1,25 +1,34 @@
-use Rattle.std.proofs.Common.{◌≡◌, ◌∙◌, ◌+◌, ◌++◌, ◌∷◌, [], ap, sym, codes, decimal, drop, get_or, refl, rules, append_assoc}
-use Rattle.std.proofs.KnownBytes.{Appends-trans}
+use Rattle.std.proofs.Common.{◌∙◌, ◌++◌, ap, refl}
 use Rattle.std.specs.Io.KnownBytes.{Appends}
-use Rattle.acl_service.specs.RunText.{sessions_text}
-use Rattle.acl_service.proofs.PrintLemmas.{all_items, sessions_text-next}
+use Rattle.acl_queries.specs.Output.{AppendsFront}
+use Rattle.acl_queries.proofs.OutputLemmas.{front_among, front_so_far, more_among}
+use Rattle.acl_service.proofs.PrintLemmas.{session_texts, sessions_text-next}
 use Rattle.acl_service.proofs.run_command.printing.write_sessions.Goals as goal
+
+pub returns-in_err-write_texts-clause-front : goal.returns-in_err-write_texts-clause-front
+returns-in_err-write_texts-clause-front g c =
+    let was = c.loop-session.invariant in
+    let number = c.as_bytes-number.result.now in
+    let body = c.as_slice.result.now in
+    let next = sessions_text-next c.args.outputs.now c.loop-session.session c.index-outputs-session.result number body c.loop-session-test.true
+    c.index-outputs-session.is (c.as_bytes-number.ensures.value ∙ c.format.ensures.text) c.as_slice.ensures.value in
+    let front : AppendsFront (g.W.Write.contents c.loop-session.out) (g.W.Write.contents c.write_texts.new.out) (session_texts number body) =
+    c.write_texts.ensures.front in
+    front_among _ _ _ was.so_far _ _ _ (ap (λ more. was.so_far ++ more) next ∙ was.left) was.written front
 
 pub loop-session-preserved : goal.loop-session-preserved
 loop-session-preserved g c =
-    let session = c.loop-session.session-counter in
-    let invariant = c.loop-session.invariant in
-    let head = codes "session " ++ decimal session ++ 10 ∷ [] in
-    let output = c.index-outputs-session.result in
-    let body = output.items in
-    let titled : Appends (g.W.Write.contents c.loop-session.out) (g.W.Write.contents c.writeln.new.self) head = search (rules, c.in_ok-writeln.ensures.bytes) in
-    let filled : Appends (g.W.Write.contents c.writeln.new.self) (g.W.Write.contents c.write_all.new.self) body = search (rules, c.in_ok-write_all.ensures.bytes) in
-    let is : get_or c.args.outputs.now session output ≡ output = search rules in
-    let next = sessions_text-next c.args.outputs.now session output (search rules) in
-    let rest = sessions_text (session + 1) (all_items (drop (session + 1) c.args.outputs.now)) in
-    record {
-      so_far = invariant.so_far ++ (head ++ body);
-      written = Appends-trans _ _ _ invariant.so_far (head ++ body) invariant.written (Appends-trans _ _ _ head body titled filled);
-      left = append_assoc invariant.so_far (head ++ body) rest ∙ ap (λ text. invariant.so_far ++ text) (sym (rw is at next)) ∙ invariant.left;
-      all = refl;
-    }
+    let was = c.loop-session.invariant in
+    let number = c.as_bytes-number.result.now in
+    let body = c.as_slice.result.now in
+    let next = sessions_text-next c.args.outputs.now c.loop-session.session c.index-outputs-session.result number body c.loop-session-test.true
+    c.index-outputs-session.is (c.as_bytes-number.ensures.value ∙ c.format.ensures.text) c.as_slice.ensures.value in
+    let whole : Appends (g.W.Write.contents c.loop-session.out) (g.W.Write.contents c.write_texts.new.out) (session_texts number body) =
+    c.in_ok-write_texts.ensures.written in
+    let more = more_among _ _ _ was.so_far _ _ _ (ap (λ more. was.so_far ++ more) next ∙ was.left) was.written whole in
+    record { so_far = more.0; written = more.1; left = more.2; all = refl }
+
+pub returns-clause-front : goal.returns-clause-front
+returns-clause-front g c =
+    let was = c.loop-session.invariant in
+    front_so_far _ _ was.so_far _ _ was.left was.written

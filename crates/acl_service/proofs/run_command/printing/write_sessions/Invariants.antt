@@ -9,6 +9,6 @@ abbrev pub invariant-loop-session : goal.invariant-loop-session
 invariant-loop-session g l = record {
   so_far : List ℕ;
   written : Appends (g.W.Write.contents l.initial.out) (g.W.Write.contents l.out) so_far;
-  left : so_far ++ sessions_text l.session-counter (all_items (drop l.session-counter l.outputs)) ≡ sessions_text 0 (all_items l.outputs);
+  left : so_far ++ sessions_text l.session (all_items (drop l.session l.outputs)) ≡ sessions_text 0 (all_items l.outputs);
   all : l.session-end ≡ length l.outputs;
 }
