@@ -14,3 +14,5 @@ mod names;
 mod nfs4;
 #[cfg(test)]
 mod posix;
+#[cfg(test)]
+mod texts;

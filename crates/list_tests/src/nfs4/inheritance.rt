@@ -1,9 +1,9 @@
 use crate::nfs4::fixture::printed;
+use crate::texts::is_text;
 use acl_examples::acl4;
 use acl_nfs4::{Acl4, Kind};
 use acl_posix::Mode;
 use std::alloc::Global;
-use std::test::Fail;
 
 /// The list of the example of a directory.
 const PARENT: &str = "A:f:bob:r,A:dng:ops:rx,D:fn:carol:w,A:fdi:EVERYONE@:tc";
@@ -15,6 +15,17 @@ fn inherited(alloc: Global, text: &str, kind: Kind) -> Option<Acl4> {
     acl4(alloc, text)?.inherited(alloc, kind).ok()
 }
 
+/// What is printed of what a directory with the list hands down.
+fn below(alloc: Global, text: &str, kind: Kind) -> Option<String> {
+    let list = inherited(alloc, text, kind)?;
+    printed(alloc, &list)
+}
+
+/// Whether a directory with the list hands anything down.
+fn hands_down(alloc: Global, text: &str) -> Option<bool> {
+    Some(acl4(alloc, text)?.has_inheritance())
+}
+
 /// What is made below a directory with the list.
 fn made(alloc: Global, text: &str, kind: Kind, mode: u16) -> Option<String> {
     let mut list = inherited(alloc, text, kind)?;
@@ -23,7 +34,7 @@ fn made(alloc: Global, text: &str, kind: Kind, mode: u16) -> Option<String> {
 }
 
 #[test]
-fn what_is_inherited(rt: HostRuntime) -> Result<(), Fail> {
+fn what_is_inherited(rt: HostRuntime) {
     let file = "A::bob@example.org:r\nD::carol@example.org:w\nA::EVERYONE@:tc\n";
     let again = "A:fi:bob@example.org:r\nA:fd:EVERYONE@:tc\n";
     for (list, kind, wanted) in [
@@ -35,36 +46,31 @@ fn what_is_inherited(rt: HostRuntime) -> Result<(), Fail> {
         ("A:fdnSg:ops:r", Kind::Dir, "A:Sg:ops@example.org:r\n"),
         ("A:n:OWNER@:r", Kind::Dir, ""),
     ] {
-        let below = inherited(rt.alloc(), list, kind).ok_or("a list")?;
-        let text = printed(rt.alloc(), &below).ok_or("a text")?;
-        assert_eq!(rt; text.as_str(), wanted, "{list}");
+        let below = below(rt.alloc(), list, kind);
+        assert_eq!(rt; is_text(below, wanted), Some(true), "{list}");
     }
-    Ok(())
 }
 
 #[test]
-fn what_is_made_with_a_mode(rt: HostRuntime) -> Result<(), Fail> {
+fn what_is_made_with_a_mode(rt: HostRuntime) {
     let file =
         "A::OWNER@:rwa\nD::OWNER@:x\nA::bob@example.org:r\nD::carol@example.org:w\nA::EVERYONE@:tc\nD::bob@example.org:wax\nD::carol@example.org:ax\nA::GROUP@:r\nD::GROUP@:wax\n";
     let below =
         "A::OWNER@:rwax\nA:fi:bob@example.org:r\nA:g:ops@example.org:rx\nA:fdi:EVERYONE@:tc\nA::EVERYONE@:tc\nD:g:ops@example.org:wa\nA::GROUP@:rx\nD::GROUP@:wa\n";
     for (kind, mode, wanted) in [(Kind::File, 0o640, file), (Kind::Dir, 0o750, below)] {
-        let text = made(rt.alloc(), PARENT, kind, mode).ok_or("a list")?;
-        assert_eq!(rt; text.as_str(), wanted);
+        let made = made(rt.alloc(), PARENT, kind, mode);
+        assert_eq!(rt; is_text(made, wanted), Some(true));
     }
-    Ok(())
 }
 
 #[test]
-fn flags_of_inheritance(rt: HostRuntime) -> Result<(), Fail> {
+fn flags_of_inheritance(rt: HostRuntime) {
     for (list, wanted) in [
         ("A::OWNER@:r,A:n:OWNER@:r", true),
         ("A:fi:OWNER@:r", true),
         ("A:SFg:ops:r", false),
         ("", false),
     ] {
-        let list = acl4(rt.alloc(), list).ok_or("a list")?;
-        assert_eq!(rt; list.has_inheritance(), wanted);
+        assert_eq!(rt; hands_down(rt.alloc(), list), Some(wanted));
     }
-    Ok(())
 }

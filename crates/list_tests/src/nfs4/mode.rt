@@ -1,4 +1,5 @@
 use crate::nfs4::fixture::printed;
+use crate::texts::is_text;
 use acl_examples::acl4;
 use acl_posix::Mode;
 use std::alloc::Global;
@@ -35,22 +36,21 @@ fn the_mode_of_a_list(rt: HostRuntime) -> Result<(), Fail> {
 }
 
 #[test]
-fn a_mode_that_is_set(rt: HostRuntime) -> Result<(), Fail> {
+fn a_mode_that_is_set(rt: HostRuntime) {
     let shared =
         "A::OWNER@:rwa\nD::OWNER@:x\nA::OWNER@:tTcC\nD::bob@example.org:rwax\nD:g:ops@example.org:rwax\nD::GROUP@:rwax\nA::EVERYONE@:r\n";
     let split =
         "A::OWNER@:rwax\nA:fdi:bob@example.org:rx\nA::bob@example.org:rx\nD::bob@example.org:wa\nA::GROUP@:rx\nD::GROUP@:wa\n";
     for (list, mode, wanted) in [(SHARED, 0o604, shared), ("A:fd:bob:rx", 0o750, split)] {
         for times in [1, 2] {
-            let set = with_mode(rt.alloc(), list, mode, times).ok_or("a list")?;
-            assert_eq!(rt; set.as_str(), wanted, "{list} {times}");
+            let set = with_mode(rt.alloc(), list, mode, times);
+            assert_eq!(rt; is_text(set, wanted), Some(true), "{list} {times}");
         }
     }
-    Ok(())
 }
 
 #[test]
-fn audits_stay(rt: HostRuntime) -> Result<(), Fail> {
+fn audits_stay(rt: HostRuntime) {
     let set = with_mode(
         rt.alloc(),
         "U:SF:EVERYONE@:rx,L:fF:bob:w,U::OWNER@:",
@@ -59,6 +59,5 @@ fn audits_stay(rt: HostRuntime) -> Result<(), Fail> {
     );
     let wanted =
         "A::OWNER@:rwax\nU:SF:EVERYONE@:rx\nL:fF:bob@example.org:w\nU::OWNER@:\nD::GROUP@:rwax\n";
-    assert_eq!(rt; set.ok_or("a list")?.as_str(), wanted);
-    Ok(())
+    assert_eq!(rt; is_text(set, wanted), Some(true));
 }

@@ -19,16 +19,23 @@ const LONG: &str =
 const BELOW: &str =
     "A::1:r\nA::2:r\nA::3:r\nA::4:r\nA::5:r\nA::6:r\nA::7:r\nA::8:r\nA::9:r\nA::10:r\nA::11:r\nA::12:r\nA::13:r\nA::14:r\nA::15:r\nA::16:r\nA::17:r\n";
 
-/// The long list, at the second attempt if the first is refused.
-fn long_acl(alloc: Global, names: &Directory, refusals: &mut Refusals) -> Result<Acl4, Fail> {
+/// The long list, at the second attempt if the first is refused; none if another answer took the place of Memory.
+fn long_acl(alloc: Global, names: &Directory, refusals: &mut Refusals) -> Option<Acl4> {
     match read_aces(alloc, LONG.as_bytes(), names) {
-        Ok(list) => Ok(list),
+        Ok(list) => Some(list),
         Err(AceFault::Memory) => {
             refusals.one_more();
-            Ok(read_aces(alloc, LONG.as_bytes(), names)?)
+            read_aces(alloc, LONG.as_bytes(), names).ok()
         }
-        Err(_) => Err("another answer took the place of Memory".into()),
+        Err(_) => None,
     }
+}
+
+/// The names and the long list.
+fn names_and_list(alloc: Global, refusals: &mut Refusals) -> Option<(Directory, Acl4)> {
+    let names = refusals.again(|| directory(alloc))?;
+    let list = long_acl(alloc, &names, refusals)?;
+    Some((names, list))
 }
 
 /// An entry that lets the user with this number read.
@@ -37,54 +44,89 @@ fn reader(number: u32) -> Option<Ace> {
     Some(Ace::new(AceType::Allow, Flags::empty(), who, Mask::READ_DATA))
 }
 
+/// Whether the entry with this number is put behind so many, at the second attempt if the first is refused, and a refused
+/// attempt leaves the list as it was.
+fn is_pushed_again(list: &mut Acl4, number: u32, refusals: &mut Refusals) -> Option<bool> {
+    let entry = reader(number)?;
+    if list.push(entry) != Err(AceFault::Memory) {
+        return Some(true);
+    }
+    refusals.one_more();
+    Some(list.aces().len() == number as usize && list.push(entry).is_ok())
+}
+
+/// Whether the entries let the users 0, 1, 2 and so on read.
+fn are_readers(aces: &[Ace]) -> bool {
+    let mut number: u32 = 0;
+    for entry in aces {
+        if Some(*entry) != reader(number) {
+            return false;
+        }
+        number = number.saturating_add(1);
+    }
+    true
+}
+
 #[test]
 fn push_under_a_refused_growth(rt: HostRuntime) -> Result<(), Fail> {
-    let alloc = rt.alloc();
     let mut refusals = Refusals::new();
-    let mut list = Acl4::empty(alloc);
+    let mut list = Acl4::empty(rt.alloc());
     for number in 0..128 {
-        let entry = reader(number).ok_or("an entry")?;
-        if list.push(entry) == Err(AceFault::Memory) {
-            refusals.one_more();
-            assert_eq!(rt; list.aces().len(), number as usize);
-            assert!(rt; list.push(entry).is_ok());
-        }
+        assert_eq!(rt;
+            is_pushed_again(&mut list, number, &mut refusals),
+            Some(true)
+        );
     }
     assert_eq!(rt; list.aces().len(), 128);
-    for (number, entry) in list.aces().iter().enumerate() {
-        assert_eq!(rt; Some(*entry), reader(number as u32));
-    }
+    assert!(rt; are_readers(list.aces()));
     println!(rt; "refusals: {}", refusals.told())?;
     Ok(())
 }
 
+/// How many entries the long text has.
+fn read_again(alloc: Global, refusals: &mut Refusals) -> Option<usize> {
+    let (_, list) = names_and_list(alloc, refusals)?;
+    Some(list.aces().len())
+}
+
 #[test]
 fn read_aces_under_a_refused_growth(rt: HostRuntime) -> Result<(), Fail> {
-    let alloc = rt.alloc();
     let mut refusals = Refusals::new();
-    let names = refusals.again(|| directory(alloc)).ok_or("the directory")?;
-    let list = long_acl(alloc, &names, &mut refusals)?;
-    assert_eq!(rt; list.aces().len(), 17);
+    assert_eq!(rt; read_again(rt.alloc(), &mut refusals), Some(17));
     println!(rt; "refusals: {}", refusals.told())?;
     Ok(())
+}
+
+/// Whether the long list is printed behind this, at the second attempt if the first is refused, and a refused attempt leaves
+/// the text as it was.
+fn is_printed_again(
+    alloc: Global,
+    out: &mut Vec<u8>,
+    before: &[u8],
+    refusals: &mut Refusals,
+) -> Option<bool> {
+    let (names, list) = names_and_list(alloc, refusals)?;
+    if list.print_aces(&names, out).is_ok() {
+        return Some(true);
+    }
+    refusals.one_more();
+    Some(out.as_slice() == before && list.print_aces(&names, out).is_ok())
+}
+
+/// A text that something stands in.
+fn begun(alloc: Global) -> Option<Vec<u8>> {
+    let mut out = Vec::new(alloc);
+    out.push(b'>').ok()?;
+    Some(out)
 }
 
 #[test]
 fn print_aces_under_a_refused_growth(rt: HostRuntime) -> Result<(), Fail> {
     let alloc = rt.alloc();
     let mut refusals = Refusals::new();
-    let names = refusals.again(|| directory(alloc)).ok_or("the directory")?;
-    let list = long_acl(alloc, &names, &mut refusals)?;
-    let mut out = Vec::new(alloc);
-    if out.push(b'>').is_err() {
-        refusals.one_more();
-        out.push(b'>')?;
-    }
-    if list.print_aces(&names, &mut out).is_err() {
-        refusals.one_more();
-        assert_eq!(rt; out.as_slice(), b">".as_slice());
-        list.print_aces(&names, &mut out)?;
-    }
+    let mut out = refusals.again(|| begun(alloc)).ok_or("a text")?;
+    let printed = is_printed_again(alloc, &mut out, b">", &mut refusals);
+    assert_eq!(rt; printed, Some(true));
     // 9 lines of 8 bytes, and 8 of 9, after the one that stood there.
     assert_eq!(rt; out.len(), 145);
     assert!(rt; out.starts_with(b">A:f:1:r\nA:f:2:r\n".as_slice()));
@@ -97,19 +139,19 @@ fn print_aces_under_a_refused_growth(rt: HostRuntime) -> Result<(), Fail> {
 fn print_aces_with_little_room_under_a_refused_growth(rt: HostRuntime) -> Result<(), Fail> {
     let alloc = rt.alloc();
     let mut refusals = Refusals::new();
-    let names = refusals.again(|| directory(alloc)).ok_or("the directory")?;
-    let list = long_acl(alloc, &names, &mut refusals)?;
-    let mut out = refusals
-        .again(|| Vec::with_capacity(alloc, 100).ok())
-        .ok_or("room")?;
-    if list.print_aces(&names, &mut out).is_err() {
-        refusals.one_more();
-        assert!(rt; out.is_empty());
-        list.print_aces(&names, &mut out)?;
-    }
+    let room = refusals.again(|| Vec::with_capacity(alloc, 100).ok());
+    let mut out = room.ok_or("room")?;
+    let printed = is_printed_again(alloc, &mut out, b"", &mut refusals);
+    assert_eq!(rt; printed, Some(true));
     assert_eq!(rt; out.len(), 144);
     println!(rt; "refusals: {}", refusals.told())?;
     Ok(())
+}
+
+/// Whether the long list is printed at the first attempt.
+fn is_printed(alloc: Global, out: &mut Vec<u8>, refusals: &mut Refusals) -> Option<bool> {
+    let (names, list) = names_and_list(alloc, refusals)?;
+    Some(list.print_aces(&names, out).is_ok())
 }
 
 /// Where there is room for the text nothing grows, so that no refusal falls in the call.
@@ -117,13 +159,10 @@ fn print_aces_with_little_room_under_a_refused_growth(rt: HostRuntime) -> Result
 fn print_aces_with_room_under_a_refused_growth(rt: HostRuntime) -> Result<(), Fail> {
     let alloc = rt.alloc();
     let mut refusals = Refusals::new();
-    let names = refusals.again(|| directory(alloc)).ok_or("the directory")?;
-    let list = long_acl(alloc, &names, &mut refusals)?;
     // 9 lines of 8 bytes, and 8 of 9.
-    let mut out = refusals
-        .again(|| Vec::with_capacity(alloc, 144).ok())
-        .ok_or("room")?;
-    assert!(rt; list.print_aces(&names, &mut out).is_ok());
+    let room = refusals.again(|| Vec::with_capacity(alloc, 144).ok());
+    let mut out = room.ok_or("room")?;
+    assert_eq!(rt; is_printed(alloc, &mut out, &mut refusals), Some(true));
     assert_eq!(rt; out.len(), 144);
     println!(rt; "refusals: {}", refusals.told())?;
     Ok(())
@@ -136,19 +175,24 @@ fn with_copy(alloc: Global, refusals: &mut Refusals) -> Option<(Acl4, Acl4)> {
     Some((list, copy))
 }
 
-#[test]
-fn chmod4_under_a_refused_growth(rt: HostRuntime) -> Result<(), Fail> {
-    let alloc = rt.alloc();
-    let mut refusals = Refusals::new();
-    let mode = Mode::from_bits(0o700).ok_or("a mode")?;
-    let (mut list, before) = with_copy(alloc, &mut refusals).ok_or("lists")?;
+/// How many entries the long list has once its mode is set; none if a refused attempt changed the list.
+fn set_again(alloc: Global, refusals: &mut Refusals) -> Option<usize> {
+    let mode = Mode::from_bits(0o700)?;
+    let (mut list, before) = with_copy(alloc, refusals)?;
     if list.chmod4(alloc, mode) == Err(Fault4::Memory) {
         refusals.one_more();
-        assert!(rt; list.aces() == before.aces());
-        assert_eq!(rt; list.chmod4(alloc, mode), Ok(()));
+        if list.aces() != before.aces() || list.chmod4(alloc, mode) != Ok(()) {
+            return None;
+        }
     }
+    Some(list.aces().len())
+}
+
+#[test]
+fn chmod4_under_a_refused_growth(rt: HostRuntime) -> Result<(), Fail> {
+    let mut refusals = Refusals::new();
     // The owner's, what is inherited of each entry, a denial of each user, and the group's.
-    assert_eq!(rt; list.aces().len(), 36);
+    assert_eq!(rt; set_again(rt.alloc(), &mut refusals), Some(36));
     println!(rt; "refusals: {}", refusals.told())?;
     Ok(())
 }
@@ -159,34 +203,35 @@ fn is_spelt(alloc: Global, list: &Acl4, text: &str) -> Option<bool> {
     Some(list.aces() == wanted.aces())
 }
 
+/// Whether a file in a directory with the long list inherits the list below.
+fn inherited_again(alloc: Global, refusals: &mut Refusals) -> Option<bool> {
+    let list = refusals.again(|| acl4(alloc, LONG))?;
+    let below = refusals.again(|| list.inherited(alloc, Kind::File).ok())?;
+    refusals.again(|| is_spelt(alloc, &below, BELOW))
+}
+
 #[test]
 fn inherited_under_a_refused_growth(rt: HostRuntime) -> Result<(), Fail> {
-    let alloc = rt.alloc();
     let mut refusals = Refusals::new();
-    let list = refusals.again(|| acl4(alloc, LONG)).ok_or("a list")?;
-    let below = refusals
-        .again(|| list.inherited(alloc, Kind::File).ok())
-        .ok_or("refused without cause")?;
-    assert_eq!(rt;
-        refusals.again(|| is_spelt(alloc, &below, BELOW)),
-        Some(true)
-    );
+    assert_eq!(rt; inherited_again(rt.alloc(), &mut refusals), Some(true));
     println!(rt; "refusals: {}", refusals.told())?;
     Ok(())
 }
 
+/// How many entries a list with room for 40 has at first, and once so many were put into it at the first attempt.
+fn filled(alloc: Global, refusals: &mut Refusals) -> Option<(usize, usize)> {
+    let mut list = refusals.again(|| Acl4::with_capacity(alloc, 40).ok())?;
+    let before = list.aces().len();
+    for number in 0..40 {
+        list.push(reader(number)?).ok()?;
+    }
+    Some((before, list.aces().len()))
+}
+
 #[test]
 fn lists_with_room_under_a_refused_growth(rt: HostRuntime) -> Result<(), Fail> {
-    let alloc = rt.alloc();
     let mut refusals = Refusals::new();
-    let mut list = refusals
-        .again(|| Acl4::with_capacity(alloc, 40).ok())
-        .ok_or("refused without cause")?;
-    assert_eq!(rt; list.aces().len(), 0);
-    for number in 0..40 {
-        assert!(rt; list.push(reader(number).ok_or("an entry")?).is_ok());
-    }
-    assert_eq!(rt; list.aces().len(), 40);
+    assert_eq!(rt; filled(rt.alloc(), &mut refusals), Some((0, 40)));
     println!(rt; "refusals: {}", refusals.told())?;
     Ok(())
 }

@@ -1,5 +1,5 @@
 //! Modes and permissions that are written, and what lists are printed as; none where memory is refused or a text is.
-use acl_examples::directory;
+use acl_examples::{acl, directory};
 use acl_posix::{Acl, Mode, Perms, read_perms};
 use std::alloc::Global;
 
@@ -27,4 +27,16 @@ pub fn long(alloc: Global, acl: &Acl) -> Option<String> {
     let mut out = Vec::new(alloc);
     acl.print_long(&names, &mut out).ok()?;
     String::from_utf8(out).ok()
+}
+
+/// What `print_effective` appends of the list that the text spells.
+pub fn effective_of(alloc: Global, text: &str) -> Option<String> {
+    let list = acl(alloc, text)?;
+    effective(alloc, &list)
+}
+
+/// What `print_long` appends of the list that the text spells.
+pub fn long_of(alloc: Global, text: &str) -> Option<String> {
+    let list = acl(alloc, text)?;
+    long(alloc, &list)
 }

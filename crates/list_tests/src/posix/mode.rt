@@ -1,6 +1,7 @@
 use crate::posix::fixture::{effective, long, mode, perms};
+use crate::texts::is_text;
 use acl_examples::acl;
-use acl_posix::Acl;
+use acl_posix::{Acl, Perms};
 use std::alloc::Global;
 use std::test::Fail;
 
@@ -8,12 +9,19 @@ fn of_mode(alloc: Global, bits: u16) -> Option<Acl> {
     Acl::of_mode(alloc, mode(bits)?).ok()
 }
 
+/// What is printed of it.
+fn effective_of_mode(alloc: Global, bits: u16) -> Option<String> {
+    let list = of_mode(alloc, bits)?;
+    effective(alloc, &list)
+}
+
 #[test]
-fn a_mode_is_a_list_of_three(rt: HostRuntime) -> Result<(), Fail> {
-    let list = of_mode(rt.alloc(), 0o644).ok_or("list")?;
-    let printed = effective(rt.alloc(), &list).ok_or("print")?;
-    assert_eq!(rt; printed.as_str(), "user::rw-\ngroup::r--\nother::r--\n");
-    Ok(())
+fn a_mode_is_a_list_of_three(rt: HostRuntime) {
+    let wanted = "user::rw-\ngroup::r--\nother::r--\n";
+    assert_eq!(rt;
+        is_text(effective_of_mode(rt.alloc(), 0o644), wanted),
+        Some(true)
+    );
 }
 
 #[test]
@@ -53,23 +61,18 @@ fn a_mask_is_shown_in_the_mode(rt: HostRuntime) -> Result<(), Fail> {
 #[test]
 fn a_mode_set_under_a_mask(rt: HostRuntime) -> Result<(), Fail> {
     let list = with_mode(rt.alloc(), MASKED, 0o600).ok_or("list")?;
+    let wanted =
+        "user::rw-\nuser:bob:rw-\t#effective:---\ngroup::r--\t#effective:---\nmask::---\nother::---\n";
     assert_eq!(rt; list.mode().bits(), 0o600);
-    let printed = effective(rt.alloc(), &list).ok_or("print")?;
-    assert_eq!(rt;
-        printed.as_str(),
-        "user::rw-\nuser:bob:rw-\t#effective:---\ngroup::r--\t#effective:---\nmask::---\nother::---\n"
-    );
+    assert_eq!(rt; is_text(effective(rt.alloc(), &list), wanted), Some(true));
     Ok(())
 }
 
 #[test]
 fn a_mode_set_under_a_mask_in_plain_lines(rt: HostRuntime) -> Result<(), Fail> {
     let list = with_mode(rt.alloc(), MASKED, 0o600).ok_or("list")?;
-    let printed = long(rt.alloc(), &list).ok_or("print")?;
-    assert_eq!(rt;
-        printed.as_str(),
-        "user::rw-\nuser:bob:rw-\ngroup::r--\nmask::---\nother::---\n"
-    );
+    let wanted = "user::rw-\nuser:bob:rw-\ngroup::r--\nmask::---\nother::---\n";
+    assert_eq!(rt; is_text(long(rt.alloc(), &list), wanted), Some(true));
     Ok(())
 }
 
@@ -92,7 +95,7 @@ fn copied(alloc: Global) -> Option<String> {
 }
 
 #[test]
-fn a_default_list_at_creation(rt: HostRuntime) -> Result<(), Fail> {
+fn a_default_list_at_creation(rt: HostRuntime) {
     for (bits, wanted) in [
         (
             0o640,
@@ -103,31 +106,28 @@ fn a_default_list_at_creation(rt: HostRuntime) -> Result<(), Fail> {
             "user::rwx\nuser:bob:rwx\t#effective:r-x\ngroup::r-x\nmask::r-x\nother::---\n",
         ),
     ] {
-        let printed = created(rt.alloc(), bits).ok_or("a list")?;
-        assert_eq!(rt; printed.as_str(), wanted);
+        assert_eq!(rt; is_text(created(rt.alloc(), bits), wanted), Some(true));
     }
-    Ok(())
 }
 
 #[test]
-fn a_copy_of_a_default_list(rt: HostRuntime) -> Result<(), Fail> {
-    let printed = copied(rt.alloc()).ok_or("a list")?;
-    assert_eq!(rt;
-        printed.as_str(),
-        "user::rwx\nuser:bob:rwx\ngroup::r-x\nmask::rwx\nother::---\n"
-    );
-    Ok(())
+fn a_copy_of_a_default_list(rt: HostRuntime) {
+    let wanted = "user::rwx\nuser:bob:rwx\ngroup::r-x\nmask::rwx\nother::---\n";
+    assert_eq!(rt; is_text(copied(rt.alloc()), wanted), Some(true));
+}
+
+/// The mask that is calculated for the list that the text spells.
+fn calculated(alloc: Global, text: &str) -> Option<Perms> {
+    Some(acl(alloc, text)?.calc_mask())
 }
 
 #[test]
-fn the_calculated_mask_joins_what_a_mask_limits(rt: HostRuntime) -> Result<(), Fail> {
+fn the_calculated_mask_joins_what_a_mask_limits(rt: HostRuntime) {
     for (text, wanted) in [
         ("u::rw,u:bob:rw,g::r,g:ops:rwx,m::rw,o::r", "rwx"),
         ("u::rwx,g::r,o::x", "r"),
         ("u::rwx,u:bob:w,g::-,m::-,o::x", "w"),
     ] {
-        let list = acl(rt.alloc(), text).ok_or("list")?;
-        assert_eq!(rt; Some(list.calc_mask()), perms(wanted), "{text}");
+        assert_eq!(rt; calculated(rt.alloc(), text), perms(wanted), "{text}");
     }
-    Ok(())
 }

@@ -1,7 +1,8 @@
-use crate::posix::fixture::{effective, long};
+use crate::posix::fixture::{effective, effective_of, long_of};
+use crate::texts::is_text;
 use acl_examples::{acl, directory};
 use acl_names::Directory;
-use acl_posix::{Acl, Perms, TextFault, read_entries, read_perms};
+use acl_posix::{Perms, TextFault, read_entries, read_perms};
 use std::alloc::Global;
 use std::test::Fail;
 
@@ -13,18 +14,10 @@ fn fault(alloc: Global, names: &Directory, text: &[u8]) -> Option<TextFault> {
 }
 
 #[test]
-fn long_text_forms(rt: HostRuntime) -> Result<(), Fail> {
-    let list = acl(
-        rt.alloc(),
-        "user : : rwx , g::r-x\nmask:rwx # all\nother:r\n",
-    )
-    .ok_or("list")?;
-    let printed = long(rt.alloc(), &list).ok_or("print")?;
-    assert_eq!(rt;
-        printed.as_str(),
-        "user::rwx\ngroup::r-x\nmask::rwx\nother::r--\n"
-    );
-    Ok(())
+fn long_text_forms(rt: HostRuntime) {
+    let text = "user : : rwx , g::r-x\nmask:rwx # all\nother:r\n";
+    let wanted = "user::rwx\ngroup::r-x\nmask::rwx\nother::r--\n";
+    assert_eq!(rt; is_text(long_of(rt.alloc(), text), wanted), Some(true));
 }
 
 #[test]
@@ -72,12 +65,16 @@ fn longest(alloc: Global) -> Option<String> {
     Some(text)
 }
 
+/// How many entries are read of it.
+fn entries_of_longest(alloc: Global) -> Option<usize> {
+    let text = longest(alloc)?;
+    let list = acl(alloc, text.as_str())?;
+    Some(list.entries().len())
+}
+
 #[test]
-fn a_text_of_64_entries(rt: HostRuntime) -> Result<(), Fail> {
-    let text = longest(rt.alloc()).ok_or("text")?;
-    let list = acl(rt.alloc(), text.as_str()).ok_or("list")?;
-    assert_eq!(rt; list.entries().len(), 64);
-    Ok(())
+fn a_text_of_64_entries(rt: HostRuntime) {
+    assert_eq!(rt; entries_of_longest(rt.alloc()), Some(64));
 }
 
 #[test]
@@ -90,23 +87,20 @@ fn a_text_of_more_than_64_entries(rt: HostRuntime) -> Result<(), Fail> {
     Ok(())
 }
 
-/// Whether what is printed with marks is read as the list's entries.
-fn is_read_again(alloc: Global, list: &Acl) -> Option<bool> {
-    let printed = effective(alloc, list)?;
+/// Whether what is printed with marks is read as the entries of the list that the text spells.
+fn is_read_again(alloc: Global, text: &str) -> Option<bool> {
+    let list = acl(alloc, text)?;
+    let printed = effective(alloc, &list)?;
     let again = acl(alloc, printed.as_str())?;
     Some(again.entries() == list.entries())
 }
 
 #[test]
-fn what_is_printed_with_marks_is_read_again(rt: HostRuntime) -> Result<(), Fail> {
-    let list = acl(rt.alloc(), "u::rw,u:bob:rw,g::r,m::r,o::-").ok_or("list")?;
-    assert_eq!(rt; is_read_again(rt.alloc(), &list), Some(true));
-    let printed = effective(rt.alloc(), &list).ok_or("print")?;
-    assert_eq!(rt;
-        printed.as_str(),
-        "user::rw-\nuser:bob:rw-\t#effective:r--\ngroup::r--\nmask::r--\nother::---\n"
-    );
-    Ok(())
+fn what_is_printed_with_marks_is_read_again(rt: HostRuntime) {
+    let text = "u::rw,u:bob:rw,g::r,m::r,o::-";
+    let wanted = "user::rw-\nuser:bob:rw-\t#effective:r--\ngroup::r--\nmask::r--\nother::---\n";
+    assert_eq!(rt; is_read_again(rt.alloc(), text), Some(true));
+    assert_eq!(rt; is_text(effective_of(rt.alloc(), text), wanted), Some(true));
 }
 
 #[test]

@@ -1,52 +1,29 @@
 //! Examples of a broker on one thread.
+use crate::broker::acts::{Act, wrong_act};
 use crate::broker::fixture::{HEAVY, answer_of, open_broker, reply_to};
-use acl_broker::{
-    CancelRefused, CloseRefused, Refused, Step, StepResult, SubmitRefusal, TakeRefused,
-};
+use acl_broker::{CancelRefused, CloseRefused, Step, StepResult, SubmitRefusal, TakeRefused};
 use std::test::Fail;
-
-/// Why a submit was refused, and the item that came back.
-fn refusal(submitted: Result<(), Refused<u16>>) -> Option<(SubmitRefusal, u16)> {
-    match submitted {
-        Ok(()) => None,
-        Err(refused) => Some((refused.why, refused.item)),
-    }
-}
 
 #[test]
 fn limits_of_a_local_broker(rt: HostRuntime) -> Result<(), Fail> {
-    let mut broker = open_broker(rt.alloc(), 1)?;
-    for item in 1..257_u16 {
-        assert_eq!(rt; refusal(broker.submit(0, item)), None);
-    }
-    assert_eq!(rt;
-        refusal(broker.submit(0, 500)),
-        Some((SubmitRefusal::Full, 500))
-    );
-    assert_eq!(rt; broker.take(0), Ok(0));
-    assert_eq!(rt; refusal(broker.submit(0, 257)), None);
-    assert_eq!(rt; broker.close(0), Ok(()));
-    assert_eq!(rt;
-        refusal(broker.submit(0, 501)),
-        Some((SubmitRefusal::Closed, 501))
-    );
-    assert_eq!(rt; broker.close(0), Err(CloseRefused::Closed));
-    for place in 1..257_usize {
-        assert_eq!(rt; broker.take(0), Ok(place));
-    }
-    assert_eq!(rt; broker.take(0), Err(TakeRefused::Empty));
-    for item in 1..258_u16 {
-        assert_eq!(rt; broker.answer(0), reply_to(item - 1, item));
-    }
-    assert_eq!(rt; broker.answer(0), None);
-
-    assert_eq!(rt;
-        refusal(broker.submit(1, 502)),
-        Some((SubmitRefusal::UnknownSession, 502))
-    );
-    assert_eq!(rt; broker.take(1), Err(TakeRefused::UnknownSession));
-    assert_eq!(rt; broker.close(1), Err(CloseRefused::UnknownSession));
-    assert_eq!(rt; broker.answer(1), None);
+    let acts = [
+        Act::SubmitAll(1, 257),
+        Act::Submit(0, 500, Some(SubmitRefusal::Full)),
+        Act::Take(0, Ok(0)),
+        Act::Submit(0, 257, None),
+        Act::Close(0, Ok(())),
+        Act::Submit(0, 501, Some(SubmitRefusal::Closed)),
+        Act::Close(0, Err(CloseRefused::Closed)),
+        Act::TakeAll(1, 257),
+        Act::Take(0, Err(TakeRefused::Empty)),
+        Act::AnswerAll(1, 258),
+        Act::Answer(0, None),
+        Act::Submit(1, 502, Some(SubmitRefusal::UnknownSession)),
+        Act::Take(1, Err(TakeRefused::UnknownSession)),
+        Act::Close(1, Err(CloseRefused::UnknownSession)),
+        Act::Answer(1, None),
+    ];
+    assert_eq!(rt; wrong_act(open_broker(rt.alloc(), 1)?, &acts), None);
     Ok(())
 }
 
@@ -93,40 +70,44 @@ fn steps_of_a_local_broker(rt: HostRuntime) -> Result<(), Fail> {
 
 #[test]
 fn cancelled(rt: HostRuntime) -> Result<(), Fail> {
-    let mut broker = open_broker(rt.alloc(), 1)?;
-    for item in 1..4_u16 {
-        assert_eq!(rt; refusal(broker.submit(0, item)), None);
-    }
-    assert_eq!(rt; broker.take(0), Ok(0));
-    assert_eq!(rt; broker.cancel(0), Ok(()));
-    assert_eq!(rt; broker.cancel(0), Err(CancelRefused::Cancelled));
-    assert_eq!(rt; broker.take(0), Err(TakeRefused::Empty));
-    assert_eq!(rt;
-        refusal(broker.submit(0, 4)),
-        Some((SubmitRefusal::Closed, 4))
-    );
-    assert_eq!(rt; broker.close(0), Err(CloseRefused::Closed));
-    assert_eq!(rt; broker.answer(0), reply_to(0, 1));
-    assert_eq!(rt; broker.answer(0), None);
-    assert_eq!(rt; broker.cancel(1), Err(CancelRefused::UnknownSession));
-    assert_eq!(rt; broker.journal().len(), 1);
-    assert!(rt; !broker.all_open());
+    let acts = [
+        Act::SubmitAll(1, 4),
+        Act::Take(0, Ok(0)),
+        Act::Cancel(0, Ok(())),
+        Act::Cancel(0, Err(CancelRefused::Cancelled)),
+        Act::Take(0, Err(TakeRefused::Empty)),
+        Act::Submit(0, 4, Some(SubmitRefusal::Closed)),
+        Act::Close(0, Err(CloseRefused::Closed)),
+        Act::Answer(0, reply_to(0, 1)),
+        Act::Answer(0, None),
+        Act::Cancel(1, Err(CancelRefused::UnknownSession)),
+        Act::Journal(1),
+        Act::AllOpen(false),
+    ];
+    assert_eq!(rt; wrong_act(open_broker(rt.alloc(), 1)?, &acts), None);
     Ok(())
 }
 
 #[test]
 fn item_that_wants_memory_stays_first(rt: HostRuntime) -> Result<(), Fail> {
-    let mut broker = open_broker(rt.alloc(), 1)?;
-    for item in [1, HEAVY, 2] {
-        assert_eq!(rt; refusal(broker.submit(0, item)), None);
-    }
-    assert_eq!(rt; broker.take(0), Ok(0));
-    for _ in 0..3 {
-        assert_eq!(rt; broker.take(0), Err(TakeRefused::Memory));
-        assert_eq!(rt; broker.journal().len(), 1);
-        assert_eq!(rt; broker.service().request, 1);
-    }
-    assert_eq!(rt; broker.answer(0), reply_to(0, 1));
-    assert_eq!(rt; broker.answer(0), None);
+    let refused = Act::Take(0, Err(TakeRefused::Memory));
+    let acts = [
+        Act::Submit(0, 1, None),
+        Act::Submit(0, HEAVY, None),
+        Act::Submit(0, 2, None),
+        Act::Take(0, Ok(0)),
+        refused,
+        Act::Journal(1),
+        Act::Applied(1),
+        refused,
+        Act::Journal(1),
+        Act::Applied(1),
+        refused,
+        Act::Journal(1),
+        Act::Applied(1),
+        Act::Answer(0, reply_to(0, 1)),
+        Act::Answer(0, None),
+    ];
+    assert_eq!(rt; wrong_act(open_broker(rt.alloc(), 1)?, &acts), None);
     Ok(())
 }

@@ -1,23 +1,27 @@
 //! Examples of a broker that is split, and rejoined.
+use crate::broker::acts::{
+    Act, HalfAct, rejoined_after, rejoined_closed_after, wrong_act, wrong_half_act,
+};
 use crate::broker::fixture::{HEAVY, Halves, answer_of, open_broker, reply_to};
-use acl_broker::{SLOTS, Step, StepResult, TakeRefused};
+use acl_broker::{SLOTS, Step, StepResult, SubmitRefusal, TakeRefused};
 use std::test::Fail;
 
 #[test]
 fn cancelled_by_the_taker(rt: HostRuntime) -> Result<(), Fail> {
-    let mut halves = Halves::split(open_broker(rt.alloc(), 1)?)?;
-    for item in 1..4_u16 {
-        assert_eq!(rt; halves.submit(item), Ok(()));
-    }
-    assert_eq!(rt; halves.take(), Ok(0));
-    assert_eq!(rt; halves.cancel(), Ok(()));
-    for _ in 0..3 {
-        assert_eq!(rt; halves.take(), Err(TakeRefused::Empty));
-    }
-    assert_eq!(rt; halves.submit(4), Ok(()));
-    assert!(rt; halves.deliver(0));
-    assert_eq!(rt; halves.poll(), reply_to(0, 1));
-    assert_eq!(rt; halves.taker.journal().len(), 1);
+    let acts = [
+        HalfAct::SubmitAll(1, 4),
+        HalfAct::Take(Ok(0)),
+        HalfAct::Cancel(Ok(())),
+        HalfAct::Take(Err(TakeRefused::Empty)),
+        HalfAct::Take(Err(TakeRefused::Empty)),
+        HalfAct::Take(Err(TakeRefused::Empty)),
+        HalfAct::Submit(4),
+        HalfAct::Deliver(0, true),
+        HalfAct::Poll(reply_to(0, 1)),
+        HalfAct::Journal(1),
+    ];
+    let halves = Halves::split(open_broker(rt.alloc(), 1)?)?;
+    assert_eq!(rt; wrong_half_act(halves, &acts), None);
     Ok(())
 }
 
@@ -85,59 +89,39 @@ fn full_end(rt: HostRuntime) -> Result<(), Fail> {
 
 #[test]
 fn outbox(rt: HostRuntime) -> Result<(), Fail> {
-    let mut halves = Halves::split(open_broker(rt.alloc(), 1)?)?;
-    for (from, upto) in [(1_u16, 65_u16), (65, 101)] {
-        for item in from..upto {
-            assert_eq!(rt; halves.submit(item), Ok(()));
-        }
-        for item in from..upto {
-            assert_eq!(rt; halves.take(), Ok(item as usize - 1));
-        }
-    }
-    assert_eq!(rt; halves.taker.owed(0), 100);
-    for _ in 0..100 {
-        assert!(rt; halves.deliver(0));
-    }
-    assert!(rt; !halves.deliver(0));
-    assert_eq!(rt; halves.taker.owed(0), 0);
-    assert_eq!(rt; halves.poll(), reply_to(0, 1));
-    assert!(rt; !halves.deliver(0));
-    assert_eq!(rt; halves.taker.owed(0), 0);
-    assert!(rt; !halves.deliver(1));
-    assert_eq!(rt; halves.taker.owed(1), 0);
-
-    let mut broker = halves.rejoin(rt.alloc())?;
-    for item in 2..101_u16 {
-        assert_eq!(rt; broker.answer(0), reply_to(item - 1, item));
-    }
-    assert_eq!(rt; broker.answer(0), None);
+    let acts = [
+        HalfAct::SubmitAll(1, 65),
+        HalfAct::TakeAll(0, 64),
+        HalfAct::SubmitAll(65, 101),
+        HalfAct::TakeAll(64, 100),
+        HalfAct::Owed(0, 100),
+        HalfAct::DeliverAll(100),
+        HalfAct::Deliver(0, false),
+        HalfAct::Owed(0, 0),
+        HalfAct::Poll(reply_to(0, 1)),
+        HalfAct::Deliver(0, false),
+        HalfAct::Owed(0, 0),
+        HalfAct::Deliver(1, false),
+        HalfAct::Owed(1, 0),
+    ];
+    let then = [Act::AnswerAll(2, 101), Act::Answer(0, None)];
+    assert_eq!(rt; wrong_act(rejoined_after(rt.alloc(), &acts)?, &then), None);
     Ok(())
 }
 
 #[test]
 fn outbox_beyond_the_ring(rt: HostRuntime) -> Result<(), Fail> {
-    let mut halves = Halves::split(open_broker(rt.alloc(), 1)?)?;
-    for item in 1..301_u16 {
-        assert_eq!(rt; halves.submit(item), Ok(()));
-        assert_eq!(rt; halves.take(), Ok(item as usize - 1));
-    }
-    assert_eq!(rt; halves.taker.owed(0), 300);
-    assert_eq!(rt;
-        halves.taker.newest(0).map(|reply| reply.request),
-        Some(300)
-    );
-    for _ in 0..SLOTS {
-        assert!(rt; halves.deliver(0));
-    }
-    assert!(rt; !halves.deliver(0));
-    assert_eq!(rt; halves.taker.owed(0), 44);
-    assert_eq!(rt; halves.poll(), reply_to(0, 1));
-
-    let mut broker = halves.rejoin(rt.alloc())?;
-    for item in 2..301_u16 {
-        assert_eq!(rt; broker.answer(0), reply_to(item - 1, item));
-    }
-    assert_eq!(rt; broker.answer(0), None);
+    let acts = [
+        HalfAct::SubmitAndTakeAll(1, 301),
+        HalfAct::Owed(0, 300),
+        HalfAct::Newest(300),
+        HalfAct::DeliverAll(SLOTS),
+        HalfAct::Deliver(0, false),
+        HalfAct::Owed(0, 44),
+        HalfAct::Poll(reply_to(0, 1)),
+    ];
+    let then = [Act::AnswerAll(2, 301), Act::Answer(0, None)];
+    assert_eq!(rt; wrong_act(rejoined_after(rt.alloc(), &acts)?, &then), None);
     Ok(())
 }
 
@@ -167,43 +151,48 @@ fn outbox_stays_over_rejoin_and_split(rt: HostRuntime) -> Result<(), Fail> {
 
 #[test]
 fn hand_that_wants_memory_stays_first(rt: HostRuntime) -> Result<(), Fail> {
-    let mut halves = Halves::split(open_broker(rt.alloc(), 1)?)?;
-    for item in [1, HEAVY, 2] {
-        assert_eq!(rt; halves.submit(item), Ok(()));
-    }
-    assert_eq!(rt; halves.take(), Ok(0));
-    for _ in 0..3 {
-        assert_eq!(rt; halves.take(), Err(TakeRefused::Memory));
-        assert_eq!(rt; halves.taker.journal().len(), 1);
-        assert_eq!(rt; halves.taker.owed(0), 1);
-    }
-
-    let mut broker = halves.rejoin(rt.alloc())?;
-    assert_eq!(rt; broker.take(0), Err(TakeRefused::Memory));
-    assert_eq!(rt; broker.service().request, 1);
-    assert_eq!(rt; broker.answer(0), reply_to(0, 1));
-    assert_eq!(rt; broker.answer(0), None);
+    let refused = HalfAct::Take(Err(TakeRefused::Memory));
+    let acts = [
+        HalfAct::Submit(1),
+        HalfAct::Submit(HEAVY),
+        HalfAct::Submit(2),
+        HalfAct::Take(Ok(0)),
+        refused,
+        HalfAct::Journal(1),
+        HalfAct::Owed(0, 1),
+        refused,
+        HalfAct::Journal(1),
+        HalfAct::Owed(0, 1),
+        refused,
+        HalfAct::Journal(1),
+        HalfAct::Owed(0, 1),
+    ];
+    let then = [
+        Act::Take(0, Err(TakeRefused::Memory)),
+        Act::Applied(1),
+        Act::Answer(0, reply_to(0, 1)),
+        Act::Answer(0, None),
+    ];
+    assert_eq!(rt; wrong_act(rejoined_after(rt.alloc(), &acts)?, &then), None);
     Ok(())
 }
 
 /// An end mark in a rejoined lane is no waiting item.
 #[test]
 fn rejoined_with_a_closed_end(rt: HostRuntime) -> Result<(), Fail> {
-    let mut halves = Halves::split(open_broker(rt.alloc(), 1)?)?;
-    for item in 1..4_u16 {
-        assert_eq!(rt; halves.submit(item), Ok(()));
-    }
-    assert_eq!(rt; halves.take(), Ok(0));
-    let mut broker = halves.rejoin_closed(rt.alloc())?;
-    assert!(rt; !broker.all_open());
-    assert!(rt; broker.submit(0, 9).is_err());
-    assert_eq!(rt; broker.take(0), Ok(1));
-    assert_eq!(rt; broker.take(0), Ok(2));
-    assert_eq!(rt; broker.take(0), Err(TakeRefused::Empty));
-    for item in 1..4_u16 {
-        assert_eq!(rt; broker.answer(0), reply_to(item - 1, item));
-    }
-    assert_eq!(rt; broker.answer(0), None);
+    let acts = [HalfAct::SubmitAll(1, 4), HalfAct::Take(Ok(0))];
+    let then = [
+        Act::AllOpen(false),
+        Act::Submit(0, 9, Some(SubmitRefusal::Closed)),
+        Act::TakeAll(1, 3),
+        Act::Take(0, Err(TakeRefused::Empty)),
+        Act::AnswerAll(1, 4),
+        Act::Answer(0, None),
+    ];
+    assert_eq!(rt;
+        wrong_act(rejoined_closed_after(rt.alloc(), &acts)?, &then),
+        None
+    );
     Ok(())
 }
 
@@ -230,17 +219,15 @@ fn cancelled_session_ends(rt: HostRuntime) -> Result<(), Fail> {
 /// A slot that a poll freed is found again.
 #[test]
 fn delivers_again_after_a_poll(rt: HostRuntime) -> Result<(), Fail> {
-    let mut halves = Halves::split(open_broker(rt.alloc(), 1)?)?;
-    for item in 1..301_u16 {
-        assert_eq!(rt; halves.submit(item), Ok(()));
-        assert_eq!(rt; halves.take(), Ok(item as usize - 1));
-    }
-    for _ in 0..SLOTS {
-        assert!(rt; halves.deliver(0));
-    }
-    assert!(rt; !halves.deliver(0));
-    assert_eq!(rt; halves.poll(), reply_to(0, 1));
-    assert!(rt; halves.deliver(0));
-    assert!(rt; !halves.deliver(0));
+    let acts = [
+        HalfAct::SubmitAndTakeAll(1, 301),
+        HalfAct::DeliverAll(SLOTS),
+        HalfAct::Deliver(0, false),
+        HalfAct::Poll(reply_to(0, 1)),
+        HalfAct::Deliver(0, true),
+        HalfAct::Deliver(0, false),
+    ];
+    let halves = Halves::split(open_broker(rt.alloc(), 1)?)?;
+    assert_eq!(rt; wrong_half_act(halves, &acts), None);
     Ok(())
 }

@@ -1,7 +1,6 @@
 use acl_queries::decide;
 use std::alloc::Global;
 use std::io::{self, Write};
-use std::test::Fail;
 
 /// The fields in order: owner, group, uid, gids, perms, TEXT.
 type Fields<'a> = [&'a str; 6];
@@ -13,6 +12,22 @@ fn words_for<'a>(fields: &Fields<'a>) -> [&'a str; 12] {
         "decide", "--owner", fields[0], "--group", fields[1], "--uid", fields[2], "--gids",
         fields[3], "--perms", fields[4], fields[5],
     ]
+}
+
+/// Whether the command ends so: with this status, and with these texts on its output and for its faults.
+fn ends_with(alloc: Global, words: &[&str], status: u8, text: &str, fault: &str) -> bool {
+    let mut out = Vec::new(alloc);
+    let mut err = Vec::new(alloc);
+    decide(alloc, words, &mut out, &mut err) == status
+        && out.as_slice() == text.as_bytes()
+        && err.as_slice() == fault.as_bytes()
+}
+
+/// Whether the parser refuses the words, and says why.
+fn is_wrong_usage(alloc: Global, words: &[&str]) -> bool {
+    let mut out = Vec::new(alloc);
+    let mut err = Vec::new(alloc);
+    decide(alloc, words, &mut out, &mut err) == 2 && out.is_empty() && !err.is_empty()
 }
 
 /// Fails at each write.
@@ -30,7 +45,7 @@ impl Write for Broken {
 }
 
 #[test]
-fn granted_and_denied(rt: HostRuntime) -> Result<(), Fail> {
+fn granted_and_denied(rt: HostRuntime) {
     for (fields, line) in [
         (ASKED, "granted\n"),
         // The group may only read.
@@ -100,17 +115,8 @@ fn granted_and_denied(rt: HostRuntime) -> Result<(), Fail> {
         ),
     ] {
         let words = words_for(&fields);
-        let mut out = Vec::new(rt.alloc());
-        let mut err = Vec::new(rt.alloc());
-        assert_eq!(rt;
-            decide(rt.alloc(), words.as_slice(), &mut out, &mut err),
-            0,
-            "at {fields:?}"
-        );
-        assert_eq!(rt; out.as_slice(), line.as_bytes(), "at {fields:?}");
-        assert!(rt; err.is_empty());
+        assert!(rt; ends_with(rt.alloc(), &words, 0, line, ""), "at {fields:?}");
     }
-    Ok(())
 }
 
 #[test]
@@ -125,15 +131,11 @@ fn without_gids(rt: HostRuntime) {
         "--owner",
         "1000",
     ];
-    let mut out = Vec::new(rt.alloc());
-    let mut err = Vec::new(rt.alloc());
-    assert_eq!(rt; decide(rt.alloc(), words.as_slice(), &mut out, &mut err), 0);
-    assert_eq!(rt; out.as_slice(), b"denied\n".as_slice());
-    assert!(rt; err.is_empty());
+    assert!(rt; ends_with(rt.alloc(), &words, 0, "denied\n", ""));
 }
 
 #[test]
-fn with_the_translation(rt: HostRuntime) -> Result<(), Fail> {
+fn with_the_translation(rt: HostRuntime) {
     for (perms, list, text) in [
         (
             "rw",
@@ -162,17 +164,8 @@ fn with_the_translation(rt: HostRuntime) -> Result<(), Fail> {
             "decide", "--nfs4", "--owner", "1000", "--group", "50", "--uid", "1001", "--gids",
             "50,60", "--perms", perms, list,
         ];
-        let mut out = Vec::new(rt.alloc());
-        let mut err = Vec::new(rt.alloc());
-        assert_eq!(rt;
-            decide(rt.alloc(), words.as_slice(), &mut out, &mut err),
-            0,
-            "at {list:?}"
-        );
-        assert_eq!(rt; out.as_slice(), text.as_bytes(), "at {list:?}");
-        assert!(rt; err.is_empty());
+        assert!(rt; ends_with(rt.alloc(), &words, 0, text, ""), "at {list:?}");
     }
-    Ok(())
 }
 
 const GIDS_32: &str =
@@ -185,7 +178,7 @@ const BAD_32ND: &str =
     "1,2,3,4,5,6,7,8,9,10,11,12,13,14,15,16,17,18,19,20,21,22,23,24,25,26,27,28,29,30,31,x,33";
 
 #[test]
-fn refuses_fields(rt: HostRuntime) -> Result<(), Fail> {
+fn refuses_fields(rt: HostRuntime) {
     for (at, field, line) in [
         (0, "x", "aclctl: bad-id\n"),
         (0, "", "aclctl: bad-id\n"),
@@ -216,35 +209,16 @@ fn refuses_fields(rt: HostRuntime) -> Result<(), Fail> {
         assert!(rt; at < 6);
         fields[at] = field;
         let words = words_for(&fields);
-        let mut out = Vec::new(rt.alloc());
-        let mut err = Vec::new(rt.alloc());
-        assert_eq!(rt;
-            decide(rt.alloc(), words.as_slice(), &mut out, &mut err),
-            1,
-            "at {field:?}"
-        );
-        assert_eq!(rt; err.as_slice(), line.as_bytes(), "at {field:?}");
-        assert!(rt; out.is_empty());
+        assert!(rt; ends_with(rt.alloc(), &words, 1, "", line), "at {field:?}");
     }
-    Ok(())
 }
 
 #[test]
 fn takes_32_gids(rt: HostRuntime) {
     let mut fields = ASKED;
     fields[3] = GIDS_32;
-    let mut out = Vec::new(rt.alloc());
-    let mut err = Vec::new(rt.alloc());
-    assert_eq!(rt;
-        decide(
-            rt.alloc(),
-            words_for(&fields).as_slice(),
-            &mut out,
-            &mut err
-        ),
-        0
-    );
-    assert_eq!(rt; out.as_slice(), b"granted\n".as_slice());
+    let words = words_for(&fields);
+    assert!(rt; ends_with(rt.alloc(), &words, 0, "granted\n", ""));
 }
 
 /// The three entries that there must be, and then so many of `m::r`.
@@ -256,28 +230,30 @@ fn long_text(alloc: Global, masks: usize) -> io::Result<String> {
     Ok(text)
 }
 
+/// Whether the command ends so at the text with so many masks.
+fn with_masks_ends(
+    alloc: Global,
+    masks: usize,
+    status: u8,
+    text: &str,
+    fault: &str,
+) -> Option<bool> {
+    let list = long_text(alloc, masks).ok()?;
+    let mut fields = ASKED;
+    fields[5] = list.as_str();
+    Some(ends_with(alloc, &words_for(&fields), status, text, fault))
+}
+
 #[test]
-fn takes_64_entries(rt: HostRuntime) -> Result<(), Fail> {
-    for (masks, line) in [
-        (1, "granted\n"),
-        (61, "aclctl: invalid-acl\n"),
-        (62, "aclctl: too-many\n"),
+fn takes_64_entries(rt: HostRuntime) {
+    for (masks, status, text, fault) in [
+        (1, 0, "granted\n", ""),
+        (61, 1, "", "aclctl: invalid-acl\n"),
+        (62, 1, "", "aclctl: too-many\n"),
     ] {
-        let text = long_text(rt.alloc(), masks)?;
-        let mut fields = ASKED;
-        fields[5] = text.as_str();
-        let mut both = Vec::new(rt.alloc());
-        let mut err = Vec::new(rt.alloc());
-        let _ = decide(
-            rt.alloc(),
-            words_for(&fields).as_slice(),
-            &mut both,
-            &mut err,
-        );
-        both.extend_from_slice(err.as_slice())?;
-        assert_eq!(rt; both.as_slice(), line.as_bytes(), "with {masks} masks");
+        let ends = with_masks_ends(rt.alloc(), masks, status, text, fault);
+        assert_eq!(rt; ends, Some(true), "with {masks} masks");
     }
-    Ok(())
 }
 
 /// Each field from the back to the front is made faulty in turn, so that the first of them is told.
@@ -292,19 +268,8 @@ fn first_faulty_field_is_told(rt: HostRuntime) {
     ] {
         assert!(rt; at < 6);
         fields[at] = field;
-        let mut out = Vec::new(rt.alloc());
-        let mut err = Vec::new(rt.alloc());
-        assert_eq!(rt;
-            decide(
-                rt.alloc(),
-                words_for(&fields).as_slice(),
-                &mut out,
-                &mut err
-            ),
-            1
-        );
-        assert_eq!(rt; err.as_slice(), line.as_bytes());
-        assert!(rt; out.is_empty());
+        let words = words_for(&fields);
+        assert!(rt; ends_with(rt.alloc(), &words, 1, "", line), "at {field:?}");
     }
 }
 
@@ -372,15 +337,7 @@ fn parser_refuses_words(rt: HostRuntime) {
         ]
         .as_slice(),
     ] {
-        let mut out = Vec::new(rt.alloc());
-        let mut err = Vec::new(rt.alloc());
-        assert_eq!(rt;
-            decide(rt.alloc(), words, &mut out, &mut err),
-            2,
-            "at {words:?}"
-        );
-        assert!(rt; out.is_empty());
-        assert!(rt; !err.is_empty());
+        assert!(rt; is_wrong_usage(rt.alloc(), words), "at {words:?}");
     }
 }
 

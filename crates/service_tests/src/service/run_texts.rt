@@ -7,7 +7,6 @@ use acl_service::{Gate, OpenGate, run_texts};
 use std::alloc::Global;
 use std::io::{self, Write};
 use std::sync::Wait;
-use std::test::Fail;
 use std::thread::Threads;
 use std::time::Clock;
 
@@ -64,8 +63,11 @@ fn texts_of(alloc: Global, given: &[&str]) -> Option<Vec<Vec<u8>>> {
     Some(texts)
 }
 
-/// How a run of these texts ended: its status, and what went to the output and to standard error.
-fn run<R: Threads + Wait + Clock + Sync, G: Gate>(
+/// How a run ends: its status, and what goes to the output and to standard error.
+type Ending<'a> = (u8, &'a str, &'a str);
+
+/// Whether a run of these texts ends so.
+fn ends_with<R: Threads + Wait + Clock + Sync, G: Gate>(
     rt: &R,
     alloc: Global,
     gate: &G,
@@ -73,7 +75,8 @@ fn run<R: Threads + Wait + Clock + Sync, G: Gate>(
     given: &[&str],
     journal: bool,
     max_errors: Option<u32>,
-) -> Option<(u8, Vec<u8>, Vec<u8>)>
+    ending: Ending<'_>,
+) -> Option<bool>
     requires { max_errors ≢ Some 0 }
 {
     let texts = texts_of(alloc, given)?;
@@ -87,89 +90,119 @@ fn run<R: Threads + Wait + Clock + Sync, G: Gate>(
     let status = run_texts(
         rt, alloc, gate, setup, texts, journal, max_errors, &mut out, &mut err,
     );
-    Some((status, out, err))
+    let (wanted, text, fault) = ending;
+    Some(
+        status == wanted && out.as_slice() == text.as_bytes() && err.as_slice() == fault.as_bytes(),
+    )
 }
 
 #[test]
-fn journal_of_one_session(rt: HostRuntime) -> Result<(), Fail> {
-    let (status, out, err) = run(
-        &rt,
-        rt.alloc(),
-        &OpenGate,
-        SETUP,
-        &[CREATE_AND_GET],
-        true,
-        None,
-    )
-    .ok_or("no run")?;
+fn journal_of_one_session(rt: HostRuntime) {
+    let alloc = rt.alloc();
+    let texts = [CREATE_AND_GET];
     let wanted =
         "1 ok\n2 get /a file alice staff 644 posix\nuser::rw-\ngroup::r--\nother::r--\njournal\n0 1\n0 2\n";
-    assert_eq!(rt; status, 0);
-    assert_eq!(rt; out.as_slice(), wanted.as_bytes());
-    assert!(rt; err.is_empty());
-    Ok(())
-}
-
-#[test]
-fn one_session_alone(rt: HostRuntime) -> Result<(), Fail> {
-    let (status, out, err) = run(
+    let ended = ends_with(
         &rt,
-        rt.alloc(),
+        alloc,
         &OpenGate,
         SETUP,
-        &[CREATE_AND_GET],
+        &texts,
+        true,
+        None,
+        (0, wanted, ""),
+    );
+    assert_eq!(rt; ended, Some(true));
+}
+
+#[test]
+fn one_session_alone(rt: HostRuntime) {
+    let alloc = rt.alloc();
+    let texts = [CREATE_AND_GET];
+    let wanted = "1 ok\n2 get /a file alice staff 644 posix\nuser::rw-\ngroup::r--\nother::r--\n";
+    let ended = ends_with(
+        &rt,
+        alloc,
+        &OpenGate,
+        SETUP,
+        &texts,
         false,
         None,
-    )
-    .ok_or("no run")?;
-    let wanted = "1 ok\n2 get /a file alice staff 644 posix\nuser::rw-\ngroup::r--\nother::r--\n";
-    assert_eq!(rt; status, 0);
-    assert_eq!(rt; out.as_slice(), wanted.as_bytes());
-    assert!(rt; err.is_empty());
-    Ok(())
+        (0, wanted, ""),
+    );
+    assert_eq!(rt; ended, Some(true));
 }
 
 #[test]
-fn output_of_two_sessions(rt: HostRuntime) -> Result<(), Fail> {
-    let (status, out, err) = run(&rt, rt.alloc(), &OpenGate, SETUP, &[P, Q], false, None).ok_or(
-        "no run",
-    )?;
+fn output_of_two_sessions(rt: HostRuntime) {
+    let alloc = rt.alloc();
+    let texts = [P, Q];
     let wanted =
         "session 0\n1 ok\n2 ok\n3 get /p/f file alice staff 600 posix\nuser::rw-\ngroup::---\nother::---\nsession 1\n1 ok\n2 ok\n3 get /q/f file bob staff 600 posix\nuser::rw-\ngroup::---\nother::---\n";
-    assert_eq!(rt; status, 0);
-    assert_eq!(rt; out.as_slice(), wanted.as_bytes());
-    assert!(rt; err.is_empty());
-    Ok(())
+    let ended = ends_with(
+        &rt,
+        alloc,
+        &OpenGate,
+        SETUP,
+        &texts,
+        false,
+        None,
+        (0, wanted, ""),
+    );
+    assert_eq!(rt; ended, Some(true));
 }
 
 #[test]
-fn most_errors_allowed(rt: HostRuntime) -> Result<(), Fail> {
-    let text = "get /x\nget /\nnope\nget /\n";
-    let (status, out, err) = run(&rt, rt.alloc(), &OpenGate, SETUP, &[text], true, Some(2)).ok_or(
-        "no run",
-    )?;
+fn most_errors_allowed(rt: HostRuntime) {
+    let alloc = rt.alloc();
+    let texts = ["get /x\nget /\nnope\nget /\n"];
     let wanted =
         "1 error 20 no-such-path\n2 get / dir root root 755 posix\nuser::rwx\ngroup::r-x\nother::r-x\n3 error 1 syntax\njournal\n0 1\n0 2\n0 3\n";
-    assert_eq!(rt; status, 0);
-    assert_eq!(rt; out.as_slice(), wanted.as_bytes());
-    assert!(rt; err.is_empty());
-    Ok(())
+    let ended = ends_with(
+        &rt,
+        alloc,
+        &OpenGate,
+        SETUP,
+        &texts,
+        true,
+        Some(2),
+        (0, wanted, ""),
+    );
+    assert_eq!(rt; ended, Some(true));
 }
 
 #[test]
-fn stopped_by_the_gate(rt: HostRuntime) -> Result<(), Fail> {
+fn stopped_by_the_gate(rt: HostRuntime) {
+    let alloc = rt.alloc();
     let gate = Closed { session: 0, nth: 2 };
-    let (status, out, err) = run(&rt, rt.alloc(), &gate, SETUP, &[P, Q], false, None).ok_or(
-        "no run",
-    )?;
-    assert_eq!(rt; status, 3);
-    assert!(rt; out.is_empty());
-    assert_eq!(rt; err.as_slice(), b"aclctl: run: stopped\n".as_slice());
-    Ok(())
+    let ending = (3, "", "aclctl: run: stopped\n");
+    let ended = ends_with(&rt, alloc, &gate, SETUP, &[P, Q], false, None, ending);
+    assert_eq!(rt; ended, Some(true));
+}
+
+/// Whether a run over the setup of the examples, with more behind it, ends with this line.
+fn refuses_more<R: Threads + Wait + Clock + Sync>(
+    rt: &R,
+    alloc: Global,
+    more: &str,
+    line: &str,
+) -> Option<bool> {
+    let setup = format!(in alloc; "{SETUP}{more}").ok()?;
+    let setup = setup.as_str();
+    ends_with(
+        rt,
+        alloc,
+        &OpenGate,
+        setup,
+        &[P, Q],
+        true,
+        None,
+        (1, "", line),
+    )
 }
 
 #[test]
-fn setups_that_are_refused(rt: HostRuntime) -> Result<(), Fail> {
+fn setups_that_are_refused(rt: HostRuntime) {
     for (more, line) in [
         ("[[", "aclctl: setup: not toml\n"),
         ("[[user]]\nname = \"dave\"\n", "aclctl: setup: bad field\n"),
@@ -182,47 +215,32 @@ fn setups_that_are_refused(rt: HostRuntime) -> Result<(), Fail> {
             "aclctl: setup: unknown group\n",
         ),
     ] {
-        let setup = format!(in rt.alloc(); "{SETUP}{more}")?;
-        let (status, out, err) = run(
-            &rt,
-            rt.alloc(),
-            &OpenGate,
-            setup.as_str(),
-            &[P, Q],
-            true,
-            None,
-        )
-        .ok_or("no run")?;
-        assert_eq!(rt; status, 1);
-        assert!(rt; out.is_empty());
-        assert_eq!(rt; err.as_slice(), line.as_bytes());
+        let refuses = refuses_more(&rt, rt.alloc(), more, line);
+        assert_eq!(rt; refuses, Some(true), "with {more}");
     }
-    Ok(())
 }
 
 #[test]
-fn more_than_64_texts_come_before_the_setup(rt: HostRuntime) -> Result<(), Fail> {
+fn more_than_64_texts_come_before_the_setup(rt: HostRuntime) {
+    let alloc = rt.alloc();
     for (texts, status, line) in [
         ([P; 65].as_slice(), 2, "aclctl: at most 64 sessions\n"),
         ([P; 64].as_slice(), 1, "aclctl: setup: not toml\n"),
     ] {
-        let (ended, out, err) = run(&rt, rt.alloc(), &OpenGate, "[[", texts, false, None).ok_or(
-            "no run",
-        )?;
-        assert_eq!(rt; ended, status);
-        assert!(rt; out.is_empty());
-        assert_eq!(rt; err.as_slice(), line.as_bytes());
+        let ending = (status, "", line);
+        let ended = ends_with(&rt, alloc, &OpenGate, "[[", texts, false, None, ending);
+        assert_eq!(rt; ended, Some(true), "with {status}");
     }
-    Ok(())
 }
 
-/// How a run of these texts ends where so many writes of 8 bytes each succeed: its status, and what goes to standard error.
-fn run_into_failing<R: Threads + Wait + Clock + Sync>(
+/// Whether a run of these texts ends with this line where only so many writes of 8 bytes each succeed.
+fn fails_at<R: Threads + Wait + Clock + Sync>(
     rt: &R,
     alloc: Global,
     given: &[&str],
     writes: u32,
-) -> Option<(u8, Vec<u8>)> {
+    line: &str,
+) -> Option<bool> {
     let texts = texts_of(alloc, given)?;
     if texts.is_empty() || !are_short(&texts) {
         return None;
@@ -234,15 +252,14 @@ fn run_into_failing<R: Threads + Wait + Clock + Sync>(
     let status = run_texts(
         rt, alloc, &OpenGate, setup, texts, false, None, &mut out, &mut err,
     );
-    Some((status, err))
+    Some(status == 3 && err.as_slice() == line.as_bytes())
 }
 
 #[test]
-fn writers_that_fail(rt: HostRuntime) -> Result<(), Fail> {
+fn writers_that_fail(rt: HostRuntime) {
+    let line = "aclctl: run: output\n";
     for (texts, writes) in [([CREATE_AND_GET].as_slice(), 0), ([P, Q].as_slice(), 1)] {
-        let (status, err) = run_into_failing(&rt, rt.alloc(), texts, writes).ok_or("no run")?;
-        assert_eq!(rt; status, 3);
-        assert_eq!(rt; err.as_slice(), b"aclctl: run: output\n".as_slice());
+        let fails = fails_at(&rt, rt.alloc(), texts, writes, line);
+        assert_eq!(rt; fails, Some(true), "after {writes} writes");
     }
-    Ok(())
 }

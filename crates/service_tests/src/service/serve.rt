@@ -1,6 +1,6 @@
 use crate::service::fixture::tree;
 use crate::service::gates::{AfterAnswer, Meeting, Shut, ShutAt};
-use crate::service::texts::{entries_of, has_journal, has_output, serve_texts};
+use crate::service::texts::{Seen, serving};
 use acl_examples::directory;
 use acl_service::{OpenGate, ServeFault, run_one};
 use acl_tree::Tree;
@@ -18,25 +18,26 @@ const CHECKS: &str = "check / bob r\ncheck / bob r\ncheck / bob r\n";
 const GRANTED: &str = "1 granted\n2 granted\n3 granted\n";
 
 #[test]
-fn two_sessions_two_directories(rt: HostRuntime) -> Result<(), Fail> {
-    let tree = tree(rt.alloc()).ok_or("no tree")?;
-    let served = serve_texts(
-        &rt,
-        rt.alloc(),
-        &OpenGate,
-        tree,
-        TWO_DIRECTORIES.as_slice(),
-        None,
-    );
-    let report = served.ok_or("no run")?.ok().ok_or("a fault")?;
+fn two_sessions_two_directories(rt: HostRuntime) {
     let first =
         "1 ok\n2 ok\n3 get /p/f file alice staff 600 posix\nuser::rw-\ngroup::---\nother::---\n";
     let second =
         "1 ok\n2 ok\n3 get /q/f file bob staff 600 posix\nuser::rw-\ngroup::---\nother::---\n";
-    assert!(rt; has_output(&report, 0, first));
-    assert!(rt; has_output(&report, 1, second));
-    assert_eq!(rt; report.tree.len(), 5);
-    Ok(())
+    let seen = [
+        Seen::Output(0, first),
+        Seen::Output(1, second),
+        Seen::Nodes(5),
+    ];
+    let served = serving(
+        &rt,
+        rt.alloc(),
+        &OpenGate,
+        tree(rt.alloc()),
+        &TWO_DIRECTORIES,
+        None,
+        &seen,
+    );
+    assert_eq!(rt; served, Some(Ok(true)));
 }
 
 /// The examples' tree with the file /a of alice's.
@@ -51,170 +52,169 @@ fn with_a(alloc: Global) -> Option<Tree> {
 
 /// A check is granted exactly where it stands before the change of the mode.
 #[test]
-fn two_sessions_one_file(rt: HostRuntime) -> Result<(), Fail> {
-    let tree = with_a(rt.alloc()).ok_or("no tree")?;
+fn two_sessions_one_file(rt: HostRuntime) {
     let texts = ["chmod /a 600\nget /a\n", "check /a bob r\n"];
-    let served = serve_texts(&rt, rt.alloc(), &OpenGate, tree, texts.as_slice(), None);
-    let report = served.ok_or("no run")?.ok().ok_or("a fault")?;
     let shown = "1 ok\n2 get /a file alice staff 600 posix\nuser::rw-\ngroup::---\nother::---\n";
-    assert!(rt; has_output(&report, 0, shown));
-    let checked_first = has_journal(&report, [(1, 1), (0, 1), (0, 2)].as_slice());
-    let answer = if checked_first {
-        "1 granted\n"
-    } else {
-        "1 denied\n"
-    };
-    assert!(rt; has_output(&report, 1, answer));
-    Ok(())
+    let checked_first = [(1, 1), (0, 1), (0, 2)];
+    let seen = [
+        Seen::Output(0, shown),
+        Seen::OutputBy(1, &checked_first, "1 granted\n", "1 denied\n"),
+    ];
+    let served = serving(
+        &rt,
+        rt.alloc(),
+        &OpenGate,
+        with_a(rt.alloc()),
+        &texts,
+        None,
+        &seen,
+    );
+    assert_eq!(rt; served, Some(Ok(true)));
 }
 
 #[test]
-fn both_sessions_run_at_the_same_time(rt: HostRuntime) -> Result<(), Fail> {
-    let tree = tree(rt.alloc()).ok_or("no tree")?;
-    let texts = [CHECKS, CHECKS];
-    let served = serve_texts(
+fn both_sessions_run_at_the_same_time(rt: HostRuntime) {
+    let seen = [Seen::Output(0, GRANTED), Seen::Output(1, GRANTED)];
+    let served = serving(
         &rt,
         rt.alloc(),
         &Meeting::new(),
-        tree,
-        texts.as_slice(),
+        tree(rt.alloc()),
+        &[CHECKS, CHECKS],
         None,
+        &seen,
     );
-    let report = served.ok_or("no run")?.ok().ok_or("a fault")?;
-    assert!(rt; has_output(&report, 0, GRANTED));
-    assert!(rt; has_output(&report, 1, GRANTED));
-    Ok(())
+    assert_eq!(rt; served, Some(Ok(true)));
 }
 
 #[test]
-fn each_session_waits_for_the_others_answer(rt: HostRuntime) -> Result<(), Fail> {
+fn each_session_waits_for_the_others_answer(rt: HostRuntime) {
+    let seen = [Seen::Output(0, GRANTED), Seen::Output(1, GRANTED)];
     for waiting in 0..2 {
-        let tree = tree(rt.alloc()).ok_or("no tree")?;
         let gate = AfterAnswer::new(waiting);
-        let texts = [CHECKS, CHECKS];
-        let served = serve_texts(&rt, rt.alloc(), &gate, tree, texts.as_slice(), None);
-        let report = served.ok_or("no run")?.ok().ok_or("a fault")?;
-        assert!(rt; has_output(&report, 0, GRANTED));
-        assert!(rt; has_output(&report, 1, GRANTED));
+        let tree = tree(rt.alloc());
+        let served = serving(&rt, rt.alloc(), &gate, tree, &[CHECKS, CHECKS], None, &seen);
+        assert_eq!(rt; served, Some(Ok(true)), "at {waiting}");
     }
-    Ok(())
 }
 
 #[test]
-fn a_gate_that_lets_nothing_through(rt: HostRuntime) -> Result<(), Fail> {
-    let tree = tree(rt.alloc()).ok_or("no tree")?;
-    let served = serve_texts(
+fn a_gate_that_lets_nothing_through(rt: HostRuntime) {
+    let served = serving(
         &rt,
         rt.alloc(),
         &Shut,
-        tree,
-        [CHECKS, CHECKS].as_slice(),
+        tree(rt.alloc()),
+        &[CHECKS, CHECKS],
         None,
+        &[],
     );
-    assert_eq!(rt;
-        served.ok_or("no run")?.err(),
-        Some(ServeFault::GateStopped)
-    );
-    Ok(())
+    assert_eq!(rt; served, Some(Err(ServeFault::GateStopped)));
 }
 
 #[test]
-fn a_gate_that_shuts_at_the_second_request(rt: HostRuntime) -> Result<(), Fail> {
-    let tree = tree(rt.alloc()).ok_or("no tree")?;
+fn a_gate_that_shuts_at_the_second_request(rt: HostRuntime) {
     let gate = ShutAt { session: 0, nth: 2 };
-    let served = serve_texts(
+    let served = serving(
         &rt,
         rt.alloc(),
         &gate,
-        tree,
-        TWO_DIRECTORIES.as_slice(),
+        tree(rt.alloc()),
+        &TWO_DIRECTORIES,
         None,
+        &[],
     );
-    assert_eq!(rt;
-        served.ok_or("no run")?.err(),
-        Some(ServeFault::GateStopped)
-    );
-    Ok(())
+    assert_eq!(rt; served, Some(Err(ServeFault::GateStopped)));
 }
 
 #[test]
-fn the_second_error_ends_the_session(rt: HostRuntime) -> Result<(), Fail> {
-    let tree = tree(rt.alloc()).ok_or("no tree")?;
+fn the_second_error_ends_the_session(rt: HostRuntime) {
     let texts = ["get /x\nget /\nnope\nget /\n"];
-    let served = serve_texts(&rt, rt.alloc(), &OpenGate, tree, texts.as_slice(), Some(2));
-    let report = served.ok_or("no run")?.ok().ok_or("a fault")?;
     let answers =
         "1 error 20 no-such-path\n2 get / dir root root 755 posix\nuser::rwx\ngroup::r-x\nother::r-x\n3 error 1 syntax\n";
-    assert!(rt; has_output(&report, 0, answers));
-    assert!(rt; has_journal(&report, [(0, 1), (0, 2), (0, 3)].as_slice()));
-    Ok(())
+    let seen = [
+        Seen::Output(0, answers),
+        Seen::Journal(&[(0, 1), (0, 2), (0, 3)]),
+    ];
+    let served = serving(
+        &rt,
+        rt.alloc(),
+        &OpenGate,
+        tree(rt.alloc()),
+        &texts,
+        Some(2),
+        &seen,
+    );
+    assert_eq!(rt; served, Some(Ok(true)));
 }
 
 #[test]
-fn journal_of_one_session(rt: HostRuntime) -> Result<(), Fail> {
-    let tree = tree(rt.alloc()).ok_or("no tree")?;
+fn journal_of_one_session(rt: HostRuntime) {
     let texts = ["create file /a alice 666\nget /a\n"];
-    let served = serve_texts(&rt, rt.alloc(), &OpenGate, tree, texts.as_slice(), None);
-    let report = served.ok_or("no run")?.ok().ok_or("a fault")?;
-    assert!(rt; has_journal(&report, [(0, 1), (0, 2)].as_slice()));
-    Ok(())
+    let seen = [Seen::Journal(&[(0, 1), (0, 2)])];
+    let served = serving(
+        &rt,
+        rt.alloc(),
+        &OpenGate,
+        tree(rt.alloc()),
+        &texts,
+        None,
+        &seen,
+    );
+    assert_eq!(rt; served, Some(Ok(true)));
 }
 
 /// `denied` is no error, and a session with fewer errors than are allowed goes to its end.
 #[test]
-fn an_error_limit_that_one_session_reaches(rt: HostRuntime) -> Result<(), Fail> {
-    let tree = tree(rt.alloc()).ok_or("no tree")?;
+fn an_error_limit_that_one_session_reaches(rt: HostRuntime) {
     let texts = [
         "x\nget /\nx\nx\n",
         "check / bob w\ncheck / bob w\nx\ncheck / bob r\n",
     ];
-    let served = serve_texts(&rt, rt.alloc(), &OpenGate, tree, texts.as_slice(), Some(2));
-    let report = served.ok_or("no run")?.ok().ok_or("a fault")?;
-    assert_eq!(rt; entries_of(&report, 0), 3);
-    assert!(rt;
-        has_output(
-            &report,
-            1,
-            "1 denied\n2 denied\n3 error 1 syntax\n4 granted\n"
-        )
+    let seen = [
+        Seen::EntriesOf(0, 3),
+        Seen::Output(1, "1 denied\n2 denied\n3 error 1 syntax\n4 granted\n"),
+    ];
+    let served = serving(
+        &rt,
+        rt.alloc(),
+        &OpenGate,
+        tree(rt.alloc()),
+        &texts,
+        Some(2),
+        &seen,
     );
-    Ok(())
+    assert_eq!(rt; served, Some(Ok(true)));
+}
+
+/// So many times the line.
+fn repeated(alloc: Global, line: &str, count: usize) -> Option<String> {
+    let mut text = String::new(alloc);
+    for _ in 0..count {
+        text.push_str(line).ok()?;
+    }
+    Some(text)
 }
 
 #[test]
 fn sixty_four_sessions(rt: HostRuntime) -> Result<(), Fail> {
-    let tree = tree(rt.alloc()).ok_or("no tree")?;
-    let mut text = String::new(rt.alloc());
-    for _ in 0..100 {
-        text.push_str("check / bob r\n")?;
-    }
+    let text = repeated(rt.alloc(), "check / bob r\n", 100).ok_or("a text")?;
     let texts = [text.as_str(); 64];
-    let served = serve_texts(&rt, rt.alloc(), &OpenGate, tree, texts.as_slice(), None);
-    let report = served.ok_or("no run")?.ok().ok_or("a fault")?;
-    assert_eq!(rt; report.journal.len(), 6400);
-    assert_eq!(rt; entries_of(&report, 63), 100);
+    let seen = [Seen::Entries(6400), Seen::EntriesOf(63, 100)];
+    let tree = tree(rt.alloc());
+    let served = serving(&rt, rt.alloc(), &OpenGate, tree, &texts, None, &seen);
+    assert_eq!(rt; served, Some(Ok(true)));
     Ok(())
 }
 
 /// More requests than a ring has slots lie behind the last error that is allowed.
 #[test]
 fn a_long_session_ends_at_its_limit(rt: HostRuntime) -> Result<(), Fail> {
-    let tree = tree(rt.alloc()).ok_or("no tree")?;
-    let mut text = String::new(rt.alloc());
-    for _ in 0..1000 {
-        text.push_str("x\n")?;
-    }
+    let text = repeated(rt.alloc(), "x\n", 1000).ok_or("a text")?;
     let texts = [text.as_str(), CHECKS];
-    let served = serve_texts(
-        &rt,
-        rt.alloc(),
-        &OpenGate,
-        tree,
-        texts.as_slice(),
-        Some(300),
-    );
-    let report = served.ok_or("no run")?.ok().ok_or("a fault")?;
-    assert_eq!(rt; entries_of(&report, 0), 300);
-    assert!(rt; has_output(&report, 1, GRANTED));
+    let seen = [Seen::EntriesOf(0, 300), Seen::Output(1, GRANTED)];
+    let tree = tree(rt.alloc());
+    let served = serving(&rt, rt.alloc(), &OpenGate, tree, &texts, Some(300), &seen);
+    assert_eq!(rt; served, Some(Ok(true)));
     Ok(())
 }

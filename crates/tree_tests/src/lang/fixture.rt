@@ -1,16 +1,21 @@
 //! What lines and answers come to; none where memory is refused or a text is.
 use acl_examples::directory;
 use acl_lang::{Answer, Line, read_line, render};
-use acl_tree::{LineFault, Reply, Request};
+use acl_tree::{LineFault, Request};
 use std::alloc::Global;
 
 /// The code of a line's fault; 0 of a command, and 100 of a line that gives nothing.
 pub fn code_of(alloc: Global, line: &[u8]) -> Option<u8> {
     let names = directory(alloc)?;
-    match read_line(alloc, line, &names).ok()? {
-        Line::Nothing => Some(100),
-        Line::Command(Request::Bad(fault)) => Some(code(fault)),
-        Line::Command(_) => Some(0),
+    let line = read_line(alloc, line, &names).ok()?;
+    Some(code_in(&line))
+}
+
+fn code_in(line: &Line) -> u8 {
+    match line {
+        Line::Nothing => 100,
+        Line::Command(Request::Bad(fault)) => code(*fault),
+        Line::Command(_) => 0,
     }
 }
 
@@ -29,10 +34,10 @@ pub fn code(fault: LineFault) -> u8 {
     }
 }
 
-/// What is printed of the reply to a line.
-pub fn printed(alloc: Global, line: u32, reply: Reply) -> Option<String> {
+/// Whether this is printed of the answer.
+pub fn is_printed(alloc: Global, answer: &Answer, text: &str) -> Option<bool> {
     let names = directory(alloc)?;
     let mut out = Vec::new(alloc);
-    render(&Answer { line, reply }, &names, &mut out).ok()?;
-    String::from_utf8(out).ok()
+    render(answer, &names, &mut out).ok()?;
+    Some(out.as_slice() == text.as_bytes())
 }

@@ -3,7 +3,6 @@ use acl_examples::directory;
 use acl_lang::{Numbered, read_text};
 use acl_tree::Request;
 use std::alloc::Global;
-use std::test::Fail;
 
 /// The requests of a text.
 fn requests(alloc: Global, text: &[u8]) -> Option<Vec<Numbered>> {
@@ -14,19 +13,24 @@ fn requests(alloc: Global, text: &[u8]) -> Option<Vec<Numbered>> {
     read_text(alloc, text, &names).ok()
 }
 
-/// The line and the fault's code of the last request; 0 of a command.
-fn last(requests: &[Numbered]) -> Option<(u32, u8)> {
-    match requests {
-        [
-            ..,
-            Numbered {
-                line,
-                request: Request::Bad(fault),
-            },
-        ] => Some((*line, code(*fault))),
-        [.., Numbered { line, .. }] => Some((*line, 0)),
-        [] => None,
+/// The line of a request, and its fault's code; 0 of a command.
+fn coded(numbered: &Numbered) -> (u32, u8) {
+    match &numbered.request {
+        Request::Bad(fault) => (numbered.line, code(*fault)),
+        _ => (numbered.line, 0),
     }
+}
+
+/// Whether the text gives requests of these lines and codes, and no others.
+fn gives(alloc: Global, text: &[u8], wanted: &[(u32, u8)]) -> Option<bool> {
+    let requests = requests(alloc, text)?;
+    Some(
+        requests.len() == wanted.len()
+            && requests
+                .iter()
+                .zip(wanted)
+                .all(|(numbered, wanted)| coded(numbered) == *wanted),
+    )
 }
 
 fn repeated(alloc: Global, piece: &[u8], count: usize) -> Option<Vec<u8>> {
@@ -37,43 +41,39 @@ fn repeated(alloc: Global, piece: &[u8], count: usize) -> Option<Vec<u8>> {
     Some(text)
 }
 
+/// How many requests so many lines give, and the line and the code of the last.
+fn count_and_last(alloc: Global, line: &[u8], lines: usize) -> Option<(usize, Option<(u32, u8)>)> {
+    let text = repeated(alloc, line, lines)?;
+    let requests = requests(alloc, &text)?;
+    Some((requests.len(), requests.last().map(coded)))
+}
+
 #[test]
-fn empty_texts(rt: HostRuntime) -> Result<(), Fail> {
+fn empty_texts(rt: HostRuntime) {
     for text in ["", "\n", "\n \n\t\n# get /\n  # x"] {
-        let read = requests(rt.alloc(), text.as_bytes()).ok_or("memory")?;
-        assert_eq!(rt; read.len(), 0);
+        assert_eq!(rt; gives(rt.alloc(), text.as_bytes(), &[]), Some(true));
     }
-    Ok(())
 }
 
 #[test]
-fn bad_mode_at_the_end(rt: HostRuntime) -> Result<(), Fail> {
-    let read = requests(rt.alloc(), b"create file /a alice 666\nchmod /a 6").ok_or("memory")?;
-    assert_eq!(rt; read.len(), 2);
-    assert_eq!(rt; last(&read[..1]), Some((1, 0)));
-    assert_eq!(rt; last(&read), Some((2, 3)));
-    Ok(())
+fn bad_mode_at_the_end(rt: HostRuntime) {
+    let text = b"create file /a alice 666\nchmod /a 6";
+    assert_eq!(rt; gives(rt.alloc(), text, &[(1, 0), (2, 3)]), Some(true));
 }
 
 #[test]
-fn lines_are_numbered(rt: HostRuntime) -> Result<(), Fail> {
-    let read = requests(rt.alloc(), b"\n# x\nget /\n\nget /\n").ok_or("memory")?;
-    assert_eq!(rt; read.len(), 2);
-    assert_eq!(rt; last(&read[..1]), Some((3, 0)));
-    assert_eq!(rt; last(&read), Some((5, 0)));
-    Ok(())
+fn lines_are_numbered(rt: HostRuntime) {
+    let text = b"\n# x\nget /\n\nget /\n";
+    assert_eq!(rt; gives(rt.alloc(), text, &[(3, 0), (5, 0)]), Some(true));
 }
 
 #[test]
-fn longest_texts(rt: HostRuntime) -> Result<(), Fail> {
-    for (line, lines, count, wanted) in [
+fn longest_texts(rt: HostRuntime) {
+    for (line, lines, count, last) in [
         (b"x\n".as_slice(), 524_288, 524_288, Some((524_288, 1))),
         (b"\n".as_slice(), 1_048_576, 0, None),
     ] {
-        let text = repeated(rt.alloc(), line, lines).ok_or("memory")?;
-        let read = requests(rt.alloc(), &text).ok_or("memory")?;
-        assert_eq!(rt; read.len(), count);
-        assert_eq!(rt; last(&read), wanted);
+        let read = count_and_last(rt.alloc(), line, lines);
+        assert_eq!(rt; read, Some((count, last)));
     }
-    Ok(())
 }

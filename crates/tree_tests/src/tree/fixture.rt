@@ -42,6 +42,43 @@ pub enum Told {
     Fault(LineFault),
 }
 
+/// A command, with its names and lists as texts spell them.
+#[derive(Clone, Copy)]
+pub enum Command<'a> {
+    Get(&'a str),
+    SetAccess(&'a str, &'a str),
+    SetDefault(&'a str, &'a str),
+    SetNoDefault(&'a str),
+    SetNfs4(&'a str, &'a str),
+    Chmod(&'a str, u16),
+    Create(Kind, &'a str, u32, u16),
+    Check(&'a str, u32, &'a str),
+    Check4(&'a str, u32, &'a str),
+    Translate(&'a str),
+    /// A line that is no command.
+    Faulty(LineFault),
+}
+
+/// A step of an example: a command with what it tells, or what the tree has then.
+#[derive(Clone, Copy)]
+pub enum Step<'a> {
+    Tells(Command<'a>, Told),
+    /// So many nodes.
+    Has(usize),
+    /// A node with this owner, group and mode.
+    Shows(&'a str, u32, u32, u16),
+    /// A node with this access list, and no default list.
+    HasAccess(&'a str, &'a str),
+    /// A node with this access list and this default list.
+    HasBoth(&'a str, &'a str, &'a str),
+    /// A node with this NFSv4 list.
+    HasAces(&'a str, &'a str),
+    /// A node whose translation is this list, and no further one.
+    TranslatesTo(&'a str, &'a str),
+    /// A node whose translation is of both lists, and they are these.
+    TranslatesToBoth(&'a str, &'a str, &'a str),
+}
+
 /// Copies of a tree's nodes, each at its path.
 #[derive(Drop)]
 pub struct Nodes {
@@ -91,16 +128,49 @@ impl World {
     }
 
     pub fn told(&mut self, request: &Request) -> Option<Told> {
-        Some(match self.apply(request)? {
-            Reply::Done => Told::Done,
-            Reply::Node(_) => Told::Shown,
-            Reply::Granted => Told::Granted,
-            Reply::Denied => Told::Denied,
-            Reply::Translated(_) => Told::Translated,
-            Reply::TranslatedBoth { .. } => Told::Translated,
-            Reply::Refused(fault) => Told::Refused(fault),
-            Reply::Fault(fault) => Told::Fault(fault),
-        })
+        let reply = self.apply(request)?;
+        Some(told_by(&reply))
+    }
+
+    /// What the command tells.
+    pub fn command(&mut self, command: Command<'_>) -> Option<Told> {
+        match command {
+            Command::Get(at) => self.get(at),
+            Command::SetAccess(at, text) => self.set_access(at, text),
+            Command::SetDefault(at, text) => self.set_default(at, text),
+            Command::SetNoDefault(at) => self.set_no_default(at),
+            Command::SetNfs4(at, text) => self.set_nfs4(at, text),
+            Command::Chmod(at, bits) => self.chmod(at, bits),
+            Command::Create(kind, at, owner, bits) => self.create(kind, at, owner, bits),
+            Command::Check(at, user, perms) => self.check(at, user, perms),
+            Command::Check4(at, user, letters) => self.check4(at, user, letters),
+            Command::Translate(at) => self.told_translation(at),
+            Command::Faulty(fault) => self.told(&Request::Bad(fault)),
+        }
+    }
+
+    /// Whether the step goes as it says.
+    pub fn goes(&mut self, step: Step<'_>) -> Option<bool> {
+        match step {
+            Step::Tells(command, told) => Some(self.command(command)? == told),
+            Step::Has(nodes) => Some(self.tree.len() == nodes),
+            Step::Shows(at, owner, group, bits) => self.shows(at, owner, group, bits),
+            Step::HasAccess(at, text) => self.has_access(at, text),
+            Step::HasBoth(at, text, default) => self.has_both(at, text, default),
+            Step::HasAces(at, text) => self.has_aces(at, text),
+            Step::TranslatesTo(at, text) => self.translates_to(at, text),
+            Step::TranslatesToBoth(at, text, below) => self.translates_to_both(at, text, below),
+        }
+    }
+
+    /// The place of the first step that doesn't go as it says.
+    fn first_wrong(&mut self, steps: &[Step<'_>]) -> Option<usize> {
+        for (place, step) in steps.iter().enumerate() {
+            if self.goes(*step) != Some(true) {
+                return Some(place);
+            }
+        }
+        None
     }
 
     pub fn get(&mut self, at: &str) -> Option<Told> {
@@ -195,10 +265,8 @@ impl World {
     /// Whether the node at the path is shown with this owner, group and mode.
     pub fn shows(&mut self, at: &str, owner: u32, group: u32, bits: u16) -> Option<bool> {
         let path = self.path(at)?;
-        match self.apply(&Request::Get(path))? {
-            Reply::Node(view) => Some(is_shown(&view, owner, group, bits)),
-            _ => Some(false),
-        }
+        let reply = self.apply(&Request::Get(path))?;
+        Some(node_is_shown(&reply, owner, group, bits))
     }
 
     /// Whether the node at the path has this access list, and no default list.
@@ -245,6 +313,41 @@ impl World {
         let below = self.aces(below)?;
         let reply = self.translate(at)?;
         Some(are_translations(&reply, &list, &below))
+    }
+}
+
+/// The place of the first step that doesn't go as it says, one after the other on this tree; 0 if there is no tree.
+pub fn wrong_step(world: Option<World>, steps: &[Step<'_>]) -> Option<usize> {
+    match world {
+        Some(mut world) => world.first_wrong(steps),
+        None => Some(0),
+    }
+}
+
+/// Whether each step goes as it says, and together they leave each node as it was and add none.
+pub fn leave_all(world: Option<World>, steps: &[Step<'_>]) -> Option<bool> {
+    let mut world = world?;
+    let before = world.nodes()?;
+    Some(world.first_wrong(steps).is_none() && world.has_nodes(&before))
+}
+
+fn told_by(reply: &Reply) -> Told {
+    match reply {
+        Reply::Done => Told::Done,
+        Reply::Node(_) => Told::Shown,
+        Reply::Granted => Told::Granted,
+        Reply::Denied => Told::Denied,
+        Reply::Translated(_) => Told::Translated,
+        Reply::TranslatedBoth { .. } => Told::Translated,
+        Reply::Refused(fault) => Told::Refused(*fault),
+        Reply::Fault(fault) => Told::Fault(*fault),
+    }
+}
+
+fn node_is_shown(reply: &Reply, owner: u32, group: u32, bits: u16) -> bool {
+    match reply {
+        Reply::Node(view) => is_shown(view, owner, group, bits),
+        _ => false,
     }
 }
 

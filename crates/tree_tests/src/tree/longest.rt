@@ -1,5 +1,5 @@
 //! The longest lists and the fullest tree.
-use crate::tree::fixture::{ALICE, Told, World, gid, mode, uid};
+use crate::tree::fixture::{ALICE, Command, Step, Told, World, leave_all, mode, uid, wrong_step};
 use acl_nfs4::{Ace, AceType, Acl4, Flags, Kind, Mask, Who};
 use acl_tree::{Boxed, MAX_NODES, Path, Request, Style, TreeFault};
 use bitflags::Flags as FlagSet;
@@ -26,19 +26,28 @@ fn create(alloc: Global, number: u32) -> Option<Request> {
     ))
 }
 
-#[test]
-fn full_tree(rt: HostRuntime) -> Result<(), Fail> {
-    let mut world = World::new(rt.alloc(), Style::Posix).ok_or("a tree")?;
+/// A tree in which the paths from 0 to 4094 were created.
+fn full(alloc: Global) -> Option<World> {
+    let mut world = World::new(alloc, Style::Posix)?;
     for number in 0..4095 {
-        let told = world.told(&create(rt.alloc(), number).ok_or("a path")?);
-        assert_eq!(rt; told, Some(Told::Done));
+        let request = create(alloc, number)?;
+        if world.told(&request)? != Told::Done {
+            return None;
+        }
     }
-    assert_eq!(rt; world.tree.len(), MAX_NODES);
-    let told = world.told(&create(rt.alloc(), 4095).ok_or("a path")?);
-    assert_eq!(rt; told, Some(Told::Refused(TreeFault::Full)));
-    let again = world.told(&create(rt.alloc(), 0).ok_or("a path")?);
-    assert_eq!(rt; again, Some(Told::Refused(TreeFault::Exists)));
-    Ok(())
+    Some(world)
+}
+
+#[test]
+fn full_tree(rt: HostRuntime) {
+    let new = Command::Create(Kind::File, "/4095", ALICE, 0o644);
+    let old = Command::Create(Kind::File, "/0000", ALICE, 0o644);
+    let steps = [
+        Step::Has(MAX_NODES),
+        Step::Tells(new, Told::Refused(TreeFault::Full)),
+        Step::Tells(old, Told::Refused(TreeFault::Exists)),
+    ];
+    assert_eq!(rt; wrong_step(full(rt.alloc()), &steps), None);
 }
 
 /// A list of 128 entries that allow user 0 to read attributes.
@@ -74,22 +83,18 @@ fn with_longest(alloc: Global) -> Option<World> {
 }
 
 #[test]
-fn too_many_entries_for_a_mode(rt: HostRuntime) -> Result<(), Fail> {
-    let mut world = with_longest(rt.alloc()).ok_or("a tree")?;
-    let before = world.nodes().ok_or("copies")?;
-    assert_eq!(rt;
-        world.chmod("/a", 0o644),
-        Some(Told::Refused(TreeFault::TooMany))
-    );
-    assert!(rt; world.has_nodes(&before));
-    Ok(())
+fn too_many_entries_for_a_mode(rt: HostRuntime) {
+    let steps = [Step::Tells(
+        Command::Chmod("/a", 0o644),
+        Told::Refused(TreeFault::TooMany),
+    )];
+    assert_eq!(rt; leave_all(with_longest(rt.alloc()), &steps), Some(true));
 }
 
 #[test]
-fn the_longest_list_decides(rt: HostRuntime) -> Result<(), Fail> {
-    let mut world = with_longest(rt.alloc()).ok_or("a tree")?;
-    assert_eq!(rt; world.check4("/a", 0, "t"), Some(Told::Granted));
-    Ok(())
+fn the_longest_list_decides(rt: HostRuntime) {
+    let steps = [Step::Tells(Command::Check4("/a", 0, "t"), Told::Granted)];
+    assert_eq!(rt; wrong_step(with_longest(rt.alloc()), &steps), None);
 }
 
 /// The entries of the text, and of 60 users by their uids.
@@ -104,20 +109,24 @@ fn with_users(alloc: Global, text: &str) -> Option<String> {
 
 #[test]
 fn most_entries_of_an_access_list(rt: HostRuntime) -> Result<(), Fail> {
-    let mut world = World::with_a(rt.alloc()).ok_or("a tree")?;
     let text = with_users(rt.alloc(), "u::r,g::r,o::r,m::r").ok_or("a text")?;
-    assert_eq!(rt; world.set_access("/a", text.as_str()), Some(Told::Done));
-    assert_eq!(rt; world.has_access("/a", text.as_str()), Some(true));
+    let steps = [
+        Step::Tells(Command::SetAccess("/a", text.as_str()), Told::Done),
+        Step::HasAccess("/a", text.as_str()),
+    ];
+    assert_eq!(rt; wrong_step(World::with_a(rt.alloc()), &steps), None);
     Ok(())
 }
 
 #[test]
 fn many_named_users(rt: HostRuntime) -> Result<(), Fail> {
-    let mut world = World::with_a(rt.alloc()).ok_or("a tree")?;
     let text = with_users(rt.alloc(), "u::r,g::r,m::r,o::-").ok_or("a text")?;
-    assert_eq!(rt; world.set_access("/a", text.as_str()), Some(Told::Done));
-    assert_eq!(rt; world.check("/a", 60, "r"), Some(Told::Granted));
-    assert_eq!(rt; world.check("/a", 1, "r"), Some(Told::Granted));
-    assert_eq!(rt; world.check("/a", 61, "r"), Some(Told::Denied));
+    let steps = [
+        Step::Tells(Command::SetAccess("/a", text.as_str()), Told::Done),
+        Step::Tells(Command::Check("/a", 60, "r"), Told::Granted),
+        Step::Tells(Command::Check("/a", 1, "r"), Told::Granted),
+        Step::Tells(Command::Check("/a", 61, "r"), Told::Denied),
+    ];
+    assert_eq!(rt; wrong_step(World::with_a(rt.alloc()), &steps), None);
     Ok(())
 }

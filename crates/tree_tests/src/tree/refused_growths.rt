@@ -3,7 +3,7 @@
 //!
 //! `rt try --test --fail-alloc N` refuses the growth N of a test. Each test here passes whichever growth that is, and prints
 //! how many refusals it was told of: one up to the last growth that it asks for, and none from then on.
-use crate::tree::fixture::{ALICE, BOB, CAROL, Told, World, uid};
+use crate::tree::fixture::{ALICE, BOB, CAROL, Command, Step, Told, World, uid};
 use acl_examples::Refusals;
 use acl_nfs4::{Kind, read_letters};
 use acl_posix::read_perms;
@@ -34,38 +34,68 @@ fn with_nfs4(alloc: Global) -> Option<World> {
     Some(world)
 }
 
+/// A tree that a test begins with.
+#[derive(Clone, Copy)]
+enum Start {
+    /// With the file /a.
+    A,
+    /// With the directory /d, which has a default list.
+    D,
+    /// With the directory /d, which has an NFSv4 list.
+    Nfs4,
+}
+
+fn begin(alloc: Global, start: Start) -> Option<World> {
+    match start {
+        Start::A => World::with_a(alloc),
+        Start::D => with_d(alloc),
+        Start::Nfs4 => with_nfs4(alloc),
+    }
+}
+
 /// What the command comes to, at the second attempt if the first is refused; none if a refused command changed a node or the
 /// number of nodes.
-fn again<F: Fn(&mut World) -> Option<Told>>(
-    world: &mut World,
-    refusals: &mut Refusals,
-    command: F,
-) -> Option<Told>
-    requires { F.IsAlwaysCallable command }
-{
+fn again(world: &mut World, refusals: &mut Refusals, command: Command<'_>) -> Option<Told> {
     let before = refusals.again(|| world.nodes())?;
-    if let Some(told) = command(world) {
+    if let Some(told) = world.command(command) {
         return Some(told);
     }
     refusals.one_more();
     if !world.has_nodes(&before) {
         return None;
     }
-    command(world)
+    world.command(command)
 }
 
-/// A tree and what the command on it comes to, and how many growths were refused meanwhile.
-fn commanded<M: Fn() -> Option<World>, F: Fn(&mut World) -> Option<Told>>(
-    make: M,
-    command: F,
-) -> Option<(World, Told, Refusals)>
-    requires make { M.IsAlwaysCallable make }
-    requires command { F.IsAlwaysCallable command }
-{
+/// Whether the step goes as it says, at the second attempt if the first is refused.
+fn goes_again(world: &mut World, refusals: &mut Refusals, step: Step<'_>) -> Option<bool> {
+    if let Some(goes) = world.goes(step) {
+        return Some(goes);
+    }
+    refusals.one_more();
+    world.goes(step)
+}
+
+/// How many growths are refused while the command is made on the tree, if it tells this and the tree has then what the steps
+/// say.
+fn refusals_of(
+    alloc: Global,
+    start: Start,
+    command: Command<'_>,
+    wanted: Told,
+    then: &[Step<'_>],
+) -> Option<u32> {
     let mut refusals = Refusals::new();
-    let mut world = refusals.again(make)?;
-    let told = again(&mut world, &mut refusals, command)?;
-    Some((world, told, refusals))
+    let mut world = refusals.again(|| begin(alloc, start))?;
+    if again(&mut world, &mut refusals, command)? != wanted {
+        return None;
+    }
+    for step in then {
+        if !goes_again(&mut world, &mut refusals, *step)? {
+            return None;
+        }
+    }
+    Some(refusals.told())
 }
 
 /// Whether a copy is the path.
@@ -86,155 +116,124 @@ fn paths_under_a_refused_growth(rt: HostRuntime) -> Result<(), Fail> {
     Ok(())
 }
 
+/// How many nodes a new tree has.
+fn root_alone(alloc: Global) -> Option<usize> {
+    let world = World::new(alloc, Style::Nfs4)?;
+    Some(world.tree.len())
+}
+
 #[test]
 fn new_under_a_refused_growth(rt: HostRuntime) -> Result<(), Fail> {
     let alloc = rt.alloc();
     let mut refusals = Refusals::new();
-    let world = refusals
-        .again(|| World::new(alloc, Style::Nfs4))
-        .ok_or("a tree")?;
-    assert_eq!(rt; world.tree.len(), 1);
+    assert_eq!(rt; refusals.again(|| root_alone(alloc)), Some(1));
     println!(rt; "refusals: {}", refusals.told())?;
     Ok(())
 }
 
 #[test]
 fn set_access_under_a_refused_growth(rt: HostRuntime) -> Result<(), Fail> {
-    let alloc = rt.alloc();
-    let (world, told, mut refusals) = commanded(
-        || World::with_a(alloc),
-        |world| world.set_access("/a", LONG),
-    )
-    .ok_or("refused without cause")?;
-    assert_eq!(rt; told, Told::Done);
-    assert_eq!(rt; refusals.again(|| world.has_access("/a", LONG)), Some(true));
-    println!(rt; "refusals: {}", refusals.told())?;
+    let command = Command::SetAccess("/a", LONG);
+    let refusals = refusals_of(
+        rt.alloc(),
+        Start::A,
+        command,
+        Told::Done,
+        &[Step::HasAccess("/a", LONG)],
+    );
+    println!(rt; "refusals: {}", refusals.ok_or("another end")?)?;
     Ok(())
 }
 
 #[test]
 fn set_default_under_a_refused_growth(rt: HostRuntime) -> Result<(), Fail> {
-    let alloc = rt.alloc();
-    let (_, told, refusals) = commanded(
-        || with_d(alloc),
-        |world| world.set_default("/d", LONG),
-    ).ok_or("refused without cause")?;
-    assert_eq!(rt; told, Told::Done);
-    println!(rt; "refusals: {}", refusals.told())?;
+    let command = Command::SetDefault("/d", LONG);
+    let refusals = refusals_of(rt.alloc(), Start::D, command, Told::Done, &[]);
+    println!(rt; "refusals: {}", refusals.ok_or("another end")?)?;
     Ok(())
 }
 
 #[test]
 fn set_nfs4_under_a_refused_growth(rt: HostRuntime) -> Result<(), Fail> {
-    let alloc = rt.alloc();
-    let (world, told, mut refusals) = commanded(
-        || with_d(alloc),
-        |world| world.set_nfs4("/d", LONG4),
-    ).ok_or("refused without cause")?;
-    assert_eq!(rt; told, Told::Done);
-    assert_eq!(rt; refusals.again(|| world.has_aces("/d", LONG4)), Some(true));
-    println!(rt; "refusals: {}", refusals.told())?;
+    let command = Command::SetNfs4("/d", LONG4);
+    let refusals = refusals_of(
+        rt.alloc(),
+        Start::D,
+        command,
+        Told::Done,
+        &[Step::HasAces("/d", LONG4)],
+    );
+    println!(rt; "refusals: {}", refusals.ok_or("another end")?)?;
     Ok(())
 }
 
 #[test]
 fn chmod_under_a_refused_growth(rt: HostRuntime) -> Result<(), Fail> {
-    let alloc = rt.alloc();
-    let (_, told, refusals) = commanded(
-        || with_nfs4(alloc),
-        |world| world.chmod("/d", 0o640),
-    ).ok_or("refused without cause")?;
-    assert_eq!(rt; told, Told::Done);
-    println!(rt; "refusals: {}", refusals.told())?;
+    let command = Command::Chmod("/d", 0o640);
+    let refusals = refusals_of(rt.alloc(), Start::Nfs4, command, Told::Done, &[]);
+    println!(rt; "refusals: {}", refusals.ok_or("another end")?)?;
     Ok(())
 }
 
 #[test]
 fn create_under_a_refused_growth(rt: HostRuntime) -> Result<(), Fail> {
-    let alloc = rt.alloc();
-    let (world, told, refusals) = commanded(
-        || World::with_a(alloc),
-        |world| world.create(Kind::Dir, "/d", ALICE, 0o755),
-    )
-    .ok_or("refused without cause")?;
-    assert_eq!(rt; told, Told::Done);
-    assert_eq!(rt; world.tree.len(), 3);
-    println!(rt; "refusals: {}", refusals.told())?;
+    let command = Command::Create(Kind::Dir, "/d", ALICE, 0o755);
+    let refusals = refusals_of(rt.alloc(), Start::A, command, Told::Done, &[Step::Has(3)]);
+    println!(rt; "refusals: {}", refusals.ok_or("another end")?)?;
     Ok(())
 }
 
 #[test]
 fn create_below_a_default_list_under_a_refused_growth(rt: HostRuntime) -> Result<(), Fail> {
-    let alloc = rt.alloc();
-    let (world, told, refusals) = commanded(
-        || with_d(alloc),
-        |world| world.create(Kind::Dir, "/d/e", CAROL, 0o640),
-    )
-    .ok_or("refused without cause")?;
-    assert_eq!(rt; told, Told::Done);
-    assert_eq!(rt; world.tree.len(), 3);
-    println!(rt; "refusals: {}", refusals.told())?;
+    let command = Command::Create(Kind::Dir, "/d/e", CAROL, 0o640);
+    let refusals = refusals_of(rt.alloc(), Start::D, command, Told::Done, &[Step::Has(3)]);
+    println!(rt; "refusals: {}", refusals.ok_or("another end")?)?;
     Ok(())
 }
 
 #[test]
 fn create_below_an_nfsv4_list_under_a_refused_growth(rt: HostRuntime) -> Result<(), Fail> {
-    let alloc = rt.alloc();
-    let (world, told, refusals) = commanded(
-        || with_nfs4(alloc),
-        |world| world.create(Kind::Dir, "/d/e", CAROL, 0o640),
-    )
-    .ok_or("refused without cause")?;
-    assert_eq!(rt; told, Told::Done);
-    assert_eq!(rt; world.tree.len(), 3);
-    println!(rt; "refusals: {}", refusals.told())?;
+    let command = Command::Create(Kind::Dir, "/d/e", CAROL, 0o640);
+    let refusals = refusals_of(
+        rt.alloc(),
+        Start::Nfs4,
+        command,
+        Told::Done,
+        &[Step::Has(3)],
+    );
+    println!(rt; "refusals: {}", refusals.ok_or("another end")?)?;
     Ok(())
 }
 
 #[test]
 fn get_under_a_refused_growth(rt: HostRuntime) -> Result<(), Fail> {
-    let alloc = rt.alloc();
-    let (_, told, refusals) = commanded(|| with_d(alloc), |world| world.get("/d")).ok_or(
-        "refused without cause",
-    )?;
-    assert_eq!(rt; told, Told::Shown);
-    println!(rt; "refusals: {}", refusals.told())?;
+    let command = Command::Get("/d");
+    let refusals = refusals_of(rt.alloc(), Start::D, command, Told::Shown, &[]);
+    println!(rt; "refusals: {}", refusals.ok_or("another end")?)?;
     Ok(())
 }
 
 #[test]
 fn check_under_a_refused_growth(rt: HostRuntime) -> Result<(), Fail> {
-    let alloc = rt.alloc();
-    let (_, told, refusals) = commanded(
-        || with_d(alloc),
-        |world| world.check("/d", BOB, "r"),
-    ).ok_or("refused without cause")?;
-    assert_eq!(rt; told, Told::Granted);
-    println!(rt; "refusals: {}", refusals.told())?;
+    let command = Command::Check("/d", BOB, "r");
+    let refusals = refusals_of(rt.alloc(), Start::D, command, Told::Granted, &[]);
+    println!(rt; "refusals: {}", refusals.ok_or("another end")?)?;
     Ok(())
 }
 
 #[test]
 fn check4_under_a_refused_growth(rt: HostRuntime) -> Result<(), Fail> {
-    let alloc = rt.alloc();
-    let (_, told, refusals) = commanded(
-        || with_nfs4(alloc),
-        |world| world.check4("/d", BOB, "r"),
-    ).ok_or("refused without cause")?;
-    assert_eq!(rt; told, Told::Denied);
-    println!(rt; "refusals: {}", refusals.told())?;
+    let command = Command::Check4("/d", BOB, "r");
+    let refusals = refusals_of(rt.alloc(), Start::Nfs4, command, Told::Denied, &[]);
+    println!(rt; "refusals: {}", refusals.ok_or("another end")?)?;
     Ok(())
 }
 
 #[test]
 fn translate_under_a_refused_growth(rt: HostRuntime) -> Result<(), Fail> {
-    let alloc = rt.alloc();
-    let (_, told, refusals) = commanded(
-        || with_d(alloc),
-        |world| world.told_translation("/d"),
-    ).ok_or("refused without cause")?;
-    assert_eq!(rt; told, Told::Translated);
-    println!(rt; "refusals: {}", refusals.told())?;
+    let command = Command::Translate("/d");
+    let refusals = refusals_of(rt.alloc(), Start::D, command, Told::Translated, &[]);
+    println!(rt; "refusals: {}", refusals.ok_or("another end")?)?;
     Ok(())
 }
 
@@ -259,16 +258,19 @@ fn checked4(alloc: Global, world: &mut World, refusals: &mut Refusals) -> Option
     world.told(&Request::Check4(path, bob, mask))
 }
 
+/// What the second check comes to if the first comes to anything, and how many growths were refused.
+fn both_checked(alloc: Global) -> Option<(Told, Refusals)> {
+    let mut refusals = Refusals::new();
+    let mut world = refusals.again(|| with_nfs4(alloc))?;
+    checked(alloc, &mut world, &mut refusals)?;
+    let told = checked4(alloc, &mut world, &mut refusals)?;
+    Some((told, refusals))
+}
+
 #[test]
 fn checks_take_no_memory(rt: HostRuntime) -> Result<(), Fail> {
-    let alloc = rt.alloc();
-    let mut refusals = Refusals::new();
-    let mut world = refusals.again(|| with_nfs4(alloc)).ok_or("a tree")?;
-    assert!(rt; checked(alloc, &mut world, &mut refusals).is_some());
-    assert_eq!(rt;
-        checked4(alloc, &mut world, &mut refusals),
-        Some(Told::Denied)
-    );
+    let (told, refusals) = both_checked(rt.alloc()).ok_or("no check")?;
+    assert_eq!(rt; told, Told::Denied);
     println!(rt; "refusals: {}", refusals.told())?;
     Ok(())
 }
