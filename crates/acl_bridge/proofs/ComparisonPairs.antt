@@ -77,11 +77,7 @@ pairs_suffice_posix first second valid_first valid_second owner group request st
 
 asked_uid : (owner uid : ℕ) (tag : Tag) → is_of_user owner uid tag ≡ is_at uid (needed_uid owner (who_of tag))
 asked_uid owner uid UserObj = refl
-asked_uid owner uid (User named) = refl
-asked_uid owner uid GroupObj = refl
-asked_uid owner uid (Group gid) = refl
-asked_uid owner uid Mask = refl
-asked_uid owner uid Other = refl
+asked_uid owner uid _ = refl
 
 asked : (owner uid : ℕ) (acl : List Triple) → list_any (λ entry. is_at uid (needed_uid owner (who_of entry.tag))) acl ≡ asks_for owner uid acl
 asked owner uid acl =

@@ -132,12 +132,8 @@ module _ (request : ℕ) (acl : List Triple) where
   Same entries = list_any or_mask entries ≡ list_any has_request entries
 
   no_mask : (tag : Tag) (test : Tag → Bool) → test Mask ≡ false → test tag ≡ true → same_tag tag Mask ≡ false
-  no_mask UserObj test none is = refl
-  no_mask (User uid) test none is = refl
-  no_mask GroupObj test none is = refl
-  no_mask (Group gid) test none is = refl
   no_mask Mask test none is = absurd (true≢false (sym is ∙ none))
-  no_mask Other test none is = refl
+  no_mask _ test none is = refl
 
   same_of_class : (test : Tag → Bool) → test Mask ≡ false → (entries : List Triple) → Same (filter (λ entry. test entry.tag) entries)
   same_of_class test none [] = refl

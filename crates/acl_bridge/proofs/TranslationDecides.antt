@@ -80,43 +80,23 @@ module _ (acl : List Triple) (valid : IsValid acl) (owner group : ℕ) (requeste
   -- both lists ask the same entries
   the_owner : (requester.uid == owner) ≡ true → (tag : Tag) → (is_in Owner tag && applies (who_of tag)) ≡ same_tag tag UserObj
   the_owner is UserObj = is
-  the_owner is (User uid) = refl
-  the_owner is GroupObj = refl
-  the_owner is (Group gid) = refl
-  the_owner is Mask = refl
-  the_owner is Other = refl
+  the_owner is _ = refl
 
   no_owner : (requester.uid == owner) ≡ false → (tag : Tag) → (is_in Owner tag && applies (who_of tag)) ≡ false
   no_owner not UserObj = not
-  no_owner not (User uid) = refl
-  no_owner not GroupObj = refl
-  no_owner not (Group gid) = refl
-  no_owner not Mask = refl
-  no_owner not Other = refl
+  no_owner not _ = refl
 
   the_user : (tag : Tag) → (is_in Users tag && applies (who_of tag)) ≡ same_tag tag (User requester.uid)
-  the_user UserObj = refl
   the_user (User named) = eqb_swap requester.uid named
-  the_user GroupObj = refl
-  the_user (Group gid) = refl
-  the_user Mask = refl
-  the_user Other = refl
+  the_user _ = refl
 
   the_groups : (tag : Tag) → (is_in Groups tag && applies (who_of tag)) ≡ is_for_group_of requester group tag
   the_groups UserObj = refl
-  the_groups (User uid) = refl
-  the_groups GroupObj = refl
-  the_groups (Group gid) = refl
-  the_groups Mask = refl
-  the_groups Other = refl
+  the_groups _ = refl
 
   the_others : (tag : Tag) → (is_in Others tag && applies (who_of tag)) ≡ same_tag tag Other
   the_others UserObj = refl
-  the_others (User uid) = refl
-  the_others GroupObj = refl
-  the_others (Group gid) = refl
-  the_others Mask = refl
-  the_others Other = refl
+  the_others _ = refl
 
   -- the entries of a class that apply are those of a test
   matching-is : (class : Class) (test : Tag → Bool) → ((tag : Tag) → (is_in class tag && applies (who_of tag)) ≡ test tag)

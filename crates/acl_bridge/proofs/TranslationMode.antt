@@ -11,6 +11,7 @@ use Rattle.acl_posix.specs.Entry.{Triple, same_tag, entries_of, perms_of, HavePe
 use Rattle.acl_posix.specs.Mode.{perms_at}
 use Rattle.acl_posix.specs.Perms.{IsPermissions}
 use Rattle.acl_posix.specs.Validity.{IsValid, count_of}
+use Rattle.acl_posix.proofs.TagLemmas.{same_tag-true}
 use Rattle.acl_posix.specs.declared.entry.Tag.{Tag}
 use Rattle.acl_posix.specs.declared.entry.Tag.TheVariants.{UserObj, User, GroupObj, Group, Mask, Other}
 use Rattle.acl_nfs4.specs.Evaluation.{shown_to, of_class, mode_of}
@@ -35,19 +36,22 @@ effective-small true mask perms small = masked-small mask perms small
 effective-small false mask perms small = small
 
 module _ (acl : List Triple) (valid : IsValid acl) (small : HavePermissions acl) where
-  -- what is shown to those for whom one entry alone decides is what it has, as far as that is limited
-  shown_by_one : (class : Who) (tag : Tag) (limit : ℕ → ℕ) → count_of tag acl ≡ 1
-      → ((entry : Triple) → same_tag entry.tag tag ≡ true → effective_perms acl entry ≡ limit entry.perms)
+  -- what permissions an entry of a tag has that stand in it
+  abbrev limited : Tag → ℕ → ℕ
+  limited tag perms = cond (is_under_mask tag) (masked (perms_of Mask acl) perms) perms
+
+  -- what is shown to those for whom one entry alone decides is what it has
+  shown_by_one : (class : Who) (tag : Tag) → count_of tag acl ≡ 1
       → ((other : Tag) → is_in Users other ≡ true → of_class class (who_of other) ≡ true → same_tag other UserObj ≡ true)
       → ((entry : Triple) → entries_of tag acl ≡ entry ∷ [] → deciding (of_class class) acl ≡ entry ∷ [])
-      → shown_to (of_class class) (translation acl) ≡ limit (perms_at tag acl)
-  shown_by_one class tag limit one limited no_user alone = go (the_one has_tag acl (length-filter has_tag acl ∙ one))
+      → shown_to (of_class class) (translation acl) ≡ limited tag (perms_at tag acl)
+  shown_by_one class tag one no_user alone = go (the_one has_tag acl (length-filter has_tag acl ∙ one))
     where
       has_tag : Triple → Bool
       has_tag entry = same_tag entry.tag tag
 
       go : (e : Triple) × (filter has_tag acl ≡ e ∷ []) × (find has_tag acl ≡ Some e)
-          → shown_to (of_class class) (translation acl) ≡ limit (perms_at tag acl)
+          → shown_to (of_class class) (translation acl) ≡ limited tag (perms_at tag acl)
       go (e, is_alone, is_found) =
           let known = find-passes (λ (entry : Triple). IsPermissions entry.perms) has_tag acl e small is_found in
           shown_to-allows (of_class class) (translation acl) (effective_perms acl e)
@@ -58,8 +62,8 @@ module _ (acl : List Triple) (valid : IsValid acl) (small : HavePermissions acl)
           (few acl valid (of_class class) Users UserObj no_user)
           ∙ ap (list_any (λ (entry : Triple). has (effective_perms acl entry) (permission_of bit))) (alone e is_alone)
           ∙ or_false (has (effective_perms acl e) (permission_of bit)))
-          ∙ limited e known.0
-          ∙ sym (ap (λ (o : Option Triple). limit (unwrap_or (option_map (λ (entry : Triple). entry.perms) o) 0)) is_found)
+          ∙ ap (λ (of : Tag). limited of e.perms) (same_tag-true e.tag tag known.0)
+          ∙ sym (ap (λ (o : Option Triple). limited tag (unwrap_or (option_map (λ (entry : Triple). entry.perms) o) 0)) is_found)
 
   -- the entries of a class to which these of a mode's apply, as those of one tag
   all_of : (who : Who) (class : Class) (test : Tag → Bool) → ((tag : Tag) → (is_in class tag && of_class who (who_of tag)) ≡ test tag)
@@ -80,27 +84,18 @@ module _ (acl : List Triple) (valid : IsValid acl) (small : HavePermissions acl)
   pass_over : (entries : List Triple) (rest : List (List Triple)) → entries ≡ [] → first_nonempty (entries ∷ rest) ≡ first_nonempty rest
   pass_over entries rest none = ap (λ (xs : List Triple). first_nonempty (xs ∷ rest)) none
 
+  -- a class of the mode has no named user
+  no_named : (class : Who) → ((uid : ℕ) → of_class class (whos.User uid) ≡ false) → (tag : Tag) → is_in Users tag ≡ true
+      → of_class class (who_of tag) ≡ true → same_tag tag UserObj ≡ true
+  no_named class other UserObj is applies = refl
+  no_named class other (User uid) is applies = absurd (true≢false (sym applies ∙ other uid))
+  no_named class other _ is applies = absurd (true≢false (sym is))
+
   shown_to_owner : shown_to (of_class whos.Owner) (translation acl) ≡ perms_at UserObj acl
   shown_to_owner =
-      shown_by_one whos.Owner UserObj (λ perms. perms) valid.user_obj own no_named
+      shown_by_one whos.Owner UserObj valid.user_obj (no_named whos.Owner (λ uid. refl))
       (λ entry one. stop_at _ _ entry (all_of whos.Owner Owner (λ tag. same_tag tag UserObj) the_owner ∙ one))
     where
-      own : (entry : Triple) → same_tag entry.tag UserObj ≡ true → effective_perms acl entry ≡ entry.perms
-      own entry is = go entry.tag is
-        where
-          go : (tag : Tag) → same_tag tag UserObj ≡ true → cond (is_under_mask tag) (masked (perms_of Mask acl) entry.perms) entry.perms ≡ entry.perms
-          go UserObj is = refl
-          go Mask is = refl
-          go Other is = refl
-          go (User uid) is = absurd (true≢false (sym is))
-          go GroupObj is = absurd (true≢false (sym is))
-          go (Group gid) is = absurd (true≢false (sym is))
-
-      no_named : (tag : Tag) → is_in Users tag ≡ true → of_class whos.Owner (who_of tag) ≡ true → same_tag tag UserObj ≡ true
-      no_named UserObj is applies = refl
-      no_named (User uid) is applies = absurd (true≢false (sym applies))
-      no_named _ is applies = absurd (true≢false (sym is))
-
       the_owner : (tag : Tag) → (is_in Owner tag && of_class whos.Owner (who_of tag)) ≡ same_tag tag UserObj
       the_owner UserObj = refl
       the_owner (User uid) = refl
@@ -108,29 +103,12 @@ module _ (acl : List Triple) (valid : IsValid acl) (small : HavePermissions acl)
 
   shown_to_group : shown_to (of_class whos.Group) (translation acl) ≡ masked (perms_of Mask acl) (perms_at GroupObj acl)
   shown_to_group =
-      shown_by_one whos.Group GroupObj (masked (perms_of Mask acl)) valid.group_obj limited no_named
+      shown_by_one whos.Group GroupObj valid.group_obj (no_named whos.Group (λ uid. refl))
       (λ entry one.
       pass_over _ _ (none_of whos.Group Owner no_owner)
       ∙ pass_over _ _ (none_of whos.Group Users none_named)
       ∙ stop_at _ _ entry (all_of whos.Group Groups (λ tag. same_tag tag GroupObj) the_group ∙ one))
     where
-      limited : (entry : Triple) → same_tag entry.tag GroupObj ≡ true → effective_perms acl entry ≡ masked (perms_of Mask acl) entry.perms
-      limited entry is = go entry.tag is
-        where
-          go : (tag : Tag) → same_tag tag GroupObj ≡ true
-              → cond (is_under_mask tag) (masked (perms_of Mask acl) entry.perms) entry.perms ≡ masked (perms_of Mask acl) entry.perms
-          go GroupObj is = refl
-          go (User uid) is = refl
-          go (Group gid) is = refl
-          go UserObj is = absurd (true≢false (sym is))
-          go Mask is = absurd (true≢false (sym is))
-          go Other is = absurd (true≢false (sym is))
-
-      no_named : (tag : Tag) → is_in Users tag ≡ true → of_class whos.Group (who_of tag) ≡ true → same_tag tag UserObj ≡ true
-      no_named UserObj is applies = refl
-      no_named (User uid) is applies = absurd (true≢false (sym applies))
-      no_named _ is applies = absurd (true≢false (sym is))
-
       no_owner : (tag : Tag) → (is_in Owner tag && of_class whos.Group (who_of tag)) ≡ false
       no_owner UserObj = refl
       no_owner _ = refl
@@ -147,29 +125,13 @@ module _ (acl : List Triple) (valid : IsValid acl) (small : HavePermissions acl)
 
   shown_to_everyone : shown_to (of_class whos.Everyone) (translation acl) ≡ perms_at Other acl
   shown_to_everyone =
-      shown_by_one whos.Everyone Other (λ perms. perms) valid.other own no_named
+      shown_by_one whos.Everyone Other valid.other (no_named whos.Everyone (λ uid. refl))
       (λ entry one.
       pass_over _ _ (none_of whos.Everyone Owner no_owner)
       ∙ pass_over _ _ (none_of whos.Everyone Users none_named)
       ∙ pass_over _ _ (none_of whos.Everyone Groups no_group)
       ∙ stop_at _ _ entry (all_of whos.Everyone Others (λ tag. same_tag tag Other) the_other ∙ one))
     where
-      own : (entry : Triple) → same_tag entry.tag Other ≡ true → effective_perms acl entry ≡ entry.perms
-      own entry is = go entry.tag is
-        where
-          go : (tag : Tag) → same_tag tag Other ≡ true → cond (is_under_mask tag) (masked (perms_of Mask acl) entry.perms) entry.perms ≡ entry.perms
-          go UserObj is = refl
-          go Mask is = refl
-          go Other is = refl
-          go (User uid) is = absurd (true≢false (sym is))
-          go GroupObj is = absurd (true≢false (sym is))
-          go (Group gid) is = absurd (true≢false (sym is))
-
-      no_named : (tag : Tag) → is_in Users tag ≡ true → of_class whos.Everyone (who_of tag) ≡ true → same_tag tag UserObj ≡ true
-      no_named UserObj is applies = refl
-      no_named (User uid) is applies = absurd (true≢false (sym applies))
-      no_named _ is applies = absurd (true≢false (sym is))
-
       no_owner : (tag : Tag) → (is_in Owner tag && of_class whos.Everyone (who_of tag)) ≡ false
       no_owner UserObj = refl
       no_owner _ = refl

@@ -12,7 +12,7 @@ use Rattle.acl_nfs4.specs.Evaluation.{allows}
 use Rattle.acl_nfs4.specs.Mask.{mask_bits}
 use Rattle.acl_nfs4.specs.declared.comparison.Difference.{Difference}
 use Rattle.acl_nfs4.specs.declared.who.Who.{Who}
-use Rattle.acl_nfs4.proofs.EvaluationLoop.{found, allows-skip, settles}
+use Rattle.acl_nfs4.proofs.EvaluationLoop.{found, found-allow, found-deny, allows-skip}
 use Rattle.acl_nfs4.proofs.ListLemmas.{drop-here}
 
 -- those of the bits that the list allows
@@ -36,37 +36,11 @@ module _ (applies : Who → Bool) (whole : List Nfsace4) (bits : ℕ) where
   pub AreFound-allow : (ace : Nfsace4) (rest : List Nfsace4) (allowed undecided : ℕ) → (decides ace && applies ace.who) ≡ true → is_allow ace.kind ≡ true
       → AreFound applies whole bits (ace ∷ rest) allowed undecided
       → AreFound applies whole bits rest (allowed ∪ undecided ∩ ace.mask) (without undecided ace.mask)
-  AreFound-allow ace rest allowed undecided concerned allow so_far bit =
-      let both = and_parts (decides ace) (applies ace.who) concerned in
-      so_far bit
-      ∙ ap (found (has allowed bit) (has undecided bit))
-      (settles applies ace rest bit both.0 both.1 ∙ ap (λ b. cond (has ace.mask bit) b (allows applies bit rest)) allow)
-      ∙ settle (has allowed bit) (has undecided bit) (has ace.mask bit)
-      ∙ sym (ap₂ (λ a u. found a u (allows applies bit rest))
-      (has-or allowed (undecided ∩ ace.mask) bit ∙ ap (λ b. has allowed bit || b) (has-and undecided ace.mask bit))
-      (has-without undecided ace.mask bit))
-    where
-      settle : (a u m : Bool) → found a u (cond m true (allows applies bit rest)) ≡ found (a || (u && m)) (u && not m) (allows applies bit rest)
-      settle true u m = refl
-      settle false true true = refl
-      settle false true false = refl
-      settle false false m = refl
+  AreFound-allow ace rest allowed undecided concerned allow so_far bit = so_far bit ∙ found-allow applies ace rest allowed undecided bit concerned allow
 
   pub AreFound-deny : (ace : Nfsace4) (rest : List Nfsace4) (allowed undecided : ℕ) → (decides ace && applies ace.who) ≡ true → is_allow ace.kind ≡ false
       → AreFound applies whole bits (ace ∷ rest) allowed undecided → AreFound applies whole bits rest allowed (without undecided ace.mask)
-  AreFound-deny ace rest allowed undecided concerned deny so_far bit =
-      let both = and_parts (decides ace) (applies ace.who) concerned in
-      so_far bit
-      ∙ ap (found (has allowed bit) (has undecided bit))
-      (settles applies ace rest bit both.0 both.1 ∙ ap (λ b. cond (has ace.mask bit) b (allows applies bit rest)) deny)
-      ∙ settle (has allowed bit) (has undecided bit) (has ace.mask bit)
-      ∙ sym (ap (λ u. found (has allowed bit) u (allows applies bit rest)) (has-without undecided ace.mask bit))
-    where
-      settle : (a u m : Bool) → found a u (cond m false (allows applies bit rest)) ≡ found a (u && not m) (allows applies bit rest)
-      settle true u m = refl
-      settle false true true = refl
-      settle false true false = refl
-      settle false false m = refl
+  AreFound-deny ace rest allowed undecided concerned deny so_far bit = so_far bit ∙ found-deny applies ace rest allowed undecided bit concerned deny
 
   -- where no bit is open, all are found, and so they are at the end of the list
   pub AreFound-none : (rest : List Nfsace4) (allowed undecided : ℕ) → undecided ≡ 0 → AreFound applies whole bits rest allowed undecided

@@ -145,6 +145,40 @@ abbrev pub IsFound : (Who → Bool) → List Nfsace4 → List Nfsace4 → ℕ �
 IsFound applies whole rest allowed undecided =
     (bit : ℕ) → has mode_bits bit ≡ true → allows applies bit whole ≡ found (has allowed bit) (has undecided bit) (allows applies bit rest)
 
+-- one entry that concerns whoever asks, for one bit
+module _ (applies : Who → Bool) (ace : Nfsace4) (rest : List Nfsace4) (allowed undecided bit : ℕ) (concerned : (decides ace && applies ace.who) ≡ true) where
+  pub found-allow : is_allow ace.kind ≡ true → found (has allowed bit) (has undecided bit) (allows applies bit (ace ∷ rest))
+      ≡ found (has (allowed ∪ undecided ∩ ace.mask) bit) (has (without undecided ace.mask) bit) (allows applies bit rest)
+  found-allow allow =
+      let both = and_parts (decides ace) (applies ace.who) concerned in
+      ap (found (has allowed bit) (has undecided bit))
+      (settles applies ace rest bit both.0 both.1 ∙ ap (λ b. cond (has ace.mask bit) b (allows applies bit rest)) allow)
+      ∙ settle (has allowed bit) (has undecided bit) (has ace.mask bit)
+      ∙ sym (ap₂ (λ a u. found a u (allows applies bit rest))
+      (has-or allowed (undecided ∩ ace.mask) bit ∙ ap (λ b. has allowed bit || b) (has-and undecided ace.mask bit))
+      (has-without undecided ace.mask bit))
+    where
+      settle : (a u m : Bool) → found a u (cond m true (allows applies bit rest)) ≡ found (a || (u && m)) (u && not m) (allows applies bit rest)
+      settle true u m = refl
+      settle false true true = refl
+      settle false true false = refl
+      settle false false m = refl
+
+  pub found-deny : is_allow ace.kind ≡ false → found (has allowed bit) (has undecided bit) (allows applies bit (ace ∷ rest))
+      ≡ found (has allowed bit) (has (without undecided ace.mask) bit) (allows applies bit rest)
+  found-deny deny =
+      let both = and_parts (decides ace) (applies ace.who) concerned in
+      ap (found (has allowed bit) (has undecided bit))
+      (settles applies ace rest bit both.0 both.1 ∙ ap (λ b. cond (has ace.mask bit) b (allows applies bit rest)) deny)
+      ∙ settle (has allowed bit) (has undecided bit) (has ace.mask bit)
+      ∙ sym (ap (λ u. found (has allowed bit) u (allows applies bit rest)) (has-without undecided ace.mask bit))
+    where
+      settle : (a u m : Bool) → found a u (cond m false (allows applies bit rest)) ≡ found a (u && not m) (allows applies bit rest)
+      settle true u m = refl
+      settle false true true = refl
+      settle false true false = refl
+      settle false false m = refl
+
 module _ (applies : Who → Bool) (whole : List Nfsace4) where
   -- before the first entry all of the mode's bits are open
   pub IsFound-all : IsFound applies whole whole 0 mode_bits
@@ -158,37 +192,11 @@ module _ (applies : Who → Bool) (whole : List Nfsace4) where
   pub IsFound-allow : (ace : Nfsace4) (rest : List Nfsace4) (allowed undecided : ℕ) → (decides ace && applies ace.who) ≡ true → is_allow ace.kind ≡ true
       → IsFound applies whole (ace ∷ rest) allowed undecided
       → IsFound applies whole rest (allowed ∪ undecided ∩ ace.mask) (without undecided ace.mask)
-  IsFound-allow ace rest allowed undecided concerned allow so_far bit of_mode =
-      let both = and_parts (decides ace) (applies ace.who) concerned in
-      so_far bit of_mode
-      ∙ ap (found (has allowed bit) (has undecided bit))
-      (settles applies ace rest bit both.0 both.1 ∙ ap (λ b. cond (has ace.mask bit) b (allows applies bit rest)) allow)
-      ∙ settle (has allowed bit) (has undecided bit) (has ace.mask bit)
-      ∙ sym (ap₂ (λ a u. found a u (allows applies bit rest))
-      (has-or allowed (undecided ∩ ace.mask) bit ∙ ap (λ b. has allowed bit || b) (has-and undecided ace.mask bit))
-      (has-without undecided ace.mask bit))
-    where
-      settle : (a u m : Bool) → found a u (cond m true (allows applies bit rest)) ≡ found (a || (u && m)) (u && not m) (allows applies bit rest)
-      settle true u m = refl
-      settle false true true = refl
-      settle false true false = refl
-      settle false false m = refl
+  IsFound-allow ace rest allowed undecided concerned allow so_far bit of_mode = so_far bit of_mode ∙ found-allow applies ace rest allowed undecided bit concerned allow
 
   pub IsFound-deny : (ace : Nfsace4) (rest : List Nfsace4) (allowed undecided : ℕ) → (decides ace && applies ace.who) ≡ true → is_allow ace.kind ≡ false
       → IsFound applies whole (ace ∷ rest) allowed undecided → IsFound applies whole rest allowed (without undecided ace.mask)
-  IsFound-deny ace rest allowed undecided concerned deny so_far bit of_mode =
-      let both = and_parts (decides ace) (applies ace.who) concerned in
-      so_far bit of_mode
-      ∙ ap (found (has allowed bit) (has undecided bit))
-      (settles applies ace rest bit both.0 both.1 ∙ ap (λ b. cond (has ace.mask bit) b (allows applies bit rest)) deny)
-      ∙ settle (has allowed bit) (has undecided bit) (has ace.mask bit)
-      ∙ sym (ap (λ u. found (has allowed bit) u (allows applies bit rest)) (has-without undecided ace.mask bit))
-    where
-      settle : (a u m : Bool) → found a u (cond m false (allows applies bit rest)) ≡ found a (u && not m) (allows applies bit rest)
-      settle true u m = refl
-      settle false true true = refl
-      settle false true false = refl
-      settle false false m = refl
+  IsFound-deny ace rest allowed undecided concerned deny so_far bit of_mode = so_far bit of_mode ∙ found-deny applies ace rest allowed undecided bit concerned deny
 
   -- where no bit is open, all are found, and so they are at the end of the list
   pub IsFound-none : (rest : List Nfsace4) (allowed undecided : ℕ) → undecided ≡ 0 → IsFound applies whole rest allowed undecided

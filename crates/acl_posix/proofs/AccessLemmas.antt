@@ -22,20 +22,12 @@ effective_under mask tag perms = cond (is_under_mask tag) (masked mask perms) pe
 owner_entry : (mask : Option ℕ) (tag : Tag) (perms request : ℕ)
     → (same_tag tag UserObj && has_all (effective_under mask tag perms) request) ≡ (same_tag tag UserObj && has_all perms request)
 owner_entry mask UserObj perms request = refl
-owner_entry mask (User uid) perms request = refl
-owner_entry mask GroupObj perms request = refl
-owner_entry mask (Group gid) perms request = refl
-owner_entry mask Mask perms request = refl
-owner_entry mask Other perms request = refl
+owner_entry mask _ perms request = refl
 
 other_entry : (mask : Option ℕ) (tag : Tag) (perms request : ℕ)
     → (same_tag tag Other && has_all (effective_under mask tag perms) request) ≡ (same_tag tag Other && has_all perms request)
 other_entry mask UserObj perms request = refl
-other_entry mask (User uid) perms request = refl
-other_entry mask GroupObj perms request = refl
-other_entry mask (Group gid) perms request = refl
-other_entry mask Mask perms request = refl
-other_entry mask Other perms request = refl
+other_entry mask _ perms request = refl
 
 under : (mask : Option ℕ) (b : Bool) (perms request : ℕ)
     → (b && has_all (masked mask perms) request) ≡ ((b && has_all perms request) && option_map_or (λ limit. has_all limit request) mask true)
@@ -45,22 +37,15 @@ under mask false perms request = refl
 user_entry : (mask : Option ℕ) (uid : ℕ) (tag : Tag) (perms request : ℕ)
     → (same_tag tag (User uid) && has_all (effective_under mask tag perms) request)
     ≡ ((same_tag tag (User uid) && has_all perms request) && option_map_or (λ limit. has_all limit request) mask true)
-user_entry mask uid UserObj perms request = refl
 user_entry mask uid (User other) perms request = under mask (other == uid) perms request
-user_entry mask uid GroupObj perms request = refl
-user_entry mask uid (Group gid) perms request = refl
-user_entry mask uid Mask perms request = refl
-user_entry mask uid Other perms request = refl
+user_entry mask uid _ perms request = refl
 
 group_entry : (mask : Option ℕ) (requester : Identity) (group : ℕ) (tag : Tag) (perms request : ℕ)
     → (is_for_group_of requester group tag && has_all (effective_under mask tag perms) request)
     ≡ ((is_for_group_of requester group tag && has_all perms request) && option_map_or (λ limit. has_all limit request) mask true)
-group_entry mask requester group UserObj perms request = refl
-group_entry mask requester group (User uid) perms request = refl
 group_entry mask requester group GroupObj perms request = under mask (is_in_group requester group) perms request
 group_entry mask requester group (Group gid) perms request = under mask (is_in_group requester gid) perms request
-group_entry mask requester group Mask perms request = refl
-group_entry mask requester group Other perms request = refl
+group_entry mask requester group _ perms request = refl
 
 -- a first list with a member is the first that isn't empty
 first : (entries : List Triple) (rest : List (List Triple)) → list_any (λ _. true) entries ≡ true → first_nonempty (entries ∷ rest) ≡ entries

@@ -87,11 +87,7 @@ word_of Other = word.Other
 word_again : (tag : Tag) → tag_word (word_text tag) ≡ Some (word_of tag)
 unfolding word_of
 word_again UserObj = refl
-word_again (User uid) = refl
-word_again GroupObj = refl
-word_again (Group gid) = refl
-word_again Mask = refl
-word_again Other = refl
+word_again _ = refl
 
 -- an id that is written and resolved gives its tag
 pub qualified_by : (tag : ℕ → Tag) (id_of : List ℕ → Option ℕ) (id : ℕ) (written : Option Written) → option_and_then (resolved id_of) written ≡ Some id
