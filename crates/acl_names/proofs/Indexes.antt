@@ -1,9 +1,11 @@
 -- The index of members by their ids.
-use Rattle.std.proofs.Common.{◌≡◌, ◌∙◌, ℕ, suc, ◌+◌, ◌<◌, ◌==◌, Bool, true, false, cond, nat_lt, nat_eq, Some, None, List, [], ◌∷◌, ◌||◌, length, refl, sym, ap, arith, find, map, option_map}
+use Rattle.std.proofs.Common.{◌≡◌, ◌∙◌, ℕ, suc, ◌+◌, ◌<◌, ◌==◌, Bool, true, false, cond, nat_lt, nat_eq, Some, None, List, [], ◌∷◌, ◌++◌, ◌||◌, length, get_or, take, refl, sym, ap, arith, find, map, option_map}
 use Rattle.std.specs.List.{list_any, count_by, slice_get, enumerate_from, position_from}
 use Rattle.std.specs.List.Sorted.{IsPermutation, IsSortedByKey}
 use Rattle.std.specs.Ordering.{nat_cmp}
 use Rattle.std.proofs.lemmas.Cmp.{nat_cmp_total}
+use Rattle.std.proofs.lemmas.List.{length-map, take_more}
+use Rattle.std.proofs.lemmas.List.FromFn.{length-enumerate_from}
 use Rattle.acl_names.specs.Ascending.{repeats}
 use Rattle.acl_names.specs.Named.{ids_with_places, IsIndexOf}
 use Rattle.acl_names.proofs.AnyLemmas.{list_any-agree}
@@ -18,6 +20,20 @@ module _ {X : Type 0} (id_of : X → ℕ) where
 
   abbrev entry_id : ℕ × ℕ → ℕ
   entry_id entry = entry.0
+
+  entries-append : (n : ℕ) (members : List X) (member : X) → entries_from n (members ++ member ∷ []) ≡ entries_from n members ++ (id_of member, n + length members) ∷ []
+  entries-append n [] member = ap (λ place. (id_of member, place) ∷ []) (omega arith)
+  entries-append n (x ∷ xs) member =
+      ap (λ entries. (id_of x, n) ∷ entries) (entries-append (n + 1) xs member)
+      ∙ ap (λ place. entries_from n (x ∷ xs) ++ (id_of member, place) ∷ []) (omega arith)
+
+  -- the entries of the members before place i, with the member there
+  pub one_more_entry : (members : List X) (i : ℕ) (d : X) (entries : List (ℕ × ℕ)) → i < length members → entries ≡ ids_with_places id_of (take i members)
+      → entries ++ (id_of (get_or members i d), length entries) ∷ [] ≡ ids_with_places id_of (take (i + 1) members)
+  one_more_entry members i d entries inside are =
+      let count : length entries ≡ length (take i members) = ap length are ∙ length-map _ _ ∙ length-enumerate_from 0 (take i members) in
+      let place : length entries ≡ 0 + length (take i members) = omega (arith, count) in
+      rw (place, are) (sym (entries-append 0 (take i members) (get_or members i d))) ∙ ap (ids_with_places id_of) (sym (take_more members i d inside))
 
   -- a test of the ids is a test of the members
   list_any-entries : (p : ℕ → Bool) (n : ℕ) (members : List X) → list_any (λ entry. p (entry_id entry)) (entries_from n members) ≡ list_any (λ member. p (id_of member)) members

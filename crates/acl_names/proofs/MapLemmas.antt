@@ -1,6 +1,9 @@
 -- Lists that are seen through a map.
-use Rattle.std.proofs.Common.{◌≡◌, ◌∙◌, ◌+◌, Bool, cond, nat_lt, Option, Some, None, List, [], ◌∷◌, refl, ap, map}
-use Rattle.std.specs.List.{count_by, filter_map}
+use Rattle.std.proofs.Common.{◌≡◌, ◌∙◌, ℕ, ◌+◌, ◌<◌, Bool, cond, nat_lt, Option, Some, None, List, [], ◌∷◌, ◌++◌, length, get_or, take, refl, sym, ap, map}
+use Rattle.std.specs.List.{count_by, cons_option, filter_map}
+use Rattle.std.specs.Option.{option_to_list}
+use Rattle.std.proofs.lemmas.List.{take_more}
+use Rattle.std.proofs.lemmas.List.Elements.{filter_map-append}
 use Rattle.std.proofs.lemmas.List.Folds.{fold-map}
 use Rattle.acl_names.specs.Ascending.{repeats}
 use Rattle.acl_names.proofs.AnyLemmas.{list_any-agree, list_any-map}
@@ -26,3 +29,14 @@ filter_map-map {X} {Y} {Z} p f (x ∷ xs) = ap (with (p (f x))) (filter_map-map 
 pub filter_map-agree : {Y Z : Type 0} (p q : Y → Option Z) → ((y : Y) → p y ≡ q y) → (ys : List Y) → filter_map p ys ≡ filter_map q ys
 filter_map-agree p q same [] = refl
 filter_map-agree p q same (y ∷ ys) = rw (same y, filter_map-agree p q same ys) refl
+
+-- what h gives of the items before place i, with what it gives of the item there
+pub filter_map-one_more : {X Y : Type 0} (h : X → Option Y) (xs : List X) (i : ℕ) (d : X) (ys : List Y) (o : Option Y) → i < length xs → ys ≡ filter_map h (take i xs)
+    → h (get_or xs i d) ≡ o → ys ++ option_to_list o ≡ filter_map h (take (i + 1) xs)
+filter_map-one_more {X} {Y} h xs i d ys o inside are gives =
+    rw (are, sym gives) (ap (λ zs. filter_map h (take i xs) ++ zs) (one (h (get_or xs i d))))
+    ∙ sym (filter_map-append h (take i xs) (get_or xs i d ∷ [])) ∙ ap (filter_map h) (sym (take_more xs i d inside))
+  where
+    one : (o : Option Y) → option_to_list o ≡ cons_option o []
+    one None = refl
+    one (Some y) = refl

@@ -89,14 +89,12 @@ fn ids_with_places<T: Named>(alloc: Global, members: &[T]) -> Result<Vec<(u32, u
     ensures entries { IfOk result (λ entries. entries.items ≡ ids_with_places T.id_of members.now) }
     ensures empty { length members.now ≡ 0 → IsOk result }
 {
-    if members.is_empty() {
-        return Ok(Vec::new(alloc));
+    // The room is asked for at once: `collect` would try again with less if it is refused.
+    let mut entries = Vec::with_capacity(alloc, members.len())?;
+    for member in members {
+        entries.push((member.id(), entries.len()))?;
     }
-    members
-        .iter()
-        .enumerate()
-        .map(|(place, member)| (member.id(), place))
-        .collect(alloc)
+    Ok(entries)
 }
 
 /// The member of this name, of members in the order of their names.

@@ -87,10 +87,13 @@ fn gids_of(alloc: Global, groups: &[Group], names: &[String]) -> Result<Vec<Gid>
     ensures { IfOk result (λ gids. gids.items ≡ filter_map
         (λ name. option_map (λ group. group.gid) (find (λ group. bytes_eq group.name (string_bytes name)) groups.now)) names.now) }
 {
-    names
-        .iter()
-        .filter_map(|name| gid_named(groups, name.as_str()))
-        .collect(alloc)
+    let mut gids = Vec::with_capacity(alloc, names.len())?;
+    for name in names {
+        if let Some(gid) = gid_named(groups, name.as_str()) {
+            gids.push(gid)?;
+        }
+    }
+    Ok(gids)
 }
 
 fn repeats_text(texts: &[String]) -> bool

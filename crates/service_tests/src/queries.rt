@@ -1,5 +1,0 @@
-mod compare;
-mod decide;
-mod input;
-mod refused_growths;
-mod words;

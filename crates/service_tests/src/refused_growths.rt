@@ -1,0 +1,207 @@
+//! Calls that may want memory: one refused growth, wherever it falls, is told by the call in which it falls, and the call
+//! may be made again.
+//!
+//! `rt try --test --fail-alloc N` refuses the growth N of a test. Each test here passes whichever growth that is, and prints
+//! how many refusals it was told of: one up to the last growth that it asks for, and none from then on.
+use crate::fixture::tree;
+use crate::setup::SETUP;
+use crate::texts::{are_short, has_output, serve_texts, serve_texts_in_rounds};
+use acl_examples::directory;
+use acl_names::Directory;
+use acl_service::{
+    OneFault, OpenGate, Report, ServeFault, SetupError, read_setup, run_one, run_texts,
+};
+use std::alloc::{AllocError, Global};
+use std::sync::Wait;
+use std::test::Fail;
+use std::thread::Threads;
+use std::time::Clock;
+
+/// How a command ended.
+#[derive(Clone, Copy, Debug, PartialEq, Eq)]
+enum Ending {
+    /// With its answer, and nothing else.
+    Answered,
+    /// With the line that tells of want of memory, and nothing else.
+    Memory,
+    /// In any other way.
+    Other,
+}
+
+/// Long lists of both kinds, and answers that show them.
+const SESSION: &str =
+    "create dir /d alice 755\nset /d default u::rwx,u:1:r,u:2:r,u:3:r,u:4:r,u:5:r,u:6:r,g::r,m::r,o::-\ncreate file /d/f carol 640\nget /d/f\ntranslate /d/f\nset /d/f nfs4 A::1:r,A::2:r,A::3:r,A::4:r,A::5:r,A::6:r,A::7:r,A::8:r,A::9:r,A::10:r,A::11:r,A::12:r,A::13:r,A::14:r,A::15:r,A::16:r,A::17:r\ncheck /d/f bob r\nx\n";
+
+const LAST_ANSWERS: &str = "6 ok\n7 denied\n8 error 1 syntax\n";
+
+/// A session on a tree of its own, into a writer that takes no memory.
+fn run(alloc: Global, names: &Directory) -> Ending {
+    let Some(tree) = tree(alloc) else {
+        return Ending::Memory;
+    };
+    let mut lines = [0; 1024];
+    let mut out = lines.as_mut_slice();
+    let ran = run_one(alloc, names, tree, SESSION.as_bytes(), &mut out);
+    let room = out.len();
+    let written = &lines[..1024usize.saturating_sub(room)];
+    match ran {
+        Ok(_) if written.ends_with(LAST_ANSWERS.as_bytes()) => Ending::Answered,
+        Err(OneFault::Memory) if room == 1024 => Ending::Memory,
+        _ => Ending::Other,
+    }
+}
+
+#[test]
+fn run_one_under_a_refused_growth(rt: HostRuntime) -> Result<(), Fail> {
+    let mut refusals: u32 = 0;
+    let mut names = directory(rt.alloc());
+    if names.is_none() {
+        refusals = 1;
+        names = directory(rt.alloc());
+    }
+    let names = names.ok_or("refused without cause")?;
+    let mut ended = run(rt.alloc(), &names);
+    if ended == Ending::Memory {
+        refusals = refusals.saturating_add(1);
+        ended = run(rt.alloc(), &names);
+    }
+    assert_eq!(rt; ended, Ending::Answered);
+    println!(rt; "refusals: {refusals}")?;
+    Ok(())
+}
+
+/// Sessions that create, set a long list and show it, and one with a faulty line.
+const SESSIONS: [&str; 2] = [
+    "create dir /d alice 755\nset /d default u::rwx,u:1:r,u:2:r,u:3:r,u:4:r,u:5:r,u:6:r,g::r,m::r,o::-\ntranslate /d\n",
+    "get /\nx\n",
+];
+
+const SECOND_OUTPUT: &str =
+    "1 get / dir root root 755 posix\nuser::rwx\ngroup::r-x\nother::r-x\n2 error 1 syntax\n";
+
+/// How a run of the sessions ended. A thread that can't be started is one of the ends of want of memory.
+fn ending_of(ran: Option<Result<Report, ServeFault>>) -> Ending {
+    match ran {
+        Some(Ok(report)) if report.journal.len() == 5 && has_output(&report, 1, SECOND_OUTPUT) => {
+            Ending::Answered
+        }
+        None | Some(Err(ServeFault::Memory | ServeFault::ThreadRefused)) => Ending::Memory,
+        Some(_) => Ending::Other,
+    }
+}
+
+fn run_in_rounds(alloc: Global) -> Ending {
+    match tree(alloc) {
+        Some(tree) => ending_of(serve_texts_in_rounds(alloc, tree, SESSIONS.as_slice())),
+        None => Ending::Memory,
+    }
+}
+
+#[test]
+fn serve_rounds_under_a_refused_growth(rt: HostRuntime) -> Result<(), Fail> {
+    let mut refusals = 0;
+    let mut ended = run_in_rounds(rt.alloc());
+    if ended == Ending::Memory {
+        refusals = 1;
+        ended = run_in_rounds(rt.alloc());
+    }
+    assert_eq!(rt; ended, Ending::Answered);
+    println!(rt; "refusals: {refusals}")?;
+    Ok(())
+}
+
+fn run_in_threads<R: Threads + Wait + Clock + Sync>(rt: &R, alloc: Global) -> Ending {
+    match tree(alloc) {
+        Some(tree) => ending_of(serve_texts(rt, alloc, &OpenGate, tree, SESSIONS.as_slice(), None)),
+        None => Ending::Memory,
+    }
+}
+
+#[test]
+fn serve_under_a_refused_growth(rt: HostRuntime) -> Result<(), Fail> {
+    let mut refusals = 0;
+    let mut ended = run_in_threads(&rt, rt.alloc());
+    if ended == Ending::Memory {
+        refusals = 1;
+        ended = run_in_threads(&rt, rt.alloc());
+    }
+    assert_eq!(rt; ended, Ending::Answered);
+    println!(rt; "refusals: {refusals}")?;
+    Ok(())
+}
+
+#[test]
+fn read_setup_under_a_refused_growth(rt: HostRuntime) -> Result<(), Fail> {
+    let mut refusals = 0;
+    let mut opened = read_setup(rt.alloc(), SETUP.as_bytes());
+    if let Err(SetupError::Memory) = opened {
+        refusals = 1;
+        opened = read_setup(rt.alloc(), SETUP.as_bytes());
+    }
+    let (directory, tree) = opened.ok().ok_or("refused without cause")?;
+    assert_eq!(rt; directory.domain(), "example.org");
+    assert_eq!(rt; tree.len(), 1);
+    println!(rt; "refusals: {refusals}")?;
+    Ok(())
+}
+
+/// One session with its journal, where both writers have room enough without any memory of their own.
+fn print_journal<R: Threads + Wait + Clock + Sync>(
+    rt: &R,
+    alloc: Global,
+    texts: &[Vec<u8>],
+) -> Ending {
+    if texts.is_empty() {
+        return Ending::Other;
+    }
+    if !are_short(texts) {
+        return Ending::Other;
+    }
+    let mut lines = [0; 1024];
+    let mut faults = [0; 64];
+    let mut out = lines.as_mut_slice();
+    let mut err = faults.as_mut_slice();
+    let setup = SETUP.as_bytes();
+    let status = run_texts(
+        rt, alloc, &OpenGate, setup, texts, true, None, &mut out, &mut err,
+    );
+    let (room, fault_room) = (out.len(), err.len());
+    let answered = match lines.get(..lines.len().saturating_sub(room)) {
+        Some(written) => written.ends_with(b"2 error 1 syntax\njournal\n0 1\n0 2\n".as_slice()),
+        None => false,
+    };
+    let memory = faults.starts_with(b"aclctl: run: memory\n".as_slice())
+        || faults.starts_with(b"aclctl: run: no thread\n".as_slice());
+    if (status, fault_room, answered) == (0, 64, true) {
+        Ending::Answered
+    } else if (status, room, memory) == (3, 1024, true) {
+        Ending::Memory
+    } else {
+        Ending::Other
+    }
+}
+
+fn one_text(alloc: Global) -> Result<Vec<Vec<u8>>, AllocError> {
+    let mut texts = Vec::new(alloc);
+    texts.push(Vec::from_slice(alloc, b"get /\nx\n")?)?;
+    Ok(texts)
+}
+
+#[test]
+fn run_texts_under_a_refused_growth(rt: HostRuntime) -> Result<(), Fail> {
+    let mut refusals: u32 = 0;
+    let mut texts = one_text(rt.alloc());
+    if texts.is_err() {
+        refusals = 1;
+        texts = one_text(rt.alloc());
+    }
+    let texts = texts?;
+    let mut ended = print_journal(&rt, rt.alloc(), texts.as_slice());
+    if ended == Ending::Memory {
+        refusals = refusals.saturating_add(1);
+        ended = print_journal(&rt, rt.alloc(), texts.as_slice());
+    }
+    assert_eq!(rt; ended, Ending::Answered);
+    println!(rt; "refusals: {refusals}")?;
+    Ok(())
+}

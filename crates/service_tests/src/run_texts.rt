@@ -1,0 +1,265 @@
+//! Runs of texts: what goes to the output and to standard error.
+ghost use Rattle.std.specs.Prelude.{◌≢◌, Some};
+
+use crate::setup::SETUP;
+use crate::texts::are_short;
+use acl_service::{Gate, OpenGate, run_texts};
+use std::alloc::Global;
+use std::io::{self, Write};
+use std::sync::Wait;
+use std::thread::Threads;
+use std::time::Clock;
+
+/// Takes at most so many bytes a write, and fails after so many writes.
+#[derive(Drop)]
+struct Failing {
+    bytes: usize,
+    writes: u32,
+}
+
+impl Write for Failing {
+    fn write(&mut self, buffer: &[u8]) -> io::Result<usize> {
+        if self.writes == 0 {
+            return Err(io::Error::from(io::ErrorKind::BrokenPipe));
+        }
+        self.writes = self.writes.saturating_sub(1);
+        Ok(buffer.len().min(self.bytes))
+    }
+
+    fn flush(&mut self) -> io::Result<()> {
+        Ok(())
+    }
+}
+
+/// Lets all through but a session's one request.
+#[derive(Clone, Copy)]
+struct Closed {
+    session: u32,
+    nth: u32,
+}
+
+impl Gate for Closed {
+    fn may_submit(&self, session: u32, nth: u32) -> bool {
+        (session, nth) != (self.session, self.nth)
+    }
+
+    fn answered(&self, _session: u32, _nth: u32) {}
+}
+
+const CREATE_AND_GET: &str = "create file /a alice 666\nget /a\n";
+
+const P: &str = "create dir /p alice 755\ncreate file /p/f alice 600\nget /p/f\n";
+
+const Q: &str = "create dir /q bob 755\ncreate file /q/f bob 600\nget /q/f\n";
+
+/// The texts' bytes.
+fn texts_of(alloc: Global, given: &[&str]) -> Option<Vec<Vec<u8>>> {
+    let mut texts = Vec::new(alloc);
+    for text in given {
+        texts
+            .push(Vec::from_slice(alloc, text.as_bytes()).ok()?)
+            .ok()?;
+    }
+    Some(texts)
+}
+
+/// How a run ends: its status, and what goes to the output and to standard error.
+type Ending<'a> = (u8, &'a str, &'a str);
+
+/// Whether a run of these texts ends so.
+fn ends_with<R: Threads + Wait + Clock + Sync, G: Gate>(
+    rt: &R,
+    alloc: Global,
+    gate: &G,
+    setup: &str,
+    given: &[&str],
+    journal: bool,
+    max_errors: Option<u32>,
+    ending: Ending<'_>,
+) -> Option<bool>
+    requires { max_errors ≢ Some 0 }
+{
+    let texts = texts_of(alloc, given)?;
+    if texts.is_empty() || !are_short(&texts) {
+        return None;
+    }
+    let mut out = Vec::new(alloc);
+    let mut err = Vec::new(alloc);
+    let setup = setup.as_bytes();
+    let texts = texts.as_slice();
+    let status = run_texts(
+        rt, alloc, gate, setup, texts, journal, max_errors, &mut out, &mut err,
+    );
+    let (wanted, text, fault) = ending;
+    Some(
+        status == wanted && out.as_slice() == text.as_bytes() && err.as_slice() == fault.as_bytes(),
+    )
+}
+
+#[test]
+fn journal_of_one_session(rt: HostRuntime) {
+    let alloc = rt.alloc();
+    let texts = [CREATE_AND_GET];
+    let wanted =
+        "1 ok\n2 get /a file alice staff 644 posix\nuser::rw-\ngroup::r--\nother::r--\njournal\n0 1\n0 2\n";
+    let ended = ends_with(
+        &rt,
+        alloc,
+        &OpenGate,
+        SETUP,
+        &texts,
+        true,
+        None,
+        (0, wanted, ""),
+    );
+    assert_eq!(rt; ended, Some(true));
+}
+
+#[test]
+fn one_session_alone(rt: HostRuntime) {
+    let alloc = rt.alloc();
+    let texts = [CREATE_AND_GET];
+    let wanted = "1 ok\n2 get /a file alice staff 644 posix\nuser::rw-\ngroup::r--\nother::r--\n";
+    let ended = ends_with(
+        &rt,
+        alloc,
+        &OpenGate,
+        SETUP,
+        &texts,
+        false,
+        None,
+        (0, wanted, ""),
+    );
+    assert_eq!(rt; ended, Some(true));
+}
+
+#[test]
+fn output_of_two_sessions(rt: HostRuntime) {
+    let alloc = rt.alloc();
+    let texts = [P, Q];
+    let wanted =
+        "session 0\n1 ok\n2 ok\n3 get /p/f file alice staff 600 posix\nuser::rw-\ngroup::---\nother::---\nsession 1\n1 ok\n2 ok\n3 get /q/f file bob staff 600 posix\nuser::rw-\ngroup::---\nother::---\n";
+    let ended = ends_with(
+        &rt,
+        alloc,
+        &OpenGate,
+        SETUP,
+        &texts,
+        false,
+        None,
+        (0, wanted, ""),
+    );
+    assert_eq!(rt; ended, Some(true));
+}
+
+#[test]
+fn most_errors_allowed(rt: HostRuntime) {
+    let alloc = rt.alloc();
+    let texts = ["get /x\nget /\nnope\nget /\n"];
+    let wanted =
+        "1 error 20 no-such-path\n2 get / dir root root 755 posix\nuser::rwx\ngroup::r-x\nother::r-x\n3 error 1 syntax\njournal\n0 1\n0 2\n0 3\n";
+    let ended = ends_with(
+        &rt,
+        alloc,
+        &OpenGate,
+        SETUP,
+        &texts,
+        true,
+        Some(2),
+        (0, wanted, ""),
+    );
+    assert_eq!(rt; ended, Some(true));
+}
+
+#[test]
+fn stopped_by_the_gate(rt: HostRuntime) {
+    let alloc = rt.alloc();
+    let gate = Closed { session: 0, nth: 2 };
+    let ending = (3, "", "aclctl: run: stopped\n");
+    let ended = ends_with(&rt, alloc, &gate, SETUP, &[P, Q], false, None, ending);
+    assert_eq!(rt; ended, Some(true));
+}
+
+/// Whether a run over the setup of the examples, with more behind it, ends with this line.
+fn refuses_more<R: Threads + Wait + Clock + Sync>(
+    rt: &R,
+    alloc: Global,
+    more: &str,
+    line: &str,
+) -> Option<bool> {
+    let setup = format!(in alloc; "{SETUP}{more}").ok()?;
+    let setup = setup.as_str();
+    ends_with(
+        rt,
+        alloc,
+        &OpenGate,
+        setup,
+        &[P, Q],
+        true,
+        None,
+        (1, "", line),
+    )
+}
+
+#[test]
+fn setups_that_are_refused(rt: HostRuntime) {
+    for (more, line) in [
+        ("[[", "aclctl: setup: not toml\n"),
+        ("[[user]]\nname = \"dave\"\n", "aclctl: setup: bad field\n"),
+        (
+            "[[user]]\nname = \"dave\"\nuid = 1000\ngroups = []\n",
+            "aclctl: setup: repeated id\n",
+        ),
+        (
+            "[[user]]\nname = \"dave\"\nuid = 7\ngroups = [\"wheel\"]\n",
+            "aclctl: setup: unknown group\n",
+        ),
+    ] {
+        let refuses = refuses_more(&rt, rt.alloc(), more, line);
+        assert_eq!(rt; refuses, Some(true), "with {more}");
+    }
+}
+
+#[test]
+fn more_than_64_texts_come_before_the_setup(rt: HostRuntime) {
+    let alloc = rt.alloc();
+    for (texts, status, line) in [
+        ([P; 65].as_slice(), 2, "aclctl: at most 64 sessions\n"),
+        ([P; 64].as_slice(), 1, "aclctl: setup: not toml\n"),
+    ] {
+        let ending = (status, "", line);
+        let ended = ends_with(&rt, alloc, &OpenGate, "[[", texts, false, None, ending);
+        assert_eq!(rt; ended, Some(true), "with {status}");
+    }
+}
+
+/// Whether a run of these texts ends with this line where only so many writes of 8 bytes each succeed.
+fn fails_at<R: Threads + Wait + Clock + Sync>(
+    rt: &R,
+    alloc: Global,
+    given: &[&str],
+    writes: u32,
+    line: &str,
+) -> Option<bool> {
+    let texts = texts_of(alloc, given)?;
+    if texts.is_empty() || !are_short(&texts) {
+        return None;
+    }
+    let mut out = Failing { bytes: 8, writes };
+    let mut err = Vec::new(alloc);
+    let setup = SETUP.as_bytes();
+    let texts = texts.as_slice();
+    let status = run_texts(
+        rt, alloc, &OpenGate, setup, texts, false, None, &mut out, &mut err,
+    );
+    Some(status == 3 && err.as_slice() == line.as_bytes())
+}
+
+#[test]
+fn writers_that_fail(rt: HostRuntime) {
+    let line = "aclctl: run: output\n";
+    for (texts, writes) in [([CREATE_AND_GET].as_slice(), 0), ([P, Q].as_slice(), 1)] {
+        let fails = fails_at(&rt, rt.alloc(), texts, writes, line);
+        assert_eq!(rt; fails, Some(true), "after {writes} writes");
+    }
+}

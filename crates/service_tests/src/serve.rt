@@ -1,0 +1,220 @@
+use crate::fixture::tree;
+use crate::gates::{AfterAnswer, Meeting, Shut, ShutAt};
+use crate::texts::{Seen, serving};
+use acl_examples::directory;
+use acl_service::{OpenGate, ServeFault, run_one};
+use acl_tree::Tree;
+use std::alloc::Global;
+use std::test::Fail;
+
+/// A directory and a file in it for each of two users.
+const TWO_DIRECTORIES: [&str; 2] = [
+    "create dir /p alice 755\ncreate file /p/f alice 600\nget /p/f\n",
+    "create dir /q bob 755\ncreate file /q/f bob 600\nget /q/f\n",
+];
+
+const CHECKS: &str = "check / bob r\ncheck / bob r\ncheck / bob r\n";
+
+const GRANTED: &str = "1 granted\n2 granted\n3 granted\n";
+
+#[test]
+fn two_sessions_two_directories(rt: HostRuntime) {
+    let first =
+        "1 ok\n2 ok\n3 get /p/f file alice staff 600 posix\nuser::rw-\ngroup::---\nother::---\n";
+    let second =
+        "1 ok\n2 ok\n3 get /q/f file bob staff 600 posix\nuser::rw-\ngroup::---\nother::---\n";
+    let seen = [
+        Seen::Output(0, first),
+        Seen::Output(1, second),
+        Seen::Nodes(5),
+    ];
+    let served = serving(
+        &rt,
+        rt.alloc(),
+        &OpenGate,
+        tree(rt.alloc()),
+        &TWO_DIRECTORIES,
+        None,
+        &seen,
+    );
+    assert_eq!(rt; served, Some(Ok(true)));
+}
+
+/// The examples' tree with the file /a of alice's.
+fn with_a(alloc: Global) -> Option<Tree> {
+    let names = directory(alloc)?;
+    let root = tree(alloc)?;
+    let mut lines = [0; 64];
+    let mut out = lines.as_mut_slice();
+    let text = b"create file /a alice 666\n".as_slice();
+    run_one(alloc, &names, root, text, &mut out).ok()
+}
+
+/// A check is granted exactly where it stands before the change of the mode.
+#[test]
+fn two_sessions_one_file(rt: HostRuntime) {
+    let texts = ["chmod /a 600\nget /a\n", "check /a bob r\n"];
+    let shown = "1 ok\n2 get /a file alice staff 600 posix\nuser::rw-\ngroup::---\nother::---\n";
+    let checked_first = [(1, 1), (0, 1), (0, 2)];
+    let seen = [
+        Seen::Output(0, shown),
+        Seen::OutputBy(1, &checked_first, "1 granted\n", "1 denied\n"),
+    ];
+    let served = serving(
+        &rt,
+        rt.alloc(),
+        &OpenGate,
+        with_a(rt.alloc()),
+        &texts,
+        None,
+        &seen,
+    );
+    assert_eq!(rt; served, Some(Ok(true)));
+}
+
+#[test]
+fn both_sessions_run_at_the_same_time(rt: HostRuntime) {
+    let seen = [Seen::Output(0, GRANTED), Seen::Output(1, GRANTED)];
+    let served = serving(
+        &rt,
+        rt.alloc(),
+        &Meeting::new(),
+        tree(rt.alloc()),
+        &[CHECKS, CHECKS],
+        None,
+        &seen,
+    );
+    assert_eq!(rt; served, Some(Ok(true)));
+}
+
+#[test]
+fn each_session_waits_for_the_others_answer(rt: HostRuntime) {
+    let seen = [Seen::Output(0, GRANTED), Seen::Output(1, GRANTED)];
+    for waiting in 0..2 {
+        let gate = AfterAnswer::new(waiting);
+        let tree = tree(rt.alloc());
+        let served = serving(&rt, rt.alloc(), &gate, tree, &[CHECKS, CHECKS], None, &seen);
+        assert_eq!(rt; served, Some(Ok(true)), "at {waiting}");
+    }
+}
+
+#[test]
+fn a_gate_that_lets_nothing_through(rt: HostRuntime) {
+    let served = serving(
+        &rt,
+        rt.alloc(),
+        &Shut,
+        tree(rt.alloc()),
+        &[CHECKS, CHECKS],
+        None,
+        &[],
+    );
+    assert_eq!(rt; served, Some(Err(ServeFault::GateStopped)));
+}
+
+#[test]
+fn a_gate_that_shuts_at_the_second_request(rt: HostRuntime) {
+    let gate = ShutAt { session: 0, nth: 2 };
+    let served = serving(
+        &rt,
+        rt.alloc(),
+        &gate,
+        tree(rt.alloc()),
+        &TWO_DIRECTORIES,
+        None,
+        &[],
+    );
+    assert_eq!(rt; served, Some(Err(ServeFault::GateStopped)));
+}
+
+#[test]
+fn the_second_error_ends_the_session(rt: HostRuntime) {
+    let texts = ["get /x\nget /\nnope\nget /\n"];
+    let answers =
+        "1 error 20 no-such-path\n2 get / dir root root 755 posix\nuser::rwx\ngroup::r-x\nother::r-x\n3 error 1 syntax\n";
+    let seen = [
+        Seen::Output(0, answers),
+        Seen::Journal(&[(0, 1), (0, 2), (0, 3)]),
+    ];
+    let served = serving(
+        &rt,
+        rt.alloc(),
+        &OpenGate,
+        tree(rt.alloc()),
+        &texts,
+        Some(2),
+        &seen,
+    );
+    assert_eq!(rt; served, Some(Ok(true)));
+}
+
+#[test]
+fn journal_of_one_session(rt: HostRuntime) {
+    let texts = ["create file /a alice 666\nget /a\n"];
+    let seen = [Seen::Journal(&[(0, 1), (0, 2)])];
+    let served = serving(
+        &rt,
+        rt.alloc(),
+        &OpenGate,
+        tree(rt.alloc()),
+        &texts,
+        None,
+        &seen,
+    );
+    assert_eq!(rt; served, Some(Ok(true)));
+}
+
+/// `denied` is no error, and a session with fewer errors than are allowed goes to its end.
+#[test]
+fn an_error_limit_that_one_session_reaches(rt: HostRuntime) {
+    let texts = [
+        "x\nget /\nx\nx\n",
+        "check / bob w\ncheck / bob w\nx\ncheck / bob r\n",
+    ];
+    let seen = [
+        Seen::EntriesOf(0, 3),
+        Seen::Output(1, "1 denied\n2 denied\n3 error 1 syntax\n4 granted\n"),
+    ];
+    let served = serving(
+        &rt,
+        rt.alloc(),
+        &OpenGate,
+        tree(rt.alloc()),
+        &texts,
+        Some(2),
+        &seen,
+    );
+    assert_eq!(rt; served, Some(Ok(true)));
+}
+
+/// So many times the line.
+fn repeated(alloc: Global, line: &str, count: usize) -> Option<String> {
+    let mut text = String::new(alloc);
+    for _ in 0..count {
+        text.push_str(line).ok()?;
+    }
+    Some(text)
+}
+
+#[test]
+fn sixty_four_sessions(rt: HostRuntime) -> Result<(), Fail> {
+    let text = repeated(rt.alloc(), "check / bob r\n", 100).ok_or("a text")?;
+    let texts = [text.as_str(); 64];
+    let seen = [Seen::Entries(6400), Seen::EntriesOf(63, 100)];
+    let tree = tree(rt.alloc());
+    let served = serving(&rt, rt.alloc(), &OpenGate, tree, &texts, None, &seen);
+    assert_eq!(rt; served, Some(Ok(true)));
+    Ok(())
+}
+
+/// More requests than a ring has slots lie behind the last error that is allowed.
+#[test]
+fn a_long_session_ends_at_its_limit(rt: HostRuntime) -> Result<(), Fail> {
+    let text = repeated(rt.alloc(), "x\n", 1000).ok_or("a text")?;
+    let texts = [text.as_str(), CHECKS];
+    let seen = [Seen::EntriesOf(0, 300), Seen::Output(1, GRANTED)];
+    let tree = tree(rt.alloc());
+    let served = serving(&rt, rt.alloc(), &OpenGate, tree, &texts, Some(300), &seen);
+    assert_eq!(rt; served, Some(Ok(true)));
+    Ok(())
+}

@@ -1,9 +1,0 @@
-mod fixture;
-mod gates;
-mod one;
-mod refused_growths;
-mod rounds;
-mod run_texts;
-mod serve;
-mod setup;
-mod texts;
