@@ -3,8 +3,9 @@ use Rattle.std.specs.Prelude.{◌≡◌, ◌≤◌, ℕ, ◌⊎◌, ◌++◌, Li
 use Rattle.std.specs.Io.KnownBytes.{Appends, IsAtEnd, Keeps}
 use Rattle.std.specs.Str.{bytes_eq}
 use Rattle.acl_names.specs.Bytes.{newline}
-use Rattle.acl_queries.specs.CompareOutcome.{EndsAsCompared}
+use Rattle.acl_queries.specs.CompareOutcome.{EndsAsCompared, IsCutShort}
 use Rattle.acl_queries.specs.Outcome.{EndsAs, Outcome, outcome_of}
+use Rattle.acl_queries.specs.Output.{AppendsFront}
 use Rattle.acl_service.specs.RunWords.{RunsWords, run_rows}
 use Rattle.aclctl.specs.Fault.{status_of}
 use Rattle.aclctl.specs.Input.{AreWordsOf, IsInputFault}
@@ -65,3 +66,22 @@ abbrev pub EndsFrom : Files → List ℕ → Option (List ℕ) → Option (List 
 EndsFrom files bytes old new status =
     ((words : List (List ℕ)) × (rest : Option (List ℕ)) × IsAtEnd rest × AreWordsOf bytes words × EndsAsWords files rest words old new status)
     ⊎ ((fault : ProgramFault) × IsInputFault fault bytes × EndsAs (refusal fault) old new status)
+
+-- if memory or a thread was lacking or a write failed, nothing went out, or a front of what these words of the command print
+abbrev pub IsCommandCutShort : Files → Option (List ℕ) → Option Command → List (List ℕ) → Option (List ℕ) → Option (List ℕ) → Type 0
+IsCommandCutShort files input (Some Decide) words old new = AppendsFront old new (outcome_of words).text
+IsCommandCutShort files input (Some Compare) words old new = IsCutShort words old new
+IsCommandCutShort files input (Some Run) words old new = Keeps old new ⊎ RunsWords files input (run_rows words) (AppendsFront old new)
+IsCommandCutShort files input (Some Help) words old new = (text : List ℕ) × AppendsFront old new text
+IsCommandCutShort files input (Some Version) words old new = AppendsFront old new version_text
+IsCommandCutShort files input None words old new = ⊥
+
+-- by the command that the first of the words names
+abbrev pub AreWordsCutShort : Files → Option (List ℕ) → List (List ℕ) → Option (List ℕ) → Option (List ℕ) → Type 0
+AreWordsCutShort files input [] old new = ⊥
+AreWordsCutShort files input (first ∷ more) old new = IsCommandCutShort files input (command_of first) (first ∷ more) old new
+
+-- with these bytes on standard input: nothing went out, or a front of what their words print
+abbrev pub IsCutShortFrom : Files → List ℕ → Option (List ℕ) → Option (List ℕ) → Type 0
+IsCutShortFrom files bytes old new =
+    Keeps old new ⊎ ((words : List (List ℕ)) × (rest : Option (List ℕ)) × IsAtEnd rest × AreWordsOf bytes words × AreWordsCutShort files rest words old new)

@@ -1,6 +1,7 @@
 //! What the program says of itself.
 ghost use Rattle.std.specs.Prelude.{◌≡◌, ◌≢◌, ◌≤◌, ℕ, List};
 ghost use Rattle.acl_queries.specs.Outcome.{EndsAs};
+ghost use Rattle.acl_queries.specs.Output.{AppendsFront};
 ghost use Rattle.aclctl.specs.Fault.{status_of};
 ghost use Rattle.aclctl.specs.Program.{version_text};
 ghost use Rattle.aclctl.specs.declared.fault.ProgramFault.TheVariants.{NoCommand};
@@ -39,6 +40,7 @@ const VERSION: &str = "aclctl 0.1.0\n";
 fn print<W: Write, E: Write>(text: &str, out: &mut W, err: &mut E) -> u8
     ensures statuses { result ≤ 3 }
     ensures ended { result ≢ 3 → EndsAs (record { status = 0; text = text.now }) (W.contents out.old) (W.contents out.new) result }
+    ensures cut { result ≡ 3 → AppendsFront (W.contents out.old) (W.contents out.new) text.now }
 {
     if write_text(text.as_bytes(), out).is_err() {
         let _ = write_text(RunFault::Output.line().as_bytes(), err);
@@ -51,6 +53,7 @@ fn print<W: Write, E: Write>(text: &str, out: &mut W, err: &mut E) -> u8
 pub fn print_help<W: Write, E: Write>(out: &mut W, err: &mut E) -> u8
     ensures statuses { result ≤ 3 }
     ensures ended { result ≢ 3 → (text : List ℕ) × EndsAs (record { status = 0; text = text }) (W.contents out.old) (W.contents out.new) result }
+    ensures cut { result ≡ 3 → (text : List ℕ) × AppendsFront (W.contents out.old) (W.contents out.new) text }
 {
     print(HELP, out, err)
 }
@@ -59,6 +62,7 @@ pub fn print_help<W: Write, E: Write>(out: &mut W, err: &mut E) -> u8
 pub fn print_version<W: Write, E: Write>(out: &mut W, err: &mut E) -> u8
     ensures statuses { result ≤ 3 }
     ensures ended { result ≢ 3 → EndsAs (record { status = 0; text = version_text }) (W.contents out.old) (W.contents out.new) result }
+    ensures cut { result ≡ 3 → AppendsFront (W.contents out.old) (W.contents out.new) version_text }
 {
     print(VERSION, out, err)
 }

@@ -1,7 +1,7 @@
 //! The program: its words, and the command that the first of them names.
 ghost use Rattle.std.specs.Prelude.{◌≡◌, ◌≢◌, ◌≤◌, [], map, IfSome};
 ghost use Rattle.std.specs.String.{string_bytes};
-ghost use Rattle.aclctl.specs.Program.{EndsAsWords, EndsFrom};
+ghost use Rattle.aclctl.specs.Program.{AreWordsCutShort, EndsAsWords, EndsFrom, IsCutShortFrom};
 
 use crate::help::{print_help, print_version, report_no_command};
 use crate::input::command_words;
@@ -35,6 +35,10 @@ where
     // Unless memory runs out, a thread is refused or a write fails.
     ensures ended { result ≢ 3 → EndsAsWords (F.bytes_of files.now) (I.remaining input.old) (map S.text words.now)
         (W.contents out.old) (W.contents out.new) result }
+
+    // If it does, no more went out than a front of what the words print.
+    ensures cut { result ≡ 3 → AreWordsCutShort (F.bytes_of files.now) (I.remaining input.old) (map S.text words.now)
+        (W.contents out.old) (W.contents out.new) }
 {
     match words.first() {
         Some(first) if first.as_str() == "decide" => decide(alloc, words, out, err),
@@ -73,6 +77,13 @@ where
         (W.contents out.old) (W.contents out.new) result }
     ensures read { given.items ≡ [] → result ≢ 3 → IfSome (I.remaining reader.old)
         (λ bytes. EndsFrom (F.bytes_of files.now) bytes (W.contents out.old) (W.contents out.new) result) }
+
+    // If it does, no more went out than a front of what the words print.
+    ensures cut_given { given.items ≢ [] → result ≡ 3
+        → AreWordsCutShort (F.bytes_of files.now) (I.remaining reader.old) (map string_bytes given.items)
+        (W.contents out.old) (W.contents out.new) }
+    ensures cut_read { given.items ≡ [] → result ≡ 3 → IfSome (I.remaining reader.old)
+        (λ bytes. IsCutShortFrom (F.bytes_of files.now) bytes (W.contents out.old) (W.contents out.new)) }
 {
     match command_words(alloc, given, reader) {
         Ok(words) => run_command(rt, alloc, files, words.as_slice(), reader, out, err),
