@@ -11,6 +11,7 @@ use Rattle.aclctl.specs.Fault.{status_of}
 use Rattle.aclctl.specs.Input.{AreWordsOf, IsInputFault}
 use Rattle.aclctl.specs.declared.fault.ProgramFault.{ProgramFault}
 use Rattle.aclctl.specs.declared.fault.ProgramFault.TheVariants.{NoCommand}
+use Rattle.aclctl.specs.declared.help.TheConstants.{HELP}
 
 -- what is told of each file, by its name
 abbrev pub Files : Type 0
@@ -51,7 +52,7 @@ abbrev pub EndsAsCommand : Files → Option (List ℕ) → Option Command → Li
 EndsAsCommand files input (Some Decide) words old new status = EndsAs (outcome_of words) old new status
 EndsAsCommand files input (Some Compare) words old new status = EndsAsCompared words old new status
 EndsAsCommand files input (Some Run) words old new status = EndsAsRun files input words old new status
-EndsAsCommand files input (Some Help) words old new status = (text : List ℕ) × EndsAs (record { status = 0; text = text }) old new status
+EndsAsCommand files input (Some Help) words old new status = EndsAs (record { status = 0; text = HELP.now }) old new status
 EndsAsCommand files input (Some Version) words old new status = EndsAs (record { status = 0; text = version_text }) old new status
 EndsAsCommand files input None words old new status = EndsAs (refusal NoCommand) old new status
 
@@ -72,7 +73,7 @@ abbrev pub IsCommandCutShort : Files → Option (List ℕ) → Option Command �
 IsCommandCutShort files input (Some Decide) words old new = AppendsFront old new (outcome_of words).text
 IsCommandCutShort files input (Some Compare) words old new = IsCutShort words old new
 IsCommandCutShort files input (Some Run) words old new = Keeps old new ⊎ RunsWords files input (run_rows words) (AppendsFront old new)
-IsCommandCutShort files input (Some Help) words old new = (text : List ℕ) × AppendsFront old new text
+IsCommandCutShort files input (Some Help) words old new = AppendsFront old new HELP.now
 IsCommandCutShort files input (Some Version) words old new = AppendsFront old new version_text
 IsCommandCutShort files input None words old new = ⊥
 

@@ -1,17 +1,18 @@
 //! What the program says of itself.
-ghost use Rattle.std.specs.Prelude.{◌≡◌, ◌≢◌, ◌≤◌, ℕ, List};
+ghost use Rattle.std.specs.Prelude.{◌≡◌, ◌≢◌, ◌≤◌};
 ghost use Rattle.acl_queries.specs.Outcome.{EndsAs};
 ghost use Rattle.acl_queries.specs.Output.{AppendsFront};
 ghost use Rattle.aclctl.specs.Fault.{status_of};
 ghost use Rattle.aclctl.specs.Program.{version_text};
 ghost use Rattle.aclctl.specs.declared.fault.ProgramFault.TheVariants.{NoCommand};
+ghost use Rattle.aclctl.specs.declared.help.TheConstants.{HELP};
 
 use crate::fault::ProgramFault;
 use acl_service::{RunFault, write_text};
 use std::io::Write;
 
 /// What tells a person how to go on.
-const HELP: &str = "usage: aclctl COMMAND [OPTION].. [WORD]..
+pub const HELP: &str = "usage: aclctl COMMAND [OPTION].. [WORD]..
 
 commands:
   decide     tells whether an access control list grants a request
@@ -52,8 +53,8 @@ fn print<W: Write, E: Write>(text: &str, out: &mut W, err: &mut E) -> u8
 /// Prints what the program's commands are.
 pub fn print_help<W: Write, E: Write>(out: &mut W, err: &mut E) -> u8
     ensures statuses { result ≤ 3 }
-    ensures ended { result ≢ 3 → (text : List ℕ) × EndsAs (record { status = 0; text = text }) (W.contents out.old) (W.contents out.new) result }
-    ensures cut { result ≡ 3 → (text : List ℕ) × AppendsFront (W.contents out.old) (W.contents out.new) text }
+    ensures ended { result ≢ 3 → EndsAs (record { status = 0; text = HELP.now }) (W.contents out.old) (W.contents out.new) result }
+    ensures cut { result ≡ 3 → AppendsFront (W.contents out.old) (W.contents out.new) HELP.now }
 {
     print(HELP, out, err)
 }
