@@ -111,6 +111,17 @@ fn found(alloc: Global, hash: u64, name: &[u8]) -> Option<(Option<Uid>, Option<G
     ))
 }
 
+/// How many groups who asks has, who is in all of so many groups.
+fn groups_of_requester(alloc: Global, count: u32) -> Option<usize> {
+    let domain = String::from_str(alloc, "example.org").ok()?;
+    let mut users = Vec::new(alloc);
+    users.push(user_in(alloc, count)?).ok()?;
+    let groups = groups_up_to(alloc, count)?;
+    let directory = Directory::from_parts(alloc, domain, users, groups).ok()?;
+    let requester = directory.requester(alloc, Uid::new(7)?).ok()?;
+    Some(requester.gids().len())
+}
+
 /// The gids of the examples' bob.
 fn groups_of_bob() -> Option<[Gid; 2]> {
     Some([Gid::new(50)?, Gid::new(60)?])
@@ -207,6 +218,16 @@ fn a_requester_is_in_its_groups(rt: HostRuntime) -> Result<(), Fail> {
     Ok(())
 }
 
+/// With ample memory a requester is made of each number of groups that there may be.
+#[test]
+fn requesters_of_each_number_of_groups(rt: HostRuntime) -> Result<(), Fail> {
+    for count in 0..33 {
+        let groups = groups_of_requester(rt.alloc(), count);
+        assert_eq!(rt; groups, Some(count as usize), "{count} groups");
+    }
+    Ok(())
+}
+
 #[test]
 fn whom_nobody_knows_is_in_no_group(rt: HostRuntime) -> Result<(), Fail> {
     let nobody = requester(rt.alloc(), 7).ok_or("requester")?;
@@ -298,14 +319,23 @@ fn tells_the_first_fault(rt: HostRuntime) -> Result<(), Fail> {
     Ok(())
 }
 
+/// With ample memory a directory is made of few users or groups, of many, and of as many as there may be.
+#[test]
+fn directories_of_each_size(rt: HostRuntime) -> Result<(), Fail> {
+    for count in [0, 1, 2, 10, 100, 1000, 1024] {
+        let refused = fault_of_users(rt.alloc(), count);
+        assert_eq!(rt; refused, Some(None), "{count} users");
+        let refused = fault_of_empty_groups(rt.alloc(), count);
+        assert_eq!(rt; refused, Some(None), "{count} groups");
+    }
+    Ok(())
+}
+
 #[test]
 fn refuses_more_than_there_may_be(rt: HostRuntime) -> Result<(), Fail> {
-    for (count, wanted) in [(1024, None), (1025, Some(SetupFault::TooMany))] {
-        let refused = fault_of_users(rt.alloc(), count);
-        assert_eq!(rt; refused, Some(wanted), "{count} users");
-        let refused = fault_of_empty_groups(rt.alloc(), count);
-        assert_eq!(rt; refused, Some(wanted), "{count} groups");
-    }
+    let wanted = Some(Some(SetupFault::TooMany));
+    assert_eq!(rt; fault_of_users(rt.alloc(), 1025), wanted);
+    assert_eq!(rt; fault_of_empty_groups(rt.alloc(), 1025), wanted);
     Ok(())
 }
 

@@ -1,8 +1,8 @@
-//! With ample memory each call that may take some succeeds, at the sizes that matter: none, one, as many entries as stand
-//! inline, one more, and the most.
+//! With ample memory each call that may take some succeeds, at each size that there may be.
 use acl_examples::{acl4, directory};
-use acl_nfs4::{Acl4, Kind};
+use acl_nfs4::{Ace, AceType, Acl4, Flags, Kind, Mask, Who};
 use acl_posix::Mode;
+use bitflags::Flags as FlagSet;
 use std::alloc::Global;
 use std::test::Fail;
 
@@ -35,7 +35,7 @@ fn read_again(alloc: Global, list: &Acl4) -> Option<Acl4> {
 
 #[test]
 fn lists_of_each_size(rt: HostRuntime) -> Result<(), Fail> {
-    for count in [0, 1, 16, 17, 128] {
+    for count in 0..129 {
         let list = list_of(rt.alloc(), count).ok_or("a list")?;
         assert_eq!(rt; list.aces().len(), count as usize);
         let copies = [
@@ -56,10 +56,37 @@ fn lists_of_each_size(rt: HostRuntime) -> Result<(), Fail> {
 #[test]
 fn a_mode_set_on_lists_of_each_size(rt: HostRuntime) -> Result<(), Fail> {
     let mode = Mode::from_bits(0o640).ok_or("a mode")?;
-    for count in [0, 1, 16, 17, 40] {
+    for count in 0..42 {
         let mut list = list_of(rt.alloc(), count).ok_or("a list")?;
         assert_eq!(rt; list.chmod4(rt.alloc(), mode), Ok(()));
         assert_eq!(rt; list.mode4(), mode);
+    }
+    Ok(())
+}
+
+/// A list of so many entries that no mode changes.
+fn audits_of(alloc: Global, count: usize) -> Option<Acl4> {
+    let audit = Ace::new(
+        AceType::Audit,
+        Flags::empty(),
+        Who::Everyone,
+        Mask::READ_DATA,
+    );
+    let mut list = Acl4::empty(alloc);
+    for _ in 0..count {
+        list.push(audit).ok()?;
+    }
+    Some(list)
+}
+
+/// Two entries of the owner and two of the group come to those of the list.
+#[test]
+fn lists_of_each_size_once_a_mode_is_set(rt: HostRuntime) -> Result<(), Fail> {
+    let mode = Mode::from_bits(0o640).ok_or("a mode")?;
+    for len in 4..129_usize {
+        let mut list = audits_of(rt.alloc(), len.saturating_sub(4)).ok_or("a list")?;
+        assert_eq!(rt; list.chmod4(rt.alloc(), mode), Ok(()));
+        assert_eq!(rt; list.aces().len(), len);
     }
     Ok(())
 }

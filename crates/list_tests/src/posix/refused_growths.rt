@@ -13,24 +13,40 @@ use std::test::Fail;
 /// A list of more entries than stand in the value itself.
 const LONG: &str = "u::rw,u:1:r,u:2:r,u:3:r,u:4:r,u:5:r,u:6:r,u:7:r,u:bob:rw,g::r,m::r,o::-";
 
+/// The entry of this place: out of order, so that the sorted copy grows too.
+fn reader(place: u32) -> Option<Entry> {
+    Some(Entry {
+        tag: Tag::User(Uid::new(place.checked_mul(37)? % 64)?),
+        perms: Perms::READ,
+    })
+}
+
+/// Whether these are so many entries, each that of its place.
+fn are_readers(entries: &[Entry], count: u32) -> bool {
+    let mut place: u32 = 0;
+    for entry in entries {
+        if Some(*entry) != reader(place) {
+            return false;
+        }
+        place = place.saturating_add(1);
+    }
+    place == count
+}
+
 #[test]
 fn push_under_a_refused_growth(rt: HostRuntime) -> Result<(), Fail> {
     let alloc = rt.alloc();
     let mut refusals = Refusals::new();
     let mut entries = Entries::new(alloc);
-    for number in 0..64 {
-        let entry = Entry {
-            // Out of order, so that the sorted copy grows too.
-            tag: Tag::User(Uid::new(number * 37 % 64).ok_or("uid")?),
-            perms: Perms::READ,
-        };
+    for place in 0..64 {
+        let entry = reader(place).ok_or("an entry")?;
         if entries.push(entry) == Err(TextFault::Memory) {
             refusals.one_more();
-            assert_eq!(rt; entries.as_slice().len(), number as usize);
+            assert!(rt; are_readers(entries.as_slice(), place));
             assert!(rt; entries.push(entry).is_ok());
         }
     }
-    assert_eq!(rt; entries.as_slice().len(), 64);
+    assert!(rt; are_readers(entries.as_slice(), 64));
     println!(rt; "refusals: {}", refusals.told())?;
     Ok(())
 }

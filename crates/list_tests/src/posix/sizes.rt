@@ -1,5 +1,4 @@
-//! With ample memory each call that may take some succeeds, at the sizes that matter: few entries, as many as stand inline, one
-//! more, and the most.
+//! With ample memory each call that may take some succeeds, at each size that there may be.
 use crate::posix::fixture::{long, mode};
 use acl_examples::{acl, directory};
 use acl_names::Directory;
@@ -38,7 +37,7 @@ fn pushed(alloc: Global, entries: &[Entry]) -> Option<Entries> {
 #[test]
 fn texts_and_entries_of_each_size(rt: HostRuntime) -> Result<(), Fail> {
     let names = directory(rt.alloc()).ok_or("directory")?;
-    for count in [0, 1, 8, 9, 64] {
+    for count in 0..65 {
         let read = entries_of(rt.alloc(), count, &names).ok_or("entries")?;
         assert_eq!(rt; read.as_slice().len(), count as usize);
         let pushed = pushed(rt.alloc(), read.as_slice()).ok_or("pushed entries")?;
@@ -75,7 +74,7 @@ fn is_read_again(alloc: Global, list: &Acl) -> Option<bool> {
 
 #[test]
 fn lists_of_each_size(rt: HostRuntime) -> Result<(), Fail> {
-    for count in [3, 8, 9, 64] {
+    for count in 3..65 {
         let list = list_of(rt.alloc(), count).ok_or("a valid list")?;
         assert_eq!(rt; list.entries().len(), count as usize);
         assert_eq!(rt; is_copied(rt.alloc(), &list), Some(true));

@@ -1,7 +1,7 @@
 //! Worked examples of commands.
 use crate::tree::fixture::{ALICE, BOB, CAROL, Command, Step, Told, World, leave_all, wrong_step};
 use acl_nfs4::Kind;
-use acl_tree::{LineFault, TreeFault, command_laws, mask_laws, tree_laws};
+use acl_tree::{LineFault, TreeFault};
 
 #[test]
 fn create_and_get(rt: HostRuntime) {
@@ -217,13 +217,4 @@ fn numbers_of_faults(rt: HostRuntime) {
     assert_eq!(rt; LineFault::LineTooLong.number(), 10);
     assert_eq!(rt; TreeFault::NoSuchPath.number(), 20);
     assert_eq!(rt; TreeFault::TooMany.number(), 27);
-}
-
-/// The laws are calls that do nothing.
-#[test]
-fn laws(rt: HostRuntime) {
-    command_laws();
-    tree_laws();
-    mask_laws();
-    assert!(rt; true);
 }
