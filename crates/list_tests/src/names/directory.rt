@@ -142,7 +142,8 @@ fn fault_of_empty_groups(alloc: Global, count: u32) -> Option<Option<SetupFault>
 #[test]
 fn finds_users(rt: HostRuntime) -> Result<(), Fail> {
     let directory = directory(rt.alloc()).ok_or("directory")?;
-    for (name, uid) in [("root", 0), ("alice", 1000), ("bob", 1001), ("carol", 1002)] {
+    const ROWS: [(&str, u32); 4] = [("root", 0), ("alice", 1000), ("bob", 1001), ("carol", 1002)];
+    for (name, uid) in ROWS {
         let uid = Uid::new(uid).ok_or("uid")?;
         assert_eq!(rt; directory.uid_of(name), Some(uid), "{name}");
         assert_eq!(rt; directory.user_name(uid), Some(name), "{name}");
@@ -156,7 +157,8 @@ fn finds_users(rt: HostRuntime) -> Result<(), Fail> {
 #[test]
 fn finds_groups(rt: HostRuntime) -> Result<(), Fail> {
     let directory = directory(rt.alloc()).ok_or("directory")?;
-    for (name, gid) in [("root", 0), ("staff", 50), ("ops", 60), ("guest", 70)] {
+    const ROWS: [(&str, u32); 4] = [("root", 0), ("staff", 50), ("ops", 60), ("guest", 70)];
+    for (name, gid) in ROWS {
         let gid = Gid::new(gid).ok_or("gid")?;
         assert_eq!(rt; directory.gid_of(name), Some(gid), "{name}");
         assert_eq!(rt; directory.group_name(gid), Some(name), "{name}");
@@ -266,20 +268,22 @@ fn an_empty_directory_is_one(rt: HostRuntime) -> Result<(), Fail> {
 
 #[test]
 fn refuses_names_without_their_shape(rt: HostRuntime) -> Result<(), Fail> {
-    for name in [
+    const NAMES: [&str; 6] = [
         "",
         "9lives",
         "-a",
         "a b",
         "b\u{fc}ro",
         "abcdefghijklmnopqrstuvwxyzabcdefg",
-    ] {
+    ];
+    for name in NAMES {
         let refused = fault_of_user(rt.alloc(), name, 7, &[]);
         assert_eq!(rt; refused, Some(Some(SetupFault::BadName)), "{name}");
         let refused = fault_of_group(rt.alloc(), name, 7);
         assert_eq!(rt; refused, Some(Some(SetupFault::BadName)), "{name}");
     }
-    for domain in ["", "Example.org", "a_b"] {
+    const DOMAINS: [&str; 3] = ["", "Example.org", "a_b"];
+    for domain in DOMAINS {
         let refused = fault_of_domain(rt.alloc(), domain);
         assert_eq!(rt; refused, Some(Some(SetupFault::BadName)), "{domain}");
     }
@@ -288,19 +292,21 @@ fn refuses_names_without_their_shape(rt: HostRuntime) -> Result<(), Fail> {
 
 #[test]
 fn refuses_what_stands_twice(rt: HostRuntime) -> Result<(), Fail> {
-    for (name, uid, in_groups, wanted) in [
+    const USERS: [(&str, u32, [&str; 2], SetupFault); 4] = [
         ("bob", 7, ["staff", "ops"], SetupFault::RepeatedName),
         ("dora", 7, ["ops", "ops"], SetupFault::RepeatedName),
         ("dora", 1000, ["staff", "ops"], SetupFault::RepeatedId),
         ("dora", 7, ["staff", "wheel"], SetupFault::UnknownGroup),
-    ] {
+    ];
+    for (name, uid, in_groups, wanted) in USERS {
         let refused = fault_of_user(rt.alloc(), name, uid, &in_groups);
         assert_eq!(rt; refused, Some(Some(wanted)), "{name} {uid}");
     }
-    for (name, gid, wanted) in [
+    const GROUPS: [(&str, u32, SetupFault); 2] = [
         ("ops", 7, SetupFault::RepeatedName),
         ("wheel", 60, SetupFault::RepeatedId),
-    ] {
+    ];
+    for (name, gid, wanted) in GROUPS {
         let refused = fault_of_group(rt.alloc(), name, gid);
         assert_eq!(rt; refused, Some(Some(wanted)), "{name} {gid}");
     }
@@ -309,10 +315,11 @@ fn refuses_what_stands_twice(rt: HostRuntime) -> Result<(), Fail> {
 
 #[test]
 fn tells_the_first_fault(rt: HostRuntime) -> Result<(), Fail> {
-    for (second, wanted) in [
+    const ROWS: [(&str, SetupFault); 2] = [
         ("dora", SetupFault::RepeatedName),
         ("erik", SetupFault::RepeatedId),
-    ] {
+    ];
+    for (second, wanted) in ROWS {
         let refused = fault_of_both(rt.alloc(), ("dora", 7), (second, 7));
         assert_eq!(rt; refused, Some(Some(wanted)), "{second}");
     }

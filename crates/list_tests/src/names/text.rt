@@ -15,7 +15,7 @@ fn ids_end_below_the_greatest_number(rt: HostRuntime) -> Result<(), Fail> {
 
 #[test]
 fn decimals_have_one_to_ten_digits(rt: HostRuntime) -> Result<(), Fail> {
-    for (text, value) in [
+    const ROWS: [(&str, Option<u32>); 9] = [
         ("0", Some(0)),
         ("4294967294", Some(4294967294)),
         ("4294967295", None),
@@ -25,7 +25,8 @@ fn decimals_have_one_to_ten_digits(rt: HostRuntime) -> Result<(), Fail> {
         ("7x", None),
         ("-7", None),
         ("+7", None),
-    ] {
+    ];
+    for (text, value) in ROWS {
         assert_eq!(rt; read_decimal(text.as_bytes()), value, "{text}");
     }
     Ok(())
@@ -33,23 +34,27 @@ fn decimals_have_one_to_ten_digits(rt: HostRuntime) -> Result<(), Fail> {
 
 #[test]
 fn names_and_domains_have_their_shapes(rt: HostRuntime) -> Result<(), Fail> {
-    for name in ["a", "_", "A.b-c_9", "abcdefghijklmnopqrstuvwxyzabcdef"] {
+    const NAMES: [&str; 4] = ["a", "_", "A.b-c_9", "abcdefghijklmnopqrstuvwxyzabcdef"];
+    for name in NAMES {
         assert!(rt; is_name(name.as_bytes()), "{name}");
     }
-    for name in [
+    const NO_NAMES: [&str; 6] = [
         "",
         "9a",
         ".a",
         "-a",
         "a@b",
         "abcdefghijklmnopqrstuvwxyzabcdefg",
-    ] {
+    ];
+    for name in NO_NAMES {
         assert!(rt; !is_name(name.as_bytes()), "{name}");
     }
-    for domain in ["a", "example.org", "-", "9"] {
+    const DOMAINS: [&str; 4] = ["a", "example.org", "-", "9"];
+    for domain in DOMAINS {
         assert!(rt; is_domain(domain.as_bytes()), "{domain}");
     }
-    for domain in ["", "Example.org", "a_b", "a b"] {
+    const NO_DOMAINS: [&str; 4] = ["", "Example.org", "a_b", "a b"];
+    for domain in NO_DOMAINS {
         assert!(rt; !is_domain(domain.as_bytes()), "{domain}");
     }
     Ok(())
@@ -86,13 +91,14 @@ fn letters_stand_once_at_most(rt: HostRuntime) -> Result<(), Fail> {
             bit: 2,
         },
     ];
-    for (text, bits) in [
+    const ROWS: [(&str, Option<u32>); 5] = [
         ("", Some(0)),
         ("wr", Some(3)),
         ("w", Some(2)),
         ("rr", None),
         ("x", None),
-    ] {
+    ];
+    for (text, bits) in ROWS {
         assert_eq!(rt; read_letters(&table, text.as_bytes()), bits, "{text}");
     }
     let mut out = Vec::new(rt.alloc());
@@ -116,7 +122,7 @@ fn ids_are_printed_by_name_where_there_is_one(rt: HostRuntime) -> Result<(), Fai
 
 #[test]
 fn decimals_are_put_as_they_are_written(rt: HostRuntime) -> Result<(), Fail> {
-    for (number, text) in [
+    const ROWS: [(u32, &str); 10] = [
         (0, "0"),
         (9, "9"),
         (10, "10"),
@@ -127,7 +133,8 @@ fn decimals_are_put_as_they_are_written(rt: HostRuntime) -> Result<(), Fail> {
         (99999999, "99999999"),
         (100000000, "100000000"),
         (4294967295, "4294967295"),
-    ] {
+    ];
+    for (number, text) in ROWS {
         let mut out = Vec::with_capacity(rt.alloc(), 10)?;
         put_decimal(number, &mut out);
         assert!(rt; out.as_slice() == text.as_bytes(), "{text}");
@@ -140,7 +147,8 @@ fn a_decimal_ends_at_its_separator(rt: HostRuntime) -> Result<(), Fail> {
     let (id, rest) = read_decimal_until(b':', b"4294967294:rwx").ok_or("decimal")?;
     assert_eq!(rt; id, 4294967294);
     assert!(rt; rest == b"rwx".as_slice());
-    for text in ["", ":", "7", "7x:", "4294967295:", "00000000007:"] {
+    const ROWS: [&str; 6] = ["", ":", "7", "7x:", "4294967295:", "00000000007:"];
+    for text in ROWS {
         assert!(rt;
             read_decimal_until(b':', text.as_bytes()).is_none(),
             "{text}"

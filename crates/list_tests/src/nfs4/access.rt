@@ -18,7 +18,7 @@ fn may(alloc: Global, text: &str, user: &str, letters: &str) -> Option<bool> {
 
 #[test]
 fn the_first_entry_that_speaks_decides(rt: HostRuntime) -> Result<(), Fail> {
-    for (list, user, letters, wanted) in [
+    const ROWS: [(&str, &str, &str, bool); 9] = [
         ("D::EVERYONE@:r,A::OWNER@:r", "alice", "r", false),
         ("A::OWNER@:r,D::EVERYONE@:r", "alice", "r", true),
         ("A::OWNER@:r,D::EVERYONE@:r", "alice", "x", false),
@@ -31,7 +31,8 @@ fn the_first_entry_that_speaks_decides(rt: HostRuntime) -> Result<(), Fail> {
         // What is only inherited has no effect, and audits decide nothing.
         ("A:fi:EVERYONE@:x", "bob", "x", false),
         ("U:F:EVERYONE@:x,A::bob:x", "bob", "x", true),
-    ] {
+    ];
+    for (list, user, letters, wanted) in ROWS {
         assert_eq!(rt;
             may(rt.alloc(), list, user, letters),
             Some(wanted),

@@ -36,7 +36,7 @@ fn told(uid: u32, gid: u32, other_gid: u32, lost: &str, gained: &str) -> Option<
 
 #[test]
 fn lists_that_decide_alike(rt: HostRuntime) -> Result<(), Fail> {
-    for (first, second, letters) in [
+    const ROWS: [(&str, &str, &str); 6] = [
         (
             "A::OWNER@:r,A::EVERYONE@:r",
             "A::EVERYONE@:r",
@@ -51,7 +51,8 @@ fn lists_that_decide_alike(rt: HostRuntime) -> Result<(), Fail> {
         ("U:F:EVERYONE@:r,A:fi:EVERYONE@:w", "A:di:alice:w", "rw"),
         // Two entries that allow may change places.
         ("A:g:ops:r,A:g:guest:rx", "A:g:guest:rx,A:g:ops:r", "rx"),
-    ] {
+    ];
+    for (first, second, letters) in ROWS {
         assert_eq!(rt;
             between(rt.alloc(), first, second, letters),
             Some(None),

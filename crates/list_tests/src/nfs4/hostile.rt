@@ -34,7 +34,7 @@ fn outcomes(alloc: Global, text: &str, byte: Option<u8>) -> Option<String> {
 
 #[test]
 fn cut_and_bent_texts(rt: HostRuntime) {
-    for (byte, wanted) in [
+    const ROWS: [(Option<u8>, &str); 7] = [
         (
             None,
             "0SSSSSSSSS11111111SSSSSSSSSSSSSSSSSSS2222SSSSSSSSSSSSSSSSSSSS33SSSSSSSSSSSSS4",
@@ -63,7 +63,8 @@ fn cut_and_bent_texts(rt: HostRuntime) {
             Some(0x80),
             "SSSSSSSSSSSSSSSSSSSSSSSSSSSSSSSSSSSSSSSSSSSSSSSSSSSSSSSSSSSSSSSSSSSSSSSSSSSSS",
         ),
-    ] {
+    ];
+    for (byte, wanted) in ROWS {
         let found = outcomes(rt.alloc(), ACES, byte);
         assert_eq!(rt; is_text(found, wanted), Some(true), "{byte:?}");
     }
@@ -79,7 +80,7 @@ fn is_refused_behind(alloc: Global, text: &str, byte: Option<u8>, first: u8) -> 
 /// A text of the other kind has no entry, unless nothing of it is left.
 #[test]
 fn texts_of_the_other_kind(rt: HostRuntime) {
-    for byte in [
+    const ROWS: [Option<u8>; 7] = [
         None,
         Some(0),
         Some(b':'),
@@ -87,7 +88,8 @@ fn texts_of_the_other_kind(rt: HostRuntime) {
         Some(b'#'),
         Some(b'\n'),
         Some(0x80),
-    ] {
+    ];
+    for byte in ROWS {
         let nothing_left = byte.is_none();
         let first = if nothing_left { b'0' } else { b'S' };
         let refused = is_refused_behind(rt.alloc(), ENTRIES, byte, first);

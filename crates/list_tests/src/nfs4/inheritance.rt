@@ -35,17 +35,18 @@ fn made(alloc: Global, text: &str, kind: Kind, mode: u16) -> Option<String> {
 
 #[test]
 fn what_is_inherited(rt: HostRuntime) {
-    let file = "A::bob@example.org:r\nD::carol@example.org:w\nA::EVERYONE@:tc\n";
-    let again = "A:fi:bob@example.org:r\nA:fd:EVERYONE@:tc\n";
-    for (list, kind, wanted) in [
-        (PARENT, Kind::File, file),
+    const FILE: &str = "A::bob@example.org:r\nD::carol@example.org:w\nA::EVERYONE@:tc\n";
+    const AGAIN: &str = "A:fi:bob@example.org:r\nA:fd:EVERYONE@:tc\n";
+    const ROWS: [(&str, Kind, &str); 6] = [
+        (PARENT, Kind::File, FILE),
         (PARENT, Kind::Dir, BELOW),
-        (BELOW, Kind::Dir, again),
+        (BELOW, Kind::Dir, AGAIN),
         // Where f, d and n stand together nothing is passed on.
         ("A:fdnSg:ops:r", Kind::File, "A:Sg:ops@example.org:r\n"),
         ("A:fdnSg:ops:r", Kind::Dir, "A:Sg:ops@example.org:r\n"),
         ("A:n:OWNER@:r", Kind::Dir, ""),
-    ] {
+    ];
+    for (list, kind, wanted) in ROWS {
         let below = below(rt.alloc(), list, kind);
         assert_eq!(rt; is_text(below, wanted), Some(true), "{list}");
     }
@@ -53,11 +54,12 @@ fn what_is_inherited(rt: HostRuntime) {
 
 #[test]
 fn what_is_made_with_a_mode(rt: HostRuntime) {
-    let file =
+    const FILE: &str =
         "A::OWNER@:rwa\nD::OWNER@:x\nA::bob@example.org:r\nD::carol@example.org:w\nA::EVERYONE@:tc\nD::bob@example.org:wax\nD::carol@example.org:ax\nA::GROUP@:r\nD::GROUP@:wax\n";
-    let below =
+    const MADE: &str =
         "A::OWNER@:rwax\nA:fi:bob@example.org:r\nA:g:ops@example.org:rx\nA:fdi:EVERYONE@:tc\nA::EVERYONE@:tc\nD:g:ops@example.org:wa\nA::GROUP@:rx\nD::GROUP@:wa\n";
-    for (kind, mode, wanted) in [(Kind::File, 0o640, file), (Kind::Dir, 0o750, below)] {
+    const ROWS: [(Kind, u16, &str); 2] = [(Kind::File, 0o640, FILE), (Kind::Dir, 0o750, MADE)];
+    for (kind, mode, wanted) in ROWS {
         let made = made(rt.alloc(), PARENT, kind, mode);
         assert_eq!(rt; is_text(made, wanted), Some(true));
     }
@@ -65,12 +67,13 @@ fn what_is_made_with_a_mode(rt: HostRuntime) {
 
 #[test]
 fn flags_of_inheritance(rt: HostRuntime) {
-    for (list, wanted) in [
+    const ROWS: [(&str, bool); 4] = [
         ("A::OWNER@:r,A:n:OWNER@:r", true),
         ("A:fi:OWNER@:r", true),
         ("A:SFg:ops:r", false),
         ("", false),
-    ] {
+    ];
+    for (list, wanted) in ROWS {
         assert_eq!(rt; hands_down(rt.alloc(), list), Some(wanted));
     }
 }

@@ -24,12 +24,13 @@ const SHARED: &str =
 
 #[test]
 fn the_mode_of_a_list(rt: HostRuntime) -> Result<(), Fail> {
-    for (list, wanted) in [
+    const ROWS: [(&str, u16); 3] = [
         (SHARED, 0o644),
         ("D::EVERYONE@:r,A::OWNER@:r", 0o000),
         // To write is to append, too.
         ("A::OWNER@:w", 0o000),
-    ] {
+    ];
+    for (list, wanted) in ROWS {
         assert_eq!(rt; mode_shown(rt.alloc(), list), Some(wanted), "{list}");
     }
     Ok(())
@@ -37,11 +38,12 @@ fn the_mode_of_a_list(rt: HostRuntime) -> Result<(), Fail> {
 
 #[test]
 fn a_mode_that_is_set(rt: HostRuntime) {
-    let shared =
+    const SET: &str =
         "A::OWNER@:rwa\nD::OWNER@:x\nA::OWNER@:tTcC\nD::bob@example.org:rwax\nD:g:ops@example.org:rwax\nD::GROUP@:rwax\nA::EVERYONE@:r\n";
-    let split =
+    const SPLIT: &str =
         "A::OWNER@:rwax\nA:fdi:bob@example.org:rx\nA::bob@example.org:rx\nD::bob@example.org:wa\nA::GROUP@:rx\nD::GROUP@:wa\n";
-    for (list, mode, wanted) in [(SHARED, 0o604, shared), ("A:fd:bob:rx", 0o750, split)] {
+    const ROWS: [(&str, u16, &str); 2] = [(SHARED, 0o604, SET), ("A:fd:bob:rx", 0o750, SPLIT)];
+    for (list, mode, wanted) in ROWS {
         for times in [1, 2] {
             let set = with_mode(rt.alloc(), list, mode, times);
             assert_eq!(rt; is_text(set, wanted), Some(true), "{list} {times}");

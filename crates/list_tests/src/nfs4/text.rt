@@ -18,7 +18,7 @@ fn shown(alloc: Global, text: &str) -> Option<String> {
 
 #[test]
 fn texts_in_their_printed_form(rt: HostRuntime) {
-    for (text, wanted) in [
+    const ROWS: [(&str, &str); 5] = [
         ("A:g:GROUP@:r", "A::GROUP@:r\n"),
         ("A::OWNER@:", "A::OWNER@:\n"),
         (
@@ -30,7 +30,8 @@ fn texts_in_their_printed_form(rt: HostRuntime) {
             "U:SF:1003:rwaxdDtTnNcCoy\nD:g:7:\n",
         ),
         ("", ""),
-    ] {
+    ];
+    for (text, wanted) in ROWS {
         let shown = shown(rt.alloc(), text);
         assert_eq!(rt; is_text(shown, wanted), Some(true), "{text}");
     }
@@ -38,7 +39,7 @@ fn texts_in_their_printed_form(rt: HostRuntime) {
 
 #[test]
 fn texts_that_are_refused(rt: HostRuntime) -> Result<(), Fail> {
-    for (text, wanted) in [
+    const ROWS: [(&str, AceFault); 15] = [
         ("A:ff:OWNER@:r", AceFault::Syntax),
         ("A::bob@other.org:r", AceFault::UnknownName),
         ("A:i:OWNER@:r", AceFault::InheritOnly),
@@ -55,7 +56,8 @@ fn texts_that_are_refused(rt: HostRuntime) -> Result<(), Fail> {
         ("A::1001@example.org:r", AceFault::Syntax),
         ("A::4294967295:r", AceFault::Syntax),
         ("A::1000:r\r", AceFault::Syntax),
-    ] {
+    ];
+    for (text, wanted) in ROWS {
         assert_eq!(rt; fault_of(rt.alloc(), text), Some(wanted), "{text}");
     }
     Ok(())

@@ -20,7 +20,7 @@ fn may(alloc: Global, text: &str, user: &str, request: &str) -> Option<bool> {
 
 #[test]
 fn each_case_of_the_check(rt: HostRuntime) -> Result<(), Fail> {
-    for (list, user, request, wanted) in [
+    const ROWS: [(&str, &str, &str, bool); 13] = [
         // Groups don't add up.
         ("u::-,g::r,g:ops:w,m::rw,o::-", "bob", "r", true),
         ("u::-,g::r,g:ops:w,m::rw,o::-", "bob", "w", true),
@@ -39,7 +39,8 @@ fn each_case_of_the_check(rt: HostRuntime) -> Result<(), Fail> {
         ("u::rw,u:bob:r,g::rw,m::r,o::rwx", "carol", "x", true),
         // The empty request is granted.
         ("u::-,g::-,o::-", "carol", "-", true),
-    ] {
+    ];
+    for (list, user, request, wanted) in ROWS {
         assert_eq!(rt;
             may(rt.alloc(), list, user, request),
             Some(wanted),

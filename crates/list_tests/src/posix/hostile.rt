@@ -33,7 +33,7 @@ fn outcomes(alloc: Global, text: &str, byte: Option<u8>) -> Option<String> {
 
 #[test]
 fn cut_and_bent_texts(rt: HostRuntime) {
-    for (byte, wanted) in [
+    const ROWS: [(Option<u8>, &str); 7] = [
         (None, "0SSSSSSSSS1111SSSSS2222SSSSS3333333333SSSSSS"),
         (Some(0), "SSSSSSSSSSSSSSSSSSSSSSSSSSSSSSSS44443SSSSSSS"),
         (Some(b':'), "SSSSS4S4SSSSSSSS44SSSSSSSS44SSSS44443SSSSS4S"),
@@ -41,7 +41,8 @@ fn cut_and_bent_texts(rt: HostRuntime) {
         (Some(b'#'), "2SSSSSSSSS3333SSSSS4433SSSSS4444444433SSSSSS"),
         (Some(b'\n'), "SSSSSSSSSSSSS4SSSSSS44SSSSSSS44SSSS44SSSSSSS"),
         (Some(0x80), "SSSSSSSSSSSSSSSSSSSSSSSSSSSSSSSS44443SSSSSSS"),
-    ] {
+    ];
+    for (byte, wanted) in ROWS {
         let found = outcomes(rt.alloc(), ENTRIES, byte);
         assert_eq!(rt; is_text(found, wanted), Some(true), "{byte:?}");
     }
@@ -57,7 +58,7 @@ fn is_refused_behind(alloc: Global, text: &str, byte: Option<u8>, first: u8) -> 
 /// A text of the other kind has no entry, unless nothing of it is left.
 #[test]
 fn texts_of_the_other_kind(rt: HostRuntime) {
-    for byte in [
+    const ROWS: [Option<u8>; 7] = [
         None,
         Some(0),
         Some(b':'),
@@ -65,7 +66,8 @@ fn texts_of_the_other_kind(rt: HostRuntime) {
         Some(b'#'),
         Some(b'\n'),
         Some(0x80),
-    ] {
+    ];
+    for byte in ROWS {
         let nothing_left = byte.is_none() || byte == Some(b'#');
         let first = if nothing_left { b'0' } else { b'S' };
         let refused = is_refused_behind(rt.alloc(), ACES, byte, first);

@@ -96,7 +96,7 @@ fn copied(alloc: Global) -> Option<String> {
 
 #[test]
 fn a_default_list_at_creation(rt: HostRuntime) {
-    for (bits, wanted) in [
+    const ROWS: [(u16, &str); 2] = [
         (
             0o640,
             "user::rw-\nuser:bob:rwx\t#effective:r--\ngroup::r-x\t#effective:r--\nmask::r--\nother::---\n",
@@ -105,7 +105,8 @@ fn a_default_list_at_creation(rt: HostRuntime) {
             0o750,
             "user::rwx\nuser:bob:rwx\t#effective:r-x\ngroup::r-x\nmask::r-x\nother::---\n",
         ),
-    ] {
+    ];
+    for (bits, wanted) in ROWS {
         assert_eq!(rt; is_text(created(rt.alloc(), bits), wanted), Some(true));
     }
 }
@@ -123,11 +124,12 @@ fn calculated(alloc: Global, text: &str) -> Option<Perms> {
 
 #[test]
 fn the_calculated_mask_joins_what_a_mask_limits(rt: HostRuntime) {
-    for (text, wanted) in [
+    const ROWS: [(&str, &str); 3] = [
         ("u::rw,u:bob:rw,g::r,g:ops:rwx,m::rw,o::r", "rwx"),
         ("u::rwx,g::r,o::x", "r"),
         ("u::rwx,u:bob:w,g::-,m::-,o::x", "w"),
-    ] {
+    ];
+    for (text, wanted) in ROWS {
         assert_eq!(rt; calculated(rt.alloc(), text), perms(wanted), "{text}");
     }
 }

@@ -23,7 +23,7 @@ fn long_text_forms(rt: HostRuntime) {
 #[test]
 fn the_first_faulty_piece_decides(rt: HostRuntime) -> Result<(), Fail> {
     let names = directory(rt.alloc()).ok_or("directory")?;
-    for (text, wanted) in [
+    const ROWS: [(&str, Option<TextFault>); 21] = [
         ("u::rr,g::r,o::r", Some(TextFault::Syntax)),
         ("u::r,,g::r", Some(TextFault::Syntax)),
         ("u::r,", Some(TextFault::Syntax)),
@@ -45,7 +45,8 @@ fn the_first_faulty_piece_decides(rt: HostRuntime) -> Result<(), Fail> {
         ("u::r # a comment\r", None),
         ("\n \t\n# nothing\n", None),
         ("", None),
-    ] {
+    ];
+    for (text, wanted) in ROWS {
         assert_eq!(rt;
             fault(rt.alloc(), &names, text.as_bytes()),
             wanted,

@@ -15,7 +15,7 @@ fn fault(alloc: Global, text: &str) -> Option<Option<Invalid>> {
 
 #[test]
 fn lists_are_refused_for_the_first_fault(rt: HostRuntime) -> Result<(), Fail> {
-    for (text, wanted) in [
+    const ROWS: [(&str, Option<Invalid>); 11] = [
         ("", Some(Invalid::Missing)),
         ("u::rw,g::r", Some(Invalid::Missing)),
         ("u::rw,u:bob:r,u:bob:r,g::r", Some(Invalid::Missing)),
@@ -33,7 +33,8 @@ fn lists_are_refused_for_the_first_fault(rt: HostRuntime) -> Result<(), Fail> {
         ("u::rw,g:ops:r,g::r,o::-", Some(Invalid::NoMask)),
         ("u::rw,u:bob:r,g::r,m::r,o::-", None),
         ("o::-,m::r,g::r,u::rw", None),
-    ] {
+    ];
+    for (text, wanted) in ROWS {
         assert_eq!(rt; fault(rt.alloc(), text), Some(wanted), "{text}");
     }
     Ok(())
