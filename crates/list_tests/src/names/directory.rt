@@ -328,7 +328,7 @@ fn tells_the_first_fault(rt: HostRuntime) -> Result<(), Fail> {
 
 /// With ample memory a directory is made of few users or groups, of many, and of as many as there may be.
 #[test]
-fn directories_of_each_size(rt: HostRuntime) -> Result<(), Fail> {
+fn directories_of_few_and_of_many(rt: HostRuntime) -> Result<(), Fail> {
     for count in [0, 1, 2, 10, 100, 1000, 1024] {
         let refused = fault_of_users(rt.alloc(), count);
         assert_eq!(rt; refused, Some(None), "{count} users");
