@@ -9,6 +9,8 @@ mod bent;
 #[cfg(test)]
 mod bridge;
 #[cfg(test)]
+mod files;
+#[cfg(test)]
 mod names;
 #[cfg(test)]
 mod nfs4;

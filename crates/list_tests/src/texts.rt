@@ -1,7 +1,16 @@
-//! Texts that were made, beside those that are wanted.
+//! Texts and lists that were made, beside those that are wanted.
+use acl_examples::acl4;
+use acl_nfs4::Acl4;
+use std::alloc::Global;
 
 /// Whether the text is the other; none if there is none.
 pub fn is_text(text: Option<String>, wanted: &str) -> Option<bool> {
     let text = text?;
     Some(text.as_str() == wanted)
+}
+
+/// Whether the text spells the list.
+pub fn is_spelt(alloc: Global, list: &Acl4, text: &str) -> Option<bool> {
+    let wanted = acl4(alloc, text)?;
+    Some(list.aces() == wanted.aces())
 }

@@ -8,58 +8,78 @@ use acl_examples::Refusals;
 use acl_names::Uid;
 use acl_posix::{Acl, Entries, Entry, Perms, Tag, TextFault};
 use std::alloc::Global;
-use std::test::*;
+use std::test::Fail;
 
-/// Puts an entry with this tag behind the others, at the second attempt if the first is refused.
-fn push(entries: &mut Entries, tag: Tag, refusals: &mut Refusals) -> Result<(), Fail> {
+/// What the entry of this place is for: the owner, 60 users, the file's group, the mask and the others.
+fn tag_of(place: u32) -> Option<Tag> {
+    match place {
+        0 => Some(Tag::UserObj),
+        61 => Some(Tag::GroupObj),
+        62 => Some(Tag::Mask),
+        63 => Some(Tag::Other),
+        _ => Some(Tag::User(Uid::new(place.checked_sub(1)?)?)),
+    }
+}
+
+/// Whether the entry of this place is put behind the others, at the second attempt if the first is refused.
+fn is_pushed(entries: &mut Entries, place: u32, refusals: &mut Refusals) -> Option<bool> {
     let entry = Entry {
-        tag,
+        tag: tag_of(place)?,
         perms: Perms::READ,
     };
     if entries.push(entry) == Err(TextFault::Memory) {
         refusals.one_more();
-        entries.push(entry)?;
+        return Some(entries.push(entry).is_ok());
     }
-    Ok(())
+    Some(true)
 }
 
-/// The longest translation: 60 users, the owner, the file's group, the mask and the others.
-fn longest(alloc: Global, refusals: &mut Refusals) -> Result<Acl, Fail> {
+/// The list of the longest translation.
+fn longest(alloc: Global, refusals: &mut Refusals) -> Option<Acl> {
     let mut entries = Entries::new(alloc);
-    push(&mut entries, Tag::UserObj, refusals)?;
-    for number in 0..60 {
-        let uid = Uid::new(number).ok_or("uid")?;
-        push(&mut entries, Tag::User(uid), refusals)?;
+    for place in 0..64 {
+        if is_pushed(&mut entries, place, refusals) != Some(true) {
+            return None;
+        }
     }
-    push(&mut entries, Tag::GroupObj, refusals)?;
-    push(&mut entries, Tag::Mask, refusals)?;
-    push(&mut entries, Tag::Other, refusals)?;
-    Ok(Acl::new(entries).ok().ok_or("a valid list")?)
+    Acl::new(entries).ok()
+}
+
+/// How many entries the list's translation has, or its translation as a default list.
+fn translated(alloc: Global, list: &Acl, is_default: bool) -> Option<usize> {
+    let aces = if is_default {
+        translate_default(alloc, list).ok()?
+    } else {
+        translate(alloc, list).ok()?
+    };
+    Some(aces.aces().len())
+}
+
+/// How many entries that list has, and its translation, at the second attempt if the first is refused.
+fn translated_again(
+    alloc: Global,
+    is_default: bool,
+    refusals: &mut Refusals,
+) -> Option<[usize; 2]> {
+    let list = longest(alloc, refusals)?;
+    let count = refusals.again(|| translated(alloc, &list, is_default))?;
+    Some([list.entries().len(), count])
 }
 
 #[test]
 fn translate_under_a_refused_growth(rt: HostRuntime) -> Result<(), Fail> {
-    let alloc = rt.alloc();
     let mut refusals = Refusals::new();
-    let list = longest(alloc, &mut refusals)?;
-    let aces = refusals
-        .again(|| translate(alloc, &list).ok())
-        .ok_or("refused without cause")?;
-    assert_eq!(rt; list.entries().len(), 64);
-    assert_eq!(rt; aces.aces().len(), 125);
+    let counts = translated_again(rt.alloc(), false, &mut refusals);
+    assert_eq!(rt; counts, Some([64, 125]));
     println!(rt; "refusals: {}", refusals.told())?;
     Ok(())
 }
 
 #[test]
 fn translate_default_under_a_refused_growth(rt: HostRuntime) -> Result<(), Fail> {
-    let alloc = rt.alloc();
     let mut refusals = Refusals::new();
-    let list = longest(alloc, &mut refusals)?;
-    let aces = refusals
-        .again(|| translate_default(alloc, &list).ok())
-        .ok_or("refused without cause")?;
-    assert_eq!(rt; aces.aces().len(), 125);
+    let counts = translated_again(rt.alloc(), true, &mut refusals);
+    assert_eq!(rt; counts, Some([64, 125]));
     println!(rt; "refusals: {}", refusals.told())?;
     Ok(())
 }

@@ -96,21 +96,6 @@ fn fault_of_groups(alloc: Global, count: u32) -> Option<Option<SetupFault>> {
     fault(alloc, "example.org", users, groups)
 }
 
-/// The user with this number, as one who asks.
-fn requester(alloc: Global, uid: u32) -> Option<Requester> {
-    let uid = Uid::new(uid)?;
-    directory(alloc)?.requester(alloc, uid).ok()
-}
-
-/// The user and the group of this name, where this is taken for its hash.
-fn found(alloc: Global, hash: u64, name: &[u8]) -> Option<(Option<Uid>, Option<Gid>)> {
-    let directory = directory(alloc)?;
-    Some((
-        directory.uid_by_hash(hash, name),
-        directory.gid_by_hash(hash, name),
-    ))
-}
-
 /// How many groups who asks has, who is in all of so many groups.
 fn groups_of_requester(alloc: Global, count: u32) -> Option<usize> {
     let domain = String::from_str(alloc, "example.org").ok()?;
@@ -122,58 +107,88 @@ fn groups_of_requester(alloc: Global, count: u32) -> Option<usize> {
     Some(requester.gids().len())
 }
 
-/// The gids of the examples' bob.
-fn groups_of_bob() -> Option<[Gid; 2]> {
-    Some([Gid::new(50)?, Gid::new(60)?])
-}
-
-/// Why so many users are refused.
-fn fault_of_users(alloc: Global, count: u32) -> Option<Option<SetupFault>> {
+/// Why so many users are refused, and why so many groups in which nobody is.
+fn faults_of_many(alloc: Global, count: u32) -> Option<[Option<SetupFault>; 2]> {
     let users = users_up_to(alloc, count)?;
-    fault(alloc, "example.org", users, Vec::new(alloc))
-}
-
-/// Why so many groups are refused, in which nobody is.
-fn fault_of_empty_groups(alloc: Global, count: u32) -> Option<Option<SetupFault>> {
+    let first = fault(alloc, "example.org", users, Vec::new(alloc))?;
     let groups = groups_up_to(alloc, count)?;
-    fault(alloc, "example.org", Vec::new(alloc), groups)
+    Some([first, fault(alloc, "example.org", Vec::new(alloc), groups)?])
 }
 
-#[test]
-fn finds_users(rt: HostRuntime) -> Result<(), Fail> {
-    let directory = directory(rt.alloc()).ok_or("directory")?;
-    const ROWS: [(&str, u32); 4] = [("root", 0), ("alice", 1000), ("bob", 1001), ("carol", 1002)];
-    for (name, uid) in ROWS {
-        let uid = Uid::new(uid).ok_or("uid")?;
-        assert_eq!(rt; directory.uid_of(name), Some(uid), "{name}");
-        assert_eq!(rt; directory.user_name(uid), Some(name), "{name}");
+/// Whether the uid is that of this number; where there is none, whether none is wanted.
+fn is_uid(uid: Option<Uid>, wanted: Option<u32>) -> bool {
+    match uid {
+        Some(uid) => Some(uid.value()) == wanted,
+        None => wanted.is_none(),
     }
-    let nobody = Uid::new(50).ok_or("uid")?;
-    assert_eq!(rt; directory.uid_of("staff"), None);
-    assert_eq!(rt; directory.user_name(nobody), None);
-    Ok(())
 }
 
-#[test]
-fn finds_groups(rt: HostRuntime) -> Result<(), Fail> {
-    let directory = directory(rt.alloc()).ok_or("directory")?;
-    const ROWS: [(&str, u32); 4] = [("root", 0), ("staff", 50), ("ops", 60), ("guest", 70)];
-    for (name, gid) in ROWS {
-        let gid = Gid::new(gid).ok_or("gid")?;
-        assert_eq!(rt; directory.gid_of(name), Some(gid), "{name}");
-        assert_eq!(rt; directory.group_name(gid), Some(name), "{name}");
+/// Whether the gid is, in the same way.
+fn is_gid(gid: Option<Gid>, wanted: Option<u32>) -> bool {
+    match gid {
+        Some(gid) => Some(gid.value()) == wanted,
+        None => wanted.is_none(),
     }
-    let none = Gid::new(1000).ok_or("gid")?;
-    assert_eq!(rt; directory.gid_of("alice"), None);
-    assert_eq!(rt; directory.group_name(none), None);
-    Ok(())
+}
+
+/// Whether the user of this name is found, and the group.
+fn are_found(alloc: Global, name: &str, uid: Option<u32>, gid: Option<u32>) -> Option<[bool; 2]> {
+    let directory = directory(alloc)?;
+    Some([
+        is_uid(directory.uid_of(name), uid),
+        is_gid(directory.gid_of(name), gid),
+    ])
+}
+
+/// Whether the user with this number has this name, and the group with it.
+fn are_named(alloc: Global, id: u32, user: Option<&str>, group: Option<&str>) -> Option<[bool; 2]> {
+    let uid = Uid::new(id)?;
+    let gid = Gid::new(id)?;
+    let directory = directory(alloc)?;
+    Some([
+        directory.user_name(uid) == user,
+        directory.group_name(gid) == group,
+    ])
 }
 
 #[test]
-fn has_the_domain_it_was_made_with(rt: HostRuntime) -> Result<(), Fail> {
-    let directory = directory(rt.alloc()).ok_or("directory")?;
-    assert_eq!(rt; directory.domain(), "example.org");
-    Ok(())
+fn finds_users_and_groups(rt: HostRuntime) {
+    const NAMES: [(&str, Option<u32>, Option<u32>); 7] = [
+        ("root", Some(0), Some(0)),
+        ("alice", Some(1000), None),
+        ("bob", Some(1001), None),
+        ("carol", Some(1002), None),
+        ("staff", None, Some(50)),
+        ("ops", None, Some(60)),
+        ("guest", None, Some(70)),
+    ];
+    for (name, uid, gid) in NAMES {
+        let found = are_found(rt.alloc(), name, uid, gid);
+        assert_eq!(rt; found, Some([true; 2]), "{name}");
+    }
+    const IDS: [(u32, Option<&str>, Option<&str>); 7] = [
+        (0, Some("root"), Some("root")),
+        (1000, Some("alice"), None),
+        (1001, Some("bob"), None),
+        (1002, Some("carol"), None),
+        (50, None, Some("staff")),
+        (60, None, Some("ops")),
+        (70, None, Some("guest")),
+    ];
+    for (id, user, group) in IDS {
+        let named = are_named(rt.alloc(), id, user, group);
+        assert_eq!(rt; named, Some([true; 2]), "{id}");
+    }
+}
+
+/// Whether the directory is that of this domain.
+fn is_of_domain(alloc: Global, domain: &str) -> Option<bool> {
+    Some(directory(alloc)?.domain() == domain)
+}
+
+#[test]
+fn has_the_domain_it_was_made_with(rt: HostRuntime) {
+    assert!(rt; is_of_domain(rt.alloc(), "example.org") == Some(true));
 }
 
 #[test]
@@ -186,88 +201,100 @@ fn names_are_split_from_what_follows(rt: HostRuntime) -> Result<(), Fail> {
     Ok(())
 }
 
+/// Whether the user and the group of this name are found, where this is taken for its hash.
+fn are_hashed(
+    alloc: Global,
+    hash: u64,
+    name: &[u8],
+    (uid, gid): (Option<u32>, Option<u32>),
+) -> Option<[bool; 2]> {
+    let directory = directory(alloc)?;
+    Some([
+        is_uid(directory.uid_by_hash(hash, name), uid),
+        is_gid(directory.gid_by_hash(hash, name), gid),
+    ])
+}
+
 #[test]
 fn names_are_found_whatever_their_hash(rt: HostRuntime) -> Result<(), Fail> {
     let (name, hash, _) = split_name(b':', b"alice:rw-").ok_or("a name")?;
-    let alice = (Uid::new(1000), None);
-    assert_eq!(rt; found(rt.alloc(), hash, name), Some(alice));
-    for other in [0, 1, u64::MAX] {
-        let bob = (Uid::new(1001), None);
-        assert_eq!(rt; found(rt.alloc(), other, b"bob"), Some(bob));
-        let ops = (None, Gid::new(60));
-        assert_eq!(rt; found(rt.alloc(), other, b"ops"), Some(ops));
-        assert_eq!(rt; found(rt.alloc(), other, b"b\xff"), Some((None, None)));
+    let found = are_hashed(rt.alloc(), hash, name, (Some(1000), None));
+    assert_eq!(rt; found, Some([true; 2]));
+    const ROWS: [(&[u8], (Option<u32>, Option<u32>)); 3] = [
+        (b"bob", (Some(1001), None)),
+        (b"ops", (None, Some(60))),
+        (b"b\xff", (None, None)),
+    ];
+    for hash in [0, 1, u64::MAX] {
+        for (name, ids) in ROWS {
+            let found = are_hashed(rt.alloc(), hash, name, ids);
+            assert_eq!(rt; found, Some([true; 2]), "{hash} {name:?}");
+        }
     }
     Ok(())
 }
 
-#[test]
-fn a_requester_has_the_groups_of_its_user(rt: HostRuntime) -> Result<(), Fail> {
-    let gids = groups_of_bob().ok_or("gids")?;
-    let bob = requester(rt.alloc(), 1001).ok_or("requester")?;
-    assert_eq!(rt; Some(bob.uid()), Uid::new(1001));
-    assert_eq!(rt; bob.gids(), gids.as_slice());
-    Ok(())
+/// Whether who asks is this user, in the groups of these numbers.
+fn is_in(requester: &Requester, uid: Uid, gids: &[u32]) -> bool {
+    let mut wanted = gids.iter();
+    for gid in requester.gids() {
+        if wanted.next() != Some(&gid.value()) {
+            return false;
+        }
+    }
+    requester.uid() == uid && wanted.next().is_none()
+}
+
+/// Whether who asks as this user is in these groups; is in ops, and in guest; whether the first of them is that of new files;
+/// and whether who is ready to ask is in the same, or isn't there if there are none.
+fn asks(alloc: Global, uid: u32, gids: &[u32]) -> Option<[bool; 5]> {
+    let uid = Uid::new(uid)?;
+    let ops = Gid::new(60)?;
+    let guest = Gid::new(70)?;
+    let directory = directory(alloc)?;
+    let requester = directory.requester(alloc, uid).ok()?;
+    Some([
+        is_in(&requester, uid, gids),
+        requester.is_in_group(ops),
+        requester.is_in_group(guest),
+        is_gid(directory.first_group(uid), gids.first().copied()),
+        match directory.requester_of(uid) {
+            Some(ready) => is_in(ready, uid, gids),
+            None => gids.is_empty(),
+        },
+    ])
 }
 
 #[test]
-fn a_requester_is_in_its_groups(rt: HostRuntime) -> Result<(), Fail> {
-    let ops = Gid::new(60).ok_or("gid")?;
-    let guest = Gid::new(70).ok_or("gid")?;
-    let bob = requester(rt.alloc(), 1001).ok_or("requester")?;
-    assert!(rt; bob.is_in_group(ops));
-    assert!(rt; !bob.is_in_group(guest));
-    Ok(())
+fn a_requester_has_the_groups_of_its_user(rt: HostRuntime) {
+    let bob = asks(rt.alloc(), 1001, &[50, 60]);
+    assert_eq!(rt; bob, Some([true, true, false, true, true]));
+    let nobody = asks(rt.alloc(), 7, &[]);
+    assert_eq!(rt; nobody, Some([true, false, false, true, true]));
 }
 
 /// With ample memory a requester is made of each number of groups that there may be.
 #[test]
-fn requesters_of_each_number_of_groups(rt: HostRuntime) -> Result<(), Fail> {
+fn requesters_of_each_number_of_groups(rt: HostRuntime) {
     for count in 0..33 {
         let groups = groups_of_requester(rt.alloc(), count);
         assert_eq!(rt; groups, Some(count as usize), "{count} groups");
     }
-    Ok(())
+}
+
+/// Why a user of this name is refused, and why a group is.
+fn faults_of_name(alloc: Global, name: &str) -> Option<[Option<SetupFault>; 2]> {
+    let first = fault_of_user(alloc, name, 7, &[])?;
+    Some([first, fault_of_group(alloc, name, 7)?])
 }
 
 #[test]
-fn whom_nobody_knows_is_in_no_group(rt: HostRuntime) -> Result<(), Fail> {
-    let nobody = requester(rt.alloc(), 7).ok_or("requester")?;
-    assert_eq!(rt; nobody.gids().len(), 0);
-    Ok(())
-}
-
-#[test]
-fn the_first_group_is_that_of_new_files(rt: HostRuntime) -> Result<(), Fail> {
-    let bob = Uid::new(1001).ok_or("uid")?;
-    let nobody = Uid::new(7).ok_or("uid")?;
-    let directory = directory(rt.alloc()).ok_or("directory")?;
-    assert_eq!(rt; directory.first_group(bob), Gid::new(50));
-    assert_eq!(rt; directory.first_group(nobody), None);
-    Ok(())
-}
-
-#[test]
-fn each_user_is_ready_to_ask(rt: HostRuntime) -> Result<(), Fail> {
-    let bob = Uid::new(1001).ok_or("uid")?;
-    let nobody = Uid::new(7).ok_or("uid")?;
-    let gids = groups_of_bob().ok_or("gids")?;
-    let directory = directory(rt.alloc()).ok_or("directory")?;
-    let requester = directory.requester_of(bob).ok_or("requester")?;
-    assert_eq!(rt; requester.uid(), bob);
-    assert_eq!(rt; requester.gids(), gids.as_slice());
-    assert!(rt; directory.requester_of(nobody).is_none());
-    Ok(())
-}
-
-#[test]
-fn an_empty_directory_is_one(rt: HostRuntime) -> Result<(), Fail> {
+fn an_empty_directory_is_one(rt: HostRuntime) {
     assert_eq!(rt; fault_of_domain(rt.alloc(), "example.org"), Some(None));
-    Ok(())
 }
 
 #[test]
-fn refuses_names_without_their_shape(rt: HostRuntime) -> Result<(), Fail> {
+fn refuses_names_without_their_shape(rt: HostRuntime) {
     const NAMES: [&str; 6] = [
         "",
         "9lives",
@@ -277,21 +304,18 @@ fn refuses_names_without_their_shape(rt: HostRuntime) -> Result<(), Fail> {
         "abcdefghijklmnopqrstuvwxyzabcdefg",
     ];
     for name in NAMES {
-        let refused = fault_of_user(rt.alloc(), name, 7, &[]);
-        assert_eq!(rt; refused, Some(Some(SetupFault::BadName)), "{name}");
-        let refused = fault_of_group(rt.alloc(), name, 7);
-        assert_eq!(rt; refused, Some(Some(SetupFault::BadName)), "{name}");
+        let refused = faults_of_name(rt.alloc(), name);
+        assert_eq!(rt; refused, Some([Some(SetupFault::BadName); 2]), "{name}");
     }
     const DOMAINS: [&str; 3] = ["", "Example.org", "a_b"];
     for domain in DOMAINS {
         let refused = fault_of_domain(rt.alloc(), domain);
         assert_eq!(rt; refused, Some(Some(SetupFault::BadName)), "{domain}");
     }
-    Ok(())
 }
 
 #[test]
-fn refuses_what_stands_twice(rt: HostRuntime) -> Result<(), Fail> {
+fn refuses_what_stands_twice(rt: HostRuntime) {
     const USERS: [(&str, u32, [&str; 2], SetupFault); 4] = [
         ("bob", 7, ["staff", "ops"], SetupFault::RepeatedName),
         ("dora", 7, ["ops", "ops"], SetupFault::RepeatedName),
@@ -310,11 +334,10 @@ fn refuses_what_stands_twice(rt: HostRuntime) -> Result<(), Fail> {
         let refused = fault_of_group(rt.alloc(), name, gid);
         assert_eq!(rt; refused, Some(Some(wanted)), "{name} {gid}");
     }
-    Ok(())
 }
 
 #[test]
-fn tells_the_first_fault(rt: HostRuntime) -> Result<(), Fail> {
+fn tells_the_first_fault(rt: HostRuntime) {
     const ROWS: [(&str, SetupFault); 2] = [
         ("dora", SetupFault::RepeatedName),
         ("erik", SetupFault::RepeatedId),
@@ -323,34 +346,31 @@ fn tells_the_first_fault(rt: HostRuntime) -> Result<(), Fail> {
         let refused = fault_of_both(rt.alloc(), ("dora", 7), (second, 7));
         assert_eq!(rt; refused, Some(Some(wanted)), "{second}");
     }
-    Ok(())
 }
 
 /// With ample memory a directory is made of few users or groups, of many, and of as many as there may be.
 #[test]
-fn directories_of_few_and_of_many(rt: HostRuntime) -> Result<(), Fail> {
-    for count in [0, 1, 2, 10, 100, 1000, 1024] {
-        let refused = fault_of_users(rt.alloc(), count);
-        assert_eq!(rt; refused, Some(None), "{count} users");
-        let refused = fault_of_empty_groups(rt.alloc(), count);
-        assert_eq!(rt; refused, Some(None), "{count} groups");
+fn directories_of_few_of_many_and_of_too_many(rt: HostRuntime) {
+    const ROWS: [(u32, Option<SetupFault>); 8] = [
+        (0, None),
+        (1, None),
+        (2, None),
+        (10, None),
+        (100, None),
+        (1000, None),
+        (1024, None),
+        (1025, Some(SetupFault::TooMany)),
+    ];
+    for (count, wanted) in ROWS {
+        let refused = faults_of_many(rt.alloc(), count);
+        assert_eq!(rt; refused, Some([wanted; 2]), "{count}");
     }
-    Ok(())
 }
 
 #[test]
-fn refuses_more_than_there_may_be(rt: HostRuntime) -> Result<(), Fail> {
-    let wanted = Some(Some(SetupFault::TooMany));
-    assert_eq!(rt; fault_of_users(rt.alloc(), 1025), wanted);
-    assert_eq!(rt; fault_of_empty_groups(rt.alloc(), 1025), wanted);
-    Ok(())
-}
-
-#[test]
-fn refuses_a_user_in_more_groups_than_there_may_be(rt: HostRuntime) -> Result<(), Fail> {
+fn refuses_a_user_in_more_groups_than_there_may_be(rt: HostRuntime) {
     for (count, wanted) in [(32, None), (33, Some(SetupFault::TooMany))] {
         let refused = fault_of_groups(rt.alloc(), count);
         assert_eq!(rt; refused, Some(wanted), "{count} groups");
     }
-    Ok(())
 }

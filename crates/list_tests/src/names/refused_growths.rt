@@ -17,25 +17,27 @@ fn attempt(alloc: Global) -> Option<Result<Directory, SetupFault>> {
     Some(Directory::from_parts(alloc, domain, users, groups))
 }
 
-/// The directory of the examples, at the second attempt if the first is refused.
-fn directory_again(alloc: Global, refusals: &mut Refusals) -> Result<Directory, Fail> {
+/// The directory of the examples, at the second attempt if the first is refused; none if another answer took the place of
+/// Memory, or the second is refused, too.
+fn directory_again(alloc: Global, refusals: &mut Refusals) -> Option<Directory> {
     match attempt(alloc) {
-        Some(Ok(directory)) => return Ok(directory),
+        Some(Ok(directory)) => return Some(directory),
         None | Some(Err(SetupFault::Memory)) => refusals.one_more(),
-        Some(Err(_)) => return Err("another answer took the place of Memory".into()),
+        Some(Err(_)) => return None,
     }
-    match attempt(alloc) {
-        Some(Ok(directory)) => Ok(directory),
-        _ => Err("refused without cause".into()),
-    }
+    attempt(alloc)?.ok()
+}
+
+/// Bob's number in that directory.
+fn uid_of_bob(alloc: Global, refusals: &mut Refusals) -> Option<u32> {
+    let directory = directory_again(alloc, refusals)?;
+    Some(directory.uid_of("bob")?.value())
 }
 
 #[test]
 fn from_parts_under_a_refused_growth(rt: HostRuntime) -> Result<(), Fail> {
-    let alloc = rt.alloc();
     let mut refusals = Refusals::new();
-    let directory = directory_again(alloc, &mut refusals)?;
-    assert_eq!(rt; directory.uid_of("bob"), Uid::new(1001));
+    assert_eq!(rt; uid_of_bob(rt.alloc(), &mut refusals), Some(1001));
     println!(rt; "refusals: {}", refusals.told())?;
     Ok(())
 }
@@ -58,47 +60,57 @@ fn a_fault_is_told_before_want_of_memory(rt: HostRuntime) -> Result<(), Fail> {
     Ok(())
 }
 
+/// How many groups bob asks with, at the second attempt if the first is refused.
+fn requester_again(alloc: Global, refusals: &mut Refusals) -> Option<usize> {
+    let bob = Uid::new(1001)?;
+    let directory = directory_again(alloc, refusals)?;
+    let requester = refusals.again(|| directory.requester(alloc, bob).ok())?;
+    Some(requester.gids().len())
+}
+
 #[test]
 fn requester_under_a_refused_growth(rt: HostRuntime) -> Result<(), Fail> {
-    let alloc = rt.alloc();
     let mut refusals = Refusals::new();
-    let directory = directory_again(alloc, &mut refusals)?;
-    let bob = Uid::new(1001).ok_or("uid")?;
-    let requester = refusals
-        .again(|| directory.requester(alloc, bob).ok())
-        .ok_or("refused without cause")?;
-    assert_eq!(rt; requester.gids().len(), 2);
+    assert_eq!(rt; requester_again(rt.alloc(), &mut refusals), Some(2));
     println!(rt; "refusals: {}", refusals.told())?;
     Ok(())
+}
+
+/// How many groups an asker in two has as a requester, at the second attempt if the first is refused.
+fn asker_again(alloc: Global, refusals: &mut Refusals) -> Option<usize> {
+    let asker = Asker {
+        uid: Uid::new(1001)?,
+        gid: Gid::new(50),
+        other_gid: Gid::new(60),
+    };
+    let requester = refusals.again(|| asker.requester(alloc).ok())?;
+    Some(requester.gids().len())
 }
 
 #[test]
 fn asker_under_a_refused_growth(rt: HostRuntime) -> Result<(), Fail> {
-    let alloc = rt.alloc();
     let mut refusals = Refusals::new();
-    let asker = Asker {
-        uid: Uid::new(1001).ok_or("uid")?,
-        gid: Gid::new(50),
-        other_gid: Gid::new(60),
-    };
-    let requester = refusals
-        .again(|| asker.requester(alloc).ok())
-        .ok_or("refused without cause")?;
-    assert_eq!(rt; requester.gids().len(), 2);
+    assert_eq!(rt; asker_again(rt.alloc(), &mut refusals), Some(2));
     println!(rt; "refusals: {}", refusals.told())?;
     Ok(())
 }
 
+/// Whether the number is put as its digits, at the second attempt if the first is refused.
+fn is_id_again(alloc: Global, id: u32, digits: &str, refusals: &mut Refusals) -> bool {
+    let mut out = Vec::new(alloc);
+    let mut put = push_id(None, id, &mut out).is_ok();
+    if !put {
+        refusals.one_more();
+        put = push_id(None, id, &mut out).is_ok();
+    }
+    put && out.as_slice() == digits.as_bytes()
+}
+
 #[test]
 fn push_id_under_a_refused_growth(rt: HostRuntime) -> Result<(), Fail> {
-    let alloc = rt.alloc();
     let mut refusals = Refusals::new();
-    let mut out = Vec::new(alloc);
-    if push_id(None, 4294967294, &mut out).is_err() {
-        refusals.one_more();
-        push_id(None, 4294967294, &mut out)?;
-    }
-    assert_eq!(rt; out.as_slice(), b"4294967294".as_slice());
+    let put = is_id_again(rt.alloc(), 4294967294, "4294967294", &mut refusals);
+    assert!(rt; put);
     println!(rt; "refusals: {}", refusals.told())?;
     Ok(())
 }

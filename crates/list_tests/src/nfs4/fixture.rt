@@ -1,6 +1,6 @@
-//! What lists are printed as; none where memory is refused.
-use acl_examples::directory;
-use acl_nfs4::Acl4;
+//! What lists are printed as, and why texts are refused; none where memory is refused.
+use acl_examples::{acl4, directory};
+use acl_nfs4::{AceFault, Acl4, read_aces};
 use std::alloc::Global;
 
 /// What `print_aces` appends.
@@ -9,4 +9,15 @@ pub fn printed(alloc: Global, acl: &Acl4) -> Option<String> {
     let mut out = Vec::new(alloc);
     acl.print_aces(&names, &mut out).ok()?;
     String::from_utf8(out).ok()
+}
+
+/// What is printed of the list that the text spells.
+pub fn shown(alloc: Global, text: &str) -> Option<String> {
+    let list = acl4(alloc, text)?;
+    printed(alloc, &list)
+}
+
+/// Why the text is refused.
+pub fn fault_of(alloc: Global, text: &str) -> Option<AceFault> {
+    read_aces(alloc, text.as_bytes(), &directory(alloc)?).err()
 }

@@ -1,5 +1,5 @@
 //! Texts that were cut or bent: what each comes to, by scripts/read-texts.py, which shares nothing with the readers.
-use crate::bent::{ACES, ENTRIES, bent};
+use crate::bent::{ACES, BENDS, ENTRIES, bent, is_refused_behind};
 use crate::texts::is_text;
 use acl_examples::directory;
 use acl_names::Directory;
@@ -66,33 +66,18 @@ fn cut_and_bent_texts(rt: HostRuntime) {
     ];
     for (byte, wanted) in ROWS {
         let found = outcomes(rt.alloc(), ACES, byte);
-        assert_eq!(rt; is_text(found, wanted), Some(true), "{byte:?}");
+        assert!(rt; is_text(found, wanted) == Some(true), "{byte:?}");
     }
-}
-
-/// Whether the first outcome is this, and each other that of wrong syntax.
-fn is_refused_behind(alloc: Global, text: &str, byte: Option<u8>, first: u8) -> Option<bool> {
-    let found = outcomes(alloc, text, byte)?;
-    let (own, others) = found.as_bytes().split_first()?;
-    Some(*own == first && others.iter().all(|it| *it == b'S'))
 }
 
 /// A text of the other kind has no entry, unless nothing of it is left.
 #[test]
 fn texts_of_the_other_kind(rt: HostRuntime) {
-    const ROWS: [Option<u8>; 7] = [
-        None,
-        Some(0),
-        Some(b':'),
-        Some(b','),
-        Some(b'#'),
-        Some(b'\n'),
-        Some(0x80),
-    ];
-    for byte in ROWS {
+    for byte in BENDS {
         let nothing_left = byte.is_none();
         let first = if nothing_left { b'0' } else { b'S' };
-        let refused = is_refused_behind(rt.alloc(), ENTRIES, byte, first);
-        assert_eq!(rt; refused, Some(true), "{byte:?}");
+        let found = outcomes(rt.alloc(), ENTRIES, byte);
+        let refused = is_refused_behind(found, first);
+        assert!(rt; refused == Some(true), "{byte:?}");
     }
 }

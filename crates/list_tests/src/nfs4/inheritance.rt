@@ -15,54 +15,48 @@ fn inherited(alloc: Global, text: &str, kind: Kind) -> Option<Acl4> {
     acl4(alloc, text)?.inherited(alloc, kind).ok()
 }
 
-/// What is printed of what a directory with the list hands down.
-fn below(alloc: Global, text: &str, kind: Kind) -> Option<String> {
-    let list = inherited(alloc, text, kind)?;
-    printed(alloc, &list)
-}
-
-/// Whether a directory with the list hands anything down.
-fn hands_down(alloc: Global, text: &str) -> Option<bool> {
-    Some(acl4(alloc, text)?.has_inheritance())
-}
-
-/// What is made below a directory with the list.
-fn made(alloc: Global, text: &str, kind: Kind, mode: u16) -> Option<String> {
+/// What is printed of what a directory with the list hands down, once this mode is set if there is one.
+fn below(alloc: Global, text: &str, kind: Kind, mode: Option<u16>) -> Option<String> {
     let mut list = inherited(alloc, text, kind)?;
-    list.chmod4(alloc, Mode::from_bits(mode)?).ok()?;
+    if let Some(bits) = mode {
+        list.chmod4(alloc, Mode::from_bits(bits)?).ok()?;
+    }
     printed(alloc, &list)
 }
 
 #[test]
 fn what_is_inherited(rt: HostRuntime) {
     const FILE: &str = "A::bob@example.org:r\nD::carol@example.org:w\nA::EVERYONE@:tc\n";
+    const FILE_640: &str =
+        "A::OWNER@:rwa\nD::OWNER@:x\nA::bob@example.org:r\nD::carol@example.org:w\nA::EVERYONE@:tc\nD::bob@example.org:wax\nD::carol@example.org:ax\nA::GROUP@:r\nD::GROUP@:wax\n";
+    const DIR_750: &str =
+        "A::OWNER@:rwax\nA:fi:bob@example.org:r\nA:g:ops@example.org:rx\nA:fdi:EVERYONE@:tc\nA::EVERYONE@:tc\nD:g:ops@example.org:wa\nA::GROUP@:rx\nD::GROUP@:wa\n";
     const AGAIN: &str = "A:fi:bob@example.org:r\nA:fd:EVERYONE@:tc\n";
-    const ROWS: [(&str, Kind, &str); 6] = [
-        (PARENT, Kind::File, FILE),
-        (PARENT, Kind::Dir, BELOW),
-        (BELOW, Kind::Dir, AGAIN),
+    const OPS: &str = "A:Sg:ops@example.org:r\n";
+    const ROWS: [(&str, Kind, Option<u16>, &str); 8] = [
+        (PARENT, Kind::File, None, FILE),
+        (PARENT, Kind::Dir, None, BELOW),
+        (BELOW, Kind::Dir, None, AGAIN),
+        // What is made with a mode.
+        (PARENT, Kind::File, Some(0o640), FILE_640),
+        (PARENT, Kind::Dir, Some(0o750), DIR_750),
         // Where f, d and n stand together nothing is passed on.
-        ("A:fdnSg:ops:r", Kind::File, "A:Sg:ops@example.org:r\n"),
-        ("A:fdnSg:ops:r", Kind::Dir, "A:Sg:ops@example.org:r\n"),
-        ("A:n:OWNER@:r", Kind::Dir, ""),
+        ("A:fdnSg:ops:r", Kind::File, None, OPS),
+        ("A:fdnSg:ops:r", Kind::Dir, None, OPS),
+        ("A:n:OWNER@:r", Kind::Dir, None, ""),
     ];
-    for (list, kind, wanted) in ROWS {
-        let below = below(rt.alloc(), list, kind);
-        assert_eq!(rt; is_text(below, wanted), Some(true), "{list}");
+    for (list, kind, mode, wanted) in ROWS {
+        let below = below(rt.alloc(), list, kind, mode);
+        assert!(rt;
+            is_text(below, wanted) == Some(true),
+            "{list} {kind:?} {mode:?}"
+        );
     }
 }
 
-#[test]
-fn what_is_made_with_a_mode(rt: HostRuntime) {
-    const FILE: &str =
-        "A::OWNER@:rwa\nD::OWNER@:x\nA::bob@example.org:r\nD::carol@example.org:w\nA::EVERYONE@:tc\nD::bob@example.org:wax\nD::carol@example.org:ax\nA::GROUP@:r\nD::GROUP@:wax\n";
-    const MADE: &str =
-        "A::OWNER@:rwax\nA:fi:bob@example.org:r\nA:g:ops@example.org:rx\nA:fdi:EVERYONE@:tc\nA::EVERYONE@:tc\nD:g:ops@example.org:wa\nA::GROUP@:rx\nD::GROUP@:wa\n";
-    const ROWS: [(Kind, u16, &str); 2] = [(Kind::File, 0o640, FILE), (Kind::Dir, 0o750, MADE)];
-    for (kind, mode, wanted) in ROWS {
-        let made = made(rt.alloc(), PARENT, kind, mode);
-        assert_eq!(rt; is_text(made, wanted), Some(true));
-    }
+/// Whether a directory with the list hands anything down.
+fn hands_down(alloc: Global, text: &str) -> Option<bool> {
+    Some(acl4(alloc, text)?.has_inheritance())
 }
 
 #[test]

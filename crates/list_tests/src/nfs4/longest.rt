@@ -1,10 +1,10 @@
-use acl_examples::{acl4, directory};
+use crate::nfs4::fixture::fault_of;
+use acl_examples::acl4;
 use acl_names::Uid;
-use acl_nfs4::{Ace, AceFault, AceType, Acl4, Fault4, Flags, Mask, Who, read_aces};
+use acl_nfs4::{Ace, AceFault, AceType, Acl4, Fault4, Flags, Mask, Who};
 use acl_posix::Mode;
 use bitflags::Flags as FlagSet;
 use std::alloc::Global;
-use std::test::Fail;
 
 /// A text of so many entries.
 fn text_of(alloc: Global, count: u32) -> Option<String> {
@@ -36,39 +36,51 @@ fn read_longest(alloc: Global) -> Option<Acl4> {
     acl4(alloc, text.as_str())
 }
 
-#[test]
-fn as_many_entries_as_there_may_be(rt: HostRuntime) -> Result<(), Fail> {
-    let mode = Mode::from_bits(0o644).ok_or("a mode")?;
-    let list = longest(rt.alloc()).ok_or("a list")?;
-    let mut read = read_longest(rt.alloc()).ok_or("a list")?;
-    assert!(rt; read.aces() == list.aces());
-    assert_eq!(rt; read.chmod4(rt.alloc(), mode), Err(Fault4::TooMany));
-    assert!(rt; read.aces() == list.aces());
-    Ok(())
+/// Whether the longest list, read, has the entries of that which was made; is refused a mode; has them still then; and
+/// whether one entry more is refused behind those that were made.
+fn is_as_long_as_may_be(alloc: Global, bits: u16) -> Option<[bool; 4]> {
+    let mode = Mode::from_bits(bits)?;
+    let mut list = longest(alloc)?;
+    let mut read = read_longest(alloc)?;
+    let same = read.aces() == list.aces();
+    let refused = read.chmod4(alloc, mode) == Err(Fault4::TooMany);
+    let same_still = read.aces() == list.aces();
+    let full = list.push(Ace::default()) == Err(AceFault::TooMany);
+    Some([same, refused, same_still, full])
 }
 
 #[test]
-fn one_entry_too_many(rt: HostRuntime) -> Result<(), Fail> {
-    let names = directory(rt.alloc()).ok_or("the directory")?;
-    let mut text = text_of(rt.alloc(), 128).ok_or("a text")?;
-    text.push_str("nonsense")?;
-    let fault = read_aces(rt.alloc(), text.as_bytes(), &names).err();
+fn as_many_entries_as_there_may_be(rt: HostRuntime) {
+    let found = is_as_long_as_may_be(rt.alloc(), 0o644);
+    assert_eq!(rt; found, Some([true; 4]));
+}
+
+/// Why the longest text is refused with this behind it.
+fn fault_behind(alloc: Global, more: &str) -> Option<AceFault> {
+    let mut text = text_of(alloc, 128)?;
+    text.push_str(more).ok()?;
+    fault_of(alloc, text.as_str())
+}
+
+#[test]
+fn one_entry_too_many(rt: HostRuntime) {
+    let fault = fault_behind(rt.alloc(), "nonsense");
     assert_eq!(rt; fault, Some(AceFault::TooMany));
-    Ok(())
 }
 
-#[test]
-fn one_pushed_entry_too_many(rt: HostRuntime) -> Result<(), Fail> {
-    let mut list = longest(rt.alloc()).ok_or("a list")?;
-    assert_eq!(rt; list.push(Ace::default()), Err(AceFault::TooMany));
-    Ok(())
+/// An entry that no mode changes.
+fn audit() -> Ace {
+    Ace::new(
+        AceType::Audit,
+        Flags::empty(),
+        Who::Everyone,
+        Mask::READ_DATA,
+    )
 }
 
-/// A list of 128 entries that a mode leaves 128 long: what the owner's, the group's and the others' entries come to takes
-/// the place of as many that have nothing else.
-#[test]
-fn a_mode_set_on_as_many_entries_as_there_may_be(rt: HostRuntime) -> Result<(), Fail> {
-    let mut list = Acl4::empty(rt.alloc());
+/// A list of 128 entries, of which five are the owner's, the group's and the others'.
+fn full(alloc: Global) -> Option<Acl4> {
+    let mut list = Acl4::empty(alloc);
     for who in [
         Who::Owner,
         Who::Owner,
@@ -77,21 +89,28 @@ fn a_mode_set_on_as_many_entries_as_there_may_be(rt: HostRuntime) -> Result<(), 
         Who::Everyone,
     ] {
         let entry = Ace::new(AceType::Allow, Flags::empty(), who, Mask::READ_DATA);
-        assert!(rt; list.push(entry).is_ok());
+        list.push(entry).ok()?;
     }
-    let other = Ace::new(
-        AceType::Audit,
-        Flags::empty(),
-        Who::Everyone,
-        Mask::READ_DATA,
-    );
     for _ in 5..128 {
-        assert!(rt; list.push(other).is_ok());
+        list.push(audit()).ok()?;
     }
-    let mode = Mode::from_bits(0o641).ok_or("a mode")?;
-    assert_eq!(rt; list.chmod4(rt.alloc(), mode), Ok(()));
-    assert_eq!(rt; list.aces().len(), 128);
-    assert_eq!(rt; list.mode4(), mode);
-    assert_eq!(rt; list.push(other), Err(AceFault::TooMany));
-    Ok(())
+    Some(list)
+}
+
+/// How many entries that list has once this mode is set, the mode that it has then, and whether one more is refused.
+fn set_on_full(alloc: Global, bits: u16) -> Option<(usize, u16, bool)> {
+    let mode = Mode::from_bits(bits)?;
+    let mut list = full(alloc)?;
+    list.chmod4(alloc, mode).ok()?;
+    let len = list.aces().len();
+    let shown = list.mode4().bits();
+    Some((len, shown, list.push(audit()) == Err(AceFault::TooMany)))
+}
+
+/// A mode leaves the list 128 long: what the owner's, the group's and the others' entries come to takes the place of as many
+/// that have nothing else.
+#[test]
+fn a_mode_set_on_as_many_entries_as_there_may_be(rt: HostRuntime) {
+    let found = set_on_full(rt.alloc(), 0o641);
+    assert_eq!(rt; found, Some((128, 0o641, true)));
 }

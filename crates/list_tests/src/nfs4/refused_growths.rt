@@ -3,6 +3,7 @@
 //!
 //! scripts/refused-growths refuses one growth of a test after the other. Each test here passes whichever growth that is,
 //! and prints how many refusals it was told of.
+use crate::texts::is_spelt;
 use acl_examples::{Refusals, acl4, directory};
 use acl_names::{Directory, Uid};
 use acl_nfs4::{Ace, AceFault, AceType, Acl4, Fault4, Flags, Kind, Mask, Who, read_aces};
@@ -38,6 +39,11 @@ fn names_and_list(alloc: Global, refusals: &mut Refusals) -> Option<(Directory, 
     Some((names, list))
 }
 
+/// The long list, with names of its own, at the second attempt if the first is refused.
+fn list_again(alloc: Global, refusals: &mut Refusals) -> Option<Acl4> {
+    refusals.again(|| acl4(alloc, LONG))
+}
+
 /// An entry that lets the user with this number read.
 fn reader(number: u32) -> Option<Ace> {
     let who = Who::User(Uid::new(number)?);
@@ -67,18 +73,25 @@ fn are_readers(aces: &[Ace]) -> bool {
     true
 }
 
+/// How many of 128 entries are put into a list one by one, up to the first that isn't; none if they aren't in their places.
+fn pushed_again(alloc: Global, refusals: &mut Refusals) -> Option<usize> {
+    let mut list = Acl4::empty(alloc);
+    for number in 0..128 {
+        if is_pushed_again(&mut list, number, refusals) != Some(true) {
+            break;
+        }
+    }
+    if are_readers(list.aces()) {
+        Some(list.aces().len())
+    } else {
+        None
+    }
+}
+
 #[test]
 fn push_under_a_refused_growth(rt: HostRuntime) -> Result<(), Fail> {
     let mut refusals = Refusals::new();
-    let mut list = Acl4::empty(rt.alloc());
-    for number in 0..128 {
-        assert_eq!(rt;
-            is_pushed_again(&mut list, number, &mut refusals),
-            Some(true)
-        );
-    }
-    assert_eq!(rt; list.aces().len(), 128);
-    assert!(rt; are_readers(list.aces()));
+    assert_eq!(rt; pushed_again(rt.alloc(), &mut refusals), Some(128));
     println!(rt; "refusals: {}", refusals.told())?;
     Ok(())
 }
@@ -120,30 +133,42 @@ fn begun(alloc: Global) -> Option<Vec<u8>> {
     Some(out)
 }
 
+/// Whether the long list is printed behind that, how many bytes there are then, and whether they begin as they should.
+fn printed_behind(alloc: Global, refusals: &mut Refusals) -> Option<(bool, usize, bool)> {
+    let mut out = refusals.again(|| begun(alloc))?;
+    let printed = is_printed_again(alloc, &mut out, b">", refusals)?;
+    let begins = out.starts_with(b">A:f:1:r\nA:f:2:r\n".as_slice());
+    Some((printed, out.len(), begins))
+}
+
 #[test]
 fn print_aces_under_a_refused_growth(rt: HostRuntime) -> Result<(), Fail> {
-    let alloc = rt.alloc();
     let mut refusals = Refusals::new();
-    let mut out = refusals.again(|| begun(alloc)).ok_or("a text")?;
-    let printed = is_printed_again(alloc, &mut out, b">", &mut refusals);
-    assert_eq!(rt; printed, Some(true));
+    let printed = printed_behind(rt.alloc(), &mut refusals);
     // 9 lines of 8 bytes, and 8 of 9, after the one that stood there.
-    assert_eq!(rt; out.len(), 145);
-    assert!(rt; out.starts_with(b">A:f:1:r\nA:f:2:r\n".as_slice()));
+    assert_eq!(rt; printed, Some((true, 145, true)));
     println!(rt; "refusals: {}", refusals.told())?;
     Ok(())
+}
+
+/// An empty text with room for so many bytes, at the second attempt if the first is refused.
+fn room_again(alloc: Global, bytes: usize, refusals: &mut Refusals) -> Option<Vec<u8>> {
+    refusals.again(|| Vec::with_capacity(alloc, bytes).ok())
+}
+
+/// Whether the long list is printed where there is room for 100 bytes, and how many there are then.
+fn printed_in_little_room(alloc: Global, refusals: &mut Refusals) -> Option<(bool, usize)> {
+    let mut out = room_again(alloc, 100, refusals)?;
+    let printed = is_printed_again(alloc, &mut out, b"", refusals)?;
+    Some((printed, out.len()))
 }
 
 /// Room for the shortest lines and not for these: the output grows on the way, and what was printed by then goes again.
 #[test]
 fn print_aces_with_little_room_under_a_refused_growth(rt: HostRuntime) -> Result<(), Fail> {
-    let alloc = rt.alloc();
     let mut refusals = Refusals::new();
-    let room = refusals.again(|| Vec::with_capacity(alloc, 100).ok());
-    let mut out = room.ok_or("room")?;
-    let printed = is_printed_again(alloc, &mut out, b"", &mut refusals);
-    assert_eq!(rt; printed, Some(true));
-    assert_eq!(rt; out.len(), 144);
+    let printed = printed_in_little_room(rt.alloc(), &mut refusals);
+    assert_eq!(rt; printed, Some((true, 144)));
     println!(rt; "refusals: {}", refusals.told())?;
     Ok(())
 }
@@ -154,23 +179,26 @@ fn is_printed(alloc: Global, out: &mut Vec<u8>, refusals: &mut Refusals) -> Opti
     Some(list.print_aces(&names, out).is_ok())
 }
 
+/// Whether it is where there is room for all of it, of 9 lines of 8 bytes and 8 of 9, and how many bytes there are then.
+fn printed_in_room(alloc: Global, refusals: &mut Refusals) -> Option<(bool, usize)> {
+    let mut out = room_again(alloc, 144, refusals)?;
+    let printed = is_printed(alloc, &mut out, refusals)?;
+    Some((printed, out.len()))
+}
+
 /// Where there is room for the text nothing grows, so that no refusal falls in the call.
 #[test]
 fn print_aces_with_room_under_a_refused_growth(rt: HostRuntime) -> Result<(), Fail> {
-    let alloc = rt.alloc();
     let mut refusals = Refusals::new();
-    // 9 lines of 8 bytes, and 8 of 9.
-    let room = refusals.again(|| Vec::with_capacity(alloc, 144).ok());
-    let mut out = room.ok_or("room")?;
-    assert_eq!(rt; is_printed(alloc, &mut out, &mut refusals), Some(true));
-    assert_eq!(rt; out.len(), 144);
+    let printed = printed_in_room(rt.alloc(), &mut refusals);
+    assert_eq!(rt; printed, Some((true, 144)));
     println!(rt; "refusals: {}", refusals.told())?;
     Ok(())
 }
 
 /// The long list and a copy of it.
 fn with_copy(alloc: Global, refusals: &mut Refusals) -> Option<(Acl4, Acl4)> {
-    let list = refusals.again(|| acl4(alloc, LONG))?;
+    let list = list_again(alloc, refusals)?;
     let copy = refusals.again(|| list.try_clone(alloc).ok())?;
     Some((list, copy))
 }
@@ -197,15 +225,9 @@ fn chmod4_under_a_refused_growth(rt: HostRuntime) -> Result<(), Fail> {
     Ok(())
 }
 
-/// Whether the text spells the list.
-fn is_spelt(alloc: Global, list: &Acl4, text: &str) -> Option<bool> {
-    let wanted = acl4(alloc, text)?;
-    Some(list.aces() == wanted.aces())
-}
-
 /// Whether a file in a directory with the long list inherits the list below.
 fn inherited_again(alloc: Global, refusals: &mut Refusals) -> Option<bool> {
-    let list = refusals.again(|| acl4(alloc, LONG))?;
+    let list = list_again(alloc, refusals)?;
     let below = refusals.again(|| list.inherited(alloc, Kind::File).ok())?;
     refusals.again(|| is_spelt(alloc, &below, BELOW))
 }
@@ -213,7 +235,7 @@ fn inherited_again(alloc: Global, refusals: &mut Refusals) -> Option<bool> {
 #[test]
 fn inherited_under_a_refused_growth(rt: HostRuntime) -> Result<(), Fail> {
     let mut refusals = Refusals::new();
-    assert_eq!(rt; inherited_again(rt.alloc(), &mut refusals), Some(true));
+    assert!(rt; inherited_again(rt.alloc(), &mut refusals) == Some(true));
     println!(rt; "refusals: {}", refusals.told())?;
     Ok(())
 }

@@ -4,7 +4,6 @@ use acl_nfs4::{Ace, AceType, Acl4, Flags, Kind, Mask, Who};
 use acl_posix::Mode;
 use bitflags::Flags as FlagSet;
 use std::alloc::Global;
-use std::test::Fail;
 
 /// A list of so many entries, each for another user, which files and directories inherit.
 fn list_of(alloc: Global, count: u32) -> Option<Acl4> {
@@ -33,35 +32,57 @@ fn read_again(alloc: Global, list: &Acl4) -> Option<Acl4> {
     acl_nfs4::read_aces(alloc, out.as_slice(), &names).ok()
 }
 
-#[test]
-fn lists_of_each_size(rt: HostRuntime) -> Result<(), Fail> {
-    for count in 0..129 {
-        let list = list_of(rt.alloc(), count).ok_or("a list")?;
-        assert_eq!(rt; list.aces().len(), count as usize);
-        let copies = [
-            list.try_clone(rt.alloc())?,
-            pushed(rt.alloc(), &list).ok_or("pushed")?,
-            read_again(rt.alloc(), &list).ok_or("read again")?,
-            list.inherited(rt.alloc(), Kind::Dir)?,
-        ];
-        for copy in copies.iter() {
-            assert!(rt; copy.aces() == list.aces());
-        }
-        let files = list.inherited(rt.alloc(), Kind::File)?;
-        assert_eq!(rt; files.aces().len(), count as usize);
+/// Whether the list was made and has these entries.
+fn is_made(made: Option<Acl4>, wanted: &[Ace]) -> bool {
+    match made {
+        Some(made) => made.aces() == wanted,
+        None => false,
     }
-    Ok(())
+}
+
+/// How many entries a file inherits of the list.
+fn inherited_by_files(alloc: Global, list: &Acl4) -> Option<usize> {
+    let files = list.inherited(alloc, Kind::File).ok()?;
+    Some(files.aces().len())
+}
+
+/// Whether a list of so many entries has them, and its copy, what is pushed, what is printed and read again, and what a
+/// directory inherits have the same; whether a file inherits as many.
+fn found(alloc: Global, count: u32) -> Option<[bool; 6]> {
+    let list = list_of(alloc, count)?;
+    let aces = list.aces();
+    Some([
+        aces.len() == count as usize,
+        is_made(list.try_clone(alloc).ok(), aces),
+        is_made(pushed(alloc, &list), aces),
+        is_made(read_again(alloc, &list), aces),
+        is_made(list.inherited(alloc, Kind::Dir).ok(), aces),
+        inherited_by_files(alloc, &list) == Some(count as usize),
+    ])
 }
 
 #[test]
-fn a_mode_set_on_lists_of_each_size(rt: HostRuntime) -> Result<(), Fail> {
-    let mode = Mode::from_bits(0o640).ok_or("a mode")?;
-    for count in 0..42 {
-        let mut list = list_of(rt.alloc(), count).ok_or("a list")?;
-        assert_eq!(rt; list.chmod4(rt.alloc(), mode), Ok(()));
-        assert_eq!(rt; list.mode4(), mode);
+fn lists_of_each_size(rt: HostRuntime) {
+    for count in 0..129 {
+        let found = found(rt.alloc(), count);
+        assert_eq!(rt; found, Some([true; 6]), "{count} entries");
     }
-    Ok(())
+}
+
+/// The mode of a list of so many entries once this one is set.
+fn mode_set(alloc: Global, count: u32, bits: u16) -> Option<u16> {
+    let mode = Mode::from_bits(bits)?;
+    let mut list = list_of(alloc, count)?;
+    list.chmod4(alloc, mode).ok()?;
+    Some(list.mode4().bits())
+}
+
+#[test]
+fn a_mode_set_on_lists_of_each_size(rt: HostRuntime) {
+    for count in 0..42 {
+        let shown = mode_set(rt.alloc(), count, 0o640);
+        assert_eq!(rt; shown, Some(0o640), "{count} entries");
+    }
 }
 
 /// A list of so many entries that no mode changes.
@@ -79,14 +100,19 @@ fn audits_of(alloc: Global, count: usize) -> Option<Acl4> {
     Some(list)
 }
 
+/// How many entries so many audits come to once a mode is set.
+fn len_with_mode(alloc: Global, count: usize) -> Option<usize> {
+    let mode = Mode::from_bits(0o640)?;
+    let mut list = audits_of(alloc, count)?;
+    list.chmod4(alloc, mode).ok()?;
+    Some(list.aces().len())
+}
+
 /// Two entries of the owner and two of the group come to those of the list.
 #[test]
-fn lists_of_each_size_once_a_mode_is_set(rt: HostRuntime) -> Result<(), Fail> {
-    let mode = Mode::from_bits(0o640).ok_or("a mode")?;
+fn lists_of_each_size_once_a_mode_is_set(rt: HostRuntime) {
     for len in 4..129_usize {
-        let mut list = audits_of(rt.alloc(), len.saturating_sub(4)).ok_or("a list")?;
-        assert_eq!(rt; list.chmod4(rt.alloc(), mode), Ok(()));
-        assert_eq!(rt; list.aces().len(), len);
+        let found = len_with_mode(rt.alloc(), len.saturating_sub(4));
+        assert_eq!(rt; found, Some(len), "{len} entries");
     }
-    Ok(())
 }

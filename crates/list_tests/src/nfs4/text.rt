@@ -1,20 +1,7 @@
-use crate::nfs4::fixture::printed;
+use crate::nfs4::fixture::{fault_of, shown};
 use crate::texts::is_text;
-use acl_examples::{acl4, directory};
-use acl_nfs4::{AceFault, Mask, read_aces, read_letters};
+use acl_nfs4::{AceFault, Mask, read_letters};
 use bitflags::Flags as FlagSet;
-use std::alloc::Global;
-use std::test::Fail;
-
-fn fault_of(alloc: Global, text: &str) -> Option<AceFault> {
-    read_aces(alloc, text.as_bytes(), &directory(alloc)?).err()
-}
-
-/// What is printed of the list that the text spells.
-fn shown(alloc: Global, text: &str) -> Option<String> {
-    let list = acl4(alloc, text)?;
-    printed(alloc, &list)
-}
 
 #[test]
 fn texts_in_their_printed_form(rt: HostRuntime) {
@@ -33,12 +20,12 @@ fn texts_in_their_printed_form(rt: HostRuntime) {
     ];
     for (text, wanted) in ROWS {
         let shown = shown(rt.alloc(), text);
-        assert_eq!(rt; is_text(shown, wanted), Some(true), "{text}");
+        assert!(rt; is_text(shown, wanted) == Some(true), "{text}");
     }
 }
 
 #[test]
-fn texts_that_are_refused(rt: HostRuntime) -> Result<(), Fail> {
+fn texts_that_are_refused(rt: HostRuntime) {
     const ROWS: [(&str, AceFault); 15] = [
         ("A:ff:OWNER@:r", AceFault::Syntax),
         ("A::bob@other.org:r", AceFault::UnknownName),
@@ -60,11 +47,10 @@ fn texts_that_are_refused(rt: HostRuntime) -> Result<(), Fail> {
     for (text, wanted) in ROWS {
         assert_eq!(rt; fault_of(rt.alloc(), text), Some(wanted), "{text}");
     }
-    Ok(())
 }
 
 #[test]
-fn letters(rt: HostRuntime) -> Result<(), Fail> {
+fn letters(rt: HostRuntime) {
     for (text, wanted) in [
         ("", Some(Mask::empty())),
         ("aw", Some(Mask::WRITE_DATA.union(Mask::APPEND_DATA))),
@@ -74,5 +60,4 @@ fn letters(rt: HostRuntime) -> Result<(), Fail> {
     ] {
         assert_eq!(rt; read_letters(text.as_bytes()), wanted, "{text}");
     }
-    Ok(())
 }

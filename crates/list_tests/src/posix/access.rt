@@ -1,25 +1,17 @@
+use crate::files::{grants, owner_and_group, requester, requester_named};
 use crate::posix::fixture::perms;
-use acl_examples::{acl, directory};
-use acl_names::{Gid, Uid};
-use acl_posix::Acl;
+use acl_examples::acl;
+use acl_posix::{Acl, Perms};
 use std::alloc::Global;
-use std::test::Fail;
 
-/// Whether the user may do it with alice's file, whose group is staff, under the list that the text spells.
+/// Whether the user may do it under the list that the text spells.
 fn may(alloc: Global, text: &str, user: &str, request: &str) -> Option<bool> {
-    let names = directory(alloc)?;
-    let list = acl(alloc, text)?;
-    let requester = names.requester(alloc, names.uid_of(user)?).ok()?;
-    Some(list.grants(
-        names.uid_of("alice")?,
-        names.gid_of("staff")?,
-        &requester,
-        perms(request)?,
-    ))
+    let request = perms(request)?;
+    grants(alloc, text, &requester_named(alloc, user)?, request)
 }
 
 #[test]
-fn each_case_of_the_check(rt: HostRuntime) -> Result<(), Fail> {
+fn each_case_of_the_check(rt: HostRuntime) {
     const ROWS: [(&str, &str, &str, bool); 13] = [
         // Groups don't add up.
         ("u::-,g::r,g:ops:w,m::rw,o::-", "bob", "r", true),
@@ -47,7 +39,6 @@ fn each_case_of_the_check(rt: HostRuntime) -> Result<(), Fail> {
             "{list} {user} {request}"
         );
     }
-    Ok(())
 }
 
 /// A list whose entries name the users 1 to 60.
@@ -62,16 +53,23 @@ fn list_of_sixty_users(alloc: Global) -> Option<Acl> {
 
 /// Whether the list lets this user read a file of alice's and of staff's.
 fn may_read(alloc: Global, list: &Acl, uid: u32) -> Option<bool> {
-    let names = directory(alloc)?;
-    let requester = names.requester(alloc, Uid::new(uid)?).ok()?;
-    Some(list.grants(Uid::new(1000)?, Gid::new(50)?, &requester, perms("r")?))
+    let (alice, staff) = owner_and_group()?;
+    let requester = requester(alloc, uid)?;
+    Some(list.grants(alice, staff, &requester, Perms::READ))
+}
+
+/// Whether that list lets the last of its users read, the first, and the one behind them.
+fn may_of_sixty(alloc: Global) -> Option<[Option<bool>; 3]> {
+    let list = list_of_sixty_users(alloc)?;
+    Some([
+        may_read(alloc, &list, 60),
+        may_read(alloc, &list, 1),
+        may_read(alloc, &list, 61),
+    ])
 }
 
 #[test]
-fn many_named_users(rt: HostRuntime) -> Result<(), Fail> {
-    let list = list_of_sixty_users(rt.alloc()).ok_or("the list")?;
-    assert_eq!(rt; may_read(rt.alloc(), &list, 60), Some(true));
-    assert_eq!(rt; may_read(rt.alloc(), &list, 1), Some(true));
-    assert_eq!(rt; may_read(rt.alloc(), &list, 61), Some(false));
-    Ok(())
+fn many_named_users(rt: HostRuntime) {
+    let may = may_of_sixty(rt.alloc());
+    assert_eq!(rt; may, Some([Some(true), Some(true), Some(false)]));
 }

@@ -1,4 +1,4 @@
-//! Modes and permissions that are written, and what lists are printed as; none where memory is refused or a text is.
+//! Modes and permissions that are written, and what lists are printed and copied as; none where memory is refused or a text is.
 use acl_examples::{acl, directory};
 use acl_posix::{Acl, Mode, Perms, read_perms};
 use std::alloc::Global;
@@ -39,4 +39,10 @@ pub fn effective_of(alloc: Global, text: &str) -> Option<String> {
 pub fn long_of(alloc: Global, text: &str) -> Option<String> {
     let list = acl(alloc, text)?;
     long(alloc, &list)
+}
+
+/// Whether a copy has the list's entries.
+pub fn is_copied(alloc: Global, list: &Acl) -> Option<bool> {
+    let copy = list.try_clone(alloc).ok()?;
+    Some(copy.entries() == list.entries())
 }

@@ -3,77 +3,68 @@ use crate::texts::is_text;
 use acl_examples::acl;
 use acl_posix::{Acl, Perms};
 use std::alloc::Global;
-use std::test::Fail;
 
+/// A list with a mask.
+const MASKED: &str = "u::rw,u:bob:rw,g::r,m::r,o::-";
+
+/// The list of a mode.
 fn of_mode(alloc: Global, bits: u16) -> Option<Acl> {
     Acl::of_mode(alloc, mode(bits)?).ok()
 }
 
-/// What is printed of it.
-fn effective_of_mode(alloc: Global, bits: u16) -> Option<String> {
-    let list = of_mode(alloc, bits)?;
-    effective(alloc, &list)
+/// The list with a mask, once this mode is set.
+fn with_mode(alloc: Global, bits: u16) -> Option<Acl> {
+    let mode = mode(bits)?;
+    let mut list = acl(alloc, MASKED)?;
+    list.chmod(mode);
+    Some(list)
+}
+
+/// Its mode and its mask.
+fn mode_and_mask(list: Option<Acl>) -> Option<(u16, Option<Perms>)> {
+    let list = list?;
+    Some((list.mode().bits(), list.mask()))
+}
+
+#[test]
+fn a_mask_is_shown_in_the_mode(rt: HostRuntime) {
+    let three = mode_and_mask(of_mode(rt.alloc(), 0o644));
+    assert_eq!(rt; three, Some((0o644, None)));
+    let masked = mode_and_mask(acl(rt.alloc(), MASKED));
+    assert_eq!(rt; masked, Some((0o640, perms("r"))));
+    let set = mode_and_mask(with_mode(rt.alloc(), 0o600));
+    assert_eq!(rt; set, Some((0o600, perms("-"))));
+}
+
+/// Whether what is printed of it is this with marks, and this in plain lines.
+fn is_printed(alloc: Global, list: Option<Acl>, marked: &str, plain: &str) -> Option<[bool; 2]> {
+    let list = list?;
+    let first = is_text(effective(alloc, &list), marked)?;
+    Some([first, is_text(long(alloc, &list), plain)?])
 }
 
 #[test]
 fn a_mode_is_a_list_of_three(rt: HostRuntime) {
     let wanted = "user::rw-\ngroup::r--\nother::r--\n";
-    assert_eq!(rt;
-        is_text(effective_of_mode(rt.alloc(), 0o644), wanted),
-        Some(true)
-    );
+    let three = of_mode(rt.alloc(), 0o644);
+    let printed = is_printed(rt.alloc(), three, wanted, wanted);
+    assert_eq!(rt; printed, Some([true; 2]));
 }
 
 #[test]
-fn a_list_of_three_has_its_mode_and_no_mask(rt: HostRuntime) -> Result<(), Fail> {
-    let list = of_mode(rt.alloc(), 0o644).ok_or("list")?;
-    assert_eq!(rt; list.mode().bits(), 0o644);
-    assert!(rt; list.mask().is_none());
-    Ok(())
+fn a_mode_set_under_a_mask(rt: HostRuntime) {
+    let marked =
+        "user::rw-\nuser:bob:rw-\t#effective:---\ngroup::r--\t#effective:---\nmask::---\nother::---\n";
+    let plain = "user::rw-\nuser:bob:rw-\ngroup::r--\nmask::---\nother::---\n";
+    let set = with_mode(rt.alloc(), 0o600);
+    let printed = is_printed(rt.alloc(), set, marked, plain);
+    assert_eq!(rt; printed, Some([true; 2]));
 }
 
 #[test]
-fn modes_are_of_nine_bits(rt: HostRuntime) -> Result<(), Fail> {
+fn modes_are_of_nine_bits(rt: HostRuntime) {
     assert!(rt; mode(0o777).is_some());
     assert!(rt; mode(0o1000).is_none());
-    Ok(())
-}
-
-/// A list with a mask.
-const MASKED: &str = "u::rw,u:bob:rw,g::r,m::r,o::-";
-
-/// The list once this mode is set.
-fn with_mode(alloc: Global, text: &str, bits: u16) -> Option<Acl> {
-    let mode = mode(bits)?;
-    let mut list = acl(alloc, text)?;
-    list.chmod(mode);
-    Some(list)
-}
-
-#[test]
-fn a_mask_is_shown_in_the_mode(rt: HostRuntime) -> Result<(), Fail> {
-    let list = acl(rt.alloc(), MASKED).ok_or("list")?;
-    assert_eq!(rt; list.mode().bits(), 0o640);
-    assert_eq!(rt; list.mask(), perms("r"));
-    Ok(())
-}
-
-#[test]
-fn a_mode_set_under_a_mask(rt: HostRuntime) -> Result<(), Fail> {
-    let list = with_mode(rt.alloc(), MASKED, 0o600).ok_or("list")?;
-    let wanted =
-        "user::rw-\nuser:bob:rw-\t#effective:---\ngroup::r--\t#effective:---\nmask::---\nother::---\n";
-    assert_eq!(rt; list.mode().bits(), 0o600);
-    assert_eq!(rt; is_text(effective(rt.alloc(), &list), wanted), Some(true));
-    Ok(())
-}
-
-#[test]
-fn a_mode_set_under_a_mask_in_plain_lines(rt: HostRuntime) -> Result<(), Fail> {
-    let list = with_mode(rt.alloc(), MASKED, 0o600).ok_or("list")?;
-    let wanted = "user::rw-\nuser:bob:rw-\ngroup::r--\nmask::---\nother::---\n";
-    assert_eq!(rt; is_text(long(rt.alloc(), &list), wanted), Some(true));
-    Ok(())
 }
 
 /// A default list.
@@ -107,14 +98,14 @@ fn a_default_list_at_creation(rt: HostRuntime) {
         ),
     ];
     for (bits, wanted) in ROWS {
-        assert_eq!(rt; is_text(created(rt.alloc(), bits), wanted), Some(true));
+        assert!(rt; is_text(created(rt.alloc(), bits), wanted) == Some(true));
     }
 }
 
 #[test]
 fn a_copy_of_a_default_list(rt: HostRuntime) {
     let wanted = "user::rwx\nuser:bob:rwx\ngroup::r-x\nmask::rwx\nother::---\n";
-    assert_eq!(rt; is_text(copied(rt.alloc()), wanted), Some(true));
+    assert!(rt; is_text(copied(rt.alloc()), wanted) == Some(true));
 }
 
 /// The mask that is calculated for the list that the text spells.

@@ -1,5 +1,5 @@
 //! With ample memory each call that may take some succeeds, at each size that there may be.
-use crate::posix::fixture::{long, mode};
+use crate::posix::fixture::{is_copied, long, mode};
 use acl_examples::{acl, directory};
 use acl_names::Directory;
 use acl_posix::{Acl, Entries, Entry, read_entries};
@@ -34,14 +34,22 @@ fn pushed(alloc: Global, entries: &[Entry]) -> Option<Entries> {
     Some(pushed)
 }
 
+/// Whether so many entries are read, and whether they are the same if they are pushed.
+fn are_entries(alloc: Global, count: u32, names: &Directory) -> Option<[bool; 2]> {
+    let read = entries_of(alloc, count, names)?;
+    let pushed = pushed(alloc, read.as_slice())?;
+    Some([
+        read.as_slice().len() == count as usize,
+        pushed.as_slice() == read.as_slice(),
+    ])
+}
+
 #[test]
 fn texts_and_entries_of_each_size(rt: HostRuntime) -> Result<(), Fail> {
     let names = directory(rt.alloc()).ok_or("directory")?;
     for count in 0..65 {
-        let read = entries_of(rt.alloc(), count, &names).ok_or("entries")?;
-        assert_eq!(rt; read.as_slice().len(), count as usize);
-        let pushed = pushed(rt.alloc(), read.as_slice()).ok_or("pushed entries")?;
-        assert!(rt; pushed.as_slice() == read.as_slice());
+        let found = are_entries(rt.alloc(), count, &names);
+        assert_eq!(rt; found, Some([true; 2]), "{count} entries");
     }
     Ok(())
 }
@@ -50,12 +58,6 @@ fn texts_and_entries_of_each_size(rt: HostRuntime) -> Result<(), Fail> {
 fn list_of(alloc: Global, count: u32) -> Option<Acl> {
     let text = text_of(alloc, count)?;
     acl(alloc, text.as_str())
-}
-
-/// Whether a copy has the list's entries.
-fn is_copied(alloc: Global, list: &Acl) -> Option<bool> {
-    let copy = list.try_clone(alloc).ok()?;
-    Some(copy.entries() == list.entries())
 }
 
 /// Whether a file that is made with the mode 777 below the default list has its entries.
@@ -72,14 +74,21 @@ fn is_read_again(alloc: Global, list: &Acl) -> Option<bool> {
     Some(again.entries() == list.entries())
 }
 
+/// Whether the list of so many entries has them; whether they are copied, handed on, and read again from what is printed.
+fn found(alloc: Global, count: u32) -> Option<[Option<bool>; 4]> {
+    let list = list_of(alloc, count)?;
+    Some([
+        Some(list.entries().len() == count as usize),
+        is_copied(alloc, &list),
+        is_handed_on(alloc, &list),
+        is_read_again(alloc, &list),
+    ])
+}
+
 #[test]
-fn lists_of_each_size(rt: HostRuntime) -> Result<(), Fail> {
+fn lists_of_each_size(rt: HostRuntime) {
     for count in 3..65 {
-        let list = list_of(rt.alloc(), count).ok_or("a valid list")?;
-        assert_eq!(rt; list.entries().len(), count as usize);
-        assert_eq!(rt; is_copied(rt.alloc(), &list), Some(true));
-        assert_eq!(rt; is_handed_on(rt.alloc(), &list), Some(true));
-        assert_eq!(rt; is_read_again(rt.alloc(), &list), Some(true));
+        let found = found(rt.alloc(), count);
+        assert_eq!(rt; found, Some([Some(true); 4]), "{count} entries");
     }
-    Ok(())
 }

@@ -1,28 +1,24 @@
 use crate::posix::fixture::{effective, effective_of, long_of};
 use crate::texts::is_text;
 use acl_examples::{acl, directory};
-use acl_names::Directory;
 use acl_posix::{Perms, TextFault, read_entries, read_perms};
 use std::alloc::Global;
-use std::test::Fail;
 
-fn fault(alloc: Global, names: &Directory, text: &[u8]) -> Option<TextFault> {
-    match read_entries(alloc, text, names) {
-        Ok(_) => None,
-        Err(fault) => Some(fault),
-    }
+/// Why the text is refused, if it is.
+fn fault(alloc: Global, text: &str) -> Option<Option<TextFault>> {
+    let names = directory(alloc)?;
+    Some(read_entries(alloc, text.as_bytes(), &names).err())
 }
 
 #[test]
 fn long_text_forms(rt: HostRuntime) {
     let text = "user : : rwx , g::r-x\nmask:rwx # all\nother:r\n";
     let wanted = "user::rwx\ngroup::r-x\nmask::rwx\nother::r--\n";
-    assert_eq!(rt; is_text(long_of(rt.alloc(), text), wanted), Some(true));
+    assert!(rt; is_text(long_of(rt.alloc(), text), wanted) == Some(true));
 }
 
 #[test]
-fn the_first_faulty_piece_decides(rt: HostRuntime) -> Result<(), Fail> {
-    let names = directory(rt.alloc()).ok_or("directory")?;
+fn the_first_faulty_piece_decides(rt: HostRuntime) {
     const ROWS: [(&str, Option<TextFault>); 21] = [
         ("u::rr,g::r,o::r", Some(TextFault::Syntax)),
         ("u::r,,g::r", Some(TextFault::Syntax)),
@@ -47,13 +43,8 @@ fn the_first_faulty_piece_decides(rt: HostRuntime) -> Result<(), Fail> {
         ("", None),
     ];
     for (text, wanted) in ROWS {
-        assert_eq!(rt;
-            fault(rt.alloc(), &names, text.as_bytes()),
-            wanted,
-            "{text}"
-        );
+        assert_eq!(rt; fault(rt.alloc(), text), Some(wanted), "{text}");
     }
-    Ok(())
 }
 
 /// A text of 64 entries.
@@ -66,26 +57,18 @@ fn longest(alloc: Global) -> Option<String> {
     Some(text)
 }
 
-/// How many entries are read of it.
-fn entries_of_longest(alloc: Global) -> Option<usize> {
-    let text = longest(alloc)?;
-    let list = acl(alloc, text.as_str())?;
-    Some(list.entries().len())
+/// How many entries are read of it, and why it is refused with this behind it.
+fn read_longest(alloc: Global, more: &str) -> Option<(usize, Option<TextFault>)> {
+    let mut text = longest(alloc)?;
+    let count = acl(alloc, text.as_str())?.entries().len();
+    text.push_str(more).ok()?;
+    Some((count, fault(alloc, text.as_str())?))
 }
 
 #[test]
-fn a_text_of_64_entries(rt: HostRuntime) {
-    assert_eq!(rt; entries_of_longest(rt.alloc()), Some(64));
-}
-
-#[test]
-fn a_text_of_more_than_64_entries(rt: HostRuntime) -> Result<(), Fail> {
-    let names = directory(rt.alloc()).ok_or("directory")?;
-    let mut text = longest(rt.alloc()).ok_or("text")?;
-    text.push_str(",nonsense")?;
-    let told = fault(rt.alloc(), &names, text.as_bytes());
-    assert_eq!(rt; told, Some(TextFault::TooMany));
-    Ok(())
+fn a_text_of_64_entries_and_one_of_more(rt: HostRuntime) {
+    let read = read_longest(rt.alloc(), ",nonsense");
+    assert_eq!(rt; read, Some((64, Some(TextFault::TooMany))));
 }
 
 /// Whether what is printed with marks is read as the entries of the list that the text spells.
@@ -100,19 +83,21 @@ fn is_read_again(alloc: Global, text: &str) -> Option<bool> {
 fn what_is_printed_with_marks_is_read_again(rt: HostRuntime) {
     let text = "u::rw,u:bob:rw,g::r,m::r,o::-";
     let wanted = "user::rw-\nuser:bob:rw-\t#effective:r--\ngroup::r--\nmask::r--\nother::---\n";
-    assert_eq!(rt; is_read_again(rt.alloc(), text), Some(true));
-    assert_eq!(rt; is_text(effective_of(rt.alloc(), text), wanted), Some(true));
+    assert!(rt; is_read_again(rt.alloc(), text) == Some(true));
+    assert!(rt; is_text(effective_of(rt.alloc(), text), wanted) == Some(true));
 }
 
 #[test]
-fn permissions_are_one_to_three_characters(rt: HostRuntime) -> Result<(), Fail> {
+fn permissions_are_one_to_three_characters(rt: HostRuntime) {
+    let none = Perms::READ & Perms::WRITE;
+    let all = Perms::READ | Perms::WRITE | Perms::EXECUTE;
     for (text, wanted) in [
         ("r", Some(Perms::READ)),
         ("xr", Some(Perms::READ | Perms::EXECUTE)),
-        ("---", Some(Perms::READ & Perms::WRITE)),
-        ("-", Some(Perms::READ & Perms::WRITE)),
-        ("wxr", Some(Perms::READ | Perms::WRITE | Perms::EXECUTE)),
-        ("rwx", Some(Perms::READ | Perms::WRITE | Perms::EXECUTE)),
+        ("---", Some(none)),
+        ("-", Some(none)),
+        ("wxr", Some(all)),
+        ("rwx", Some(all)),
         ("", None),
         ("rr", None),
         ("rw-x", None),
@@ -120,5 +105,4 @@ fn permissions_are_one_to_three_characters(rt: HostRuntime) -> Result<(), Fail> 
     ] {
         assert_eq!(rt; read_perms(text.as_bytes()), wanted, "{text}");
     }
-    Ok(())
 }

@@ -4,7 +4,6 @@ use acl_examples::directory;
 use acl_names::Uid;
 use acl_posix::{Acl, Entries, Entry, Invalid, Perms, Tag, TextFault, read_entries};
 use std::alloc::Global;
-use std::test::Fail;
 
 /// Why the entries that the text spells are no list; `None` where they are one.
 fn fault(alloc: Global, text: &str) -> Option<Option<Invalid>> {
@@ -14,7 +13,7 @@ fn fault(alloc: Global, text: &str) -> Option<Option<Invalid>> {
 }
 
 #[test]
-fn lists_are_refused_for_the_first_fault(rt: HostRuntime) -> Result<(), Fail> {
+fn lists_are_refused_for_the_first_fault(rt: HostRuntime) {
     const ROWS: [(&str, Option<Invalid>); 11] = [
         ("", Some(Invalid::Missing)),
         ("u::rw,g::r", Some(Invalid::Missing)),
@@ -37,7 +36,6 @@ fn lists_are_refused_for_the_first_fault(rt: HostRuntime) -> Result<(), Fail> {
     for (text, wanted) in ROWS {
         assert_eq!(rt; fault(rt.alloc(), text), Some(wanted), "{text}");
     }
-    Ok(())
 }
 
 #[test]
@@ -45,24 +43,35 @@ fn entries_stand_in_canonical_order(rt: HostRuntime) {
     let text = "o::-,m::rwx,g:60:r,g:0:w,g::r,u:bob:w,u:7:r,u::rw";
     let wanted =
         "user::rw-\nuser:7:r--\nuser:bob:-w-\ngroup::r--\ngroup:root:-w-\ngroup:ops:r--\nmask::rwx\nother::---\n";
-    assert_eq!(rt; is_text(long_of(rt.alloc(), text), wanted), Some(true));
+    assert!(rt; is_text(long_of(rt.alloc(), text), wanted) == Some(true));
 }
 
-#[test]
-fn a_list_has_at_most_64_entries(rt: HostRuntime) -> Result<(), Fail> {
-    let mut entries = Entries::new(rt.alloc());
-    for number in 0..64 {
+/// So many entries, of one user each.
+fn entries_up_to(alloc: Global, count: u32) -> Option<Entries> {
+    let mut entries = Entries::new(alloc);
+    for number in 0..count {
         let entry = Entry {
-            tag: Tag::User(Uid::new(number).ok_or("uid")?),
+            tag: Tag::User(Uid::new(number)?),
             perms: Perms::READ,
         };
-        assert!(rt; entries.push(entry).is_ok());
+        entries.push(entry).ok()?;
     }
-    let more = Entry {
+    Some(entries)
+}
+
+/// Why a mask is refused behind so many entries, if it is, and how many there are then.
+fn mask_behind(alloc: Global, count: u32) -> Option<(Option<TextFault>, usize)> {
+    let mut entries = entries_up_to(alloc, count)?;
+    let mask = Entry {
         tag: Tag::Mask,
         perms: Perms::READ,
     };
-    assert!(rt; entries.push(more) == Err(TextFault::TooMany));
-    assert_eq!(rt; entries.as_slice().len(), 64);
-    Ok(())
+    let fault = entries.push(mask).err();
+    Some((fault, entries.as_slice().len()))
+}
+
+#[test]
+fn a_list_has_at_most_64_entries(rt: HostRuntime) {
+    let found = mask_behind(rt.alloc(), 64);
+    assert_eq!(rt; found, Some((Some(TextFault::TooMany), 64)));
 }
