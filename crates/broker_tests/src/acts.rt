@@ -1,6 +1,8 @@
 //! What is done with a broker, or with its halves, and what it comes to, as rows of the examples.
 use crate::fixture::{Follows, Halves, Last, open_broker, reply_to};
-use acl_broker::{Broker, CancelRefused, CloseRefused, SubmitRefusal, TakeRefused};
+use acl_broker::{
+    Broker, CancelRefused, CloseRefused, Refused, Step, StepResult, SubmitRefusal, TakeRefused,
+};
 use std::alloc::Global;
 use std::test::Fail;
 
@@ -30,6 +32,8 @@ pub(super) enum Act {
 #[derive(Clone, Copy)]
 pub(super) enum HalfAct {
     Submit(u16),
+    /// The item comes back.
+    Refused(u16),
     /// The items from the one up to the other are submitted.
     SubmitAll(u16, u16),
     Take(Result<usize, TakeRefused>),
@@ -42,6 +46,8 @@ pub(super) enum HalfAct {
     /// So many answers are delivered.
     DeliverAll(usize),
     Cancel(Result<(), CancelRefused>),
+    /// The end is this session's.
+    Session(u32),
     /// So many answers are owed to a session.
     Owed(u32, usize),
     /// So many items were taken.
@@ -106,7 +112,7 @@ fn comes_so(broker: &mut Broker<Last>, act: Act) -> bool {
 }
 
 /// The place of the first act that doesn't come to what it says, one after the other.
-fn wrong_of(broker: &mut Broker<Last>, acts: &[Act]) -> Option<usize> {
+pub(super) fn wrong_of(broker: &mut Broker<Last>, acts: &[Act]) -> Option<usize> {
     for (place, act) in acts.iter().enumerate() {
         if !comes_so(broker, *act) {
             return Some(place);
@@ -118,6 +124,66 @@ fn wrong_of(broker: &mut Broker<Last>, acts: &[Act]) -> Option<usize> {
 /// The same of this broker.
 pub(super) fn wrong_act(mut broker: Broker<Last>, acts: &[Act]) -> Option<usize> {
     wrong_of(&mut broker, acts)
+}
+
+fn step_of(act: Act) -> Option<Step<u16>> {
+    match act {
+        Act::Submit(session, item, _) => Some(Step::Submit(session, item)),
+        Act::Take(session, _) => Some(Step::Take(session)),
+        Act::Answer(session, _) => Some(Step::Answer(session)),
+        Act::Close(session, _) => Some(Step::Close(session)),
+        _ => None,
+    }
+}
+
+fn steps_of(alloc: Global, acts: &[Act]) -> Option<Vec<Step<u16>>> {
+    let mut steps = Vec::new(alloc);
+    for act in acts {
+        steps.push(step_of(*act)?).ok()?;
+    }
+    Some(steps)
+}
+
+fn is_refused(refused: &Refused<u16>, item: u16, why: SubmitRefusal) -> bool {
+    refused.item == item && refused.why == why
+}
+
+fn is_result(act: Act, step: &StepResult<u16, Follows>) -> bool {
+    match (act, step) {
+        (Act::Submit(_, _, None), StepResult::Submitted(Ok(()))) => true,
+        (Act::Submit(_, item, Some(why)), StepResult::Submitted(Err(refused))) => is_refused(
+            refused, item, why,
+        ),
+        (Act::Take(_, taken), StepResult::Taken(result)) => *result == taken,
+        (Act::Answer(_, answer), StepResult::Answered(result)) => *result == answer,
+        (Act::Close(_, closed), StepResult::ClosedNow(result)) => *result == closed,
+        _ => false,
+    }
+}
+
+/// The place of the first result that isn't what the act says; how many acts there are if they are more or fewer than the results.
+fn wrong_result(acts: &[Act], results: &[StepResult<u16, Follows>]) -> Option<usize> {
+    for (place, (act, step)) in acts.iter().zip(results).enumerate() {
+        if !is_result(*act, step) {
+            return Some(place);
+        }
+    }
+    if acts.len() == results.len() {
+        None
+    } else {
+        Some(acts.len())
+    }
+}
+
+/// The same where the acts are the steps of one run. The outer is none where memory is refused, or an act is no step.
+pub(super) fn wrong_step(
+    alloc: Global,
+    broker: &mut Broker<Last>,
+    acts: &[Act],
+) -> Option<Option<usize>> {
+    let steps = steps_of(alloc, acts)?;
+    let results = broker.run_steps(alloc, steps).ok()?;
+    Some(wrong_result(acts, results.as_slice()))
 }
 
 fn half_all_are_submitted(halves: &mut Halves, from: u16, upto: u16) -> bool {
@@ -166,6 +232,7 @@ fn is_newest(halves: &Halves, request: u16) -> bool {
 fn half_comes_so(halves: &mut Halves, act: HalfAct) -> bool {
     match act {
         HalfAct::Submit(item) => halves.submit(item) == Ok(()),
+        HalfAct::Refused(item) => halves.submit(item) == Err(item),
         HalfAct::SubmitAll(from, upto) => half_all_are_submitted(halves, from, upto),
         HalfAct::Take(taken) => halves.take() == taken,
         HalfAct::TakeAll(from, upto) => half_all_are_taken(halves, from, upto),
@@ -176,6 +243,7 @@ fn half_comes_so(halves: &mut Halves, act: HalfAct) -> bool {
         HalfAct::Deliver(session, delivered) => halves.deliver(session) == delivered,
         HalfAct::DeliverAll(count) => half_all_are_delivered(halves, count),
         HalfAct::Cancel(cancelled) => halves.cancel() == cancelled,
+        HalfAct::Session(session) => halves.end.session() == session,
         HalfAct::Owed(session, count) => halves.taker.owed(session) == count,
         HalfAct::Journal(len) => halves.taker.journal().len() == len,
         HalfAct::Newest(request) => is_newest(halves, request),
@@ -197,7 +265,7 @@ pub(super) fn wrong_half_act(mut halves: Halves, acts: &[HalfAct]) -> Option<usi
 }
 
 /// The halves of a new broker of one session, after these acts.
-fn halves_after(alloc: Global, acts: &[HalfAct]) -> Result<Halves, Fail> {
+pub(super) fn halves_after(alloc: Global, acts: &[HalfAct]) -> Result<Halves, Fail> {
     let mut halves = Halves::split(open_broker(alloc, 1)?)?;
     match wrong_of_halves(&mut halves, acts) {
         None => Ok(halves),

@@ -5,7 +5,7 @@ ghost use Rattle.acl_broker.specs.Takers as takers;
 ghost use Rattle.acl_broker.specs.declared.limits.TheConstants.{SESSIONS};
 ghost use Rattle.acl_broker.specs.declared.end.End.TheVariants.{Open};
 
-use acl_broker::{Broker, CancelRefused, End, Service, SessionEnd, StepResult, TakeRefused, Taker};
+use acl_broker::{Broker, CancelRefused, End, Service, SessionEnd, TakeRefused, Taker};
 use std::alloc::{AllocError, Global};
 use std::test::Fail;
 
@@ -53,14 +53,6 @@ impl Service for Last {
 /// The reply to a request, after the one before it.
 pub(super) fn reply_to(before: u16, request: u16) -> Option<Follows> {
     Some(Follows { before, request })
-}
-
-/// The answer that a step gave, from its result.
-pub(super) fn answer_of(step: &StepResult<u16, Follows>) -> Option<Follows> {
-    match step {
-        StepResult::Answered(answer) => *answer,
-        _ => None,
-    }
 }
 
 /// A broker to which nothing was submitted yet.

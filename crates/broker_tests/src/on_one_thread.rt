@@ -1,7 +1,7 @@
 //! Examples of a broker on one thread.
-use crate::acts::{Act, wrong_act};
-use crate::fixture::{HEAVY, answer_of, open_broker, reply_to};
-use acl_broker::{CancelRefused, CloseRefused, Step, StepResult, SubmitRefusal, TakeRefused};
+use crate::acts::{Act, wrong_act, wrong_of, wrong_step};
+use crate::fixture::{HEAVY, Last, open_broker, reply_to};
+use acl_broker::{Broker, CancelRefused, CloseRefused, SubmitRefusal, TakeRefused};
 use std::test::Fail;
 
 #[test]
@@ -27,44 +27,31 @@ fn limits_of_a_local_broker(rt: HostRuntime) -> Result<(), Fail> {
     Ok(())
 }
 
+/// Whether one item, 7, is all that was taken and applied.
+fn has_taken_seven(broker: Broker<Last>) -> bool {
+    let (journal, service) = broker.into_parts();
+    match journal.as_slice() {
+        [entry] => entry.session == 0 && entry.item == 7 && service.request == 7,
+        _ => false,
+    }
+}
+
 #[test]
 fn steps_of_a_local_broker(rt: HostRuntime) -> Result<(), Fail> {
+    let acts = [
+        Act::Submit(0, 7, None),
+        Act::Take(0, Ok(0)),
+        Act::Answer(0, reply_to(0, 7)),
+        Act::Close(0, Ok(())),
+        Act::Submit(0, 8, Some(SubmitRefusal::Closed)),
+        Act::Take(0, Err(TakeRefused::Empty)),
+        Act::Answer(1, None),
+    ];
+    let then = [Act::AllOpen(false), Act::Applied(7), Act::Journal(1)];
     let mut broker = open_broker(rt.alloc(), 1)?;
-    let steps = vec![in rt.alloc();
-        Step::Submit(0, 7),
-        Step::Take(0),
-        Step::Answer(0),
-        Step::Close(0),
-        Step::Submit(0, 8),
-        Step::Take(0),
-        Step::Answer(1),
-    ]?;
-    let Ok(results) = broker.run_steps(rt.alloc(), steps) else {
-        return Err("no room for the results".into());
-    };
-    assert_eq!(rt; results.len(), 7);
-    assert!(rt; matches!(&results[0], StepResult::Submitted(Ok(()))));
-    assert!(rt; matches!(&results[1], StepResult::Taken(Ok(0))));
-    assert_eq!(rt; answer_of(&results[2]), reply_to(0, 7));
-    assert!(rt; matches!(&results[3], StepResult::ClosedNow(Ok(()))));
-    match &results[4] {
-        StepResult::Submitted(Err(refused)) => {
-            assert_eq!(rt; refused.why, SubmitRefusal::Closed);
-            assert_eq!(rt; refused.item, 8);
-        }
-        _ => return Err("accepted after the close".into()),
-    }
-    assert!(rt; matches!(&results[5], StepResult::Taken(Err(TakeRefused::Empty))));
-    assert!(rt; matches!(&results[6], StepResult::Answered(None)));
-
-    assert!(rt; !broker.all_open());
-    assert_eq!(rt; broker.service().request, 7);
-    assert_eq!(rt; broker.journal().len(), 1);
-    let (journal, service) = broker.into_parts();
-    assert_eq!(rt; journal.len(), 1);
-    assert_eq!(rt; journal[0].session, 0);
-    assert_eq!(rt; journal[0].item, 7);
-    assert_eq!(rt; service.request, 7);
+    assert_eq!(rt; wrong_step(rt.alloc(), &mut broker, &acts), Some(None));
+    assert_eq!(rt; wrong_of(&mut broker, &then), None);
+    assert!(rt; has_taken_seven(broker));
     Ok(())
 }
 

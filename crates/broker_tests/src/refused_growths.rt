@@ -4,7 +4,7 @@
 //! `rt try --test --fail-alloc N` refuses the growth N of a test. Each test here passes whichever growth that is, and
 //! prints how many refusals it was told of: one up to the last growth that it asks for, and none from then on.
 use crate::fixture::{Follows, Halves, Last, reply_to};
-use acl_broker::{Broker, JournalEntry, Step, StepResult, TakeRefused};
+use acl_broker::{Broker, JournalEntry, Step, StepResult, TakeRefused, Taker};
 use acl_examples::Refusals;
 use std::alloc::Global;
 use std::test::Fail;
@@ -43,68 +43,125 @@ fn is_journal_of(journal: &[JournalEntry<u16>], taken: u16) -> bool {
             && entry.item == place + 1)
 }
 
+/// Whether the broker is open and stands before the item of a place.
+fn stands_before(broker: &Broker<Last>, place: u16) -> bool {
+    is_journal_of(broker.journal(), place)
+        && broker.service().request == item_before(place)
+        && broker.all_open()
+}
+
 #[test]
 fn open_under_a_refused_growth(rt: HostRuntime) -> Result<(), Fail> {
     let mut told = Refusals::new();
     let broker = open_again(rt.alloc(), &mut told)?;
-    assert!(rt; broker.all_open());
-    assert_eq!(rt; broker.service().request, OPENING);
-    assert!(rt; is_journal_of(broker.journal(), 0));
+    assert!(rt; stands_before(&broker, 0));
     println!(rt; "refusals: {}", told.told())?;
     Ok(())
+}
+
+/// Whether the item of a place is taken, at the second attempt if the first is refused, which changes nothing.
+fn takes(broker: &mut Broker<Last>, told: &mut Refusals, place: u16) -> bool {
+    let mut taken = broker.take(0);
+    if taken == Err(TakeRefused::Memory) {
+        told.one_more();
+        if !stands_before(broker, place) {
+            return false;
+        }
+        taken = broker.take(0);
+    }
+    taken == Ok(place as usize)
+}
+
+fn submits_all(broker: &mut Broker<Last>) -> bool {
+    for item in 1..ITEMS + 1 {
+        if broker.submit(0, item).is_err() {
+            return false;
+        }
+    }
+    true
+}
+
+fn takes_all(broker: &mut Broker<Last>, told: &mut Refusals) -> bool {
+    for place in 0..ITEMS {
+        if !takes(broker, told, place) {
+            return false;
+        }
+    }
+    is_journal_of(broker.journal(), ITEMS)
+}
+
+fn answers_all(broker: &mut Broker<Last>) -> bool {
+    for place in 0..ITEMS {
+        if broker.answer(0) != reply_to(item_before(place), place + 1) {
+            return false;
+        }
+    }
+    broker.answer(0).is_none()
 }
 
 #[test]
 fn take_under_a_refused_growth(rt: HostRuntime) -> Result<(), Fail> {
     let mut told = Refusals::new();
     let mut broker = open_again(rt.alloc(), &mut told)?;
-    for item in 1..ITEMS + 1 {
-        assert!(rt; broker.submit(0, item).is_ok());
-    }
-    for place in 0..ITEMS {
-        let mut taken = broker.take(0);
-        if taken == Err(TakeRefused::Memory) {
-            told.one_more();
-            assert!(rt; is_journal_of(broker.journal(), place));
-            assert_eq!(rt; broker.service().request, item_before(place));
-            assert!(rt; broker.all_open());
-            taken = broker.take(0);
-        }
-        assert_eq!(rt; taken, Ok(place as usize));
-    }
-    assert!(rt; is_journal_of(broker.journal(), ITEMS));
-    for place in 0..ITEMS {
-        assert_eq!(rt; broker.answer(0), reply_to(item_before(place), place + 1));
-    }
-    assert_eq!(rt; broker.answer(0), None);
+    assert!(rt; submits_all(&mut broker));
+    assert!(rt; takes_all(&mut broker, &mut told));
+    assert!(rt; answers_all(&mut broker));
     println!(rt; "refusals: {}", told.told())?;
     Ok(())
+}
+
+/// Whether so many items were taken, and their answers are owed.
+fn has_taken(taker: &Taker<Last>, count: u16) -> bool {
+    is_journal_of(taker.journal(), count) && taker.owed(0) == count as usize && !taker.ended(0)
+}
+
+/// The same as of a broker.
+fn half_takes(halves: &mut Halves, told: &mut Refusals, place: u16) -> bool {
+    let mut taken = halves.take();
+    if taken == Err(TakeRefused::Memory) {
+        told.one_more();
+        if !has_taken(&halves.taker, place) {
+            return false;
+        }
+        taken = halves.take();
+    }
+    taken == Ok(place as usize)
+}
+
+fn half_submits_all(halves: &mut Halves) -> bool {
+    for item in 1..ITEMS + 1 {
+        if halves.submit(item) != Ok(()) {
+            return false;
+        }
+    }
+    true
+}
+
+fn half_takes_all(halves: &mut Halves, told: &mut Refusals) -> bool {
+    for place in 0..ITEMS {
+        if !half_takes(halves, told, place) {
+            return false;
+        }
+    }
+    is_journal_of(halves.taker.journal(), ITEMS)
+}
+
+fn half_answers_all(halves: &mut Halves) -> bool {
+    for place in 0..ITEMS {
+        if !halves.deliver(0) || halves.poll() != reply_to(item_before(place), place + 1) {
+            return false;
+        }
+    }
+    halves.taker.owed(0) == 0
 }
 
 #[test]
 fn taker_under_a_refused_growth(rt: HostRuntime) -> Result<(), Fail> {
     let mut told = Refusals::new();
     let mut halves = Halves::split(open_again(rt.alloc(), &mut told)?)?;
-    for item in 1..ITEMS + 1 {
-        assert_eq!(rt; halves.submit(item), Ok(()));
-    }
-    for place in 0..ITEMS {
-        let mut taken = halves.take();
-        if taken == Err(TakeRefused::Memory) {
-            told.one_more();
-            assert!(rt; is_journal_of(halves.taker.journal(), place));
-            assert_eq!(rt; halves.taker.owed(0), place as usize);
-            assert!(rt; !halves.taker.ended(0));
-            taken = halves.take();
-        }
-        assert_eq!(rt; taken, Ok(place as usize));
-    }
-    assert!(rt; is_journal_of(halves.taker.journal(), ITEMS));
-    for place in 0..ITEMS {
-        assert!(rt; halves.deliver(0));
-        assert_eq!(rt; halves.poll(), reply_to(item_before(place), place + 1));
-    }
-    assert_eq!(rt; halves.taker.owed(0), 0);
+    assert!(rt; half_submits_all(&mut halves));
+    assert!(rt; half_takes_all(&mut halves, &mut told));
+    assert!(rt; half_answers_all(&mut halves));
     println!(rt; "refusals: {}", told.told())?;
     Ok(())
 }
@@ -165,26 +222,44 @@ fn are_by_the_table(results: &[StepResult<u16, Follows>], told: &mut Refusals) -
     true
 }
 
+/// The results of the steps, at the second attempt if the first is refused, which gives the steps back and changes nothing.
+fn run_again(
+    alloc: Global,
+    broker: &mut Broker<Last>,
+    steps: Vec<Step<u16>>,
+    told: &mut Refusals,
+) -> Option<Vec<StepResult<u16, Follows>>> {
+    let steps = match broker.run_steps(alloc, steps) {
+        Ok(results) => return Some(results),
+        Err(steps) => steps,
+    };
+    told.one_more();
+    if steps.len() != 3 * ITEMS as usize || !stands_before(broker, 0) {
+        return None;
+    }
+    broker.run_steps(alloc, steps).ok()
+}
+
+/// Whether the steps of all items give what the step table says.
+fn steps_go_so(
+    alloc: Global,
+    broker: &mut Broker<Last>,
+    told: &mut Refusals,
+) -> Result<bool, Fail> {
+    let steps = steps_of_all_items(alloc, told)?;
+    match run_again(alloc, broker, steps, told) {
+        Some(results) => Ok(
+            results.len() == 3 * ITEMS as usize && are_by_the_table(results.as_slice(), told),
+        ),
+        None => Ok(false),
+    }
+}
+
 #[test]
 fn run_steps_under_a_refused_growth(rt: HostRuntime) -> Result<(), Fail> {
     let mut told = Refusals::new();
     let mut broker = open_again(rt.alloc(), &mut told)?;
-    let steps = steps_of_all_items(rt.alloc(), &mut told)?;
-    let results = match broker.run_steps(rt.alloc(), steps) {
-        Ok(results) => results,
-        Err(steps) => {
-            told.one_more();
-            assert_eq!(rt; steps.len(), 3 * ITEMS as usize);
-            assert!(rt; is_journal_of(broker.journal(), 0));
-            assert_eq!(rt; broker.service().request, OPENING);
-            match broker.run_steps(rt.alloc(), steps) {
-                Ok(results) => results,
-                Err(_) => return Err("refused without cause".into()),
-            }
-        }
-    };
-    assert_eq!(rt; results.len(), 3 * ITEMS as usize);
-    assert!(rt; are_by_the_table(results.as_slice(), &mut told));
+    assert!(rt; steps_go_so(rt.alloc(), &mut broker, &mut told)?);
     println!(rt; "refusals: {}", told.told())?;
     Ok(())
 }

@@ -1,7 +1,11 @@
 //! Examples of a broker that is split, and rejoined.
-use crate::acts::{Act, HalfAct, rejoined_after, rejoined_closed_after, wrong_act, wrong_half_act};
-use crate::fixture::{HEAVY, Halves, answer_of, open_broker, reply_to};
-use acl_broker::{SLOTS, Step, StepResult, SubmitRefusal, TakeRefused};
+use crate::acts::{
+    Act, HalfAct, halves_after, rejoined_after, rejoined_closed_after, wrong_act, wrong_half_act,
+    wrong_step,
+};
+use crate::fixture::{Follows, HEAVY, Halves, open_broker, reply_to};
+use acl_broker::{SLOTS, SubmitRefusal, TakeRefused};
+use std::alloc::Global;
 use std::test::Fail;
 
 #[test]
@@ -23,65 +27,58 @@ fn cancelled_by_the_taker(rt: HostRuntime) -> Result<(), Fail> {
     Ok(())
 }
 
+/// Whether the session has ended once its end is closed, and not before.
+fn ends_by_close(halves: Halves) -> bool {
+    let Halves { end, mut taker } = halves;
+    let open = !taker.ended(0);
+    let Ok(mut closed) = end.close() else {
+        return false;
+    };
+    open && closed.session() == 0
+        && closed.poll().is_none()
+        && taker.take(0) == Err(TakeRefused::Empty)
+        && taker.ended(0)
+}
+
 #[test]
 fn split_and_rejoined(rt: HostRuntime) -> Result<(), Fail> {
-    let mut halves = Halves::split(open_broker(rt.alloc(), 1)?)?;
-    assert_eq!(rt; halves.end.session(), 0);
-    for item in 1..4_u16 {
-        assert_eq!(rt; halves.submit(item), Ok(()));
-    }
-    assert_eq!(rt; halves.take(), Ok(0));
-    let mut broker = halves.rejoin(rt.alloc())?;
-    let steps = vec![in rt.alloc();
-        Step::Take(0),
-        Step::Take(0),
-        Step::Take(0),
-        Step::Answer(0),
-        Step::Answer(0),
-        Step::Answer(0),
-        Step::Answer(0),
-    ]?;
-    let Ok(results) = broker.run_steps(rt.alloc(), steps) else {
-        return Err("no room for the results".into());
-    };
-    assert_eq!(rt; results.len(), 7);
-    assert!(rt; matches!(&results[0], StepResult::Taken(Ok(1))));
-    assert!(rt; matches!(&results[1], StepResult::Taken(Ok(2))));
-    assert!(rt; matches!(&results[2], StepResult::Taken(Err(TakeRefused::Empty))));
-    assert_eq!(rt; answer_of(&results[3]), reply_to(0, 1));
-    assert_eq!(rt; answer_of(&results[4]), reply_to(1, 2));
-    assert_eq!(rt; answer_of(&results[5]), reply_to(2, 3));
-    assert!(rt; matches!(&results[6], StepResult::Answered(None)));
-
-    let Halves { end, mut taker } = Halves::split(broker)?;
-    assert!(rt; !taker.ended(0));
-    let Ok(mut closed) = end.close() else {
-        return Err("no slot for the end mark".into());
-    };
-    assert_eq!(rt; closed.session(), 0);
-    assert_eq!(rt; closed.poll(), None);
-    assert_eq!(rt; taker.take(0), Err(TakeRefused::Empty));
-    assert!(rt; taker.ended(0));
+    let acts = [
+        HalfAct::Session(0),
+        HalfAct::SubmitAll(1, 4),
+        HalfAct::Take(Ok(0)),
+    ];
+    let then = [
+        Act::Take(0, Ok(1)),
+        Act::Take(0, Ok(2)),
+        Act::Take(0, Err(TakeRefused::Empty)),
+        Act::Answer(0, reply_to(0, 1)),
+        Act::Answer(0, reply_to(1, 2)),
+        Act::Answer(0, reply_to(2, 3)),
+        Act::Answer(0, None),
+    ];
+    let mut broker = rejoined_after(rt.alloc(), &acts)?;
+    assert_eq!(rt; wrong_step(rt.alloc(), &mut broker, &then), Some(None));
+    assert!(rt; ends_by_close(Halves::split(broker)?));
     Ok(())
+}
+
+/// Whether a full end closes once an item of it is taken, and not before.
+fn closes_after_a_take(halves: Halves) -> bool {
+    let Halves { end, mut taker } = halves;
+    let Err(end) = end.close() else {
+        return false;
+    };
+    let taken = taker.take(0);
+    let Ok(mut closed) = end.close() else {
+        return false;
+    };
+    taken == Ok(0) && taker.deliver(0) && closed.poll() == reply_to(0, 1) && closed.poll().is_none()
 }
 
 #[test]
 fn full_end(rt: HostRuntime) -> Result<(), Fail> {
-    let Halves { mut end, mut taker } = Halves::split(open_broker(rt.alloc(), 1)?)?;
-    for item in 1..257_u16 {
-        assert_eq!(rt; end.submit(item), Ok(()));
-    }
-    assert_eq!(rt; end.submit(500), Err(500));
-    let Err(end) = end.close() else {
-        return Err("a slot for the end mark".into());
-    };
-    assert_eq!(rt; taker.take(0), Ok(0));
-    let Ok(mut closed) = end.close() else {
-        return Err("no slot for the end mark".into());
-    };
-    assert!(rt; taker.deliver(0));
-    assert_eq!(rt; closed.poll(), reply_to(0, 1));
-    assert_eq!(rt; closed.poll(), None);
+    let acts = [HalfAct::SubmitAll(1, 257), HalfAct::Refused(500)];
+    assert!(rt; closes_after_a_take(halves_after(rt.alloc(), &acts)?));
     Ok(())
 }
 
@@ -123,26 +120,24 @@ fn outbox_beyond_the_ring(rt: HostRuntime) -> Result<(), Fail> {
     Ok(())
 }
 
+/// The halves again once the broker of them gave this answer.
+fn after_answer(alloc: Global, halves: Halves, answer: Option<Follows>) -> Result<Halves, Fail> {
+    let mut broker = halves.rejoin(alloc)?;
+    if broker.answer(0) != answer {
+        return Err("another answer".into());
+    }
+    Halves::split(broker)
+}
+
 /// Neither `rejoin` nor `split` delivers; a local answer delivers itself alone, and only where the ring is empty.
 #[test]
 fn outbox_stays_over_rejoin_and_split(rt: HostRuntime) -> Result<(), Fail> {
-    let mut halves = Halves::split(open_broker(rt.alloc(), 1)?)?;
-    for item in 1..4_u16 {
-        assert_eq!(rt; halves.submit(item), Ok(()));
-        assert_eq!(rt; halves.take(), Ok(item as usize - 1));
-    }
-    assert!(rt; halves.deliver(0));
-    let halves = Halves::split(halves.rejoin(rt.alloc())?)?;
+    let acts = [HalfAct::SubmitAndTakeAll(1, 4), HalfAct::Deliver(0, true)];
+    let halves = Halves::split(rejoined_after(rt.alloc(), &acts)?)?;
     assert_eq!(rt; halves.taker.owed(0), 2);
-
-    let mut broker = halves.rejoin(rt.alloc())?;
-    assert_eq!(rt; broker.answer(0), reply_to(0, 1));
-    let halves = Halves::split(broker)?;
+    let halves = after_answer(rt.alloc(), halves, reply_to(0, 1))?;
     assert_eq!(rt; halves.taker.owed(0), 2);
-
-    let mut broker = halves.rejoin(rt.alloc())?;
-    assert_eq!(rt; broker.answer(0), reply_to(1, 2));
-    let halves = Halves::split(broker)?;
+    let halves = after_answer(rt.alloc(), halves, reply_to(1, 2))?;
     assert_eq!(rt; halves.taker.owed(0), 1);
     Ok(())
 }
@@ -194,23 +189,25 @@ fn rejoined_with_a_closed_end(rt: HostRuntime) -> Result<(), Fail> {
     Ok(())
 }
 
+/// Whether the session has ended once its end is closed and four takes found nothing, and not before.
+fn ends_by_four_takes(halves: Halves) -> bool {
+    let Halves { end, mut taker } = halves;
+    let Ok(_closed) = end.close() else {
+        return false;
+    };
+    for _ in 0..3 {
+        if taker.take(0) != Err(TakeRefused::Empty) || taker.ended(0) {
+            return false;
+        }
+    }
+    taker.take(0) == Err(TakeRefused::Empty) && taker.ended(0)
+}
+
 /// A cancelled session ends too: its items are dropped one with each take, and then its end mark is seen.
 #[test]
 fn cancelled_session_ends(rt: HostRuntime) -> Result<(), Fail> {
-    let Halves { mut end, mut taker } = Halves::split(open_broker(rt.alloc(), 1)?)?;
-    for item in 1..4_u16 {
-        assert_eq!(rt; end.submit(item), Ok(()));
-    }
-    assert!(rt; taker.cancel(0).is_ok());
-    let Ok(_closed) = end.close() else {
-        return Err("no slot for the end mark".into());
-    };
-    for _ in 0..3 {
-        assert_eq!(rt; taker.take(0), Err(TakeRefused::Empty));
-        assert!(rt; !taker.ended(0));
-    }
-    assert_eq!(rt; taker.take(0), Err(TakeRefused::Empty));
-    assert!(rt; taker.ended(0));
+    let acts = [HalfAct::SubmitAll(1, 4), HalfAct::Cancel(Ok(()))];
+    assert!(rt; ends_by_four_takes(halves_after(rt.alloc(), &acts)?));
     Ok(())
 }
 

@@ -7,6 +7,224 @@ type Fields<'a> = [&'a str; 6];
 
 const ASKED: Fields<'static> = ["1000", "50", "1001", "50,60", "r", "u::rw,g::r,o::-"];
 
+/// Fields of an answer, and the answer.
+const ANSWERS: [(Fields<'static>, &str); 10] = [
+    (ASKED, "granted\n"),
+    // The group may only read.
+    (
+        ["1000", "50", "1001", "50,60", "w", "u::rw,g::r,o::-"],
+        "denied\n",
+    ),
+    (
+        ["1000", "50", "1000", "50", "rw", "u::rw,g::r,o::-"],
+        "granted\n",
+    ),
+    (
+        ["1000", "50", "1001", "60", "r", "u::rw,g::r,o::-"],
+        "denied\n",
+    ),
+    // No bit asked for.
+    (
+        ["1000", "50", "1001", "60", "-", "u::rw,g::r,o::-"],
+        "granted\n",
+    ),
+    // A group that matches and doesn't grant isn't followed by the others.
+    (
+        [
+            "1000",
+            "50",
+            "1001",
+            "60",
+            "r",
+            "u::rw,g::r,g:60:-,m::r,o::r",
+        ],
+        "denied\n",
+    ),
+    // The entries are in no order.
+    (
+        [
+            "1000",
+            "50",
+            "1001",
+            "60",
+            "r",
+            "o::-,m::r,u:1001:r,g::-,u::rw",
+        ],
+        "granted\n",
+    ),
+    // Blanks, lines and comments.
+    (
+        [
+            "1000",
+            "50",
+            "1001",
+            "60",
+            "r",
+            "user : : rw # all\ngroup::-\n\nother:r",
+        ],
+        "granted\n",
+    ),
+    (
+        [
+            "4294967294",
+            "0000000000",
+            "4294967294",
+            "0",
+            "x",
+            "u::x,g::-,o::-",
+        ],
+        "granted\n",
+    ),
+    // The most gids that there may be.
+    (
+        ["1000", "50", "1001", GIDS_32, "r", "u::rw,g::r,o::-"],
+        "granted\n",
+    ),
+];
+
+/// Permissions, TEXT, and the answer with the translation where the other fields are those above.
+const TRANSLATIONS: [(&str, &str, &str); 4] = [
+    (
+        "rw",
+        "u::-,g::r,g:60:w,m::rw,o::-",
+        "denied\nD::OWNER@:rwax\nA::GROUP@:r\nA:g:60:wa\nD::GROUP@:wax\nD:g:60:rx\n",
+    ),
+    // The same entries in another order.
+    (
+        "rw",
+        "o::-,g:60:w,m::rw,g::r,u::-",
+        "denied\nD::OWNER@:rwax\nA::GROUP@:r\nA:g:60:wa\nD::GROUP@:wax\nD:g:60:rx\n",
+    ),
+    // The users stand by their ids, and the mask takes from what they have.
+    (
+        "r",
+        "u::-,u:8:rw,u:7:x,g::r,m::rx,o::r",
+        "granted\nD::OWNER@:rwax\nA::7:x\nD::7:rwa\nA::8:r\nD::8:wax\nA::GROUP@:r\nD::GROUP@:wax\nA::EVERYONE@:r\n",
+    ),
+    (
+        "w",
+        "u::rwx,g::rwx,o::-",
+        "granted\nA::OWNER@:rwax\nA::GROUP@:rwax\n",
+    ),
+];
+
+const GIDS_32: &str =
+    "1,2,3,4,5,6,7,8,9,10,11,12,13,14,15,16,17,18,19,20,21,22,23,24,25,26,27,28,29,30,31,50";
+
+const GIDS_33: &str =
+    "1,2,3,4,5,6,7,8,9,10,11,12,13,14,15,16,17,18,19,20,21,22,23,24,25,26,27,28,29,30,31,32,x";
+
+const BAD_32ND: &str =
+    "1,2,3,4,5,6,7,8,9,10,11,12,13,14,15,16,17,18,19,20,21,22,23,24,25,26,27,28,29,30,31,x,33";
+
+/// The place of a field, what stands there instead, and what is said of it.
+const REFUSED: [(usize, &str, &str); 23] = [
+    (0, "x", "aclctl: bad-id\n"),
+    (0, "", "aclctl: bad-id\n"),
+    (0, "4294967295", "aclctl: bad-id\n"),
+    (0, "00000000001", "aclctl: bad-id\n"),
+    (1, "root", "aclctl: bad-id\n"),
+    (2, "+1", "aclctl: bad-id\n"),
+    (3, "50,", "aclctl: bad-id\n"),
+    (3, "", "aclctl: bad-id\n"),
+    (3, " 50", "aclctl: bad-id\n"),
+    (3, GIDS_33, "aclctl: too-many\n"),
+    (3, BAD_32ND, "aclctl: bad-id\n"),
+    (4, "q", "aclctl: bad-perms\n"),
+    (4, "rr", "aclctl: bad-perms\n"),
+    (4, "", "aclctl: bad-perms\n"),
+    (5, "u::rw,g::r,o::q", "aclctl: bad-acl\n"),
+    (5, "u::rw,,g::r,o::-", "aclctl: bad-acl\n"),
+    (5, "u::rw,g::r,o::-,u:bob:r", "aclctl: unknown-name\n"),
+    // The leftmost faulty piece is told.
+    (5, "u:bob:r,u::q", "aclctl: unknown-name\n"),
+    (5, "u::q,u:bob:r", "aclctl: bad-acl\n"),
+    (5, "u::rw,u:7:r,g::r,o::-", "aclctl: invalid-acl\n"),
+    (5, "u::rw,g::r", "aclctl: invalid-acl\n"),
+    (5, "u::rw,u::rw,g::r,o::-", "aclctl: invalid-acl\n"),
+    (5, "", "aclctl: invalid-acl\n"),
+];
+
+/// Each field from the back to the front is faulty too, so that the first of them is told.
+const FIRST_FAULTS: [(Fields<'static>, &str); 4] = [
+    (
+        ["1000", "50", "1001", "50,60", "r", "u::q"],
+        "aclctl: bad-acl\n",
+    ),
+    (
+        ["1000", "50", "1001", "50,60", "q", "u::q"],
+        "aclctl: bad-perms\n",
+    ),
+    (
+        ["1000", "50", "1001", GIDS_33, "q", "u::q"],
+        "aclctl: too-many\n",
+    ),
+    (
+        ["1000", "50", "x", GIDS_33, "q", "u::q"],
+        "aclctl: bad-id\n",
+    ),
+];
+
+/// Words that the parser refuses.
+const WRONG: [&[&str]; 7] = [
+    &["decide", "--owner"],
+    &["decide", "--help"],
+    &["decide"],
+    // There is no --perms.
+    &[
+        "decide",
+        "--owner",
+        "1000",
+        "--group",
+        "50",
+        "--uid",
+        "1001",
+        "u::rw,g::r,o::-",
+    ],
+    // A flag has no value of its own,
+    &[
+        "decide",
+        "--nfs4=true",
+        "--owner",
+        "1000",
+        "--group",
+        "50",
+        "--uid",
+        "1001",
+        "--perms",
+        "r",
+        "u::rw,g::r,o::-",
+    ],
+    // and stands once.
+    &[
+        "decide",
+        "--nfs4",
+        "--nfs4",
+        "--owner",
+        "1000",
+        "--group",
+        "50",
+        "--uid",
+        "1001",
+        "--perms",
+        "r",
+        "u::rw,g::r,o::-",
+    ],
+    // A value that begins with - follows a =.
+    &[
+        "decide",
+        "--owner",
+        "1000",
+        "--group",
+        "50",
+        "--uid",
+        "1001",
+        "--perms",
+        "-w-",
+        "u::rw,g::r,o::-",
+    ],
+];
+
 fn words_for<'a>(fields: &Fields<'a>) -> [&'a str; 12] {
     [
         "decide", "--owner", fields[0], "--group", fields[1], "--uid", fields[2], "--gids",
@@ -46,74 +264,7 @@ impl Write for Broken {
 
 #[test]
 fn granted_and_denied(rt: HostRuntime) {
-    for (fields, line) in [
-        (ASKED, "granted\n"),
-        // The group may only read.
-        (
-            ["1000", "50", "1001", "50,60", "w", "u::rw,g::r,o::-"],
-            "denied\n",
-        ),
-        (
-            ["1000", "50", "1000", "50", "rw", "u::rw,g::r,o::-"],
-            "granted\n",
-        ),
-        (
-            ["1000", "50", "1001", "60", "r", "u::rw,g::r,o::-"],
-            "denied\n",
-        ),
-        // No bit asked for.
-        (
-            ["1000", "50", "1001", "60", "-", "u::rw,g::r,o::-"],
-            "granted\n",
-        ),
-        // A group that matches and doesn't grant isn't followed by the others.
-        (
-            [
-                "1000",
-                "50",
-                "1001",
-                "60",
-                "r",
-                "u::rw,g::r,g:60:-,m::r,o::r",
-            ],
-            "denied\n",
-        ),
-        // The entries are in no order.
-        (
-            [
-                "1000",
-                "50",
-                "1001",
-                "60",
-                "r",
-                "o::-,m::r,u:1001:r,g::-,u::rw",
-            ],
-            "granted\n",
-        ),
-        // Blanks, lines and comments.
-        (
-            [
-                "1000",
-                "50",
-                "1001",
-                "60",
-                "r",
-                "user : : rw # all\ngroup::-\n\nother:r",
-            ],
-            "granted\n",
-        ),
-        (
-            [
-                "4294967294",
-                "0000000000",
-                "4294967294",
-                "0",
-                "x",
-                "u::x,g::-,o::-",
-            ],
-            "granted\n",
-        ),
-    ] {
+    for (fields, line) in ANSWERS {
         let words = words_for(&fields);
         assert!(rt; ends_with(rt.alloc(), &words, 0, line, ""), "at {fields:?}");
     }
@@ -134,91 +285,45 @@ fn without_gids(rt: HostRuntime) {
     assert!(rt; ends_with(rt.alloc(), &words, 0, "denied\n", ""));
 }
 
+/// Whether this is answered with the translation.
+fn translates(alloc: Global, perms: &str, list: &str, text: &str) -> bool {
+    let words = [
+        "decide", "--nfs4", "--owner", "1000", "--group", "50", "--uid", "1001", "--gids", "50,60",
+        "--perms", perms, list,
+    ];
+    ends_with(alloc, &words, 0, text, "")
+}
+
 #[test]
 fn with_the_translation(rt: HostRuntime) {
-    for (perms, list, text) in [
-        (
-            "rw",
-            "u::-,g::r,g:60:w,m::rw,o::-",
-            "denied\nD::OWNER@:rwax\nA::GROUP@:r\nA:g:60:wa\nD::GROUP@:wax\nD:g:60:rx\n",
-        ),
-        // The same entries in another order.
-        (
-            "rw",
-            "o::-,g:60:w,m::rw,g::r,u::-",
-            "denied\nD::OWNER@:rwax\nA::GROUP@:r\nA:g:60:wa\nD::GROUP@:wax\nD:g:60:rx\n",
-        ),
-        // The users stand by their ids, and the mask takes from what they have.
-        (
-            "r",
-            "u::-,u:8:rw,u:7:x,g::r,m::rx,o::r",
-            "granted\nD::OWNER@:rwax\nA::7:x\nD::7:rwa\nA::8:r\nD::8:wax\nA::GROUP@:r\nD::GROUP@:wax\nA::EVERYONE@:r\n",
-        ),
-        (
-            "w",
-            "u::rwx,g::rwx,o::-",
-            "granted\nA::OWNER@:rwax\nA::GROUP@:rwax\n",
-        ),
-    ] {
-        let words = [
-            "decide", "--nfs4", "--owner", "1000", "--group", "50", "--uid", "1001", "--gids",
-            "50,60", "--perms", perms, list,
-        ];
-        assert!(rt; ends_with(rt.alloc(), &words, 0, text, ""), "at {list:?}");
+    for (perms, list, text) in TRANSLATIONS {
+        assert!(rt; translates(rt.alloc(), perms, list, text), "at {list}");
     }
 }
 
-const GIDS_32: &str =
-    "1,2,3,4,5,6,7,8,9,10,11,12,13,14,15,16,17,18,19,20,21,22,23,24,25,26,27,28,29,30,31,50";
-
-const GIDS_33: &str =
-    "1,2,3,4,5,6,7,8,9,10,11,12,13,14,15,16,17,18,19,20,21,22,23,24,25,26,27,28,29,30,31,32,x";
-
-const BAD_32ND: &str =
-    "1,2,3,4,5,6,7,8,9,10,11,12,13,14,15,16,17,18,19,20,21,22,23,24,25,26,27,28,29,30,31,x,33";
+/// Whether the command refuses such a field in its place, and says this.
+fn refuses(alloc: Global, at: usize, field: &str, line: &str) -> bool {
+    let mut fields = ASKED;
+    let Some(place) = fields.get_mut(at) else {
+        return false;
+    };
+    *place = field;
+    ends_with(alloc, &words_for(&fields), 1, "", line)
+}
 
 #[test]
 fn refuses_fields(rt: HostRuntime) {
-    for (at, field, line) in [
-        (0, "x", "aclctl: bad-id\n"),
-        (0, "", "aclctl: bad-id\n"),
-        (0, "4294967295", "aclctl: bad-id\n"),
-        (0, "00000000001", "aclctl: bad-id\n"),
-        (1, "root", "aclctl: bad-id\n"),
-        (2, "+1", "aclctl: bad-id\n"),
-        (3, "50,", "aclctl: bad-id\n"),
-        (3, "", "aclctl: bad-id\n"),
-        (3, " 50", "aclctl: bad-id\n"),
-        (3, GIDS_33, "aclctl: too-many\n"),
-        (3, BAD_32ND, "aclctl: bad-id\n"),
-        (4, "q", "aclctl: bad-perms\n"),
-        (4, "rr", "aclctl: bad-perms\n"),
-        (4, "", "aclctl: bad-perms\n"),
-        (5, "u::rw,g::r,o::q", "aclctl: bad-acl\n"),
-        (5, "u::rw,,g::r,o::-", "aclctl: bad-acl\n"),
-        (5, "u::rw,g::r,o::-,u:bob:r", "aclctl: unknown-name\n"),
-        // The leftmost faulty piece is told.
-        (5, "u:bob:r,u::q", "aclctl: unknown-name\n"),
-        (5, "u::q,u:bob:r", "aclctl: bad-acl\n"),
-        (5, "u::rw,u:7:r,g::r,o::-", "aclctl: invalid-acl\n"),
-        (5, "u::rw,g::r", "aclctl: invalid-acl\n"),
-        (5, "u::rw,u::rw,g::r,o::-", "aclctl: invalid-acl\n"),
-        (5, "", "aclctl: invalid-acl\n"),
-    ] {
-        let mut fields = ASKED;
-        assert!(rt; at < 6);
-        fields[at] = field;
-        let words = words_for(&fields);
-        assert!(rt; ends_with(rt.alloc(), &words, 1, "", line), "at {field:?}");
+    for (at, field, line) in REFUSED {
+        assert!(rt; refuses(rt.alloc(), at, field, line), "at {at}: {field}");
     }
 }
 
 #[test]
-fn takes_32_gids(rt: HostRuntime) {
-    let mut fields = ASKED;
-    fields[3] = GIDS_32;
-    let words = words_for(&fields);
-    assert!(rt; ends_with(rt.alloc(), &words, 0, "granted\n", ""));
+fn first_faulty_field_is_told(rt: HostRuntime) {
+    for (fields, line) in FIRST_FAULTS {
+        let words = words_for(&fields);
+        assert!(rt; ends_with(rt.alloc(), &words, 1, "", line), "at {fields:?}");
+    }
 }
 
 /// The three entries that there must be, and then so many of `m::r`.
@@ -256,120 +361,38 @@ fn takes_64_entries(rt: HostRuntime) {
     }
 }
 
-/// Each field from the back to the front is made faulty in turn, so that the first of them is told.
 #[test]
-fn first_faulty_field_is_told(rt: HostRuntime) {
-    let mut fields = ASKED;
-    for (at, field, line) in [
-        (5, "u::q", "aclctl: bad-acl\n"),
-        (4, "q", "aclctl: bad-perms\n"),
-        (3, GIDS_33, "aclctl: too-many\n"),
-        (2, "x", "aclctl: bad-id\n"),
-    ] {
-        assert!(rt; at < 6);
-        fields[at] = field;
-        let words = words_for(&fields);
-        assert!(rt; ends_with(rt.alloc(), &words, 1, "", line), "at {field:?}");
+fn parser_refuses_words(rt: HostRuntime) {
+    for words in WRONG {
+        assert!(rt; is_wrong_usage(rt.alloc(), words), "at {words:?}");
     }
 }
 
-#[test]
-fn parser_refuses_words(rt: HostRuntime) {
-    for words in [
-        ["decide", "--owner"].as_slice(),
-        ["decide", "--help"].as_slice(),
-        ["decide"].as_slice(),
-        // There is no --perms.
-        [
-            "decide",
-            "--owner",
-            "1000",
-            "--group",
-            "50",
-            "--uid",
-            "1001",
-            "u::rw,g::r,o::-",
-        ]
-        .as_slice(),
-        // A flag has no value of its own,
-        [
-            "decide",
-            "--nfs4=true",
-            "--owner",
-            "1000",
-            "--group",
-            "50",
-            "--uid",
-            "1001",
-            "--perms",
-            "r",
-            "u::rw,g::r,o::-",
-        ]
-        .as_slice(),
-        // and stands once.
-        [
-            "decide",
-            "--nfs4",
-            "--nfs4",
-            "--owner",
-            "1000",
-            "--group",
-            "50",
-            "--uid",
-            "1001",
-            "--perms",
-            "r",
-            "u::rw,g::r,o::-",
-        ]
-        .as_slice(),
-        // A value that begins with - follows a =.
-        [
-            "decide",
-            "--owner",
-            "1000",
-            "--group",
-            "50",
-            "--uid",
-            "1001",
-            "--perms",
-            "-w-",
-            "u::rw,g::r,o::-",
-        ]
-        .as_slice(),
-    ] {
-        assert!(rt; is_wrong_usage(rt.alloc(), words), "at {words:?}");
-    }
+/// Whether the command ends with the status where the output fails, and says this.
+fn fails(alloc: Global, words: &[&str], status: u8, fault: &str) -> bool {
+    let mut err = Vec::new(alloc);
+    decide(alloc, words, &mut Broken, &mut err) == status && err.as_slice() == fault.as_bytes()
 }
 
 #[test]
 fn failed_writes(rt: HostRuntime) {
     let words = words_for(&ASKED);
-    let mut err = Vec::new(rt.alloc());
+    assert!(rt; fails(rt.alloc(), &words, 3, "aclctl: run: output\n"));
+    let translated = [
+        "decide",
+        "u::rw,g::r,o::-",
+        "--owner",
+        "1000",
+        "--group",
+        "50",
+        "--uid",
+        "1001",
+        "--perms",
+        "r",
+        "--nfs4",
+    ];
     assert_eq!(rt;
-        decide(rt.alloc(), words.as_slice(), &mut Broken, &mut err),
-        3
-    );
-    assert_eq!(rt; err.as_slice(), b"aclctl: run: output\n".as_slice());
-    assert_eq!(rt;
-        decide(
-            rt.alloc(),
-            [
-                "decide",
-                "u::rw,g::r,o::-",
-                "--owner",
-                "1000",
-                "--group",
-                "50",
-                "--uid",
-                "1001",
-                "--perms",
-                "r",
-                "--nfs4",
-            ]
-            .as_slice(),
-            &mut Broken,
-            &mut Broken
-        ),
+        decide(rt.alloc(), translated.as_slice(), &mut Broken, &mut Broken),
         3
     );
     // A fault while writing to the other writer changes no status.

@@ -1,6 +1,7 @@
+use crate::words::says;
 use acl_queries::{CapFault, read_capped};
+use std::alloc::Global;
 use std::io::{self, ErrorKind, Read};
-use std::test::Fail;
 
 /// Gives one byte, and then fails.
 #[derive(Drop)]
@@ -43,59 +44,72 @@ impl Read for Interrupted<'_> {
     }
 }
 
-#[test]
-fn reads_up_to_the_cap(rt: HostRuntime) -> Result<(), Fail> {
-    let three = read_capped(rt.alloc(), &mut b"abc".as_slice(), 3)?;
-    assert_eq!(rt; three.as_slice(), b"abc".as_slice());
-    let four = read_capped(rt.alloc(), &mut b"abcd".as_slice(), 3);
-    assert_eq!(rt; four.err(), Some(CapFault::TooLong));
-    let none = read_capped(rt.alloc(), &mut b"".as_slice(), 0)?;
-    assert!(rt; none.is_empty());
-    Ok(())
+/// Whether all is read up to the cap, and is this; or the fault.
+fn reads<R: Read>(
+    alloc: Global,
+    reader: &mut R,
+    cap: usize,
+    text: &[u8],
+) -> Result<bool, CapFault> {
+    let read = read_capped(alloc, reader, cap)?;
+    Ok(read.as_slice() == text)
 }
 
 #[test]
-fn reads_more_than_a_piece(rt: HostRuntime) -> Result<(), Fail> {
-    let text = vec![in rt.alloc(); b'x'; 10_000]?;
-    let read = read_capped(rt.alloc(), &mut text.as_slice(), 10_000)?;
-    assert!(rt; read.as_slice() == text.as_slice());
-    let capped = read_capped(rt.alloc(), &mut text.as_slice(), 9_999);
-    assert_eq!(rt; capped.err(), Some(CapFault::TooLong));
-    Ok(())
+fn reads_up_to_the_cap(rt: HostRuntime) {
+    let (three, four) = (b"abc".as_slice(), b"abcd".as_slice());
+    let mut reader = three;
+    assert_eq!(rt; reads(rt.alloc(), &mut reader, 3, three), Ok(true));
+    reader = four;
+    assert_eq!(rt;
+        reads(rt.alloc(), &mut reader, 3, four),
+        Err(CapFault::TooLong)
+    );
+    reader = b"".as_slice();
+    assert_eq!(rt; reads(rt.alloc(), &mut reader, 0, b"".as_slice()), Ok(true));
+}
+
+/// Whether so many bytes are read under the cap, or the fault; none where memory is refused before.
+fn reads_many(alloc: Global, count: usize, cap: usize) -> Option<Result<bool, CapFault>> {
+    let text = vec![in alloc; b'x'; count].ok()?;
+    let mut reader = text.as_slice();
+    Some(reads(alloc, &mut reader, cap, text.as_slice()))
 }
 
 #[test]
-fn interrupted_reads_are_made_again(rt: HostRuntime) -> Result<(), Fail> {
+fn reads_more_than_a_piece(rt: HostRuntime) {
+    assert_eq!(rt; reads_many(rt.alloc(), 10_000, 10_000), Some(Ok(true)));
+    let capped = reads_many(rt.alloc(), 10_000, 9_999);
+    assert_eq!(rt; capped, Some(Err(CapFault::TooLong)));
+}
+
+#[test]
+fn interrupted_reads_are_made_again(rt: HostRuntime) {
+    let bytes = b"abc".as_slice();
     let mut reader = Interrupted {
-        bytes: b"abc".as_slice(),
+        bytes,
         ready: false,
     };
-    let read = read_capped(rt.alloc(), &mut reader, 3)?;
-    assert_eq!(rt; read.as_slice(), b"abc".as_slice());
-    Ok(())
+    assert_eq!(rt; reads(rt.alloc(), &mut reader, 3, bytes), Ok(true));
 }
 
 #[test]
 fn failing_reader_is_a_read_fault(rt: HostRuntime) {
-    let outcome = read_capped(rt.alloc(), &mut FailsAfterOne { gave: false }, 10);
-    assert_eq!(rt; outcome.err(), Some(CapFault::Read));
+    let mut reader = FailsAfterOne { gave: false };
+    let outcome = reads(rt.alloc(), &mut reader, 10, b"a".as_slice());
+    assert_eq!(rt; outcome, Err(CapFault::Read));
 }
 
 #[test]
 fn endless_reader_is_too_long(rt: HostRuntime) {
-    let outcome = read_capped(rt.alloc(), &mut io::repeat(b'x'), 10);
-    assert_eq!(rt; outcome.err(), Some(CapFault::TooLong));
+    let outcome = reads(rt.alloc(), &mut io::repeat(b'x'), 10, b"".as_slice());
+    assert_eq!(rt; outcome, Err(CapFault::TooLong));
 }
 
 #[test]
-fn faults_say_what_they_are(rt: HostRuntime) -> Result<(), Fail> {
-    for (fault, words) in [
-        (CapFault::Read, "a read failed"),
-        (CapFault::TooLong, "too long"),
-        (CapFault::Memory, "memory"),
-    ] {
-        let shown = format!(in rt.alloc(); "{fault}")?;
-        assert_eq!(rt; shown.as_str(), words);
-    }
-    Ok(())
+fn faults_say_what_they_are(rt: HostRuntime) {
+    let alloc = rt.alloc();
+    assert_eq!(rt; says(alloc, &CapFault::Read, "a read failed"), Some(true));
+    assert_eq!(rt; says(alloc, &CapFault::TooLong, "too long"), Some(true));
+    assert_eq!(rt; says(alloc, &CapFault::Memory, "memory"), Some(true));
 }

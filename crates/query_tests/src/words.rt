@@ -1,30 +1,45 @@
 use acl_queries::{WordsFault, words_of};
-use std::test::Fail;
+use std::alloc::Global;
+use std::fmt::Display;
 
-#[test]
-fn words_are_lines(rt: HostRuntime) -> Result<(), Fail> {
-    let words = words_of(rt.alloc(), b"a\n\nb".as_slice())?;
-    assert_eq!(rt; words.len(), 3);
-    assert_eq!(rt; words[0].as_str(), "a");
-    assert_eq!(rt; words[1].as_str(), "");
-    assert_eq!(rt; words[2].as_str(), "b");
-    Ok(())
+/// Texts, each with its words.
+const TEXTS: [(&str, &[&str]); 7] = [
+    ("a\n\nb", &["a", "", "b"]),
+    ("", &[]),
+    ("\n", &[""]),
+    ("a", &["a"]),
+    ("a\n", &["a"]),
+    ("a\n\n", &["a", ""]),
+    ("a\r\n", &["a\r"]),
+];
+
+/// Whether the words are these.
+fn are(words: &[String], wanted: &[&str]) -> bool {
+    for (word, wanted) in words.iter().zip(wanted) {
+        if word.as_str() != *wanted {
+            return false;
+        }
+    }
+    words.len() == wanted.len()
+}
+
+/// Whether the text has these words; none where it is refused.
+fn has(alloc: Global, text: &str, wanted: &[&str]) -> Option<bool> {
+    let words = words_of(alloc, text.as_bytes()).ok()?;
+    Some(are(words.as_slice(), wanted))
+}
+
+/// Whether the fault says what it is in these words.
+pub fn says<F: Display>(alloc: Global, fault: &F, words: &str) -> Option<bool> {
+    let shown = format!(in alloc; "{fault}").ok()?;
+    Some(shown.as_str() == words)
 }
 
 #[test]
-fn ends_of_texts(rt: HostRuntime) -> Result<(), Fail> {
-    for (text, count) in [
-        ("", 0),
-        ("\n", 1),
-        ("a", 1),
-        ("a\n", 1),
-        ("a\n\n", 2),
-        ("a\r\n", 1),
-    ] {
-        let words = words_of(rt.alloc(), text.as_bytes())?;
-        assert_eq!(rt; words.len(), count, "in {text:?}");
+fn words_are_lines(rt: HostRuntime) {
+    for (text, words) in TEXTS {
+        assert_eq!(rt; has(rt.alloc(), text, words), Some(true), "in {text}");
     }
-    Ok(())
 }
 
 #[test]
@@ -34,13 +49,8 @@ fn bytes_that_are_no_text_are_refused(rt: HostRuntime) {
 }
 
 #[test]
-fn faults_say_what_they_are(rt: HostRuntime) -> Result<(), Fail> {
-    for (fault, words) in [
-        (WordsFault::BadWords, "bad words"),
-        (WordsFault::Memory, "memory"),
-    ] {
-        let shown = format!(in rt.alloc(); "{fault}")?;
-        assert_eq!(rt; shown.as_str(), words);
-    }
-    Ok(())
+fn faults_say_what_they_are(rt: HostRuntime) {
+    let alloc = rt.alloc();
+    assert_eq!(rt; says(alloc, &WordsFault::BadWords, "bad words"), Some(true));
+    assert_eq!(rt; says(alloc, &WordsFault::Memory, "memory"), Some(true));
 }

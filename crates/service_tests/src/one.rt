@@ -5,7 +5,28 @@ use acl_service::{OneFault, run_one};
 use acl_tree::{Path, Tree};
 use std::alloc::Global;
 use std::io::{self, Write};
-use std::test::Fail;
+
+const CREATE_AND_GET: &str = "create file /a alice 666\nget /a\n";
+
+const SHOWN: &str =
+    "1 ok\n2 get /a file alice staff 644 posix\nuser::rw-\ngroup::r--\nother::r--\n";
+
+/// Sessions: the name of each, its text, and what it prints.
+const SESSIONS: [(&str, &str, &str); 5] = [
+    ("create and get", CREATE_AND_GET, SHOWN),
+    ("empty text", "", ""),
+    ("blanks and comments", " \n# nothing\n\t\n", ""),
+    (
+        "mask and effective marks",
+        "create file /a alice 666\nset /a access u::rw,u:bob:rw,g::r,m::r,o::-\ncheck /a bob w\nget /a\n",
+        "1 ok\n2 ok\n3 denied\n4 get /a file alice staff 640 posix\nuser::rw-\nuser:bob:rw-\t#effective:r--\ngroup::r--\nmask::r--\nother::---\n",
+    ),
+    (
+        "faults and translations",
+        "create file /a alice 666\nset /a access u::-,g::r,g:ops:w,m::rw,o::-\n\ntranslate /a\nget /b\nmake /b",
+        "1 ok\n2 ok\n4 translated\nD::OWNER@:rwax\nA::GROUP@:r\nA:g:ops@example.org:wa\nD::GROUP@:wax\nD:g:ops@example.org:rx\n5 error 20 no-such-path\n6 error 1 syntax\n",
+    ),
+];
 
 /// Fails at each write.
 #[derive(Drop)]
@@ -35,42 +56,11 @@ fn prints(alloc: Global, text: &str, answers: &str) -> Option<bool> {
     Some(whole && lines.starts_with(answers.as_bytes()))
 }
 
-const CREATE_AND_GET: &str = "create file /a alice 666\nget /a\n";
-
-const SHOWN: &str =
-    "1 ok\n2 get /a file alice staff 644 posix\nuser::rw-\ngroup::r--\nother::r--\n";
-
 #[test]
-fn create_and_get(rt: HostRuntime) -> Result<(), Fail> {
-    assert_eq!(rt; prints(rt.alloc(), CREATE_AND_GET, SHOWN), Some(true));
-    Ok(())
-}
-
-#[test]
-fn empty_texts(rt: HostRuntime) -> Result<(), Fail> {
-    assert_eq!(rt; prints(rt.alloc(), "", ""), Some(true));
-    assert_eq!(rt; prints(rt.alloc(), " \n# nothing\n\t\n", ""), Some(true));
-    Ok(())
-}
-
-#[test]
-fn mask_and_effective_marks(rt: HostRuntime) -> Result<(), Fail> {
-    let text =
-        "create file /a alice 666\nset /a access u::rw,u:bob:rw,g::r,m::r,o::-\ncheck /a bob w\nget /a\n";
-    let answers =
-        "1 ok\n2 ok\n3 denied\n4 get /a file alice staff 640 posix\nuser::rw-\nuser:bob:rw-\t#effective:r--\ngroup::r--\nmask::r--\nother::---\n";
-    assert_eq!(rt; prints(rt.alloc(), text, answers), Some(true));
-    Ok(())
-}
-
-#[test]
-fn faults_and_translations(rt: HostRuntime) -> Result<(), Fail> {
-    let text =
-        "create file /a alice 666\nset /a access u::-,g::r,g:ops:w,m::rw,o::-\n\ntranslate /a\nget /b\nmake /b";
-    let answers =
-        "1 ok\n2 ok\n4 translated\nD::OWNER@:rwax\nA::GROUP@:r\nA:g:ops@example.org:wa\nD::GROUP@:wax\nD:g:ops@example.org:rx\n5 error 20 no-such-path\n6 error 1 syntax\n";
-    assert_eq!(rt; prints(rt.alloc(), text, answers), Some(true));
-    Ok(())
+fn sessions(rt: HostRuntime) {
+    for (name, text, answers) in SESSIONS {
+        assert_eq!(rt; prints(rt.alloc(), text, answers), Some(true), "{name}");
+    }
 }
 
 /// The tree once the session is done.
@@ -83,21 +73,26 @@ fn after(alloc: Global) -> Option<Tree> {
     run_one(alloc, &names, tree, text, &mut out).ok()
 }
 
-#[test]
-fn the_tree_is_given_back(rt: HostRuntime) -> Result<(), Fail> {
-    let path = Path::read(rt.alloc(), b"/a").ok().ok_or("a path")?;
-    let after = after(rt.alloc()).ok_or("a run")?;
-    assert_eq!(rt; after.len(), 2);
-    assert!(rt; after.node(&path).is_some());
-    Ok(())
+/// Whether it has the file /a, beside its root alone.
+fn has_a(alloc: Global) -> Option<bool> {
+    let path = Path::read(alloc, b"/a").ok()?;
+    let after = after(alloc)?;
+    Some(after.len() == 2 && after.node(&path).is_some())
 }
 
 #[test]
-fn a_writer_that_fails(rt: HostRuntime) -> Result<(), Fail> {
-    let names = directory(rt.alloc()).ok_or("names")?;
-    let tree = tree(rt.alloc()).ok_or("a tree")?;
-    let text = CREATE_AND_GET.as_bytes();
-    let fault = run_one(rt.alloc(), &names, tree, text, &mut Broken).err();
-    assert_eq!(rt; fault, Some(OneFault::Write));
-    Ok(())
+fn the_tree_is_given_back(rt: HostRuntime) {
+    assert_eq!(rt; has_a(rt.alloc()), Some(true));
+}
+
+/// The fault of a session whose writer fails.
+fn fault(alloc: Global) -> Option<OneFault> {
+    let names = directory(alloc)?;
+    let tree = tree(alloc)?;
+    run_one(alloc, &names, tree, CREATE_AND_GET.as_bytes(), &mut Broken).err()
+}
+
+#[test]
+fn a_writer_that_fails(rt: HostRuntime) {
+    assert_eq!(rt; fault(rt.alloc()), Some(OneFault::Write));
 }

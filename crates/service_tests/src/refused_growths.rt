@@ -6,12 +6,12 @@
 use crate::fixture::tree;
 use crate::setup::SETUP;
 use crate::texts::{are_short, has_output, serve_texts, serve_texts_in_rounds};
-use acl_examples::directory;
+use acl_examples::{Refusals, directory};
 use acl_names::Directory;
 use acl_service::{
     OneFault, OpenGate, Report, ServeFault, SetupError, read_setup, run_one, run_texts,
 };
-use std::alloc::{AllocError, Global};
+use std::alloc::Global;
 use std::sync::Wait;
 use std::test::Fail;
 use std::thread::Threads;
@@ -51,20 +51,26 @@ fn run(alloc: Global, names: &Directory) -> Ending {
     }
 }
 
+/// The directory of the examples, at the second attempt if the first is refused.
+fn names(alloc: Global, refusals: &mut Refusals) -> Option<Directory> {
+    refusals.again(|| directory(alloc))
+}
+
+/// How the session ended, at the second attempt if the first is refused, and how many refusals there were.
+fn run_again(alloc: Global) -> Option<(Ending, u32)> {
+    let mut refusals = Refusals::new();
+    let names = names(alloc, &mut refusals)?;
+    let mut ended = run(alloc, &names);
+    if ended == Ending::Memory {
+        refusals.one_more();
+        ended = run(alloc, &names);
+    }
+    Some((ended, refusals.told()))
+}
+
 #[test]
 fn run_one_under_a_refused_growth(rt: HostRuntime) -> Result<(), Fail> {
-    let mut refusals: u32 = 0;
-    let mut names = directory(rt.alloc());
-    if names.is_none() {
-        refusals = 1;
-        names = directory(rt.alloc());
-    }
-    let names = names.ok_or("refused without cause")?;
-    let mut ended = run(rt.alloc(), &names);
-    if ended == Ending::Memory {
-        refusals = refusals.saturating_add(1);
-        ended = run(rt.alloc(), &names);
-    }
+    let (ended, refusals) = run_again(rt.alloc()).ok_or("refused without cause")?;
     assert_eq!(rt; ended, Ending::Answered);
     println!(rt; "refusals: {refusals}")?;
     Ok(())
@@ -130,17 +136,26 @@ fn serve_under_a_refused_growth(rt: HostRuntime) -> Result<(), Fail> {
     Ok(())
 }
 
+/// How reading the examples' setup ended.
+fn open_setup(alloc: Global) -> Ending {
+    match read_setup(alloc, SETUP.as_bytes()) {
+        Ok((directory, tree)) if directory.domain() == "example.org" && tree.len() == 1 => {
+            Ending::Answered
+        }
+        Err(SetupError::Memory) => Ending::Memory,
+        _ => Ending::Other,
+    }
+}
+
 #[test]
 fn read_setup_under_a_refused_growth(rt: HostRuntime) -> Result<(), Fail> {
     let mut refusals = 0;
-    let mut opened = read_setup(rt.alloc(), SETUP.as_bytes());
-    if let Err(SetupError::Memory) = opened {
+    let mut ended = open_setup(rt.alloc());
+    if ended == Ending::Memory {
         refusals = 1;
-        opened = read_setup(rt.alloc(), SETUP.as_bytes());
+        ended = open_setup(rt.alloc());
     }
-    let (directory, tree) = opened.ok().ok_or("refused without cause")?;
-    assert_eq!(rt; directory.domain(), "example.org");
-    assert_eq!(rt; tree.len(), 1);
+    assert_eq!(rt; ended, Ending::Answered);
     println!(rt; "refusals: {refusals}")?;
     Ok(())
 }
@@ -181,26 +196,29 @@ fn print_journal<R: Threads + Wait + Clock + Sync>(
     }
 }
 
-fn one_text(alloc: Global) -> Result<Vec<Vec<u8>>, AllocError> {
+fn one_text(alloc: Global) -> Option<Vec<Vec<u8>>> {
     let mut texts = Vec::new(alloc);
-    texts.push(Vec::from_slice(alloc, b"get /\nx\n")?)?;
-    Ok(texts)
+    texts
+        .push(Vec::from_slice(alloc, b"get /\nx\n").ok()?)
+        .ok()?;
+    Some(texts)
+}
+
+/// How the run ended, at the second attempt if the first is refused, and how many refusals there were.
+fn print_again<R: Threads + Wait + Clock + Sync>(rt: &R, alloc: Global) -> Option<(Ending, u32)> {
+    let mut refusals = Refusals::new();
+    let texts = refusals.again(|| one_text(alloc))?;
+    let mut ended = print_journal(rt, alloc, texts.as_slice());
+    if ended == Ending::Memory {
+        refusals.one_more();
+        ended = print_journal(rt, alloc, texts.as_slice());
+    }
+    Some((ended, refusals.told()))
 }
 
 #[test]
 fn run_texts_under_a_refused_growth(rt: HostRuntime) -> Result<(), Fail> {
-    let mut refusals: u32 = 0;
-    let mut texts = one_text(rt.alloc());
-    if texts.is_err() {
-        refusals = 1;
-        texts = one_text(rt.alloc());
-    }
-    let texts = texts?;
-    let mut ended = print_journal(&rt, rt.alloc(), texts.as_slice());
-    if ended == Ending::Memory {
-        refusals = refusals.saturating_add(1);
-        ended = print_journal(&rt, rt.alloc(), texts.as_slice());
-    }
+    let (ended, refusals) = print_again(&rt, rt.alloc()).ok_or("refused without cause")?;
     assert_eq!(rt; ended, Ending::Answered);
     println!(rt; "refusals: {refusals}")?;
     Ok(())

@@ -17,27 +17,64 @@ const CHECKS: &str = "check / bob r\ncheck / bob r\ncheck / bob r\n";
 
 const GRANTED: &str = "1 granted\n2 granted\n3 granted\n";
 
-#[test]
-fn two_sessions_two_directories(rt: HostRuntime) {
-    let first =
-        "1 ok\n2 ok\n3 get /p/f file alice staff 600 posix\nuser::rw-\ngroup::---\nother::---\n";
-    let second =
-        "1 ok\n2 ok\n3 get /q/f file bob staff 600 posix\nuser::rw-\ngroup::---\nother::---\n";
-    let seen = [
-        Seen::Output(0, first),
-        Seen::Output(1, second),
-        Seen::Nodes(5),
-    ];
-    let served = serving(
-        &rt,
-        rt.alloc(),
-        &OpenGate,
-        tree(rt.alloc()),
+/// What is run over a tree of a root alone: a name, the texts, how many errors end a session, and what is seen.
+const RUNS: [(&str, &[&str], Option<u32>, &[Seen<'static>]); 4] = [
+    (
+        "two sessions, two directories",
         &TWO_DIRECTORIES,
         None,
-        &seen,
-    );
-    assert_eq!(rt; served, Some(Ok(true)));
+        &[
+            Seen::Output(
+                0,
+                "1 ok\n2 ok\n3 get /p/f file alice staff 600 posix\nuser::rw-\ngroup::---\nother::---\n",
+            ),
+            Seen::Output(
+                1,
+                "1 ok\n2 ok\n3 get /q/f file bob staff 600 posix\nuser::rw-\ngroup::---\nother::---\n",
+            ),
+            Seen::Nodes(5),
+        ],
+    ),
+    (
+        "the second error ends the session",
+        &["get /x\nget /\nnope\nget /\n"],
+        Some(2),
+        &[
+            Seen::Output(
+                0,
+                "1 error 20 no-such-path\n2 get / dir root root 755 posix\nuser::rwx\ngroup::r-x\nother::r-x\n3 error 1 syntax\n",
+            ),
+            Seen::Journal(&[(0, 1), (0, 2), (0, 3)]),
+        ],
+    ),
+    (
+        "journal of one session",
+        &["create file /a alice 666\nget /a\n"],
+        None,
+        &[Seen::Journal(&[(0, 1), (0, 2)])],
+    ),
+    // `denied` is no error, and a session with fewer errors than are allowed goes to its end.
+    (
+        "an error limit that one session reaches",
+        &[
+            "x\nget /\nx\nx\n",
+            "check / bob w\ncheck / bob w\nx\ncheck / bob r\n",
+        ],
+        Some(2),
+        &[
+            Seen::EntriesOf(0, 3),
+            Seen::Output(1, "1 denied\n2 denied\n3 error 1 syntax\n4 granted\n"),
+        ],
+    ),
+];
+
+#[test]
+fn runs(rt: HostRuntime) {
+    for (name, texts, max_errors, seen) in RUNS {
+        let tree = tree(rt.alloc());
+        let served = serving(&rt, rt.alloc(), &OpenGate, tree, texts, max_errors, seen);
+        assert_eq!(rt; served, Some(Ok(true)), "{name}");
+    }
 }
 
 /// The examples' tree with the file /a of alice's.
@@ -125,66 +162,6 @@ fn a_gate_that_shuts_at_the_second_request(rt: HostRuntime) {
         &[],
     );
     assert_eq!(rt; served, Some(Err(ServeFault::GateStopped)));
-}
-
-#[test]
-fn the_second_error_ends_the_session(rt: HostRuntime) {
-    let texts = ["get /x\nget /\nnope\nget /\n"];
-    let answers =
-        "1 error 20 no-such-path\n2 get / dir root root 755 posix\nuser::rwx\ngroup::r-x\nother::r-x\n3 error 1 syntax\n";
-    let seen = [
-        Seen::Output(0, answers),
-        Seen::Journal(&[(0, 1), (0, 2), (0, 3)]),
-    ];
-    let served = serving(
-        &rt,
-        rt.alloc(),
-        &OpenGate,
-        tree(rt.alloc()),
-        &texts,
-        Some(2),
-        &seen,
-    );
-    assert_eq!(rt; served, Some(Ok(true)));
-}
-
-#[test]
-fn journal_of_one_session(rt: HostRuntime) {
-    let texts = ["create file /a alice 666\nget /a\n"];
-    let seen = [Seen::Journal(&[(0, 1), (0, 2)])];
-    let served = serving(
-        &rt,
-        rt.alloc(),
-        &OpenGate,
-        tree(rt.alloc()),
-        &texts,
-        None,
-        &seen,
-    );
-    assert_eq!(rt; served, Some(Ok(true)));
-}
-
-/// `denied` is no error, and a session with fewer errors than are allowed goes to its end.
-#[test]
-fn an_error_limit_that_one_session_reaches(rt: HostRuntime) {
-    let texts = [
-        "x\nget /\nx\nx\n",
-        "check / bob w\ncheck / bob w\nx\ncheck / bob r\n",
-    ];
-    let seen = [
-        Seen::EntriesOf(0, 3),
-        Seen::Output(1, "1 denied\n2 denied\n3 error 1 syntax\n4 granted\n"),
-    ];
-    let served = serving(
-        &rt,
-        rt.alloc(),
-        &OpenGate,
-        tree(rt.alloc()),
-        &texts,
-        Some(2),
-        &seen,
-    );
-    assert_eq!(rt; served, Some(Ok(true)));
 }
 
 /// So many times the line.

@@ -2,7 +2,6 @@ use acl_names::{Directory, Gid, Requester, SetupFault, Uid};
 use acl_service::{SetupError, read_setup};
 use acl_tree::{Path, Tree};
 use std::alloc::Global;
-use std::test::Fail;
 
 /// The examples' setup.
 pub const SETUP: &str =
@@ -12,150 +11,201 @@ pub const SETUP: &str =
 const ROOT: &str =
     "[root]\nowner = \"a\"\ngroup = \"g\"\nmode = \"755\"\nstyle = \"nfs4\"\n[[user]]\nname = \"a\"\nuid = 4294967294\ngroups = []\n[[group]]\nname = \"g\"\ngid = 0\n";
 
-/// What is said of a setup of these parts, one behind the other.
+const HEAD: &str = "domain = \"a\"\numask = \"022\"\n";
+
+/// Users that have no place in that setup: one with an id that is there already, and one with a number that is no id.
+const TWICE: &str = "[[user]]\nname = \"b\"\nuid = 4294967294\ngroups = []\n";
+
+const WRONG: &str = "[[user]]\nname = \"b\"\nuid = 4294967295\ngroups = []\n";
+
+/// Setups: the name of each, its parts, one behind the other, and what is said of it.
+const SETUPS: [(&str, &[&str], Option<SetupError>); 18] = [
+    ("the least", &[HEAD, ROOT], None),
+    // Users and groups that are no directory.
+    (
+        "repeated id",
+        &[
+            SETUP,
+            "[[user]]\nname = \"dave\"\nuid = 1000\ngroups = []\n",
+        ],
+        Some(SetupError::Parts(SetupFault::RepeatedId)),
+    ),
+    (
+        "unknown group",
+        &[
+            SETUP,
+            "[[user]]\nname = \"dave\"\nuid = 7\ngroups = [\"wheel\"]\n",
+        ],
+        Some(SetupError::Parts(SetupFault::UnknownGroup)),
+    ),
+    (
+        "repeated name",
+        &[
+            SETUP,
+            "[[user]]\nname = \"bob\"\nuid = 1000\ngroups = [\"wheel\"]\n",
+        ],
+        Some(SetupError::Parts(SetupFault::RepeatedName)),
+    ),
+    (
+        "bad name",
+        &[SETUP, "[[group]]\nname = \"7\"\ngid = 70\n"],
+        Some(SetupError::Parts(SetupFault::BadName)),
+    ),
+    // A field is faulty before an id is there twice, and nothing is before the bytes are a document.
+    (
+        "an id twice",
+        &[HEAD, ROOT, TWICE],
+        Some(SetupError::Parts(SetupFault::RepeatedId)),
+    ),
+    (
+        "a wrong id too",
+        &[HEAD, ROOT, TWICE, WRONG],
+        Some(SetupError::BadField),
+    ),
+    (
+        "an open table too",
+        &[HEAD, ROOT, TWICE, WRONG, "[["],
+        Some(SetupError::NotToml),
+    ),
+    (
+        "a comment alone",
+        &["# \u{ff}\n"],
+        Some(SetupError::BadField),
+    ),
+    // Fields that are none.
+    (
+        "no domain",
+        &["umask = \"022\"\n", ROOT],
+        Some(SetupError::BadField),
+    ),
+    (
+        "no umask",
+        &["domain = \"a\"\n", ROOT],
+        Some(SetupError::BadField),
+    ),
+    (
+        "a number as a domain",
+        &["domain = 7\numask = \"022\"\n", ROOT],
+        Some(SetupError::BadField),
+    ),
+    (
+        "a number as a umask",
+        &["domain = \"a\"\numask = 22\n", ROOT],
+        Some(SetupError::BadField),
+    ),
+    (
+        "a umask of four digits",
+        &["domain = \"a\"\numask = \"0022\"\n", ROOT],
+        Some(SetupError::BadField),
+    ),
+    (
+        "a umask of two digits",
+        &["domain = \"a\"\numask = \"22\"\n", ROOT],
+        Some(SetupError::BadField),
+    ),
+    (
+        "a digit 8 in a umask",
+        &["domain = \"a\"\numask = \"028\"\n", ROOT],
+        Some(SetupError::BadField),
+    ),
+    (
+        "a group above the root",
+        &[HEAD, "group = \"g\"\n[root]\n"],
+        Some(SetupError::BadField),
+    ),
+    // Neither users nor groups have to be there, but then nobody has the root.
+    (
+        "nobody",
+        &[
+            HEAD,
+            "[root]\nowner = \"a\"\ngroup = \"g\"\nmode = \"755\"\nstyle = \"posix\"\n",
+        ],
+        Some(SetupError::BadField),
+    ),
+];
+
+const WORDS: [(SetupError, &str); 7] = [
+    (SetupError::NotToml, "not toml"),
+    (SetupError::BadField, "bad field"),
+    (SetupError::Parts(SetupFault::BadName), "bad name"),
+    (SetupError::Parts(SetupFault::RepeatedName), "repeated name"),
+    (SetupError::Parts(SetupFault::RepeatedId), "repeated id"),
+    (SetupError::Parts(SetupFault::UnknownGroup), "unknown group"),
+    (SetupError::Parts(SetupFault::TooMany), "too many"),
+];
+
+/// What is said of a setup of these parts.
 fn refusal(alloc: Global, parts: &[&str]) -> Option<Option<SetupError>> {
     let mut text = Vec::new(alloc);
     for part in parts {
         text.extend_from_slice(part.as_bytes()).ok()?;
     }
-    Some(read_setup(alloc, text.as_slice()).err())
+    Some(said(alloc, text.as_slice()))
 }
 
-fn opened(alloc: Global, text: &str) -> Option<(Directory, Tree)> {
-    read_setup(alloc, text.as_bytes()).ok()
+fn said(alloc: Global, bytes: &[u8]) -> Option<SetupError> {
+    read_setup(alloc, bytes).err()
 }
 
-#[test]
-fn the_setup_of_the_examples_is_accepted(rt: HostRuntime) -> Result<(), Fail> {
-    let (directory, tree) = opened(rt.alloc(), SETUP).ok_or("a setup")?;
-    assert_eq!(rt; directory.domain(), "example.org");
-    assert_eq!(rt; tree.len(), 1);
-    Ok(())
+fn opened(alloc: Global) -> Option<(Directory, Tree)> {
+    read_setup(alloc, SETUP.as_bytes()).ok()
+}
+
+/// Whether the examples' setup gives their domain, and a tree of a root alone.
+fn is_examples(alloc: Global) -> Option<bool> {
+    let (directory, tree) = opened(alloc)?;
+    Some(directory.domain() == "example.org" && tree.len() == 1)
 }
 
 /// Bob, as one who asks.
 fn bob(alloc: Global) -> Option<Requester> {
-    let (directory, _) = opened(alloc, SETUP)?;
+    let (directory, _) = opened(alloc)?;
     directory.requester(alloc, Uid::new(1001)?).ok()
 }
 
-#[test]
-fn the_users_of_the_examples_are_in_their_groups(rt: HostRuntime) -> Result<(), Fail> {
-    let staff = Gid::new(50).ok_or("an id")?;
-    let ops = Gid::new(60).ok_or("an id")?;
-    let bob = bob(rt.alloc()).ok_or("a requester")?;
-    assert_eq!(rt; bob.gids(), [staff, ops].as_slice());
-    Ok(())
+/// Whether bob is in these groups.
+fn bob_is_in(alloc: Global, first: u32, second: u32) -> Option<bool> {
+    let groups = [Gid::new(first)?, Gid::new(second)?];
+    let bob = bob(alloc)?;
+    Some(bob.gids() == groups.as_slice())
 }
 
 /// Who owns the root of the examples' setup.
-fn root_owners(alloc: Global) -> Option<(Uid, Gid)> {
-    let (_, tree) = opened(alloc, SETUP)?;
+fn root_owners(alloc: Global) -> Option<(u32, u32)> {
+    let (_, tree) = opened(alloc)?;
     let path = Path::read(alloc, b"/").ok()?;
     let root = tree.node(&path)?;
-    Some((root.owner, root.group))
+    Some((root.owner.value(), root.group.value()))
 }
 
 #[test]
-fn the_root_of_the_examples_is_roots(rt: HostRuntime) -> Result<(), Fail> {
-    let uid = Uid::new(0).ok_or("an id")?;
-    let gid = Gid::new(0).ok_or("an id")?;
-    assert_eq!(rt; root_owners(rt.alloc()), Some((uid, gid)));
-    Ok(())
+fn the_setup_of_the_examples(rt: HostRuntime) {
+    assert_eq!(rt; is_examples(rt.alloc()), Some(true));
+    assert_eq!(rt; bob_is_in(rt.alloc(), 50, 60), Some(true));
+    assert_eq!(rt; root_owners(rt.alloc()), Some((0, 0)));
 }
 
 #[test]
-fn users_and_groups_that_are_no_directory(rt: HostRuntime) -> Result<(), Fail> {
-    for (more, fault) in [
-        (
-            "[[user]]\nname = \"dave\"\nuid = 1000\ngroups = []\n",
-            SetupFault::RepeatedId,
-        ),
-        (
-            "[[user]]\nname = \"dave\"\nuid = 7\ngroups = [\"wheel\"]\n",
-            SetupFault::UnknownGroup,
-        ),
-        (
-            "[[user]]\nname = \"bob\"\nuid = 1000\ngroups = [\"wheel\"]\n",
-            SetupFault::RepeatedName,
-        ),
-        ("[[group]]\nname = \"7\"\ngid = 70\n", SetupFault::BadName),
-    ] {
-        let said = refusal(rt.alloc(), [SETUP, more].as_slice());
-        assert_eq!(rt; said, Some(Some(SetupError::Parts(fault))), "with {more}");
+fn setups(rt: HostRuntime) {
+    for (name, parts, wanted) in SETUPS {
+        assert_eq!(rt; refusal(rt.alloc(), parts), Some(wanted), "{name}");
     }
-    Ok(())
 }
 
 #[test]
-fn faults_come_in_their_order(rt: HostRuntime) -> Result<(), Fail> {
-    let head = "domain = \"a\"\numask = \"022\"\n";
-    assert_eq!(rt; refusal(rt.alloc(), [head, ROOT].as_slice()), Some(None));
-    // A field is faulty before an id is there twice, and nothing is before the bytes are a document.
-    let twice = "[[user]]\nname = \"b\"\nuid = 4294967294\ngroups = []\n";
-    let wrong = "[[user]]\nname = \"b\"\nuid = 4294967295\ngroups = []\n";
-    for (parts, wanted) in [
-        (
-            [head, ROOT, twice, "", ""],
-            SetupError::Parts(SetupFault::RepeatedId),
-        ),
-        ([head, ROOT, twice, wrong, ""], SetupError::BadField),
-        ([head, ROOT, twice, wrong, "[["], SetupError::NotToml),
-        (["# \u{ff}\n", "", "", "", ""], SetupError::BadField),
-    ] {
-        let said = refusal(rt.alloc(), parts.as_slice());
-        assert_eq!(rt; said, Some(Some(wanted)));
-    }
-    assert_eq!(rt;
-        read_setup(rt.alloc(), b"# \xff\n").err(),
-        Some(SetupError::NotToml)
-    );
-    Ok(())
+fn bytes_that_are_no_text(rt: HostRuntime) {
+    assert_eq!(rt; said(rt.alloc(), b"# \xff\n"), Some(SetupError::NotToml));
+}
+
+/// Whether the fault is told in these words.
+fn is_told(alloc: Global, error: SetupError, words: &str) -> Option<bool> {
+    let told = format!(in alloc; "{error}").ok()?;
+    Some(told.as_str() == words)
 }
 
 #[test]
-fn fields_that_are_none(rt: HostRuntime) -> Result<(), Fail> {
-    for head in [
-        "umask = \"022\"\n",
-        "domain = \"a\"\n",
-        "domain = 7\numask = \"022\"\n",
-        "domain = \"a\"\numask = 22\n",
-        "domain = \"a\"\numask = \"0022\"\n",
-        "domain = \"a\"\numask = \"22\"\n",
-        "domain = \"a\"\numask = \"028\"\n",
-    ] {
-        let said = refusal(rt.alloc(), [head, ROOT].as_slice());
-        assert_eq!(rt; said, Some(Some(SetupError::BadField)), "with {head}");
+fn words_of_faults(rt: HostRuntime) {
+    for (error, words) in WORDS {
+        assert_eq!(rt; is_told(rt.alloc(), error, words), Some(true), "{words}");
     }
-    let group = "group = \"g\"\n[root]\n";
-    let said = refusal(
-        rt.alloc(),
-        ["domain = \"a\"\numask = \"022\"\n", group].as_slice(),
-    );
-    assert_eq!(rt; said, Some(Some(SetupError::BadField)));
-    // Neither users nor groups have to be there, but then nobody has the root.
-    let root =
-        "domain = \"a\"\numask = \"022\"\n[root]\nowner = \"a\"\ngroup = \"g\"\nmode = \"755\"\nstyle = \"posix\"\n";
-    assert_eq!(rt;
-        refusal(rt.alloc(), [root].as_slice()),
-        Some(Some(SetupError::BadField))
-    );
-    Ok(())
-}
-
-#[test]
-fn words_of_faults(rt: HostRuntime) -> Result<(), Fail> {
-    for (error, words) in [
-        (SetupError::NotToml, "not toml"),
-        (SetupError::BadField, "bad field"),
-        (SetupError::Parts(SetupFault::BadName), "bad name"),
-        (SetupError::Parts(SetupFault::RepeatedName), "repeated name"),
-        (SetupError::Parts(SetupFault::RepeatedId), "repeated id"),
-        (SetupError::Parts(SetupFault::UnknownGroup), "unknown group"),
-        (SetupError::Parts(SetupFault::TooMany), "too many"),
-    ] {
-        let said = format!(in rt.alloc(); "{error}")?;
-        assert_eq!(rt; said.as_str(), words);
-    }
-    Ok(())
 }

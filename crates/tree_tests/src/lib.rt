@@ -7,4 +7,6 @@
 #[cfg(test)]
 mod lang;
 #[cfg(test)]
+mod lists;
+#[cfg(test)]
 mod tree;

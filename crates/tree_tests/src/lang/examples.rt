@@ -6,6 +6,67 @@ use acl_posix::Mode;
 use acl_tree::{Style, Tree};
 use std::alloc::Global;
 
+/// Sessions: the name of each, its text, and what it prints.
+const SESSIONS: [(&str, &str, &str); 13] = [
+    (
+        "create and get",
+        "create file /a alice 666\nget /a\n",
+        "1 ok\n2 get /a file alice staff 644 posix\nuser::rw-\ngroup::r--\nother::r--\n",
+    ),
+    (
+        "mask and effective marks",
+        "create file /a alice 666\nset /a access u::rw,u:bob:rw,g::r,m::r,o::-\ncheck /a bob w\nget /a\nchmod /a 600\nget /a",
+        "1 ok\n2 ok\n3 denied\n4 get /a file alice staff 640 posix\nuser::rw-\nuser:bob:rw-\t#effective:r--\ngroup::r--\nmask::r--\nother::---\n5 ok\n6 get /a file alice staff 600 posix\nuser::rw-\nuser:bob:rw-\t#effective:---\ngroup::r--\t#effective:---\nmask::---\nother::---\n",
+    ),
+    (
+        "refused lists",
+        "create file /a alice 666\nset /a access u::rw,u:bob:r,g::r,o::-\nset /a access u::rw,u:bob:r,u:1001:w,g::r,m::r,o::-\nget /a\n",
+        "1 ok\n2 error 7 invalid-acl\n3 error 7 invalid-acl\n4 get /a file alice staff 644 posix\nuser::rw-\ngroup::r--\nother::r--\n",
+    ),
+    (
+        "groups do not add up",
+        "create file /a alice 666\nset /a access u::-,g::r,g:ops:w,m::rw,o::-\ncheck /a bob r\ncheck /a bob w\ncheck /a bob rw\ntranslate /a\nset /a nfs4 D::OWNER@:rwax,A::GROUP@:r,A:g:ops@example.org:wa,D::GROUP@:wax,D:g:ops@example.org:rx\ncheck /a bob rw\n",
+        "1 ok\n2 ok\n3 granted\n4 granted\n5 denied\n6 translated\nD::OWNER@:rwax\nA::GROUP@:r\nA:g:ops@example.org:wa\nD::GROUP@:wax\nD:g:ops@example.org:rx\n7 ok\n8 granted\n",
+    ),
+    (
+        "default acl at creation",
+        "create dir /d alice 755\nset /d default u::rwx,u:bob:rwx,g::r-x,m::rwx,o::-\ncreate file /d/f carol 640\nget /d/f\ncreate dir /d/e carol 750\nget /d/e\n",
+        "1 ok\n2 ok\n3 ok\n4 get /d/f file carol guest 640 posix\nuser::rw-\nuser:bob:rwx\t#effective:r--\ngroup::r-x\t#effective:r--\nmask::r--\nother::---\n5 ok\n6 get /d/e dir carol guest 750 posix\nuser::rwx\nuser:bob:rwx\t#effective:r-x\ngroup::r-x\nmask::r-x\nother::---\ndefault:user::rwx\ndefault:user:bob:rwx\ndefault:group::r-x\ndefault:mask::rwx\ndefault:other::---\n",
+    ),
+    (
+        "translation with a mask",
+        "create file /a alice 666\nset /a access u::rw,u:bob:rw,g::r,g:ops:rwx,m::rw,o::r\ntranslate /a",
+        "1 ok\n2 ok\n3 translated\nA::OWNER@:rwa\nD::OWNER@:x\nA::bob@example.org:rwa\nD::bob@example.org:x\nA::GROUP@:r\nA:g:ops@example.org:rwa\nD::GROUP@:wax\nD:g:ops@example.org:x\nA::EVERYONE@:r\n",
+    ),
+    (
+        "default acl translated",
+        "create dir /d alice 755\nset /d default u::rwx,u:bob:rwx,g::r-x,m::rwx,o::-\ntranslate /d\n",
+        "1 ok\n2 ok\n3 translated\nA::OWNER@:rwax\nA::GROUP@:rx\nD::GROUP@:wa\nA::EVERYONE@:rx\nA:fdi:OWNER@:rwax\nA:fdi:bob@example.org:rwax\nA:fdi:GROUP@:rx\nD:fdi:GROUP@:wa\n",
+    ),
+    (
+        "mode set on an nfs4 file",
+        "create file /a alice 666\nset /a nfs4 A::OWNER@:rwatTcC,A::bob@example.org:rwa,A:g:ops@example.org:r,A::EVERYONE@:r\nchmod /a 604\nget /a\ncheck /a bob r\ncheck /a carol r\n",
+        "1 ok\n2 ok\n3 ok\n4 get /a file alice staff 604 nfs4\nA::OWNER@:rwa\nD::OWNER@:x\nA::OWNER@:tTcC\nD::bob@example.org:rwax\nD:g:ops@example.org:rwax\nD::GROUP@:rwax\nA::EVERYONE@:r\n5 denied\n6 granted\n",
+    ),
+    (
+        "refusals of set and of lines",
+        "create file /a alice 666\nset /a nfs4 A:i:OWNER@:r\nset /a nfs4 A:f:OWNER@:r\nset /a default u::r,g::r,o::r\nset /a nfs4 A::OWNER@:r\nset /a default u::r,g::r,o::r\n\r\nget /a",
+        "1 ok\n2 error 9 inherit-only\n3 error 25 inherit-on-file\n4 error 24 default-on-file\n5 ok\n6 error 23 wrong-style\n7 error 1 syntax\n8 get /a file alice staff 400 nfs4\nA::OWNER@:r\n",
+    ),
+    (
+        "refusals of paths",
+        "create file / alice 644\ncreate file /x/y alice 644\ncreate file /a alice 666\ncreate file /a/b alice 644\nget /a/b\ncheck4 /a bob r\ncreate file /a alice 644\n",
+        "1 error 21 exists\n2 error 20 no-such-path\n3 ok\n4 error 22 not-a-directory\n5 error 20 no-such-path\n6 error 23 wrong-style\n7 error 21 exists\n",
+    ),
+    (
+        "bad mode at the end",
+        "create file /a alice 666\nchmod /a 6",
+        "1 ok\n2 error 3 bad-mode\n",
+    ),
+    ("empty text", "", ""),
+    ("blanks and comments", "\n \n\t\n# get /\n", ""),
+];
+
 /// A tree of a root alone, which is root's.
 fn tree(alloc: Global) -> Option<Tree> {
     let owner = Uid::new(0)?;
@@ -50,103 +111,8 @@ fn prints(alloc: Global, text: &str, wanted: &str) -> Option<bool> {
 }
 
 #[test]
-fn create_and_get(rt: HostRuntime) {
-    let text = "create file /a alice 666\nget /a\n";
-    let answers = "1 ok\n2 get /a file alice staff 644 posix\nuser::rw-\ngroup::r--\nother::r--\n";
-    assert_eq!(rt; prints(rt.alloc(), text, answers), Some(true));
-}
-
-#[test]
-fn mask_and_effective_marks(rt: HostRuntime) {
-    let text =
-        "create file /a alice 666\nset /a access u::rw,u:bob:rw,g::r,m::r,o::-\ncheck /a bob w\nget /a\nchmod /a 600\nget /a";
-    let answers =
-        "1 ok\n2 ok\n3 denied\n4 get /a file alice staff 640 posix\nuser::rw-\nuser:bob:rw-\t#effective:r--\ngroup::r--\nmask::r--\nother::---\n5 ok\n6 get /a file alice staff 600 posix\nuser::rw-\nuser:bob:rw-\t#effective:---\ngroup::r--\t#effective:---\nmask::---\nother::---\n";
-    assert_eq!(rt; prints(rt.alloc(), text, answers), Some(true));
-}
-
-#[test]
-fn refused_lists(rt: HostRuntime) {
-    let text =
-        "create file /a alice 666\nset /a access u::rw,u:bob:r,g::r,o::-\nset /a access u::rw,u:bob:r,u:1001:w,g::r,m::r,o::-\nget /a\n";
-    let answers =
-        "1 ok\n2 error 7 invalid-acl\n3 error 7 invalid-acl\n4 get /a file alice staff 644 posix\nuser::rw-\ngroup::r--\nother::r--\n";
-    assert_eq!(rt; prints(rt.alloc(), text, answers), Some(true));
-}
-
-#[test]
-fn groups_do_not_add_up(rt: HostRuntime) {
-    let text =
-        "create file /a alice 666\nset /a access u::-,g::r,g:ops:w,m::rw,o::-\ncheck /a bob r\ncheck /a bob w\ncheck /a bob rw\ntranslate /a\nset /a nfs4 D::OWNER@:rwax,A::GROUP@:r,A:g:ops@example.org:wa,D::GROUP@:wax,D:g:ops@example.org:rx\ncheck /a bob rw\n";
-    let answers =
-        "1 ok\n2 ok\n3 granted\n4 granted\n5 denied\n6 translated\nD::OWNER@:rwax\nA::GROUP@:r\nA:g:ops@example.org:wa\nD::GROUP@:wax\nD:g:ops@example.org:rx\n7 ok\n8 granted\n";
-    assert_eq!(rt; prints(rt.alloc(), text, answers), Some(true));
-}
-
-#[test]
-fn default_acl_at_creation(rt: HostRuntime) {
-    let text =
-        "create dir /d alice 755\nset /d default u::rwx,u:bob:rwx,g::r-x,m::rwx,o::-\ncreate file /d/f carol 640\nget /d/f\ncreate dir /d/e carol 750\nget /d/e\n";
-    let answers =
-        "1 ok\n2 ok\n3 ok\n4 get /d/f file carol guest 640 posix\nuser::rw-\nuser:bob:rwx\t#effective:r--\ngroup::r-x\t#effective:r--\nmask::r--\nother::---\n5 ok\n6 get /d/e dir carol guest 750 posix\nuser::rwx\nuser:bob:rwx\t#effective:r-x\ngroup::r-x\nmask::r-x\nother::---\ndefault:user::rwx\ndefault:user:bob:rwx\ndefault:group::r-x\ndefault:mask::rwx\ndefault:other::---\n";
-    assert_eq!(rt; prints(rt.alloc(), text, answers), Some(true));
-}
-
-#[test]
-fn translation_with_a_mask(rt: HostRuntime) {
-    let text =
-        "create file /a alice 666\nset /a access u::rw,u:bob:rw,g::r,g:ops:rwx,m::rw,o::r\ntranslate /a";
-    let answers =
-        "1 ok\n2 ok\n3 translated\nA::OWNER@:rwa\nD::OWNER@:x\nA::bob@example.org:rwa\nD::bob@example.org:x\nA::GROUP@:r\nA:g:ops@example.org:rwa\nD::GROUP@:wax\nD:g:ops@example.org:x\nA::EVERYONE@:r\n";
-    assert_eq!(rt; prints(rt.alloc(), text, answers), Some(true));
-}
-
-#[test]
-fn default_acl_translated(rt: HostRuntime) {
-    let text =
-        "create dir /d alice 755\nset /d default u::rwx,u:bob:rwx,g::r-x,m::rwx,o::-\ntranslate /d\n";
-    let answers =
-        "1 ok\n2 ok\n3 translated\nA::OWNER@:rwax\nA::GROUP@:rx\nD::GROUP@:wa\nA::EVERYONE@:rx\nA:fdi:OWNER@:rwax\nA:fdi:bob@example.org:rwax\nA:fdi:GROUP@:rx\nD:fdi:GROUP@:wa\n";
-    assert_eq!(rt; prints(rt.alloc(), text, answers), Some(true));
-}
-
-#[test]
-fn mode_set_on_an_nfs4_file(rt: HostRuntime) {
-    let text =
-        "create file /a alice 666\nset /a nfs4 A::OWNER@:rwatTcC,A::bob@example.org:rwa,A:g:ops@example.org:r,A::EVERYONE@:r\nchmod /a 604\nget /a\ncheck /a bob r\ncheck /a carol r\n";
-    let answers =
-        "1 ok\n2 ok\n3 ok\n4 get /a file alice staff 604 nfs4\nA::OWNER@:rwa\nD::OWNER@:x\nA::OWNER@:tTcC\nD::bob@example.org:rwax\nD:g:ops@example.org:rwax\nD::GROUP@:rwax\nA::EVERYONE@:r\n5 denied\n6 granted\n";
-    assert_eq!(rt; prints(rt.alloc(), text, answers), Some(true));
-}
-
-#[test]
-fn refusals_of_set_and_of_lines(rt: HostRuntime) {
-    let text =
-        "create file /a alice 666\nset /a nfs4 A:i:OWNER@:r\nset /a nfs4 A:f:OWNER@:r\nset /a default u::r,g::r,o::r\nset /a nfs4 A::OWNER@:r\nset /a default u::r,g::r,o::r\n\r\nget /a";
-    let answers =
-        "1 ok\n2 error 9 inherit-only\n3 error 25 inherit-on-file\n4 error 24 default-on-file\n5 ok\n6 error 23 wrong-style\n7 error 1 syntax\n8 get /a file alice staff 400 nfs4\nA::OWNER@:r\n";
-    assert_eq!(rt; prints(rt.alloc(), text, answers), Some(true));
-}
-
-#[test]
-fn refusals_of_paths(rt: HostRuntime) {
-    let text =
-        "create file / alice 644\ncreate file /x/y alice 644\ncreate file /a alice 666\ncreate file /a/b alice 644\nget /a/b\ncheck4 /a bob r\ncreate file /a alice 644\n";
-    let answers =
-        "1 error 21 exists\n2 error 20 no-such-path\n3 ok\n4 error 22 not-a-directory\n5 error 20 no-such-path\n6 error 23 wrong-style\n7 error 21 exists\n";
-    assert_eq!(rt; prints(rt.alloc(), text, answers), Some(true));
-}
-
-#[test]
-fn bad_mode_at_the_end(rt: HostRuntime) {
-    let text = "create file /a alice 666\nchmod /a 6";
-    let answers = "1 ok\n2 error 3 bad-mode\n";
-    assert_eq!(rt; prints(rt.alloc(), text, answers), Some(true));
-}
-
-#[test]
-fn empty_texts(rt: HostRuntime) {
-    for text in ["", "\n \n\t\n# get /\n"] {
-        assert_eq!(rt; prints(rt.alloc(), text, ""), Some(true));
+fn sessions(rt: HostRuntime) {
+    for (name, text, answers) in SESSIONS {
+        assert_eq!(rt; prints(rt.alloc(), text, answers), Some(true), "{name}");
     }
 }

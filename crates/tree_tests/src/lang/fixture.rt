@@ -1,8 +1,42 @@
-//! What lines and answers come to; none where memory is refused or a text is.
+//! Nodes that are shown, and what lines and answers come to; none where memory is refused or a text is.
+use crate::lists::{Lists, lists_of};
 use acl_examples::directory;
 use acl_lang::{Answer, Line, read_line, render};
-use acl_tree::{LineFault, Request};
+use acl_names::{Gid, Uid};
+use acl_nfs4::Kind;
+use acl_posix::Mode;
+use acl_tree::{Boxed, LineFault, Path, Request, View};
 use std::alloc::Global;
+
+/// A node as the tests write it down.
+#[derive(Clone, Copy)]
+pub struct Shown<'a> {
+    pub path: &'a str,
+    pub kind: Kind,
+    pub owner: u32,
+    pub group: u32,
+    pub mode: u16,
+    pub lists: Lists<'a>,
+}
+
+/// The node in a box.
+pub fn boxed(alloc: Global, shown: Shown<'_>) -> Option<Boxed<View>> {
+    let kind = shown.kind;
+    let owner = Uid::new(shown.owner)?;
+    let group = Gid::new(shown.group)?;
+    let mode = Mode::from_bits(shown.mode)?;
+    let acl = lists_of(alloc, shown.lists)?;
+    let path = Path::read(alloc, shown.path.as_bytes()).ok()?;
+    let view = View {
+        path,
+        kind,
+        owner,
+        group,
+        mode,
+        acl,
+    };
+    Boxed::new(alloc, view).ok()
+}
 
 /// The code of a line's fault; 0 of a command, and 100 of a line that gives nothing.
 pub fn code_of(alloc: Global, line: &[u8]) -> Option<u8> {

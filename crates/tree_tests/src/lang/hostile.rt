@@ -73,46 +73,106 @@ fn is_read_whole(alloc: Global, names: &Directory, text: &[u8]) -> Option<bool> 
     Some(are_numbered(&requests, &numbers))
 }
 
+/// Whether the line gives a request or not, as it is said, and the same bytes are read as a text.
+fn is_taken(alloc: Global, names: &Directory, line: &[u8], gives: bool) -> bool {
+    is_read(alloc, names, line) == gives && is_read_whole(alloc, names, line) == Some(true)
+}
+
+/// How long the first front of the text is that isn't read. All but the empty one give a request.
+fn first_wrong_front(alloc: Global, names: &Directory, text: &[u8]) -> Option<usize> {
+    for len in 0..text.len() {
+        if !is_taken(alloc, names, &text[..len], len > 0) {
+            return Some(len);
+        }
+    }
+    None
+}
+
 #[test]
 fn prefixes(rt: HostRuntime) -> Result<(), Fail> {
     let names = directory(rt.alloc()).ok_or("memory")?;
     for text in TEXTS {
-        for len in 0..text.len() {
-            let front = &text[..len];
-            assert_eq!(rt; is_read(rt.alloc(), &names, front), len > 0);
-            assert_eq!(rt; is_read_whole(rt.alloc(), &names, front), Some(true));
-        }
+        assert_eq!(rt;
+            first_wrong_front(rt.alloc(), &names, text),
+            None,
+            "of {text:?}"
+        );
     }
     Ok(())
+}
+
+/// The text with another byte at the place.
+fn with_byte(alloc: Global, text: &[u8], at: usize, byte: u8) -> Option<Vec<u8>> {
+    let mut line = Vec::from_slice(alloc, text).ok()?;
+    *line.get_mut(at)? = byte;
+    Some(line)
+}
+
+/// Whether the text with another byte at the place is read. It gives a request unless it begins with `#`.
+fn takes(alloc: Global, names: &Directory, text: &[u8], at: usize, byte: u8) -> bool {
+    match with_byte(alloc, text, at, byte) {
+        Some(line) => is_taken(alloc, names, &line, at > 0 || byte != b'#'),
+        None => false,
+    }
+}
+
+/// The first place at which the text with this byte isn't read.
+fn first_wrong_place(alloc: Global, names: &Directory, text: &[u8], byte: u8) -> Option<usize> {
+    for at in 0..text.len() {
+        if !takes(alloc, names, text, at, byte) {
+            return Some(at);
+        }
+    }
+    None
+}
+
+/// The first byte with which the text isn't read, and its place.
+fn first_wrong_byte(alloc: Global, names: &Directory, text: &[u8]) -> Option<(u8, usize)> {
+    for byte in BYTES {
+        if let Some(at) = first_wrong_place(alloc, names, text, byte) {
+            return Some((byte, at));
+        }
+    }
+    None
 }
 
 #[test]
 fn other_bytes(rt: HostRuntime) -> Result<(), Fail> {
     let names = directory(rt.alloc()).ok_or("memory")?;
     for text in TEXTS {
-        for at in 0..text.len() {
-            for byte in BYTES {
-                let mut line = Vec::from_slice(rt.alloc(), text)?;
-                line[at] = byte;
-                assert_eq!(rt; is_read(rt.alloc(), &names, &line), at > 0 || byte != b'#');
-                assert_eq!(rt; is_read_whole(rt.alloc(), &names, &line), Some(true));
-            }
-        }
+        assert_eq!(rt;
+            first_wrong_byte(rt.alloc(), &names, text),
+            None,
+            "in {text:?}"
+        );
     }
     Ok(())
 }
 
-#[test]
-fn bytes_of_no_text(rt: HostRuntime) -> Result<(), Fail> {
-    for text in [TEXTS[0], TEXTS[1]] {
-        for at in 0..text.len() {
-            for byte in [0, 0x80] {
-                let mut line = Vec::from_slice(rt.alloc(), text)?;
-                line[at] = byte;
-                let code = code_of(rt.alloc(), &line).ok_or("memory")?;
-                assert!(rt; 1 <= code && code <= 10);
-            }
+/// The code of the text with another byte at the place.
+fn code_with(alloc: Global, text: &[u8], at: usize, byte: u8) -> Option<u8> {
+    let line = with_byte(alloc, text, at, byte)?;
+    code_of(alloc, &line)
+}
+
+/// The first place at which the byte makes no fault of the text.
+fn first_faultless(alloc: Global, text: &[u8], byte: u8) -> Option<usize> {
+    for at in 0..text.len() {
+        if !matches!(code_with(alloc, text, at, byte), Some(1..=10)) {
+            return Some(at);
         }
     }
-    Ok(())
+    None
+}
+
+#[test]
+fn bytes_of_no_text(rt: HostRuntime) {
+    for text in [TEXTS[0], TEXTS[1]] {
+        assert_eq!(rt; first_faultless(rt.alloc(), text, 0), None, "in {text:?}");
+        assert_eq!(rt;
+            first_faultless(rt.alloc(), text, 0x80),
+            None,
+            "in {text:?}"
+        );
+    }
 }

@@ -4,6 +4,15 @@ use acl_lang::{Numbered, read_text};
 use acl_tree::Request;
 use std::alloc::Global;
 
+/// Texts, each with the lines of its requests, and the codes of their faults; 0 of a command.
+const TEXTS: [(&str, &[(u32, u8)]); 5] = [
+    ("", &[]),
+    ("\n", &[]),
+    ("\n \n\t\n# get /\n  # x", &[]),
+    ("create file /a alice 666\nchmod /a 6", &[(1, 0), (2, 3)]),
+    ("\n# x\nget /\n\nget /\n", &[(3, 0), (5, 0)]),
+];
+
 /// The requests of a text.
 fn requests(alloc: Global, text: &[u8]) -> Option<Vec<Numbered>> {
     let names = directory(alloc)?;
@@ -49,22 +58,14 @@ fn count_and_last(alloc: Global, line: &[u8], lines: usize) -> Option<(usize, Op
 }
 
 #[test]
-fn empty_texts(rt: HostRuntime) {
-    for text in ["", "\n", "\n \n\t\n# get /\n  # x"] {
-        assert_eq!(rt; gives(rt.alloc(), text.as_bytes(), &[]), Some(true));
+fn texts(rt: HostRuntime) {
+    for (text, wanted) in TEXTS {
+        assert_eq!(rt;
+            gives(rt.alloc(), text.as_bytes(), wanted),
+            Some(true),
+            "{text:?}"
+        );
     }
-}
-
-#[test]
-fn bad_mode_at_the_end(rt: HostRuntime) {
-    let text = b"create file /a alice 666\nchmod /a 6";
-    assert_eq!(rt; gives(rt.alloc(), text, &[(1, 0), (2, 3)]), Some(true));
-}
-
-#[test]
-fn lines_are_numbered(rt: HostRuntime) {
-    let text = b"\n# x\nget /\n\nget /\n";
-    assert_eq!(rt; gives(rt.alloc(), text, &[(3, 0), (5, 0)]), Some(true));
 }
 
 #[test]

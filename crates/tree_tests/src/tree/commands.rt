@@ -1,214 +1,217 @@
 //! Worked examples of commands.
-use crate::tree::fixture::{ALICE, BOB, CAROL, Command, Step, Told, World, leave_all, wrong_step};
+use crate::tree::fixture::Command::{
+    Check, Check4, Chmod, Create, Faulty, Get, SetAccess, SetDefault, SetNfs4, SetNoDefault,
+};
+use crate::tree::fixture::Step::{Has, HasAccess, HasAces, Shows, Tells, TranslatesTo};
+use crate::tree::fixture::Told::{Denied, Done, Fault, Granted, Refused};
+use crate::tree::fixture::{A, ALICE, BOB, CAROL, Example, World, leave_all, wrong_step};
 use acl_nfs4::Kind;
 use acl_tree::{LineFault, TreeFault};
 
+/// Each on the examples' tree with the file /a.
+const EXAMPLES: [Example; 11] = [
+    (
+        "create and get",
+        &[
+            Has(2),
+            Shows("/a", ALICE, 50, 0o644),
+            HasAccess("/a", "u::rw,g::r,o::r"),
+            Shows("/", 0, 0, 0o755),
+        ],
+    ),
+    (
+        "mask over a named user",
+        &[
+            Tells(SetAccess("/a", "u::rw,u:bob:rw,g::r,m::r,o::-"), Done),
+            Tells(Check("/a", BOB, "w"), Denied),
+            Shows("/a", ALICE, 50, 0o640),
+            HasAccess("/a", "u::rw,u:bob:rw,g::r,m::r,o::-"),
+        ],
+    ),
+    (
+        "owner before a named user",
+        &[
+            Tells(SetAccess("/a", "u::r,u:alice:rwx,g::-,m::rwx,o::-"), Done),
+            Tells(Check("/a", ALICE, "w"), Denied),
+            Tells(Check("/a", ALICE, "r"), Granted),
+        ],
+    ),
+    (
+        "translation with a mask",
+        &[
+            Tells(
+                SetAccess("/a", "u::rw,u:bob:rw,g::r,g:ops:rwx,m::rw,o::r"),
+                Done,
+            ),
+            TranslatesTo(
+                "/a",
+                "A::OWNER@:rwa,D::OWNER@:x,A::bob@example.org:rwa,D::bob@example.org:x,A::GROUP@:r,A:g:ops@example.org:rwa,D::GROUP@:wax,D:g:ops@example.org:x,A::EVERYONE@:r",
+            ),
+        ],
+    ),
+    (
+        "mode set under a mask",
+        &[
+            Tells(SetAccess("/a", "u::rw,u:bob:rw,g::r,m::r,o::-"), Done),
+            Tells(Chmod("/a", 0o600), Done),
+            Shows("/a", ALICE, 50, 0o600),
+            HasAccess("/a", "u::rw,u:bob:rw,g::r,m::-,o::-"),
+        ],
+    ),
+    (
+        "groups do not add up",
+        &[
+            Tells(SetAccess("/a", "u::-,g::r,g:ops:w,m::rw,o::-"), Done),
+            Tells(Check("/a", BOB, "r"), Granted),
+            Tells(Check("/a", BOB, "w"), Granted),
+            Tells(Check("/a", BOB, "rw"), Denied),
+        ],
+    ),
+    (
+        "groups translated",
+        &[
+            Tells(SetAccess("/a", "u::-,g::r,g:ops:w,m::rw,o::-"), Done),
+            TranslatesTo(
+                "/a",
+                "D::OWNER@:rwax,A::GROUP@:r,A:g:ops@example.org:wa,D::GROUP@:wax,D:g:ops@example.org:rx",
+            ),
+            Tells(
+                SetNfs4(
+                    "/a",
+                    "D::OWNER@:rwax,A::GROUP@:r,A:g:ops@example.org:wa,D::GROUP@:wax,D:g:ops@example.org:rx",
+                ),
+                Done,
+            ),
+            Tells(Check("/a", BOB, "rw"), Granted),
+        ],
+    ),
+    (
+        "no fall through to others",
+        &[
+            Tells(SetAccess("/a", "u::-,g::r,o::rwx"), Done),
+            Tells(Check("/a", ALICE, "r"), Denied),
+            Tells(Check("/a", CAROL, "x"), Granted),
+            Tells(Check("/a", BOB, "x"), Denied),
+        ],
+    ),
+    (
+        "order of nfsv4 entries",
+        &[
+            Tells(SetNfs4("/a", "D::EVERYONE@:r,A::OWNER@:r"), Done),
+            Tells(Check4("/a", ALICE, "r"), Denied),
+            Tells(SetNfs4("/a", "A::OWNER@:r,D::EVERYONE@:r"), Done),
+            Tells(Check4("/a", ALICE, "r"), Granted),
+            Tells(Check4("/a", ALICE, "x"), Denied),
+            Tells(Check4("/a", ALICE, "rx"), Denied),
+        ],
+    ),
+    (
+        "mode set on an nfsv4 file",
+        &[
+            Tells(
+                SetNfs4(
+                    "/a",
+                    "A::OWNER@:rwatTcC,A::bob@example.org:rwa,A:g:ops@example.org:r,A::EVERYONE@:r",
+                ),
+                Done,
+            ),
+            Tells(Chmod("/a", 0o604), Done),
+            Shows("/a", ALICE, 50, 0o604),
+            HasAces(
+                "/a",
+                "A::OWNER@:rwa,D::OWNER@:x,A::OWNER@:tTcC,D::bob@example.org:rwax,D:g:ops@example.org:rwax,D::GROUP@:rwax,A::EVERYONE@:r",
+            ),
+            Tells(Chmod("/a", 0o604), Done),
+            HasAces(
+                "/a",
+                "A::OWNER@:rwa,D::OWNER@:x,A::OWNER@:tTcC,D::bob@example.org:rwax,D:g:ops@example.org:rwax,D::GROUP@:rwax,A::EVERYONE@:r",
+            ),
+            Tells(Check("/a", BOB, "r"), Denied),
+            Tells(Check("/a", CAROL, "r"), Granted),
+        ],
+    ),
+    (
+        "refusals of the other style",
+        &[
+            Tells(Check4("/a", BOB, "r"), Refused(TreeFault::WrongStyle)),
+            Tells(SetNfs4("/a", "A::OWNER@:r"), Done),
+            Tells(
+                SetDefault("/a", "u::r,g::r,o::r"),
+                Refused(TreeFault::WrongStyle),
+            ),
+            Tells(SetNoDefault("/a"), Refused(TreeFault::WrongStyle)),
+            HasAces("/a", "A::OWNER@:r"),
+        ],
+    ),
+];
+
+/// Each on the same tree, and leaves its nodes as they were.
+const REFUSALS: [Example; 3] = [
+    (
+        "refusals of set",
+        &[
+            Tells(
+                SetNfs4("/a", "A:f:OWNER@:r"),
+                Refused(TreeFault::InheritOnFile),
+            ),
+            Tells(
+                SetDefault("/a", "u::r,g::r,o::r"),
+                Refused(TreeFault::DefaultOnFile),
+            ),
+            Tells(SetNoDefault("/a"), Refused(TreeFault::DefaultOnFile)),
+        ],
+    ),
+    (
+        "refusals of paths",
+        &[
+            Tells(
+                Create(Kind::File, "/", ALICE, 0o644),
+                Refused(TreeFault::Exists),
+            ),
+            Tells(
+                Create(Kind::File, "/x/y", ALICE, 0o644),
+                Refused(TreeFault::NoSuchPath),
+            ),
+            Tells(
+                Create(Kind::File, "/a/b", ALICE, 0o644),
+                Refused(TreeFault::NotADirectory),
+            ),
+            Tells(
+                Create(Kind::File, "/a", ALICE, 0o644),
+                Refused(TreeFault::Exists),
+            ),
+            Tells(Get("/a/b"), Refused(TreeFault::NoSuchPath)),
+        ],
+    ),
+    (
+        "lines that are no command",
+        &[
+            Tells(Faulty(LineFault::InvalidAcl), Fault(LineFault::InvalidAcl)),
+            Tells(Faulty(LineFault::BadMode), Fault(LineFault::BadMode)),
+        ],
+    ),
+];
+
 #[test]
-fn create_and_get(rt: HostRuntime) {
-    let steps = [
-        Step::Has(2),
-        Step::Shows("/a", ALICE, 50, 0o644),
-        Step::HasAccess("/a", "u::rw,g::r,o::r"),
-        Step::Shows("/", 0, 0, 0o755),
-    ];
-    assert_eq!(rt; wrong_step(World::with_a(rt.alloc()), &steps), None);
+fn examples(rt: HostRuntime) {
+    for (name, steps) in EXAMPLES {
+        assert_eq!(rt;
+            wrong_step(World::after(rt.alloc(), A), steps),
+            None,
+            "{name}"
+        );
+    }
 }
 
 #[test]
-fn mask_over_a_named_user(rt: HostRuntime) {
-    let text = "u::rw,u:bob:rw,g::r,m::r,o::-";
-    let steps = [
-        Step::Tells(Command::SetAccess("/a", text), Told::Done),
-        Step::Tells(Command::Check("/a", BOB, "w"), Told::Denied),
-        Step::Shows("/a", ALICE, 50, 0o640),
-        Step::HasAccess("/a", text),
-    ];
-    assert_eq!(rt; wrong_step(World::with_a(rt.alloc()), &steps), None);
-}
-
-#[test]
-fn owner_before_a_named_user(rt: HostRuntime) {
-    let steps = [
-        Step::Tells(
-            Command::SetAccess("/a", "u::r,u:alice:rwx,g::-,m::rwx,o::-"),
-            Told::Done,
-        ),
-        Step::Tells(Command::Check("/a", ALICE, "w"), Told::Denied),
-        Step::Tells(Command::Check("/a", ALICE, "r"), Told::Granted),
-    ];
-    assert_eq!(rt; wrong_step(World::with_a(rt.alloc()), &steps), None);
-}
-
-#[test]
-fn translation_with_a_mask(rt: HostRuntime) {
-    let text =
-        "A::OWNER@:rwa,D::OWNER@:x,A::bob@example.org:rwa,D::bob@example.org:x,A::GROUP@:r,A:g:ops@example.org:rwa,D::GROUP@:wax,D:g:ops@example.org:x,A::EVERYONE@:r";
-    let steps = [
-        Step::Tells(
-            Command::SetAccess("/a", "u::rw,u:bob:rw,g::r,g:ops:rwx,m::rw,o::r"),
-            Told::Done,
-        ),
-        Step::TranslatesTo("/a", text),
-    ];
-    assert_eq!(rt; wrong_step(World::with_a(rt.alloc()), &steps), None);
-}
-
-#[test]
-fn mode_set_under_a_mask(rt: HostRuntime) {
-    let steps = [
-        Step::Tells(
-            Command::SetAccess("/a", "u::rw,u:bob:rw,g::r,m::r,o::-"),
-            Told::Done,
-        ),
-        Step::Tells(Command::Chmod("/a", 0o600), Told::Done),
-        Step::Shows("/a", ALICE, 50, 0o600),
-        Step::HasAccess("/a", "u::rw,u:bob:rw,g::r,m::-,o::-"),
-    ];
-    assert_eq!(rt; wrong_step(World::with_a(rt.alloc()), &steps), None);
-}
-
-#[test]
-fn groups_do_not_add_up(rt: HostRuntime) {
-    let steps = [
-        Step::Tells(
-            Command::SetAccess("/a", "u::-,g::r,g:ops:w,m::rw,o::-"),
-            Told::Done,
-        ),
-        Step::Tells(Command::Check("/a", BOB, "r"), Told::Granted),
-        Step::Tells(Command::Check("/a", BOB, "w"), Told::Granted),
-        Step::Tells(Command::Check("/a", BOB, "rw"), Told::Denied),
-    ];
-    assert_eq!(rt; wrong_step(World::with_a(rt.alloc()), &steps), None);
-}
-
-#[test]
-fn groups_translated(rt: HostRuntime) {
-    let text =
-        "D::OWNER@:rwax,A::GROUP@:r,A:g:ops@example.org:wa,D::GROUP@:wax,D:g:ops@example.org:rx";
-    let steps = [
-        Step::Tells(
-            Command::SetAccess("/a", "u::-,g::r,g:ops:w,m::rw,o::-"),
-            Told::Done,
-        ),
-        Step::TranslatesTo("/a", text),
-        Step::Tells(Command::SetNfs4("/a", text), Told::Done),
-        Step::Tells(Command::Check("/a", BOB, "rw"), Told::Granted),
-    ];
-    assert_eq!(rt; wrong_step(World::with_a(rt.alloc()), &steps), None);
-}
-
-#[test]
-fn no_fall_through_to_others(rt: HostRuntime) {
-    let steps = [
-        Step::Tells(Command::SetAccess("/a", "u::-,g::r,o::rwx"), Told::Done),
-        Step::Tells(Command::Check("/a", ALICE, "r"), Told::Denied),
-        Step::Tells(Command::Check("/a", CAROL, "x"), Told::Granted),
-        Step::Tells(Command::Check("/a", BOB, "x"), Told::Denied),
-    ];
-    assert_eq!(rt; wrong_step(World::with_a(rt.alloc()), &steps), None);
-}
-
-#[test]
-fn order_of_nfsv4_entries(rt: HostRuntime) {
-    let steps = [
-        Step::Tells(
-            Command::SetNfs4("/a", "D::EVERYONE@:r,A::OWNER@:r"),
-            Told::Done,
-        ),
-        Step::Tells(Command::Check4("/a", ALICE, "r"), Told::Denied),
-        Step::Tells(
-            Command::SetNfs4("/a", "A::OWNER@:r,D::EVERYONE@:r"),
-            Told::Done,
-        ),
-        Step::Tells(Command::Check4("/a", ALICE, "r"), Told::Granted),
-        Step::Tells(Command::Check4("/a", ALICE, "x"), Told::Denied),
-        Step::Tells(Command::Check4("/a", ALICE, "rx"), Told::Denied),
-    ];
-    assert_eq!(rt; wrong_step(World::with_a(rt.alloc()), &steps), None);
-}
-
-#[test]
-fn mode_set_on_an_nfsv4_file(rt: HostRuntime) {
-    let text = "A::OWNER@:rwatTcC,A::bob@example.org:rwa,A:g:ops@example.org:r,A::EVERYONE@:r";
-    let made =
-        "A::OWNER@:rwa,D::OWNER@:x,A::OWNER@:tTcC,D::bob@example.org:rwax,D:g:ops@example.org:rwax,D::GROUP@:rwax,A::EVERYONE@:r";
-    let steps = [
-        Step::Tells(Command::SetNfs4("/a", text), Told::Done),
-        Step::Tells(Command::Chmod("/a", 0o604), Told::Done),
-        Step::Shows("/a", ALICE, 50, 0o604),
-        Step::HasAces("/a", made),
-        Step::Tells(Command::Chmod("/a", 0o604), Told::Done),
-        Step::HasAces("/a", made),
-        Step::Tells(Command::Check("/a", BOB, "r"), Told::Denied),
-        Step::Tells(Command::Check("/a", CAROL, "r"), Told::Granted),
-    ];
-    assert_eq!(rt; wrong_step(World::with_a(rt.alloc()), &steps), None);
-}
-
-#[test]
-fn refusals_of_set(rt: HostRuntime) {
-    let steps = [
-        Step::Tells(
-            Command::SetNfs4("/a", "A:f:OWNER@:r"),
-            Told::Refused(TreeFault::InheritOnFile),
-        ),
-        Step::Tells(
-            Command::SetDefault("/a", "u::r,g::r,o::r"),
-            Told::Refused(TreeFault::DefaultOnFile),
-        ),
-        Step::Tells(
-            Command::SetNoDefault("/a"),
-            Told::Refused(TreeFault::DefaultOnFile),
-        ),
-    ];
-    assert_eq!(rt; leave_all(World::with_a(rt.alloc()), &steps), Some(true));
-}
-
-#[test]
-fn refusals_of_the_other_style(rt: HostRuntime) {
-    let wrong = Told::Refused(TreeFault::WrongStyle);
-    let steps = [
-        Step::Tells(Command::Check4("/a", BOB, "r"), wrong),
-        Step::Tells(Command::SetNfs4("/a", "A::OWNER@:r"), Told::Done),
-        Step::Tells(Command::SetDefault("/a", "u::r,g::r,o::r"), wrong),
-        Step::Tells(Command::SetNoDefault("/a"), wrong),
-        Step::HasAces("/a", "A::OWNER@:r"),
-    ];
-    assert_eq!(rt; wrong_step(World::with_a(rt.alloc()), &steps), None);
-}
-
-#[test]
-fn refusals_of_paths(rt: HostRuntime) {
-    let steps = [
-        Step::Tells(
-            Command::Create(Kind::File, "/", ALICE, 0o644),
-            Told::Refused(TreeFault::Exists),
-        ),
-        Step::Tells(
-            Command::Create(Kind::File, "/x/y", ALICE, 0o644),
-            Told::Refused(TreeFault::NoSuchPath),
-        ),
-        Step::Tells(
-            Command::Create(Kind::File, "/a/b", ALICE, 0o644),
-            Told::Refused(TreeFault::NotADirectory),
-        ),
-        Step::Tells(
-            Command::Create(Kind::File, "/a", ALICE, 0o644),
-            Told::Refused(TreeFault::Exists),
-        ),
-        Step::Tells(Command::Get("/a/b"), Told::Refused(TreeFault::NoSuchPath)),
-    ];
-    assert_eq!(rt; leave_all(World::with_a(rt.alloc()), &steps), Some(true));
-}
-
-#[test]
-fn lines_that_are_no_command(rt: HostRuntime) {
-    let (invalid, bad) = (LineFault::InvalidAcl, LineFault::BadMode);
-    let steps = [
-        Step::Tells(Command::Faulty(invalid), Told::Fault(invalid)),
-        Step::Tells(Command::Faulty(bad), Told::Fault(bad)),
-    ];
-    assert_eq!(rt; leave_all(World::with_a(rt.alloc()), &steps), Some(true));
+fn refusals(rt: HostRuntime) {
+    for (name, steps) in REFUSALS {
+        assert_eq!(rt;
+            leave_all(World::after(rt.alloc(), A), steps),
+            Some(true),
+            "{name}"
+        );
+    }
 }
 
 #[test]

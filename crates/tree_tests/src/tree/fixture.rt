@@ -1,9 +1,10 @@
 //! The tree of the examples, commands on it, and lists that texts spell. A function answers none if memory or a text is
 //! refused.
-use acl_examples::directory;
+use crate::lists::{Lists, lists_of};
+use acl_examples::{acl, acl4, directory};
 use acl_names::{Directory, Gid, Uid};
-use acl_nfs4::{Acl4, Kind, read_aces, read_letters};
-use acl_posix::{Acl, Mode, read_entries, read_perms};
+use acl_nfs4::{Acl4, Kind, read_letters};
+use acl_posix::{Acl, Mode, read_perms};
 use acl_tree::{
     Boxed, LineFault, Node, NodeAcl, Path, Reply, Request, Style, Tree, TreeFault, View,
 };
@@ -79,11 +80,17 @@ pub enum Step<'a> {
     TranslatesToBoth(&'a str, &'a str, &'a str),
 }
 
+/// An example: its name, and its steps, one after the other.
+pub type Example = (&'static str, &'static [Step<'static>]);
+
 /// Copies of a tree's nodes, each at its path.
 #[derive(Drop)]
 pub struct Nodes {
     views: Vec<View>,
 }
+
+/// The tree with the file /a of alice's, created with mode 666.
+pub const A: &[Command<'static>] = &[Command::Create(Kind::File, "/a", ALICE, 0o666)];
 
 /// The examples' directory and tree.
 #[derive(Drop)]
@@ -101,26 +108,23 @@ impl World {
         Some(World { alloc, names, tree })
     }
 
-    /// The same, with the file /a of alice's, created with mode 666.
-    pub fn with_a(alloc: Global) -> Option<World> {
+    /// The same of the POSIX style, after these commands, each of which is done.
+    pub fn after(alloc: Global, commands: &[Command<'_>]) -> Option<World> {
         let mut world = World::new(alloc, Style::Posix)?;
-        world.create(Kind::File, "/a", ALICE, 0o666)?;
-        Some(world)
+        if world.does(commands) {
+            Some(world)
+        } else {
+            None
+        }
     }
 
-    fn path(&self, text: &str) -> Option<Path> {
-        Path::read(self.alloc, text.as_bytes()).ok()
-    }
-
-    /// The POSIX list that the text spells.
-    fn acl(&self, text: &str) -> Option<Acl> {
-        let entries = read_entries(self.alloc, text.as_bytes(), &self.names).ok()?;
-        Acl::new(entries).ok()
-    }
-
-    /// The NFSv4 list that the text spells.
-    fn aces(&self, text: &str) -> Option<Acl4> {
-        read_aces(self.alloc, text.as_bytes(), &self.names).ok()
+    fn does(&mut self, commands: &[Command<'_>]) -> bool {
+        for command in commands {
+            if self.command(*command) != Some(Told::Done) {
+                return false;
+            }
+        }
+        true
     }
 
     pub fn apply(&mut self, request: &Request) -> Option<Reply> {
@@ -132,21 +136,15 @@ impl World {
         Some(told_by(&reply))
     }
 
+    fn reply(&mut self, command: Command<'_>) -> Option<Reply> {
+        let request = request(self.alloc, command)?;
+        self.apply(&request)
+    }
+
     /// What the command tells.
     pub fn command(&mut self, command: Command<'_>) -> Option<Told> {
-        match command {
-            Command::Get(at) => self.get(at),
-            Command::SetAccess(at, text) => self.set_access(at, text),
-            Command::SetDefault(at, text) => self.set_default(at, text),
-            Command::SetNoDefault(at) => self.set_no_default(at),
-            Command::SetNfs4(at, text) => self.set_nfs4(at, text),
-            Command::Chmod(at, bits) => self.chmod(at, bits),
-            Command::Create(kind, at, owner, bits) => self.create(kind, at, owner, bits),
-            Command::Check(at, user, perms) => self.check(at, user, perms),
-            Command::Check4(at, user, letters) => self.check4(at, user, letters),
-            Command::Translate(at) => self.told_translation(at),
-            Command::Faulty(fault) => self.told(&Request::Bad(fault)),
-        }
+        let request = request(self.alloc, command)?;
+        self.told(&request)
     }
 
     /// Whether the step goes as it says.
@@ -155,9 +153,9 @@ impl World {
             Step::Tells(command, told) => Some(self.command(command)? == told),
             Step::Has(nodes) => Some(self.tree.len() == nodes),
             Step::Shows(at, owner, group, bits) => self.shows(at, owner, group, bits),
-            Step::HasAccess(at, text) => self.has_access(at, text),
-            Step::HasBoth(at, text, default) => self.has_both(at, text, default),
-            Step::HasAces(at, text) => self.has_aces(at, text),
+            Step::HasAccess(at, text) => self.has(at, Lists::Posix(text, None)),
+            Step::HasBoth(at, text, default) => self.has(at, Lists::Posix(text, Some(default))),
+            Step::HasAces(at, text) => self.has(at, Lists::Nfs4(text)),
             Step::TranslatesTo(at, text) => self.translates_to(at, text),
             Step::TranslatesToBoth(at, text, below) => self.translates_to_both(at, text, below),
         }
@@ -173,76 +171,11 @@ impl World {
         None
     }
 
-    pub fn get(&mut self, at: &str) -> Option<Told> {
-        let path = self.path(at)?;
-        self.told(&Request::Get(path))
-    }
-
-    pub fn set_access(&mut self, at: &str, text: &str) -> Option<Told> {
-        let acl = Boxed::new(self.alloc, self.acl(text)?).ok()?;
-        let path = self.path(at)?;
-        self.told(&Request::SetAccess(path, acl))
-    }
-
-    pub fn set_default(&mut self, at: &str, text: &str) -> Option<Told> {
-        let acl = Boxed::new(self.alloc, self.acl(text)?).ok()?;
-        let path = self.path(at)?;
-        self.told(&Request::SetDefault(path, Some(acl)))
-    }
-
-    pub fn set_no_default(&mut self, at: &str) -> Option<Told> {
-        let path = self.path(at)?;
-        self.told(&Request::SetDefault(path, None))
-    }
-
-    pub fn set_nfs4(&mut self, at: &str, text: &str) -> Option<Told> {
-        let acl = Boxed::new(self.alloc, self.aces(text)?).ok()?;
-        let path = self.path(at)?;
-        self.told(&Request::SetNfs4(path, acl))
-    }
-
-    pub fn chmod(&mut self, at: &str, bits: u16) -> Option<Told> {
-        let mode = mode(bits)?;
-        let path = self.path(at)?;
-        self.told(&Request::Chmod(path, mode))
-    }
-
-    pub fn create(&mut self, kind: Kind, at: &str, owner: u32, bits: u16) -> Option<Told> {
-        let owner = uid(owner)?;
-        let mode = mode(bits)?;
-        let path = self.path(at)?;
-        self.told(&Request::Create(kind, path, owner, mode))
-    }
-
-    pub fn check(&mut self, at: &str, user: u32, perms: &str) -> Option<Told> {
-        let user = uid(user)?;
-        let perms = read_perms(perms.as_bytes())?;
-        let path = self.path(at)?;
-        self.told(&Request::Check(path, user, perms))
-    }
-
-    pub fn check4(&mut self, at: &str, user: u32, letters: &str) -> Option<Told> {
-        let user = uid(user)?;
-        let mask = read_letters(letters.as_bytes())?;
-        let path = self.path(at)?;
-        self.told(&Request::Check4(path, user, mask))
-    }
-
-    pub fn translate(&mut self, at: &str) -> Option<Reply> {
-        let path = self.path(at)?;
-        self.apply(&Request::Translate(path))
-    }
-
-    pub fn told_translation(&mut self, at: &str) -> Option<Told> {
-        let path = self.path(at)?;
-        self.told(&Request::Translate(path))
-    }
-
     /// Copies of the tree's nodes.
     pub fn nodes(&self) -> Option<Nodes> {
         let mut views = Vec::new(self.alloc);
         for at in PATHS {
-            let path = self.path(at)?;
+            let path = path(self.alloc, at)?;
             if let Some(node) = self.tree.node(&path) {
                 views.push(node.view(self.alloc, &path).ok()?).ok()?;
             }
@@ -263,56 +196,86 @@ impl World {
     }
 
     /// Whether the node at the path is shown with this owner, group and mode.
-    pub fn shows(&mut self, at: &str, owner: u32, group: u32, bits: u16) -> Option<bool> {
-        let path = self.path(at)?;
-        let reply = self.apply(&Request::Get(path))?;
+    fn shows(&mut self, at: &str, owner: u32, group: u32, bits: u16) -> Option<bool> {
+        let reply = self.reply(Command::Get(at))?;
         Some(node_is_shown(&reply, owner, group, bits))
     }
 
-    /// Whether the node at the path has this access list, and no default list.
-    pub fn has_access(&self, at: &str, text: &str) -> Option<bool> {
-        let list = self.acl(text)?;
-        let path = self.path(at)?;
+    /// Whether the node at the path has these lists, and no others.
+    fn has(&self, at: &str, lists: Lists<'_>) -> Option<bool> {
+        let lists = lists_of(self.alloc, lists)?;
+        let path = path(self.alloc, at)?;
         match self.tree.node(&path) {
-            Some(node) => Some(is_posix(&node.acl, &list, &None)),
-            None => Some(false),
-        }
-    }
-
-    /// Whether the node at the path has this access list and this default list.
-    pub fn has_both(&self, at: &str, text: &str, default: &str) -> Option<bool> {
-        let list = self.acl(text)?;
-        let default = Some(self.acl(default)?);
-        let path = self.path(at)?;
-        match self.tree.node(&path) {
-            Some(node) => Some(is_posix(&node.acl, &list, &default)),
-            None => Some(false),
-        }
-    }
-
-    /// Whether the node at the path has this NFSv4 list.
-    pub fn has_aces(&self, at: &str, text: &str) -> Option<bool> {
-        let list = self.aces(text)?;
-        let path = self.path(at)?;
-        match self.tree.node(&path) {
-            Some(node) => Some(is_nfs4(&node.acl, &list)),
+            Some(node) => Some(has_lists(&node.acl, &lists)),
             None => Some(false),
         }
     }
 
     /// Whether the node's translation is this list, and no further one.
-    pub fn translates_to(&mut self, at: &str, text: &str) -> Option<bool> {
-        let list = self.aces(text)?;
-        let reply = self.translate(at)?;
+    fn translates_to(&mut self, at: &str, text: &str) -> Option<bool> {
+        let list = acl4(self.alloc, text)?;
+        let reply = self.reply(Command::Translate(at))?;
         Some(is_translation(&reply, &list))
     }
 
     /// Whether the node's translation is of both lists, and they are these.
-    pub fn translates_to_both(&mut self, at: &str, text: &str, below: &str) -> Option<bool> {
-        let list = self.aces(text)?;
-        let below = self.aces(below)?;
-        let reply = self.translate(at)?;
+    fn translates_to_both(&mut self, at: &str, text: &str, below: &str) -> Option<bool> {
+        let list = acl4(self.alloc, text)?;
+        let below = acl4(self.alloc, below)?;
+        let reply = self.reply(Command::Translate(at))?;
         Some(are_translations(&reply, &list, &below))
+    }
+}
+
+fn path(alloc: Global, at: &str) -> Option<Path> {
+    Path::read(alloc, at.as_bytes()).ok()
+}
+
+/// The POSIX list that the text spells, in a box.
+fn boxed(alloc: Global, text: &str) -> Option<Boxed<Acl>> {
+    Boxed::new(alloc, acl(alloc, text)?).ok()
+}
+
+/// The NFSv4 list that the text spells, in a box.
+fn boxed4(alloc: Global, text: &str) -> Option<Boxed<Acl4>> {
+    Boxed::new(alloc, acl4(alloc, text)?).ok()
+}
+
+/// The request of a command.
+fn request(alloc: Global, command: Command<'_>) -> Option<Request> {
+    match command {
+        Command::Get(at) => Some(Request::Get(path(alloc, at)?)),
+        Command::SetAccess(at, text) => {
+            let acl = boxed(alloc, text)?;
+            Some(Request::SetAccess(path(alloc, at)?, acl))
+        }
+        Command::SetDefault(at, text) => {
+            let acl = boxed(alloc, text)?;
+            Some(Request::SetDefault(path(alloc, at)?, Some(acl)))
+        }
+        Command::SetNoDefault(at) => Some(Request::SetDefault(path(alloc, at)?, None)),
+        Command::SetNfs4(at, text) => {
+            let acl = boxed4(alloc, text)?;
+            Some(Request::SetNfs4(path(alloc, at)?, acl))
+        }
+        Command::Chmod(at, bits) => {
+            let mode = mode(bits)?;
+            Some(Request::Chmod(path(alloc, at)?, mode))
+        }
+        Command::Create(kind, at, owner, bits) => {
+            let (owner, mode) = (uid(owner)?, mode(bits)?);
+            Some(Request::Create(kind, path(alloc, at)?, owner, mode))
+        }
+        Command::Check(at, user, perms) => {
+            let (user, perms) = (uid(user)?, read_perms(perms.as_bytes())?);
+            Some(Request::Check(path(alloc, at)?, user, perms))
+        }
+        Command::Check4(at, user, letters) => {
+            let (user, mask) = (uid(user)?, read_letters(letters.as_bytes())?);
+            Some(Request::Check4(path(alloc, at)?, user, mask))
+        }
+        Command::Translate(at) => Some(Request::Translate(path(alloc, at)?)),
+        Command::Faulty(fault) => Some(Request::Bad(fault)),
     }
 }
 

@@ -1,5 +1,7 @@
 //! The longest lists and the fullest tree.
-use crate::tree::fixture::{ALICE, Command, Step, Told, World, leave_all, mode, uid, wrong_step};
+use crate::tree::fixture::{
+    A, ALICE, Command, Step, Told, World, leave_all, mode, uid, wrong_step,
+};
 use acl_nfs4::{Ace, AceType, Acl4, Flags, Kind, Mask, Who};
 use acl_tree::{Boxed, MAX_NODES, Path, Request, Style, TreeFault};
 use bitflags::Flags as FlagSet;
@@ -26,16 +28,32 @@ fn create(alloc: Global, number: u32) -> Option<Request> {
     ))
 }
 
-/// A tree in which the paths from 0 to 4094 were created.
-fn full(alloc: Global) -> Option<World> {
-    let mut world = World::new(alloc, Style::Posix)?;
+/// Whether the path of the number is created.
+fn creates(alloc: Global, world: &mut World, number: u32) -> bool {
+    match create(alloc, number) {
+        Some(request) => world.told(&request) == Some(Told::Done),
+        None => false,
+    }
+}
+
+/// Whether the paths from 0 to 4094 are created.
+fn creates_all(alloc: Global, world: &mut World) -> bool {
     for number in 0..4095 {
-        let request = create(alloc, number)?;
-        if world.told(&request)? != Told::Done {
-            return None;
+        if !creates(alloc, world, number) {
+            return false;
         }
     }
-    Some(world)
+    true
+}
+
+/// A tree with these paths.
+fn full(alloc: Global) -> Option<World> {
+    let mut world = World::new(alloc, Style::Posix)?;
+    if creates_all(alloc, &mut world) {
+        Some(world)
+    } else {
+        None
+    }
 }
 
 #[test]
@@ -72,13 +90,21 @@ fn set_longest(alloc: Global) -> Option<Request> {
     Some(Request::SetNfs4(path, list))
 }
 
+/// Whether the file /a gets the longest list.
+fn sets_longest(alloc: Global, world: &mut World) -> bool {
+    match set_longest(alloc) {
+        Some(request) => world.told(&request) == Some(Told::Done),
+        None => false,
+    }
+}
+
 /// The examples' tree, whose file /a has the longest list.
 fn with_longest(alloc: Global) -> Option<World> {
-    let request = set_longest(alloc)?;
-    let mut world = World::with_a(alloc)?;
-    match world.told(&request)? {
-        Told::Done => Some(world),
-        _ => None,
+    let mut world = World::after(alloc, A)?;
+    if sets_longest(alloc, &mut world) {
+        Some(world)
+    } else {
+        None
     }
 }
 
@@ -114,7 +140,7 @@ fn most_entries_of_an_access_list(rt: HostRuntime) -> Result<(), Fail> {
         Step::Tells(Command::SetAccess("/a", text.as_str()), Told::Done),
         Step::HasAccess("/a", text.as_str()),
     ];
-    assert_eq!(rt; wrong_step(World::with_a(rt.alloc()), &steps), None);
+    assert_eq!(rt; wrong_step(World::after(rt.alloc(), A), &steps), None);
     Ok(())
 }
 
@@ -127,6 +153,6 @@ fn many_named_users(rt: HostRuntime) -> Result<(), Fail> {
         Step::Tells(Command::Check("/a", 1, "r"), Told::Granted),
         Step::Tells(Command::Check("/a", 61, "r"), Told::Denied),
     ];
-    assert_eq!(rt; wrong_step(World::with_a(rt.alloc()), &steps), None);
+    assert_eq!(rt; wrong_step(World::after(rt.alloc(), A), &steps), None);
     Ok(())
 }

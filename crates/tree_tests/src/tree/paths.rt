@@ -1,12 +1,31 @@
 //! Which bytes are paths, and in what they lie.
 use acl_tree::{MAX_COMPONENT_LEN, MAX_NODES, MAX_PATH_LEN, Path, PathFault};
 use std::alloc::Global;
-use std::test::Fail;
+
+/// Paths, each with what it lies in.
+const PARENTS: [(&str, &str); 4] = [
+    ("/", "/"),
+    ("/a", "/"),
+    ("/a/b.c", "/a"),
+    ("/...+_-/9", "/...+_-"),
+];
+
+const NO_PATHS: [&str; 9] = ["", "a", "//", "/a/", "/a//b", "/.", "/a/..", "/a b", "/é"];
+
+/// What stands first, what stands so many times behind it, what stands last, and whether all of it is a path.
+const LONG: [(&str, &str, usize, &str, bool); 4] = [
+    ("/", "a", 64, "", true),
+    ("/", "a", 65, "", false),
+    ("", "/a", 126, "/aa", true),
+    ("", "/a", 126, "/aaa", false),
+];
 
 /// Whether the text is a path, and lies in this one.
-fn lies_in(alloc: Global, text: &str, parent: &str) -> Result<bool, Fail> {
-    let path = Path::read(alloc, text.as_bytes())?;
-    Ok(path.as_bytes() == text.as_bytes() && path.parent() == parent.as_bytes())
+fn lies_in(alloc: Global, text: &str, parent: &str) -> bool {
+    match Path::read(alloc, text.as_bytes()) {
+        Ok(path) => path.as_bytes() == text.as_bytes() && path.parent() == parent.as_bytes(),
+        Err(_) => false,
+    }
 }
 
 fn is_bad(alloc: Global, text: &str) -> bool {
@@ -14,65 +33,37 @@ fn is_bad(alloc: Global, text: &str) -> bool {
 }
 
 #[test]
-fn parents(rt: HostRuntime) -> Result<(), Fail> {
-    let alloc = rt.alloc();
-    assert!(rt; lies_in(alloc, "/", "/")?);
-    assert!(rt; lies_in(alloc, "/a", "/")?);
-    assert!(rt; lies_in(alloc, "/a/b.c", "/a")?);
-    assert!(rt; lies_in(alloc, "/...+_-/9", "/...+_-")?);
-    Ok(())
+fn parents(rt: HostRuntime) {
+    for (text, parent) in PARENTS {
+        assert!(rt; lies_in(rt.alloc(), text, parent), "{text}");
+    }
 }
 
 #[test]
-fn no_paths(rt: HostRuntime) -> Result<(), Fail> {
-    let alloc = rt.alloc();
-    let texts = ["", "a", "//", "/a/", "/a//b", "/.", "/a/..", "/a b", "/é"];
-    for text in texts {
-        assert!(rt; is_bad(alloc, text));
+fn no_paths(rt: HostRuntime) {
+    for text in NO_PATHS {
+        assert!(rt; is_bad(rt.alloc(), text), "{text}");
     }
-    Ok(())
 }
 
-/// A slash and as many letters.
-fn component(alloc: Global, letters: usize) -> Result<Vec<u8>, Fail> {
+/// Whether the pieces are a path; none where memory is refused.
+fn are_path(alloc: Global, first: &str, piece: &str, count: usize, last: &str) -> Option<bool> {
     let mut bytes = Vec::new(alloc);
-    bytes.push(b'/')?;
-    for _ in 0..letters {
-        bytes.push(b'a')?;
+    bytes.extend_from_slice(first.as_bytes()).ok()?;
+    for _ in 0..count {
+        bytes.extend_from_slice(piece.as_bytes()).ok()?;
     }
-    Ok(bytes)
+    bytes.extend_from_slice(last.as_bytes()).ok()?;
+    Some(Path::read(alloc, bytes.as_slice()).is_ok())
 }
 
 #[test]
-fn long_components(rt: HostRuntime) -> Result<(), Fail> {
-    let alloc = rt.alloc();
-    let longest = component(alloc, 64)?;
-    assert!(rt; Path::read(alloc, longest.as_slice()).is_ok());
-    let longer = component(alloc, 65)?;
-    assert!(rt; Path::read(alloc, longer.as_slice()).is_err());
+fn long_paths(rt: HostRuntime) {
+    for (first, piece, count, last, path) in LONG {
+        let are = are_path(rt.alloc(), first, piece, count, last);
+        assert_eq!(rt; are, Some(path), "{count} of {piece}, {last}");
+    }
     assert_eq!(rt; MAX_COMPONENT_LEN, 64);
-    Ok(())
-}
-
-/// Components of one letter, twice as many bytes.
-fn deep(alloc: Global, components: usize, last: &[u8]) -> Result<Vec<u8>, Fail> {
-    let mut bytes = Vec::new(alloc);
-    for _ in 0..components {
-        bytes.push(b'/')?;
-        bytes.push(b'a')?;
-    }
-    bytes.extend_from_slice(last)?;
-    Ok(bytes)
-}
-
-#[test]
-fn long_paths(rt: HostRuntime) -> Result<(), Fail> {
-    let alloc = rt.alloc();
-    let longest = deep(alloc, 126, b"/aa")?;
-    assert!(rt; Path::read(alloc, longest.as_slice()).is_ok());
-    let longer = deep(alloc, 126, b"/aaa")?;
-    assert!(rt; Path::read(alloc, longer.as_slice()).is_err());
     assert_eq!(rt; MAX_PATH_LEN, 255);
     assert_eq!(rt; MAX_NODES, 4096);
-    Ok(())
 }

@@ -3,7 +3,7 @@
 //!
 //! `rt try --test --fail-alloc N` refuses the growth N of a test. Each test here passes whichever growth that is, and prints
 //! how many refusals it was told of: one up to the last growth that it asks for, and none from then on.
-use crate::tree::fixture::{ALICE, BOB, CAROL, Command, Step, Told, World, uid};
+use crate::tree::fixture::{A, ALICE, BOB, CAROL, Command, Step, Told, World, uid};
 use acl_examples::Refusals;
 use acl_nfs4::{Kind, read_letters};
 use acl_posix::read_perms;
@@ -18,40 +18,17 @@ const LONG: &str = "u::rw,u:1:r,u:2:r,u:3:r,u:4:r,u:5:r,u:6:r,u:7:r,u:bob:rw,g::
 const LONG4: &str =
     "A:fd:1:r,A:fd:2:r,A:fd:3:r,A:fd:4:r,A:fd:5:r,A:fd:6:r,A:fd:7:r,A:fd:8:r,A:fd:9:r";
 
-/// The examples' tree with the directory /d, which has a default list.
-fn with_d(alloc: Global) -> Option<World> {
-    let mut world = World::new(alloc, Style::Posix)?;
-    world.create(Kind::Dir, "/d", ALICE, 0o755)?;
-    world.set_default("/d", LONG)?;
-    Some(world)
-}
+/// The tree with the directory /d, which has a default list.
+const D: &[Command<'static>] = &[
+    Command::Create(Kind::Dir, "/d", ALICE, 0o755),
+    Command::SetDefault("/d", LONG),
+];
 
-/// The examples' tree with the directory /d, which has an NFSv4 list.
-fn with_nfs4(alloc: Global) -> Option<World> {
-    let mut world = World::new(alloc, Style::Posix)?;
-    world.create(Kind::Dir, "/d", ALICE, 0o755)?;
-    world.set_nfs4("/d", LONG4)?;
-    Some(world)
-}
-
-/// A tree that a test begins with.
-#[derive(Clone, Copy)]
-enum Start {
-    /// With the file /a.
-    A,
-    /// With the directory /d, which has a default list.
-    D,
-    /// With the directory /d, which has an NFSv4 list.
-    Nfs4,
-}
-
-fn begin(alloc: Global, start: Start) -> Option<World> {
-    match start {
-        Start::A => World::with_a(alloc),
-        Start::D => with_d(alloc),
-        Start::Nfs4 => with_nfs4(alloc),
-    }
-}
+/// The tree with the directory /d, which has an NFSv4 list.
+const D_NFS4: &[Command<'static>] = &[
+    Command::Create(Kind::Dir, "/d", ALICE, 0o755),
+    Command::SetNfs4("/d", LONG4),
+];
 
 /// What the command comes to, at the second attempt if the first is refused; none if a refused command changed a node or the
 /// number of nodes.
@@ -76,26 +53,40 @@ fn goes_again(world: &mut World, refusals: &mut Refusals, step: Step<'_>) -> Opt
     world.goes(step)
 }
 
-/// How many growths are refused while the command is made on the tree, if it tells this and the tree has then what the steps
-/// say.
+/// Whether the command tells this, and the tree has then what the steps say.
+fn goes_so(
+    world: &mut World,
+    refusals: &mut Refusals,
+    command: Command<'_>,
+    wanted: Told,
+    then: &[Step<'_>],
+) -> bool {
+    if again(world, refusals, command) != Some(wanted) {
+        return false;
+    }
+    for step in then {
+        if goes_again(world, refusals, *step) != Some(true) {
+            return false;
+        }
+    }
+    true
+}
+
+/// How many growths are refused while the command is made on the tree after the first ones, if all goes so.
 fn refusals_of(
     alloc: Global,
-    start: Start,
+    first: &[Command<'_>],
     command: Command<'_>,
     wanted: Told,
     then: &[Step<'_>],
 ) -> Option<u32> {
     let mut refusals = Refusals::new();
-    let mut world = refusals.again(|| begin(alloc, start))?;
-    if again(&mut world, &mut refusals, command)? != wanted {
-        return None;
+    let mut world = refusals.again(|| World::after(alloc, first))?;
+    if goes_so(&mut world, &mut refusals, command, wanted, then) {
+        Some(refusals.told())
+    } else {
+        None
     }
-    for step in then {
-        if !goes_again(&mut world, &mut refusals, *step)? {
-            return None;
-        }
-    }
-    Some(refusals.told())
 }
 
 /// Whether a copy is the path.
@@ -136,7 +127,7 @@ fn set_access_under_a_refused_growth(rt: HostRuntime) -> Result<(), Fail> {
     let command = Command::SetAccess("/a", LONG);
     let refusals = refusals_of(
         rt.alloc(),
-        Start::A,
+        A,
         command,
         Told::Done,
         &[Step::HasAccess("/a", LONG)],
@@ -148,7 +139,7 @@ fn set_access_under_a_refused_growth(rt: HostRuntime) -> Result<(), Fail> {
 #[test]
 fn set_default_under_a_refused_growth(rt: HostRuntime) -> Result<(), Fail> {
     let command = Command::SetDefault("/d", LONG);
-    let refusals = refusals_of(rt.alloc(), Start::D, command, Told::Done, &[]);
+    let refusals = refusals_of(rt.alloc(), D, command, Told::Done, &[]);
     println!(rt; "refusals: {}", refusals.ok_or("another end")?)?;
     Ok(())
 }
@@ -158,7 +149,7 @@ fn set_nfs4_under_a_refused_growth(rt: HostRuntime) -> Result<(), Fail> {
     let command = Command::SetNfs4("/d", LONG4);
     let refusals = refusals_of(
         rt.alloc(),
-        Start::D,
+        D,
         command,
         Told::Done,
         &[Step::HasAces("/d", LONG4)],
@@ -170,7 +161,7 @@ fn set_nfs4_under_a_refused_growth(rt: HostRuntime) -> Result<(), Fail> {
 #[test]
 fn chmod_under_a_refused_growth(rt: HostRuntime) -> Result<(), Fail> {
     let command = Command::Chmod("/d", 0o640);
-    let refusals = refusals_of(rt.alloc(), Start::Nfs4, command, Told::Done, &[]);
+    let refusals = refusals_of(rt.alloc(), D_NFS4, command, Told::Done, &[]);
     println!(rt; "refusals: {}", refusals.ok_or("another end")?)?;
     Ok(())
 }
@@ -178,7 +169,7 @@ fn chmod_under_a_refused_growth(rt: HostRuntime) -> Result<(), Fail> {
 #[test]
 fn create_under_a_refused_growth(rt: HostRuntime) -> Result<(), Fail> {
     let command = Command::Create(Kind::Dir, "/d", ALICE, 0o755);
-    let refusals = refusals_of(rt.alloc(), Start::A, command, Told::Done, &[Step::Has(3)]);
+    let refusals = refusals_of(rt.alloc(), A, command, Told::Done, &[Step::Has(3)]);
     println!(rt; "refusals: {}", refusals.ok_or("another end")?)?;
     Ok(())
 }
@@ -186,7 +177,7 @@ fn create_under_a_refused_growth(rt: HostRuntime) -> Result<(), Fail> {
 #[test]
 fn create_below_a_default_list_under_a_refused_growth(rt: HostRuntime) -> Result<(), Fail> {
     let command = Command::Create(Kind::Dir, "/d/e", CAROL, 0o640);
-    let refusals = refusals_of(rt.alloc(), Start::D, command, Told::Done, &[Step::Has(3)]);
+    let refusals = refusals_of(rt.alloc(), D, command, Told::Done, &[Step::Has(3)]);
     println!(rt; "refusals: {}", refusals.ok_or("another end")?)?;
     Ok(())
 }
@@ -194,13 +185,7 @@ fn create_below_a_default_list_under_a_refused_growth(rt: HostRuntime) -> Result
 #[test]
 fn create_below_an_nfsv4_list_under_a_refused_growth(rt: HostRuntime) -> Result<(), Fail> {
     let command = Command::Create(Kind::Dir, "/d/e", CAROL, 0o640);
-    let refusals = refusals_of(
-        rt.alloc(),
-        Start::Nfs4,
-        command,
-        Told::Done,
-        &[Step::Has(3)],
-    );
+    let refusals = refusals_of(rt.alloc(), D_NFS4, command, Told::Done, &[Step::Has(3)]);
     println!(rt; "refusals: {}", refusals.ok_or("another end")?)?;
     Ok(())
 }
@@ -208,7 +193,7 @@ fn create_below_an_nfsv4_list_under_a_refused_growth(rt: HostRuntime) -> Result<
 #[test]
 fn get_under_a_refused_growth(rt: HostRuntime) -> Result<(), Fail> {
     let command = Command::Get("/d");
-    let refusals = refusals_of(rt.alloc(), Start::D, command, Told::Shown, &[]);
+    let refusals = refusals_of(rt.alloc(), D, command, Told::Shown, &[]);
     println!(rt; "refusals: {}", refusals.ok_or("another end")?)?;
     Ok(())
 }
@@ -216,7 +201,7 @@ fn get_under_a_refused_growth(rt: HostRuntime) -> Result<(), Fail> {
 #[test]
 fn check_under_a_refused_growth(rt: HostRuntime) -> Result<(), Fail> {
     let command = Command::Check("/d", BOB, "r");
-    let refusals = refusals_of(rt.alloc(), Start::D, command, Told::Granted, &[]);
+    let refusals = refusals_of(rt.alloc(), D, command, Told::Granted, &[]);
     println!(rt; "refusals: {}", refusals.ok_or("another end")?)?;
     Ok(())
 }
@@ -224,7 +209,7 @@ fn check_under_a_refused_growth(rt: HostRuntime) -> Result<(), Fail> {
 #[test]
 fn check4_under_a_refused_growth(rt: HostRuntime) -> Result<(), Fail> {
     let command = Command::Check4("/d", BOB, "r");
-    let refusals = refusals_of(rt.alloc(), Start::Nfs4, command, Told::Denied, &[]);
+    let refusals = refusals_of(rt.alloc(), D_NFS4, command, Told::Denied, &[]);
     println!(rt; "refusals: {}", refusals.ok_or("another end")?)?;
     Ok(())
 }
@@ -232,7 +217,7 @@ fn check4_under_a_refused_growth(rt: HostRuntime) -> Result<(), Fail> {
 #[test]
 fn translate_under_a_refused_growth(rt: HostRuntime) -> Result<(), Fail> {
     let command = Command::Translate("/d");
-    let refusals = refusals_of(rt.alloc(), Start::D, command, Told::Translated, &[]);
+    let refusals = refusals_of(rt.alloc(), D, command, Told::Translated, &[]);
     println!(rt; "refusals: {}", refusals.ok_or("another end")?)?;
     Ok(())
 }
@@ -261,7 +246,7 @@ fn checked4(alloc: Global, world: &mut World, refusals: &mut Refusals) -> Option
 /// What the second check comes to if the first comes to anything, and how many growths were refused.
 fn both_checked(alloc: Global) -> Option<(Told, Refusals)> {
     let mut refusals = Refusals::new();
-    let mut world = refusals.again(|| with_nfs4(alloc))?;
+    let mut world = refusals.again(|| World::after(alloc, D_NFS4))?;
     checked(alloc, &mut world, &mut refusals)?;
     let told = checked4(alloc, &mut world, &mut refusals)?;
     Some((told, refusals))
