@@ -199,7 +199,3 @@ pub tag_answer-none : (tag : Tag) (acl : List Triple) (request : ℕ) → None �
 tag_answer-none tag acl request found =
     let absent : has_tag tag acl ≡ false = has_tag-perms_of tag acl ∙ ap is_some (sym found) in
     sym (ap (λ b. cond b (Some (tag_has tag acl request)) None) absent)
-
--- where there is no entry, none has the request
-pub tag_has-none : (tag : Tag) (acl : List Triple) (request : ℕ) → has_tag tag acl ≡ false → tag_has tag acl request ≡ false
-tag_has-none tag acl request none = list_any-none_and (λ entry. same_tag entry.tag tag) (λ entry. has_all entry.perms request) acl none

@@ -16,7 +16,8 @@ pub mod ShapeLemmas
 pub mod StepFaults
 pub mod PieceFaultLemmas
 pub mod ReadLemmas
-pub mod CanonicalRules
 pub mod FrontLemmas
 pub mod CopyLemmas
+pub mod EndLemmas
+pub mod KeyLemmas
 pub mod TakeLemmas

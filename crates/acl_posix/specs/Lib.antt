@@ -3,6 +3,7 @@ pub mod Entry
 pub mod Entries
 pub mod Validity
 pub mod Canonical
+pub mod Keys
 pub mod InOrder
 pub mod Access
 pub mod Kinds

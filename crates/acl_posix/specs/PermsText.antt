@@ -14,7 +14,7 @@ abbrev pub is_perms_text : List ℕ → Bool
 is_perms_text text = nat_le 1 (length text) && nat_le (length text) 3 && list_all is_perms_byte text
     && not (repeats letter_r text) && not (repeats letter_w text) && not (repeats letter_x text)
 
--- the permissions to read, to write and to execute, of which there are these
+-- the set with exactly the permissions whose flag is true
 abbrev pub perms_with : Bool → Bool → Bool → ℕ
 perms_with read write execute = (if read then 4 else 0) ∪ (if write then 2 else 0) ∪ (if execute then 1 else 0)
 

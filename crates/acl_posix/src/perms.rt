@@ -136,7 +136,7 @@ fn read_letters(text: &[u8]) -> Option<Perms>
     Some(perms_with(occurs(text, b'r'), occurs(text, b'w'), occurs(text, b'x')))
 }
 
-/// The permissions to read, to write and to execute, of which there are these.
+/// The set with exactly the permissions whose flag is true.
 fn perms_with(read: bool, write: bool, execute: bool) -> Perms
     ensures value { bits_of result ≡ perms_with read write execute }
     ensures permissions { IsPermissions (bits_of result) }

@@ -19,8 +19,8 @@ use std::mem;
 
 impl Acl {
     /// Appends the entries in canonical order, one per line: `tag:qualifier:perms`, with the full tag word, the name of a
-    /// qualifier where the directory has one, else its decimal, and three characters of permissions. For want of memory
-    /// `out` is as it was; it runs out only where `out` has no room for `MAX_LINE` bytes an entry.
+    /// qualifier if the directory has one, else its decimal, and three characters of permissions. If memory runs out,
+    /// `out` is as it was; that happens only if `out` has no room for `MAX_LINE` bytes an entry.
     pub fn print_long(&self, directory: &Directory, out: &mut Vec<u8>) -> Result<(), AllocError>
         ensures text { OnOk result (out.new.items ≡ out.old.items ++ long_text directory.now self.now) }
         ensures unchanged { OnErr result (out.new.items ≡ out.old.items) }
@@ -31,8 +31,9 @@ impl Acl {
         print_lines(self.entries(), None, directory, out)
     }
 
-    /// Appends the same text, but where the mask removes something from an entry, a tab, `#effective:` and three characters
-    /// stand before the newline. For want of memory `out` is as it was; it runs out only as there.
+    /// Appends the same text, but if the mask removes something from an entry, a tab, `#effective:` and three characters
+    /// stand before the newline. If memory runs out, `out` is as it was; that happens only if `out` has no room for `MAX_LINE`
+    /// bytes an entry.
     pub fn print_effective(
         &self,
         directory: &Directory,
@@ -49,8 +50,8 @@ impl Acl {
         print_lines(self.entries(), self.mask(), directory, out)
     }
 
-    /// Appends the text of `print_effective` with `default:` before each line: how a directory's default list is shown. For
-    /// want of memory `out` is as it was; it runs out only where `out` has no room for `MAX_DEFAULT_LINE` bytes an entry.
+    /// Appends the text of `print_effective` with `default:` before each line: how a directory's default list is shown. If
+    /// memory runs out, `out` is as it was; that happens only if `out` has no room for `MAX_DEFAULT_LINE` bytes an entry.
     pub fn print_default(&self, directory: &Directory, out: &mut Vec<u8>) -> Result<(), AllocError>
         ensures text { OnOk result (out.new.items
             ≡ out.old.items ++ default_text directory.now (perms_of Tag.Mask self.now) self.now) }

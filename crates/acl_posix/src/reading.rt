@@ -88,7 +88,7 @@ impl<'a> PieceReader for EntryReader<'a> {
 /// one of the shapes of the long text form (1003.1e draft 17, section 23), with blanks round the fields.
 ///
 /// It refuses a text for its first piece that is no entry, `Syntax` or `UnknownName`, or that is one too many, before that
-/// piece is read; and for want of memory, even where a fault further on isn't yet found. A text of no entries is none.
+/// piece is read; and if memory runs out, even if a fault further on isn't yet found. A text of no entries is none.
 pub fn read_entries(alloc: Global, text: &[u8], directory: &Directory) -> Result<Entries, TextFault>
     ensures read { IfOk result (λ entries. Spells (entry_of directory.now) MAX_ENTRIES text.now entries) }
     ensures fault { IfErr result (IsTextFault directory.now text.now) }

@@ -27,27 +27,47 @@ impl Acl {
         ensures any_order { (entries : List Triple) → IsPermutation self.now entries
             → result ≡ grants entries owner group requester.now (bits_of request) }
     {
+        self.decide(owner, group, requester, request)
+    }
+
+    /// The same, step by step.
+    #[inline(always)]
+    fn decide(&self, owner: Uid, group: Gid, requester: &Requester, request: Perms) -> bool
+        ensures valid { IsValid self.now }
+        ensures value { result ≡ grants self.now owner group requester.now (bits_of request) }
+    {
         let uid = requester.uid();
         if uid == owner {
-            return self.tag_has(Tag::UserObj, request);
+            return self.first_has(request);
         }
         match self.user_answer(uid, request) {
             Some(answer) => answer,
             None => match self.group_answer(requester, group, request) {
                 Some(answer) => answer,
-                None => self.tag_has(Tag::Other, request),
+                None => self.last_has(request),
             },
         }
     }
 
-    /// Whether the entry with the tag has all of the request; none has where there is no such entry.
-    fn tag_has(&self, tag: Tag, request: Perms) -> bool
+    /// Whether the owner's entry, which is the first, has all of the request.
+    fn first_has(&self, request: Perms) -> bool
         ensures valid { IsValid self.now }
-        ensures value { result ≡ tag_has tag self.now (bits_of request) }
+        ensures value { result ≡ tag_has Tag.UserObj self.now (bits_of request) }
     {
-        match self.tag_answer(tag, request) {
-            Some(has) => has,
-            None => false,
+        match self.entries() {
+            [first, ..] => first.perms.contains(request),
+            [] => false,
+        }
+    }
+
+    /// Whether the others' entry, which is the last, has all of the request.
+    fn last_has(&self, request: Perms) -> bool
+        ensures valid { IsValid self.now }
+        ensures value { result ≡ tag_has Tag.Other self.now (bits_of request) }
+    {
+        match self.entries() {
+            [.., last] => last.perms.contains(request),
+            [] => false,
         }
     }
 

@@ -119,8 +119,8 @@ impl Acl {
     }
 
     /// The access control list of a new file with this mode, under a default access control list (1003.1e draft 17, section
-    /// 23): the default list, its entries for the owner, the group class and the others met with the mode's bits. `Err` is
-    /// want of memory, of which up to 8 entries take none.
+    /// 23): the default list, its entries for the owner, the group class and the others met with the mode's bits. Fails
+    /// only if memory runs out, and not up to 8 entries.
     pub fn at_creation(alloc: Global, default: &Acl, mode: Mode) -> Result<Acl, AllocError>
         ensures value { IfOk result (λ acl. acl ≡ at_creation default.now mode) }
         ensures short { length default.now ≤ 8 → IsOk result }
@@ -145,7 +145,7 @@ impl Acl {
         all
     }
 
-    /// The same list. It has no other refusal than want of memory, and takes none for up to 8 entries.
+    /// The same list. It fails only if memory runs out, and not up to 8 entries.
     pub fn try_clone(&self, alloc: Global) -> Result<Acl, AllocError>
         ensures value { IfOk result (λ acl. acl ≡ self.now) }
         ensures short { length self.now ≤ 8 → IsOk result }

@@ -7,17 +7,17 @@ use Rattle.acl_posix.proofs.CopyLemmas.{copy_is}
 use Rattle.acl_posix.proofs.InOrderLemmas.{precedes}
 use Rattle.acl_posix.proofs.InsertLemmas.{copy_with, parted}
 use Rattle.acl_posix.proofs.entries.keep_sorted.Goals as goal
-use Rattle.acl_posix.proofs.entries.keep_sorted.Goals.{then-is_empty+else-stays_in_order+in_ok-from_slice, else-is_empty}
+use Rattle.acl_posix.proofs.entries.keep_sorted.Goals.{then-is_empty+else-stays_in_order+in_ok-copy, else-is_empty}
 
 pub returns-clause-ok : goal.returns-clause-ok
 returns-clause-ok c =
     let entries = c.args.entries.now in
     let copy = c.if-is_empty.copy.items in
     let is : IsPermutation entries copy × IsSortedByKey tag_of tag_cmp copy = elim c.if-is_empty.branch [
-      | then-is_empty+else-stays_in_order+in_ok-from_slice w ↦ rw w.copy-is (search (rules, w.sorted.ensures.permutation), w.sorted.ensures.sorted)
+      | then-is_empty+else-stays_in_order+in_ok-copy w ↦ rw w.copy-is w.in_ok-copy.ensures
       | else-is_empty w ↦
           let some : (length c.args.copy.now.items == 0) ≡ false = rw c.as_slice.ensures.value at (sym c.is_empty.ensures ∙ w.if-is_empty.false) in
-          rw w.copy-is (copy_is entries c.args.copy.now.items c.requires some)
+          rw w.copy-is (copy_is entries c.args.copy.now.items c.requires.copy some)
     ] in
     let place = c.partition_point-place.result in
     let before : Triple → Bool = λ other. precedes other c.args.entry in
