@@ -1,7 +1,5 @@
 -- All rounds serve each session whole.
-use Rattle.std.specs.Prelude.{◌≡◌, ℕ, zero, suc, ◌+◌, ◌<◌, List, [], ◌∷◌, ◌++◌, map, take, drop, refl, if◌then◌else◌}
-use Rattle.std.proofs.Common.{ap, ◌∙◌, subst, arith, get_or, append-nil}
-use Rattle.std.proofs.lemmas.Bool.{eq-eqb, ne_eqb}
+use Rattle.std.proofs.Common.{ap, ◌∙◌, subst, arith, get_or, append-nil, ◌≡◌, ℕ, zero, suc, ◌+◌, ◌<◌, List, [], ◌∷◌, ◌++◌, map, take, drop, refl, if◌then◌else◌, eq-eqb, ne_eqb}
 use Rattle.acl_broker.specs.Journal.{items_from}
 use Rattle.acl_broker.proofs.Journals.{items_from-append}
 use Rattle.acl_runs.specs.Rounds.{entries_of, heads, rounds}

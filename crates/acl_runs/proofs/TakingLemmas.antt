@@ -1,7 +1,5 @@
 -- The taker from step to step.
-use Rattle.std.specs.Prelude.{◌≡◌, ◌≢◌, ℕ, ◌-◌, ◌<◌, ◌≤◌, Bool, true, false, length, refl, Ok, Err, nat_eq}
-use Rattle.std.proofs.Common.{ap, sym, ◌∙◌, subst, arith, get_or, inl, inr}
-use Rattle.std.proofs.Math.ListN.{length-set}
+use Rattle.std.proofs.Common.{ap, sym, ◌∙◌, subst, arith, get_or, inl, inr, ◌≡◌, ◌≢◌, ℕ, ◌-◌, ◌<◌, ◌≤◌, Bool, true, false, length, refl, Ok, Err, nat_eq, length-set, List, Option}
 use Rattle.std.proofs.lemmas.List.{get_or-set_same, get_or-set_other, get_or_default}
 use Rattle.std.proofs.lemmas.Bool.Decides.{leb_tells}
 use Rattle.acl_broker.specs.Ends.{KeepEnds}
@@ -10,7 +8,7 @@ use Rattle.acl_broker.specs.Takers.{TakerState, Keeps, StillKeeps, AppendsOne, A
 use Rattle.acl_broker.specs.declared.taker_side.TakerSide.{TakerSide}
 use Rattle.acl_broker.specs.declared.steps.TakeRefused.{TakeRefused}
 use Rattle.acl_broker.specs.declared.steps.TakeRefused.TheVariants.{UnknownSession}
-use Rattle.acl_runs.specs.Taking.{IsLimited, TakesOn, CountsDown, LastFails}
+use Rattle.acl_runs.specs.Taking.{IsLimited, AreLimited, TakesOn, CountsDown, LastFails}
 use Rattle.acl_runs.specs.declared.limits.Limits.{Limits}
 use Rattle.acl_runs.proofs.LimitLemmas.{ok_isnt_err, OwesMore, owes_more, refused_made, delivered_made, limited_same, limited_more, limited_fewer, limited_over, limits_by}
 
@@ -37,6 +35,27 @@ inside_of sessions session place unknown = elim (leb_tells sessions session) [
   | inr inside ↦ inside.1
 ]
 
+module _ {I R : Type 0} (is_error : R → Bool) where
+  -- nothing is counted, and the session's limit holds on
+  counts_stay : (limits : Limits) (session : ℕ) (old new : List (TakerSide I R)) → SameExceptAt session old new
+      → ((allowed left : ℕ) (side : TakerSide I R) → session < length old → IsLimited is_error allowed left (get_or old session side) → IsLimited is_error allowed left (get_or new session side))
+      → (limit : Option ℕ) → AreLimited is_error limit limits old → AreLimited is_error limit limits new
+  counts_stay limits session old new others here limit = limits_by is_error limit limits limits session old new others
+      (λ allowed left side below count. (refl, λ other d differs. refl, here allowed (get_or limits.left.items session left) side below)) (λ past. refl)
+
+  -- an error of the session is counted, and its limit holds on with what is left
+  counts_down : (limits limits' : Limits) (session : ℕ) (last : Bool) (old new : List (TakerSide I R)) → CountsDown session limits last limits' → session < length old → SameExceptAt session old new
+      → ((allowed left : ℕ) (side : TakerSide I R) → nat_eq (left - 1) 0 ≡ last → IsLimited is_error allowed left (get_or old session side) → IsLimited is_error allowed (left - 1) (get_or new session side))
+      → (limit : Option ℕ) → AreLimited is_error limit limits old → AreLimited is_error limit limits' new
+  counts_down limits limits' session last old new counts inside others here limit = limits_by is_error limit limits limits' session old new others
+      (λ allowed left side below count.
+      let one = counted limits limits' session left last counts (omega (arith, below, count)) in (
+        one.0,
+        one.1,
+        λ limited. subst (λ n. IsLimited is_error allowed n (get_or new session side)) (sym one.2) (here allowed (get_or limits.left.items session left) side (sym one.3) limited),
+      ))
+      (λ past. absurd (omega (arith, past, inside)))
+
 module _ {State I R : Type 0} (next : State → I → State) (reply : State → I → R) (is_error : R → Bool) where
   pub takes_on_then : (a b c : TakerState State I R) (p q r : Limits) → TakesOn next reply is_error a p b q → TakesOn next reply is_error b q c r → TakesOn next reply is_error a p c r
   takes_on_then a b c p q r first second = record {
@@ -50,14 +69,10 @@ module _ {State I R : Type 0} (next : State → I → State) (reply : State → 
   takes_on_refused old new limits session why pairs keeps moves others = record {
     pairs = pairs;
     keeps = keeps;
-    limits = λ opening limit kept limited. limits_by is_error limit limits limits session old.sides new.sides others
-        (λ allowed left side below count. (
-          refl,
-          λ other d differs. refl,
-          limited_same is_error allowed (get_or limits.left.items session left) (get_or old.sides session side) (get_or new.sides session side)
-              (refused_made (Err why) why (get_or old.sides session side) (get_or new.sides session side) refl (moves side below)),
-        ))
-        (λ past. refl) limited;
+    limits = λ opening limit kept. counts_stay is_error limits session old.sides new.sides others
+        (λ allowed left side below. limited_same is_error allowed left (get_or old.sides session side) (get_or new.sides session side)
+        (refused_made (Err why) why (get_or old.sides session side) (get_or new.sides session side) refl (moves side below)))
+        limit;
   }
 
   -- a delivery
@@ -65,14 +80,10 @@ module _ {State I R : Type 0} (next : State → I → State) (reply : State → 
   takes_on_delivered old new limits session delivered pairs keeps moves others = record {
     pairs = pairs;
     keeps = keeps;
-    limits = λ opening limit kept limited. limits_by is_error limit limits limits session old.sides new.sides others
-        (λ allowed left side below count. (
-          refl,
-          λ other d differs. refl,
-          limited_same is_error allowed (get_or limits.left.items session left) (get_or old.sides session side) (get_or new.sides session side)
-              (delivered_made delivered (get_or old.sides session side) (get_or new.sides session side) (moves side below)),
-        ))
-        (λ past. refl) limited;
+    limits = λ opening limit kept. counts_stay is_error limits session old.sides new.sides others
+        (λ allowed left side below. limited_same is_error allowed left (get_or old.sides session side) (get_or new.sides session side)
+        (delivered_made delivered (get_or old.sides session side) (get_or new.sides session side) (moves side below)))
+        limit;
   }
 
   module _ (old new : TakerState State I R) (limits : Limits) (session place : ℕ) (inside : session < length old.sides) (pairs : KeepEnds old.sides new.sides) (keeps : StillKeeps next reply old new) (appends : AppendsOne session old.journal new.journal) (moves : At session old.sides new.sides (TakeMoves (Ok place))) (others : SameExceptAt session old.sides new.sides) (failed : Bool) (last_fails : Of session new.sides (λ side. LastFails is_error failed (outbox side))) where
@@ -93,14 +104,10 @@ module _ {State I R : Type 0} (next : State → I → State) (reply : State → 
     takes_on_fine fine = record {
       pairs = pairs;
       keeps = keeps;
-      limits = λ opening limit kept limited. limits_by is_error limit limits limits session old.sides new.sides others
-          (λ allowed left side below count. (
-            refl,
-            λ other d differs. refl,
-            limited_more is_error allowed (get_or limits.left.items session left) (get_or old.sides session side) (get_or new.sides session side)
-                (more_of opening side kept) (moves side inside).2 (live_then side) (fails_so opening side kept ∙ fine),
-          ))
-          (λ past. refl) limited;
+      limits = λ opening limit kept. counts_stay is_error limits session old.sides new.sides others
+          (λ allowed left side below. limited_more is_error allowed left (get_or old.sides session side) (get_or new.sides session side)
+          (more_of opening side kept) (moves side inside).2 (live_then side) (fails_so opening side kept ∙ fine))
+          limit;
     }
 
     -- one whose answer is an error, but not the last one allowed
@@ -108,16 +115,10 @@ module _ {State I R : Type 0} (next : State → I → State) (reply : State → 
     takes_on_fewer limits' last fails counts not_last = record {
       pairs = pairs;
       keeps = keeps;
-      limits = λ opening limit kept limited. limits_by is_error limit limits limits' session old.sides new.sides others
-          (λ allowed left side below count.
-          let one = counted limits limits' session left last counts (omega (arith, below, count)) in (
-            one.0,
-            one.1,
-            λ limited. subst (λ n. IsLimited is_error allowed n (get_or new.sides session side)) (sym one.2)
-                (limited_fewer is_error allowed (get_or limits.left.items session left) (get_or old.sides session side) (get_or new.sides session side)
-                (more_of opening side kept) (moves side inside).2 (live_then side) (fails_so opening side kept ∙ fails) (sym one.3 ∙ not_last) limited),
-          ))
-          (λ past. absurd (omega (arith, past, inside))) limited;
+      limits = λ opening limit kept. counts_down is_error limits limits' session last old.sides new.sides counts inside others
+          (λ allowed left side is. limited_fewer is_error allowed left (get_or old.sides session side) (get_or new.sides session side)
+          (more_of opening side kept) (moves side inside).2 (live_then side) (fails_so opening side kept ∙ fails) (is ∙ not_last))
+          limit;
     }
 
     -- one whose answer is the last error allowed, after which the session is cancelled
@@ -126,15 +127,9 @@ module _ {State I R : Type 0} (next : State → I → State) (reply : State → 
     takes_on_over limits' last after fails counts is_last pairs' keeps' cancels others' = record {
       pairs = λ ends are. pairs' ends (pairs ends are);
       keeps = λ opening kept. keeps' opening (keeps opening kept);
-      limits = λ opening limit kept limited. limits_by is_error limit limits limits' session old.sides after.sides
+      limits = λ opening limit kept. counts_down is_error limits limits' session last old.sides after.sides counts inside
           (others'.0 ∙ others.0, λ other d differs. others'.1 other d differs ∙ others.1 other d differs)
-          (λ allowed left side below count.
-          let one = counted limits limits' session left last counts (omega (arith, below, count)) in (
-            one.0,
-            one.1,
-            λ limited. subst (λ n. IsLimited is_error allowed n (get_or after.sides session side)) (sym one.2)
-                (limited_over is_error allowed (get_or limits.left.items session left) (get_or old.sides session side) (get_or new.sides session side) (get_or after.sides session side)
-                (more_of opening side kept) (moves side inside).2 (fails_so opening side kept ∙ fails) (sym one.3 ∙ is_last) (cancels side (omega (arith, inside, others.0))) limited),
-          ))
-          (λ past. absurd (omega (arith, past, inside))) limited;
+          (λ allowed left side is. limited_over is_error allowed left (get_or old.sides session side) (get_or new.sides session side) (get_or after.sides session side)
+          (more_of opening side kept) (moves side inside).2 (fails_so opening side kept ∙ fails) (is ∙ is_last) (cancels side (omega (arith, inside, others.0))))
+          limit;
     }

@@ -1,7 +1,5 @@
 -- A session from step to step.
-use Rattle.std.specs.Prelude.{◌≡◌, ◌⊎◌, ℕ, ◌+◌, ◌-◌, Bool, true, false, List, [], ◌∷◌, ◌++◌, length, map, refl, Option, Some, None, if◌then◌else◌}
-use Rattle.std.specs.List.{filter, flat_map}
-use Rattle.std.proofs.Common.{ap, sym, ◌∙◌, subst, append-nil, append_assoc, arith, length-append, inl, inr}
+use Rattle.std.proofs.Common.{ap, sym, ◌∙◌, subst, append-nil, append_assoc, arith, length-append, inl, inr, ◌≡◌, ◌⊎◌, ℕ, ◌+◌, ◌-◌, Bool, true, false, List, [], ◌∷◌, ◌++◌, length, map, refl, Option, Some, None, if◌then◌else◌, filter, flat_map}
 use Rattle.std.proofs.lemmas.List.Elements.{filter-append}
 use Rattle.std.proofs.lemmas.Grind.{flat_map-append}
 use Rattle.std.specs.Bool.{OnFalse}
@@ -64,9 +62,6 @@ module _ {R K : Type 0} (text : R → List ℕ) (is_error : R → Bool) (keep : 
   less_over false left left' over is = is ∙ over
 
   module _ {I : Type 0} where
-    pub goes_on_none : (end : End I R) (printed : Printed K) → GoesOn text is_error keep end printed [] end printed
-    goes_on_none end printed = record { stays = λ session taker is. is; sent = sym (append-nil (sent_by end)); prints = λ limit has. has; over = λ over. over }
-
     pub goes_on_then : (a b c : End I R) (p q r : Printed K) (items : List I) → GoesOn text is_error keep a p [] b q → GoesOn text is_error keep b q items c r → GoesOn text is_error keep a p items c r
     goes_on_then a b c p q r items first second = record {
       stays = λ session taker is. second.stays session taker (first.stays session taker is);
@@ -101,9 +96,6 @@ module _ {R K : Type 0} (text : R → List ℕ) (is_error : R → Bool) (keep : 
     }
 
     -- on to the next request
-    pub advances_none : (end : End I R) (printed : Printed K) (wanted : List I) → Advances text is_error keep end printed wanted end printed wanted
-    advances_none end printed wanted = record { stays = λ session taker is. is; sent = refl; prints = λ limit has. has }
-
     pub advances_then : (a b c : End I R) (p q r : Printed K) (wanted rest rest' items : List I) → Advances text is_error keep a p wanted b q rest → rest ≡ items ++ rest' → GoesOn text is_error keep b q items c r → Advances text is_error keep a p wanted c r rest'
     advances_then a b c p q r wanted rest rest' items first next second = record {
       stays = λ session taker is. second.stays session taker (first.stays session taker is);

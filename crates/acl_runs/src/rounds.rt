@@ -13,7 +13,8 @@ use std::alloc::{AllocError, Global};
 use turns::take_rounds;
 
 /// Serves all sessions on this thread, a request of each in turn: the first of each, then the second of each that has one,
-/// and so on, in the order of the sessions. The only fault is want of memory.
+/// and so on, in the order of the sessions. There are fewer than 2^32 sessions, each of fewer than 2^32 requests. The only
+/// fault is `Memory`; the journal, the answers and the service are dropped then.
 pub fn serve_in_rounds<P, S, C>(
     alloc: Global,
     replies: &P,

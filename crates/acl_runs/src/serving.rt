@@ -19,7 +19,11 @@ use std::time::Clock;
 /// Serves each session by a worker in a thread of its own, while this thread takes the requests of all into one journal and
 /// delivers the answers. A worker asks the gate before it submits a request, and tells it of each answer that it has printed.
 ///
-/// With so many errors allowed, a session is cancelled at its last one: no request of it enters the journal after that.
+/// With `max_errors` of K, a session is cancelled at its K-th error: no request of it enters the journal after that.
+///
+/// There are 1 to `SESSIONS` sessions, each of fewer than 2^32 requests, and an error limit is at least 1. On a fault all workers
+/// are joined, and the journal, the answers and the service are dropped: `Memory`, `GateStopped` or `ThreadRefused`; if several
+/// arise, any one of them.
 pub fn serve_sessions<R, G, P, S, C>(
     rt: &R,
     alloc: Global,

@@ -1,8 +1,7 @@
-use Rattle.std.proofs.Common.{map}
+use Rattle.std.proofs.Common.{map, None}
 use Rattle.acl_runs.specs.RunReport.{IsReport}
 use Rattle.acl_runs.specs.Rounds.{AreRounds}
 use Rattle.acl_runs.specs.RoundsState.{IsReported}
-use Rattle.std.proofs.Common.{None}
 use Rattle.acl_runs.proofs.RoundsReportLemmas.{are_rounds, is_report, all_rest, if_ok}
 use Rattle.acl_runs.proofs.rounds.serve_at_most.Goals as goal
 
