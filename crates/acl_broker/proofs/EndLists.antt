@@ -1,6 +1,5 @@
 -- Ends that come back one by one, as the list that `rejoin` asks for.
-use Rattle.std.specs.Prelude.{◌≡◌, ℕ, ◌<◌, List, [], ◌∷◌, ◌++◌, length, refl, Option, Some, option_to_list}
-use Rattle.std.proofs.Common.{ap, sym, ◌∙◌, arith, subst, get_or, inl, inr, length-append}
+use Rattle.std.proofs.Common.{ap, sym, ◌∙◌, arith, subst, get_or, inl, inr, length-append, ◌≡◌, ℕ, ◌<◌, List, [], ◌∷◌, ◌++◌, length, refl, Option, Some, option_to_list}
 use Rattle.std.proofs.lemmas.Bool.Decides.{eqb_tells}
 use Rattle.std.proofs.lemmas.List.{get_or_append_left, get_or_push, nil_from_length}
 use Rattle.acl_broker.specs.Ends.{IsEndOf, AreEndsOf, AreFirstEndsOf, StaysEndOf}

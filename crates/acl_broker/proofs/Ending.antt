@@ -1,6 +1,5 @@
 -- A session whose end mark was popped has closed.
-use Rattle.std.specs.Prelude.{◌≡◌, true, List, ◌++◌, refl}
-use Rattle.std.proofs.Common.{ap, sym, ◌∙◌, get_or}
+use Rattle.std.proofs.Common.{ap, sym, ◌∙◌, get_or, ◌≡◌, true, List, ◌++◌, refl}
 use Rattle.std.proofs.lemmas.Bool.{both_ways}
 use Rattle.rtrb.specs.Ring as ring
 use Rattle.acl_broker.specs.Entries.{items_of, has_end_mark}

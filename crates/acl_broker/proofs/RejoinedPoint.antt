@@ -1,7 +1,5 @@
 -- The point at which a broker stands that is rejoined, made of its taker and its ends.
-use Rattle.std.specs.Prelude.{◌≡◌, ℕ, zero, suc, ◌<◌, ◌≤◌, Bool, true, false, List, [], ◌∷◌, length, map, refl, if◌then◌else◌, ◌||◌}
-use Rattle.std.proofs.Common.{ap, ◌∙◌, subst, arith, get_or, inl, inr}
-use Rattle.std.proofs.lemmas.Bool.{eq-eqb, ne_eqb}
+use Rattle.std.proofs.Common.{ap, ◌∙◌, subst, arith, get_or, inl, inr, ◌≡◌, ℕ, zero, suc, ◌<◌, ◌≤◌, Bool, true, false, List, [], ◌∷◌, length, map, refl, if◌then◌else◌, ◌||◌, eq-eqb, ne_eqb}
 use Rattle.std.proofs.lemmas.Bool.Decides.{eqb_tells}
 use Rattle.std.proofs.lemmas.List.{get_or-map}
 use Rattle.acl_broker.specs.Points.{Point, is_among}

@@ -4,7 +4,9 @@ use crate::{ClosedEnd, Refused, SessionEnd, SubmitRefusal, TakerSide, lane};
 /// The end of a session, which may go to a thread of its own.
 #[derive(Drop)]
 pub enum End<I, R> {
+    /// An end that may submit.
     Open(SessionEnd<I, R>),
+    /// An end that submits no more, and still polls.
     Closed(ClosedEnd<I, R>),
 }
 

@@ -8,8 +8,8 @@ use crate::{ClosedEnd, SessionSide};
 
 /// The end of an open session. It may go to a thread of its own. No call waits.
 ///
-/// What it knows is told by two counts: `spare`, how many submits are sure to be accepted, and `due`, how many answers
-/// are sure to be there. Other calls may succeed or not, as the taker goes on.
+/// Two counts bound what it can do: at least `spare` submits will be accepted, and at least `due` answers are there.
+/// Other calls may succeed or not, as the taker goes on.
 #[derive(Drop)]
 pub struct SessionEnd<I, R> {
     pub(crate) session: u32,
