@@ -10,7 +10,7 @@ use Rattle.acl_names.proofs.BitSets.{has-above}
 use Rattle.acl_posix.specs.Entry.{Triple}
 use Rattle.acl_posix.specs.Validity.{IsValid}
 use Rattle.acl_posix.specs.declared.entry.Tag.{Tag}
-use Rattle.acl_posix.specs.declared.entry.Tag.TheVariants.{UserObj, User, GroupObj, Group, Mask, Other}
+use Rattle.acl_posix.specs.declared.entry.Tag.TheVariants.{UserObj}
 use Rattle.acl_nfs4.specs.Ace.{Nfsace4}
 use Rattle.acl_names.specs.Asker.{identity_of}
 use Rattle.acl_nfs4.specs.Comparison.{needed_uid, asker_for, decided_by}

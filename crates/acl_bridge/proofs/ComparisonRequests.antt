@@ -1,12 +1,10 @@
 -- A request as one bit: the list that lets read whom a list grants the request.
-use Rattle.std.proofs.Common.{◌≡◌, ◌≤◌, ◌^◌, ◌⊎◌, inl, inr, ℕ, zero, suc, Bool, true, false, cond, ◌||◌, refl, sym, ap, ap₂, subst, ◌∙◌, List, [], ◌∷◌, Some, length, arith}
-use Rattle.std.specs.Prelude.{◌==◌, map, find, option_map}
+use Rattle.std.proofs.Common.{◌≡◌, ◌≤◌, ◌^◌, ◌⊎◌, inl, inr, ℕ, zero, suc, Bool, true, false, cond, ◌||◌, refl, sym, ap, ap₂, subst, ◌∙◌, List, [], ◌∷◌, Some, length, arith, ◌==◌, map, find, option_map, true≢false}
 use Rattle.std.specs.List.{filter, list_any}
 use Rattle.acl_names.specs.Bits.{has, has_all, ◌∩◌}
 use Rattle.acl_names.specs.Requester.{Identity}
 use Rattle.acl_names.proofs.AnyLemmas.{list_any-map, list_any-agree}
 use Rattle.acl_names.proofs.BitSets.{has-above}
-use Rattle.std.proofs.lemmas.Bool.{true≢false}
 use Rattle.acl_posix.specs.Access.{effective_perms, deciding_set, first_nonempty, is_for_group_of, is_under_mask, masked, grants}
 use Rattle.acl_posix.specs.Entry.{Triple, same_tag, entries_of, perms_of, is_named}
 use Rattle.acl_posix.specs.Validity.{IsValid, count_of}

@@ -1,6 +1,5 @@
 -- What is inherited from the translation of a default list.
-use Rattle.std.proofs.Common.{◌≡◌, ℕ, refl, sym, ap, ◌∙◌, subst, List, [], ◌∷◌, ap₂, Some}
-use Rattle.std.specs.Prelude.{map}
+use Rattle.std.proofs.Common.{◌≡◌, ℕ, refl, sym, ap, ◌∙◌, subst, List, [], ◌∷◌, ap₂, Some, map}
 use Rattle.std.specs.List.{All, cons_option}
 use Rattle.std.proofs.lemmas.List.Elements.{All-head, All-tail}
 use Rattle.acl_names.specs.Bits.{has, without}
@@ -12,9 +11,9 @@ use Rattle.acl_nfs4.specs.declared.ace.AceType.{AceType}
 use Rattle.acl_nfs4.specs.declared.inheritance.Kind.{Kind}
 use Rattle.acl_nfs4.specs.declared.inheritance.Kind.TheVariants.{File, Dir}
 use Rattle.acl_nfs4.specs.declared.who.Who.{Who}
-use Rattle.acl_nfs4.specs.declared.who.Who.TheVariants.{Owner, Group, Everyone, User, NamedGroup}
 use Rattle.acl_bridge.specs.Translation.{translation, default_translation, with_flags, handed_down, handed_on}
 use Rattle.acl_bridge.proofs.PassLemmas.{All-translation, bare}
+use Rattle.acl_nfs4.proofs.AceLemmas.{by_flags_of_who}
 
 -- an entry has no flag but what its who asks for
 abbrev IsPlain : Nfsace4 → Type 0
@@ -28,21 +27,15 @@ file_takes : (kind : AceType) (who : Who) (mask : ℕ)
     → inherited_entry File (with_flags handed_down (bare kind who mask))
     ≡ Some (bare kind who mask)
 unfolding has without
-file_takes kind Owner mask = refl
-file_takes kind Group mask = refl
-file_takes kind Everyone mask = refl
-file_takes kind (User uid) mask = refl
-file_takes kind (NamedGroup gid) mask = refl
+file_takes kind who mask =
+    by_flags_of_who (λ flags. let ace : Nfsace4 = record { kind = kind; flags = flags; who = who; mask = mask } in inherited_entry File (with_flags handed_down ace) ≡ Some ace) refl refl who
 
 directory_takes : (kind : AceType) (who : Who) (mask : ℕ)
     → inherited_entry Dir (with_flags handed_down (bare kind who mask))
     ≡ Some (with_flags handed_on (bare kind who mask))
 unfolding has without
-directory_takes kind Owner mask = refl
-directory_takes kind Group mask = refl
-directory_takes kind Everyone mask = refl
-directory_takes kind (User uid) mask = refl
-directory_takes kind (NamedGroup gid) mask = refl
+directory_takes kind who mask =
+    by_flags_of_who (λ flags. let ace : Nfsace4 = record { kind = kind; flags = flags; who = who; mask = mask } in inherited_entry Dir (with_flags handed_down ace) ≡ Some (with_flags handed_on ace)) refl refl who
 
 inherited_list-handed_down : (kind : Kind) (taken : Nfsace4 → Nfsace4)
     → ((k : AceType) (who : Who) (mask : ℕ)

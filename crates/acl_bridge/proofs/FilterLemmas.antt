@@ -1,8 +1,5 @@
 -- Lists that are filtered.
-use Rattle.std.proofs.Common.{◌≡◌, ◌+◌, ◌≤◌, Bool, true, false, cond, ◌&&◌, refl, sym, ap, ◌∙◌, List, [], ◌∷◌, length, arith, ap₂, Some}
-use Rattle.std.specs.Prelude.{find}
-use Rattle.std.specs.List.{All, filter, count_by}
-use Rattle.std.proofs.lemmas.Bool.{true≢false}
+use Rattle.std.proofs.Common.{◌≡◌, ◌+◌, ◌≤◌, Bool, true, false, cond, ◌&&◌, refl, sym, ap, ◌∙◌, List, [], ◌∷◌, length, arith, ap₂, Some, find, All, filter, count_by, true≢false}
 use Rattle.std.proofs.lemmas.List.Elements.{All-head, All-tail}
 use Rattle.acl_names.proofs.Counting.{count_by-cons}
 

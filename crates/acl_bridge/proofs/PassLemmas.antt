@@ -1,8 +1,5 @@
 -- What the passes make.
-use Rattle.std.proofs.Common.{◌≡◌, ℕ, suc, ◌≤◌, Bool, true, false, cond, ◌||◌, ◌<◌, refl, sym, ap, ◌∙◌, ap₂, subst, List, [], ◌∷◌, ◌++◌, length, get_or, drop, ◌+◌, append-nil, length-append, arith}
-use Rattle.std.proofs.Math.Seq.{drop-cons}
-use Rattle.std.specs.Prelude.{flat_map, ◌==◌, Result, Ok, Err, IfOk}
-use Rattle.std.specs.List.{All}
+use Rattle.std.proofs.Common.{◌≡◌, ℕ, suc, ◌^◌, ◌≤◌, Bool, true, false, cond, ◌||◌, ◌<◌, refl, sym, ap, ◌∙◌, ap₂, subst, List, [], ◌∷◌, ◌++◌, length, get_or, drop, ◌+◌, append-nil, length-append, arith, drop-cons, flat_map, ◌==◌, Result, Ok, Err, IfOk, All}
 use Rattle.std.proofs.lemmas.List.Elements.{All-nil, All-cons, All-head, All-tail, All-append, All-filter}
 use Rattle.acl_names.specs.Bits.{has, without, ◌∩◌, ◌∪◌}
 use Rattle.acl_names.proofs.AnyLemmas.{or_false}
@@ -10,14 +7,13 @@ use Rattle.acl_names.proofs.BitSets.{has-or, has-zero, same_bits}
 use Rattle.acl_posix.specs.Access.{effective_perms}
 use Rattle.acl_posix.specs.Entry.{Triple}
 use Rattle.acl_nfs4.specs.Ace.{Nfsace4, ace_of, flags_for, is_idle, plain, unless_empty}
-use Rattle.acl_nfs4.specs.Flags.{all_flags}
+use Rattle.acl_nfs4.specs.Flags.{all_flags, identifier_group}
 use Rattle.acl_nfs4.specs.Mask.{all_masks, mask_of, rest_of}
 use Rattle.acl_nfs4.specs.Who.{flags_of_who}
 use Rattle.acl_nfs4.proofs.ListLemmas.{drop-here}
 use Rattle.acl_nfs4.specs.declared.ace.AceType.{AceType}
 use Rattle.acl_nfs4.specs.declared.ace.AceType.TheVariants.{Allow, Deny}
 use Rattle.acl_nfs4.specs.declared.who.Who.{Who}
-use Rattle.acl_nfs4.specs.declared.who.Who.TheVariants.{Owner, Group, Everyone, User, NamedGroup}
 use Rattle.acl_bridge.specs.Effects.{flags_of, with_effect}
 use Rattle.acl_bridge.specs.Translation.{who_of, is_in, in_class, made_for, made_by, made_by_pass, passes, translation, with_flags}
 use Rattle.acl_bridge.specs.declared.passes.Class.{Class}
@@ -25,6 +21,7 @@ use Rattle.acl_bridge.specs.declared.passes.Part.{Part}
 use Rattle.acl_bridge.specs.declared.passes.Part.TheVariants.{Allowed, Denied, Settled}
 use Rattle.acl_bridge.specs.declared.passes.Effect.{Effect}
 use Rattle.acl_bridge.specs.declared.passes.Effect.TheVariants.{Here, Below}
+use Rattle.acl_nfs4.proofs.AceLemmas.{by_flags_of_who}
 
 -- ---- one entry
 
@@ -34,16 +31,8 @@ bare kind who mask = record { kind = kind; flags = flags_of_who who; who = who; 
 
 flags_for-effect : (effect : Effect) (who : Who) → flags_for who (flags_of effect ∩ all_flags) ≡ flags_of_who who ∪ flags_of effect
 unfolding without
-flags_for-effect Here Owner = refl
-flags_for-effect Here Group = refl
-flags_for-effect Here Everyone = refl
-flags_for-effect Here (User uid) = refl
-flags_for-effect Here (NamedGroup gid) = refl
-flags_for-effect Below Owner = refl
-flags_for-effect Below Group = refl
-flags_for-effect Below Everyone = refl
-flags_for-effect Below (User uid) = refl
-flags_for-effect Below (NamedGroup gid) = refl
+flags_for-effect Here = by_flags_of_who (λ flags. without (flags_of Here ∩ all_flags) (2 ^ identifier_group) ∪ flags ≡ flags ∪ flags_of Here) refl refl
+flags_for-effect Below = by_flags_of_who (λ flags. without (flags_of Below ∩ all_flags) (2 ^ identifier_group) ∪ flags ≡ flags ∪ flags_of Below) refl refl
 
 pub ace_of-effect : (kind : AceType) (effect : Effect) (who : Who) (mask flags : ℕ) → flags ≡ flags_of effect → mask ∩ all_masks ≡ mask
     → ace_of kind flags who mask ≡ with_flags (flags_of effect) (bare kind who mask)
@@ -54,16 +43,8 @@ ace_of-effect kind effect who mask flags is known =
 pub is_idle-effect : (kind : AceType) (effect : Effect) (who : Who) (mask : ℕ)
     → is_idle (with_flags (flags_of effect) (bare kind who mask)) ≡ false
 unfolding has
-is_idle-effect kind Here Owner mask = refl
-is_idle-effect kind Here Group mask = refl
-is_idle-effect kind Here Everyone mask = refl
-is_idle-effect kind Here (User uid) mask = refl
-is_idle-effect kind Here (NamedGroup gid) mask = refl
-is_idle-effect kind Below Owner mask = refl
-is_idle-effect kind Below Group mask = refl
-is_idle-effect kind Below Everyone mask = refl
-is_idle-effect kind Below (User uid) mask = refl
-is_idle-effect kind Below (NamedGroup gid) mask = refl
+is_idle-effect kind Here who mask = by_flags_of_who (λ flags. is_idle (with_flags (flags_of Here) (record { kind = kind; flags = flags; who = who; mask = mask })) ≡ false) refl refl who
+is_idle-effect kind Below who mask = by_flags_of_who (λ flags. is_idle (with_flags (flags_of Below) (record { kind = kind; flags = flags; who = who; mask = mask })) ≡ false) refl refl who
 
 -- an entry is left out where its mask is empty, and else stands
 pub plain-empty : (kind : AceType) (who : Who) (mask : ℕ) → (mask == 0) ≡ true → plain kind who mask ≡ []

@@ -1,6 +1,5 @@
 -- How many entries a translation has.
-use Rattle.std.proofs.Common.{◌≡◌, ℕ, ◌+◌, ◌*◌, ◌≤◌, Bool, true, false, cond, ◌==◌, refl, List, [], ◌∷◌, length, length-append, arith, inl, inr}
-use Rattle.std.specs.Prelude.{flat_map}
+use Rattle.std.proofs.Common.{◌≡◌, ℕ, ◌+◌, ◌*◌, ◌≤◌, Bool, true, false, cond, ◌==◌, refl, List, [], ◌∷◌, length, length-append, arith, inl, inr, flat_map}
 use Rattle.std.proofs.lemmas.Bool.{cases_Bool, or_parts}
 use Rattle.std.proofs.lemmas.List.Concat.{length-flat_map}
 use Rattle.acl_names.proofs.Counting.{count_by-cons}

@@ -1,8 +1,6 @@
 -- The mode that a translation shows.
-use Rattle.std.proofs.Common.{◌≡◌, ℕ, ◌<◌, Bool, true, false, cond, ◌&&◌, refl, sym, ap, ◌∙◌, List, [], ◌∷◌, arith, Option, Some, None, option_map, unwrap_or}
-use Rattle.std.specs.Prelude.{find}
+use Rattle.std.proofs.Common.{◌≡◌, ℕ, ◌<◌, Bool, true, false, cond, ◌&&◌, refl, sym, ap, ◌∙◌, List, [], ◌∷◌, arith, Option, Some, None, option_map, unwrap_or, find, true≢false}
 use Rattle.std.specs.List.{filter, list_any}
-use Rattle.std.proofs.lemmas.Bool.{true≢false}
 use Rattle.std.proofs.lemmas.Nat.{and_le_l}
 use Rattle.acl_names.specs.Bits.{has}
 use Rattle.acl_names.proofs.AnyLemmas.{or_false}
@@ -87,9 +85,17 @@ module _ (acl : List Triple) (valid : IsValid acl) (small : HavePermissions acl)
   -- a class of the mode has no named user
   no_named : (class : Who) → ((uid : ℕ) → of_class class (whos.User uid) ≡ false) → (tag : Tag) → is_in Users tag ≡ true
       → of_class class (who_of tag) ≡ true → same_tag tag UserObj ≡ true
-  no_named class other UserObj is applies = refl
   no_named class other (User uid) is applies = absurd (true≢false (sym applies ∙ other uid))
   no_named class other _ is applies = absurd (true≢false (sym is))
+
+  -- a class of the mode that none of these entries stands for
+  not_owner : (class : Who) → of_class class whos.Owner ≡ false → (tag : Tag) → (is_in Owner tag && of_class class (who_of tag)) ≡ false
+  not_owner class other UserObj = other
+  not_owner class other _ = refl
+
+  not_named : (class : Who) → ((uid : ℕ) → of_class class (whos.User uid) ≡ false) → (tag : Tag) → (is_in Users tag && of_class class (who_of tag)) ≡ false
+  not_named class other (User uid) = other uid
+  not_named class other _ = refl
 
   shown_to_owner : shown_to (of_class whos.Owner) (translation acl) ≡ perms_at UserObj acl
   shown_to_owner =
@@ -105,19 +111,10 @@ module _ (acl : List Triple) (valid : IsValid acl) (small : HavePermissions acl)
   shown_to_group =
       shown_by_one whos.Group GroupObj valid.group_obj (no_named whos.Group (λ uid. refl))
       (λ entry one.
-      pass_over _ _ (none_of whos.Group Owner no_owner)
-      ∙ pass_over _ _ (none_of whos.Group Users none_named)
+      pass_over _ _ (none_of whos.Group Owner (not_owner whos.Group refl))
+      ∙ pass_over _ _ (none_of whos.Group Users (not_named whos.Group (λ uid. refl)))
       ∙ stop_at _ _ entry (all_of whos.Group Groups (λ tag. same_tag tag GroupObj) the_group ∙ one))
     where
-      no_owner : (tag : Tag) → (is_in Owner tag && of_class whos.Group (who_of tag)) ≡ false
-      no_owner UserObj = refl
-      no_owner _ = refl
-
-      none_named : (tag : Tag) → (is_in Users tag && of_class whos.Group (who_of tag)) ≡ false
-      none_named (User uid) = refl
-      none_named UserObj = refl
-      none_named _ = refl
-
       the_group : (tag : Tag) → (is_in Groups tag && of_class whos.Group (who_of tag)) ≡ same_tag tag GroupObj
       the_group GroupObj = refl
       the_group (Group gid) = refl
@@ -127,20 +124,11 @@ module _ (acl : List Triple) (valid : IsValid acl) (small : HavePermissions acl)
   shown_to_everyone =
       shown_by_one whos.Everyone Other valid.other (no_named whos.Everyone (λ uid. refl))
       (λ entry one.
-      pass_over _ _ (none_of whos.Everyone Owner no_owner)
-      ∙ pass_over _ _ (none_of whos.Everyone Users none_named)
+      pass_over _ _ (none_of whos.Everyone Owner (not_owner whos.Everyone refl))
+      ∙ pass_over _ _ (none_of whos.Everyone Users (not_named whos.Everyone (λ uid. refl)))
       ∙ pass_over _ _ (none_of whos.Everyone Groups no_group)
       ∙ stop_at _ _ entry (all_of whos.Everyone Others (λ tag. same_tag tag Other) the_other ∙ one))
     where
-      no_owner : (tag : Tag) → (is_in Owner tag && of_class whos.Everyone (who_of tag)) ≡ false
-      no_owner UserObj = refl
-      no_owner _ = refl
-
-      none_named : (tag : Tag) → (is_in Users tag && of_class whos.Everyone (who_of tag)) ≡ false
-      none_named (User uid) = refl
-      none_named UserObj = refl
-      none_named _ = refl
-
       no_group : (tag : Tag) → (is_in Groups tag && of_class whos.Everyone (who_of tag)) ≡ false
       no_group GroupObj = refl
       no_group (Group gid) = refl

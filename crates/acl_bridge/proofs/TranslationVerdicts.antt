@@ -1,6 +1,5 @@
 -- The translation's verdict on a bit of the mode, class by class.
-use Rattle.std.proofs.Common.{◌≡◌, ℕ, ◌≤◌, Bool, true, false, cond, not, ◌&&◌, ◌||◌, refl, sym, ap, ◌∙◌, List, [], ◌∷◌, Option, Some, None, length, arith, ap₂, map, drop}
-use Rattle.std.specs.Prelude.{unwrap_or, flat_map}
+use Rattle.std.proofs.Common.{◌≡◌, ℕ, ◌≤◌, Bool, true, false, cond, not, ◌&&◌, ◌||◌, refl, sym, ap, ◌∙◌, List, [], ◌∷◌, Option, Some, None, length, arith, ap₂, map, drop, unwrap_or, flat_map}
 use Rattle.std.specs.List.{filter, list_any}
 use Rattle.acl_names.specs.Bits.{has}
 use Rattle.acl_names.proofs.AnyLemmas.{list_any-filter, or_false}

@@ -1,6 +1,5 @@
 -- A POSIX access control list (1003.1e draft 17, section 23) as an NFSv4 one (RFC 8881, section 6.2).
-use Rattle.std.specs.Prelude.{ℕ, Bool, true, false, ◌+◌, ◌^◌, List, [], ◌∷◌, ◌++◌, map, flat_map}
-use Rattle.std.specs.List.{filter}
+use Rattle.std.specs.Prelude.{ℕ, Bool, true, false, ◌+◌, ◌^◌, List, [], ◌∷◌, ◌++◌, map, flat_map, filter}
 use Rattle.acl_names.specs.Bits.{◌∪◌}
 use Rattle.acl_posix.specs.Access.{effective_perms}
 use Rattle.acl_posix.specs.Entry.{Triple}

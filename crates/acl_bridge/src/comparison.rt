@@ -18,7 +18,7 @@ fn mode_bits() -> Mask
     mask_of(Perms::READ | Perms::WRITE | Perms::EXECUTE)
 }
 
-/// The bits by which permissions are told, one for each.
+/// The bits that stand for permissions, one for each.
 pub(crate) fn permission_bits() -> Mask
     ensures { mask_bits result ≡ permission_bits }
 {
@@ -29,14 +29,14 @@ pub(crate) fn permission_bits() -> Mask
 fn translated(alloc: Global, acl: &Acl) -> Result<Acl4, AllocError>
     ensures { IfOk result (DecidesEachBit acl.now) }
 {
-    // A list tells that it is valid where its entries are looked at.
+    // For the proof only: calling a reader brings the invariant of `acl` into scope.
     let _entries = acl.entries();
     translate(alloc, acl)
 }
 
 /// What a POSIX list and an NFSv4 list decide differently for a file of this owner and this group, of the bits that stand for
 /// permissions: none exactly where each of them is decided for every requester as its permission alone is; else someone in
-/// at most two groups, with what only the one and what only the other grants. It is refused only for want of memory.
+/// at most two groups, with what only the one and what only the other grants. It fails only if memory runs out.
 pub fn difference_from_posix(
     alloc: Global,
     acl: &Acl,
@@ -54,7 +54,7 @@ pub fn difference_from_posix(
 /// What two POSIX lists decide differently for a file of this owner and this group, of the permissions one by one: none
 /// exactly where each is granted to the same requesters, of whatever uid and groups; else someone in at most two groups, with
 /// what only the one and what only the other grants. One bit stands for each permission: READ_DATA, WRITE_DATA and EXECUTE. It
-/// is refused only for want of memory.
+/// fails only if memory runs out.
 pub fn posix_difference(
     alloc: Global,
     first: &Acl,

@@ -120,7 +120,7 @@ fn rest_of(perms: Perms) -> Mask
     all.symmetric_difference(all.intersection(mask_of(perms)))
 }
 
-/// Puts an entry behind the others. There is room for it, so that it is refused only for want of memory.
+/// Puts an entry behind the others. The list may have one more, so that it fails only if memory runs out.
 fn push(aces: &mut Acl4, ace: Ace) -> Result<(), AllocError>
     requires room { length aces.old < MAX_ACES }
     requires effective { is_idle ace ≡ false }

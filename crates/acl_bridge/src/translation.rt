@@ -34,7 +34,7 @@ fn translation_for(alloc: Global, acl: &Acl, effect: Effect) -> Result<Acl4, All
 /// write or execute, where to write is `WRITE_DATA` with `APPEND_DATA`. Each entry allows what it has under the mask and
 /// denies the rest, with flags none but the group's own: the owner's, the users' by id, the file's group's with the groups'
 /// by id, which deny only once all of them have allowed, and the others', which only allow. Empty entries are left out. It
-/// is refused only for want of memory.
+/// fails only if memory runs out.
 pub fn translate(alloc: Global, acl: &Acl) -> Result<Acl4, AllocError>
     ensures list { IfOk result (λ aces. aces ≡ translation acl.now) }
     ensures no_memory { length acl.now ≤ 8 → IsOk result }
@@ -47,8 +47,8 @@ pub fn translate(alloc: Global, acl: &Acl) -> Result<Acl4, AllocError>
 }
 
 /// A default list as an NFSv4 list: its translation, with `FILE_INHERIT`, `DIRECTORY_INHERIT` and `INHERIT_ONLY` on each
-/// entry. It takes no effect on the directory itself; what is made there inherits the translation. It is refused only for
-/// want of memory.
+/// entry. It takes no effect on the directory itself; what is made there inherits the translation. It fails only if
+/// memory runs out.
 pub fn translate_default(alloc: Global, acl: &Acl) -> Result<Acl4, AllocError>
     ensures list { IfOk result (λ aces. aces ≡ default_translation acl.now) }
     ensures no_memory { length acl.now ≤ 8 → IsOk result }

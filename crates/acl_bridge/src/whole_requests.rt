@@ -26,7 +26,7 @@ fn whole_requests() -> [Perms; 4]
     ]
 }
 
-/// The bits by which a request is told.
+/// The bits that stand for a request.
 fn told_by(request: Perms) -> Mask
     ensures { mask_bits result ≡ told_by (bits_of request) }
 {
@@ -90,7 +90,7 @@ fn first_difference(
 /// permission: none exactly where each is granted as a whole to the same requesters, of whatever uid and groups; else someone
 /// in at most two groups, who loses or gains the first that isn't, in the order rw, rx, wx, rwx. Lists that decide each single
 /// permission alike may differ so, since one entry has to grant the whole of a request. One bit stands for each permission:
-/// READ_DATA, WRITE_DATA and EXECUTE. It is refused only for want of memory.
+/// READ_DATA, WRITE_DATA and EXECUTE. It fails only if memory runs out.
 pub fn whole_request_difference(
     alloc: Global,
     first: &Acl,

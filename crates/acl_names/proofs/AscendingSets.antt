@@ -1,8 +1,7 @@
 -- A list that ascends by its keys is known by the set of its members.
-use Rattle.std.proofs.Common.{◌≡◌, ◌∙◌, ◌⊎◌, zero, suc, Ordering, List, [], ◌∷◌, refl, sym, subst, ap, arith, inl, inr}
+use Rattle.std.proofs.Common.{◌≡◌, ◌∙◌, ◌⊎◌, zero, suc, Ordering, List, [], ◌∷◌, refl, sym, subst, ap, arith, inl, inr, Contains}
 use Rattle.std.specs.declared.cmp.Ordering.TheVariants.{Less}
 use Rattle.std.specs.Cmp.{IsTotalOrder}
-use Rattle.std.specs.List.{Contains}
 use Rattle.std.specs.Ordering.{ordering_reverse}
 use Rattle.acl_names.specs.Ascending.{IsAscending}
 

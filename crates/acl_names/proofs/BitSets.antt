@@ -1,46 +1,30 @@
 -- Sets of bits: what the operations leave of a bit, and sets with the same bits.
-use Rattle.std.proofs.Common.{◌≡◌, ℕ, zero, suc, ◌+◌, ◌^◌, ◌<◌, ◌≤◌, min, max, false, not, ◌&&◌, ◌||◌, refl, sym, ap, ◌∙◌, arith}
+use Rattle.std.proofs.Common.{◌≡◌, ℕ, zero, suc, ◌+◌, ◌^◌, ◌<◌, ◌≤◌, min, max, false, not, ◌&&◌, ◌||◌, refl, sym, ap, ◌∙◌, arith, bit_and, bit_or, ◌%◌, ◌==◌, true≢false}
 use Rattle.std.specs.Int.{bit_at}
-use Rattle.std.specs.Prelude.{bit_and, bit_or, ◌%◌, ◌==◌}
 use Rattle.std.proofs.lemmas.Nat.Bits.{bit_at_and, bit_at_or, bit_at_xor, bit_at-lt, bit_at-zero, same_from_bits, bit_at_above}
-use Rattle.std.proofs.lemmas.Bool.{true≢false}
 use Rattle.acl_names.specs.Bits.{has, without}
 
+-- what holds of each two digits
+of_digits : (P : ℕ → ℕ → Type 0) → P 0 0 → P 0 1 → P 1 0 → P 1 1 → (x y : ℕ) → x < 2 → y < 2 → P x y
+of_digits P a b c d zero zero p q = a
+of_digits P a b c d zero (suc zero) p q = b
+of_digits P a b c d (suc zero) zero p q = c
+of_digits P a b c d (suc zero) (suc zero) p q = d
+of_digits P a b c d (suc (suc x)) y p q = absurd (omega arith)
+of_digits P a b c d zero (suc (suc y)) p q = absurd (omega arith)
+of_digits P a b c d (suc zero) (suc (suc y)) p q = absurd (omega arith)
+
 one_of_min : (x y : ℕ) → x < 2 → y < 2 → (min x y == 1) ≡ ((x == 1) && (y == 1))
-one_of_min zero zero p q = refl
-one_of_min zero (suc zero) p q = refl
-one_of_min (suc zero) zero p q = refl
-one_of_min (suc zero) (suc zero) p q = refl
-one_of_min (suc (suc x)) y p q = absurd (omega arith)
-one_of_min zero (suc (suc y)) p q = absurd (omega arith)
-one_of_min (suc zero) (suc (suc y)) p q = absurd (omega arith)
+one_of_min = of_digits (λ x y. (min x y == 1) ≡ ((x == 1) && (y == 1))) refl refl refl refl
 
 one_of_max : (x y : ℕ) → x < 2 → y < 2 → (max x y == 1) ≡ ((x == 1) || (y == 1))
-one_of_max zero zero p q = refl
-one_of_max zero (suc zero) p q = refl
-one_of_max (suc zero) zero p q = refl
-one_of_max (suc zero) (suc zero) p q = refl
-one_of_max (suc (suc x)) y p q = absurd (omega arith)
-one_of_max zero (suc (suc y)) p q = absurd (omega arith)
-one_of_max (suc zero) (suc (suc y)) p q = absurd (omega arith)
+one_of_max = of_digits (λ x y. (max x y == 1) ≡ ((x == 1) || (y == 1))) refl refl refl refl
 
 one_of_difference : (x y : ℕ) → x < 2 → y < 2 → ((x + min x y) % 2 == 1) ≡ ((x == 1) && not (y == 1))
-one_of_difference zero zero p q = refl
-one_of_difference zero (suc zero) p q = refl
-one_of_difference (suc zero) zero p q = refl
-one_of_difference (suc zero) (suc zero) p q = refl
-one_of_difference (suc (suc x)) y p q = absurd (omega arith)
-one_of_difference zero (suc (suc y)) p q = absurd (omega arith)
-one_of_difference (suc zero) (suc (suc y)) p q = absurd (omega arith)
+one_of_difference = of_digits (λ x y. ((x + min x y) % 2 == 1) ≡ ((x == 1) && not (y == 1))) refl refl refl refl
 
 same_digit : (x y : ℕ) → x < 2 → y < 2 → (x == 1) ≡ (y == 1) → x ≡ y
-same_digit zero zero p q e = refl
-same_digit zero (suc zero) p q e = absurd (true≢false (sym e))
-same_digit (suc zero) zero p q e = absurd (true≢false e)
-same_digit (suc zero) (suc zero) p q e = refl
-same_digit (suc (suc x)) y p q e = absurd (omega arith)
-same_digit zero (suc (suc y)) p q e = absurd (omega arith)
-same_digit (suc zero) (suc (suc y)) p q e = absurd (omega arith)
+same_digit = of_digits (λ x y. (x == 1) ≡ (y == 1) → x ≡ y) (λ e. refl) (λ e. absurd (true≢false (sym e))) (λ e. absurd (true≢false e)) (λ e. refl)
 
 pub has-and : (a b k : ℕ) → has (bit_and a b) k ≡ (has a k && has b k)
 unfolding has

@@ -1,12 +1,8 @@
 -- The order of the users and of the groups plays no part in what is wrong with them and in what is found.
-use Rattle.std.proofs.Common.{◌≡◌, ◌∙◌, ℕ, ◌==◌, Bool, true, false, cond, not, nat_lt, nat_eq, ◌||◌, ◌<◌, Option, Some, None, List, [], length, get_or, arith, refl, sym, ap, inl, inr, find, option_map, is_none}
+use Rattle.std.proofs.Common.{◌≡◌, ◌∙◌, ℕ, ◌==◌, Bool, true, false, cond, not, nat_lt, nat_eq, ◌||◌, ◌<◌, Option, Some, None, List, [], length, get_or, arith, refl, sym, ap, inl, inr, find, option_map, is_none, IsPermutation, Result, Ok, Err, IsOk, nat_cmp, bytes_eq}
 use Rattle.std.specs.Cmp.Lexicographic.{slice_cmp}
 use Rattle.std.specs.List.{Contains, list_any, filter_map, slice_get}
-use Rattle.std.specs.List.Sorted.{IsPermutation}
 use Rattle.std.specs.Option.{option_and_then, option_map_or}
-use Rattle.std.specs.Prelude.{Result, Ok, Err, IsOk}
-use Rattle.std.specs.Ordering.{nat_cmp}
-use Rattle.std.specs.Str.{bytes_eq}
 use Rattle.std.proofs.lemmas.Bool.{or_parts}
 use Rattle.std.proofs.lemmas.Bool.Decides.{Decides-eqb}
 use Rattle.std.proofs.lemmas.Slice.Eq.{bytes_eq-Decides}

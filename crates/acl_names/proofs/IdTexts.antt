@@ -1,8 +1,7 @@
 -- What is printed of an id is read as that id.
-use Rattle.std.proofs.Common.{Bor, sym, option_map, IfSome, ◌≡◌, ℕ, ◌≤◌, ◌<◌, Bool, true, false, ◌&&◌, cond, nat_le, List, [], ◌∷◌, length, Option, option_and_then, Some, None, unwrap_or, get_or, lit<, inl, inr, refl, ap, ◌∙◌, arith, decimal}
+use Rattle.std.proofs.Common.{Bor, sym, option_map, IfSome, ◌≡◌, ℕ, ◌≤◌, ◌<◌, Bool, true, false, ◌&&◌, cond, nat_le, List, [], ◌∷◌, length, Option, option_and_then, Some, None, unwrap_or, get_or, lit<, inl, inr, refl, ap, ◌∙◌, arith, decimal, IsUtf8}
 use Rattle.std.specs.List.{All, list_all}
 use Rattle.std.specs.Char.{is_ascii_digit}
-use Rattle.std.specs.Str.{IsUtf8}
 use Rattle.std.proofs.lemmas.Str.{IsUtf8-from_ascii}
 use Rattle.std.proofs.lemmas.List.{get_or_past}
 use Rattle.std.proofs.lemmas.List.Elements.{All-weaker}

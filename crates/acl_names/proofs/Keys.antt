@@ -1,8 +1,6 @@
 -- The keys by which members are sorted: names and ids.
-use Rattle.std.proofs.Common.{◌≡◌, ℕ, ◌==◌, List, sym, arith}
+use Rattle.std.proofs.Common.{◌≡◌, ℕ, ◌==◌, List, sym, arith, is_eq, nat_cmp, bytes_eq}
 use Rattle.std.specs.Cmp.Lexicographic.{slice_cmp}
-use Rattle.std.specs.Ordering.{is_eq, nat_cmp}
-use Rattle.std.specs.Str.{bytes_eq}
 use Rattle.std.proofs.lemmas.Bool.Decides.{nat_tests}
 use Rattle.std.proofs.lemmas.Map.Text.{is_eq-slice_cmp}
 

@@ -1,8 +1,5 @@
 -- A text of plain pieces, between which a comma or a newline stands, read piece by piece.
-use Rattle.std.proofs.Common.{◌≡◌, ℕ, ◌==◌, ◌<◌, true, false, List, [], ◌∷◌, ◌++◌, length, map, length-append, get_or, take, drop, ◌-◌, Result, refl, sym, ap, ◌∙◌, append_assoc, arith}
-use Rattle.std.specs.List.{flat_map}
-use Rattle.std.proofs.lemmas.Bool.{eqb-true}
-use Rattle.std.proofs.lemmas.List.{append-nil, take_all}
+use Rattle.std.proofs.Common.{◌≡◌, ℕ, ◌==◌, ◌<◌, true, false, List, [], ◌∷◌, ◌++◌, length, map, length-append, get_or, take, drop, ◌-◌, Result, refl, sym, ap, ◌∙◌, append_assoc, arith, flat_map, eqb-true, append-nil, take_all}
 use Rattle.std.proofs.lemmas.List.Elements.{All-nil, All-cons, All-append}
 use Rattle.std.proofs.lemmas.List.Splits.{slice_split_at, slice_split_none}
 use Rattle.acl_names.specs.Bytes.{newline, hash, comma}

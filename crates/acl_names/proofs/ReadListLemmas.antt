@@ -1,9 +1,8 @@
 -- Texts that are read one by one, up to a limit: what is read, what is said, and what is spelt.
-use Rattle.std.proofs.Common.{◌≡◌, ◌∙◌, ◌+◌, ◌-◌, ◌<◌, ◌≤◌, ◌++◌, ◌∷◌, [], ℕ, List, Ok, Err, true, false, ltb, ap, ap₂, refl, subst, sym, length, length-append, map, take, drop, get_or, suc, arith}
+use Rattle.std.proofs.Common.{◌≡◌, ◌∙◌, ◌+◌, ◌-◌, ◌<◌, ◌≤◌, ◌++◌, ◌∷◌, [], ℕ, List, Ok, Err, true, false, ltb, ap, ap₂, refl, subst, sym, length, length-append, map, take, drop, get_or, suc, arith, Result, if◌then◌else◌}
 use Rattle.std.proofs.lemmas.List.{take_all, take-append-drop, length-map}
 use Rattle.std.proofs.Math.Seq.{drop-cons, take-append-add, take-append_seam}
 use Rattle.std.proofs.lemmas.Bool.Decides.{nat_tests}
-use Rattle.std.specs.Prelude.{Result, if◌then◌else◌}
 use Rattle.acl_names.specs.ListText.{IsFaultOf, Say, Spells}
 use Rattle.acl_names.specs.Pieces.{pieces}
 use Rattle.acl_names.specs.ReadList.{at_most_read, each_read}

@@ -1,6 +1,5 @@
 -- Reading step by step: what a value that is read says of each step.
-use Rattle.std.proofs.Common.{◌≡◌, ◌⊎◌, ℕ, Bool, true, false, cond, nat_le, List, Option, Some, None, Result, Ok, Err, refl, ap, ◌∙◌, inl, inr}
-use Rattle.std.specs.Prelude.{is_none, if◌then◌else◌}
+use Rattle.std.proofs.Common.{◌≡◌, ◌⊎◌, ℕ, Bool, true, false, cond, nat_le, List, Option, Some, None, Result, Ok, Err, refl, ap, ◌∙◌, inl, inr, is_none, if◌then◌else◌}
 use Rattle.acl_names.specs.declared.limits.TheConstants.{MAX_ID}
 use Rattle.acl_names.specs.Ids.{Written, Number, Name, number_or_name, has_name_shape, resolved}
 use Rattle.acl_names.specs.Steps.{◌>>=◌, or_fault}

@@ -1,8 +1,7 @@
 -- The users and groups that there are, what is asked of them, and which lists make a directory.
-use Rattle.std.specs.Prelude.{◌≡◌, ℕ, Bool, true, ◌==◌, ◌||◌, not, nat_lt, nat_eq, List, [], ◌∷◌, length, Option, Some, None, is_none, map, option_map, if◌then◌else◌}
+use Rattle.std.specs.Prelude.{◌≡◌, ℕ, Bool, true, ◌==◌, ◌||◌, not, nat_lt, nat_eq, List, [], ◌∷◌, length, Option, Some, None, is_none, map, option_map, if◌then◌else◌, bytes_eq}
 use Rattle.std.specs.List.{find, filter_map, list_any}
 use Rattle.std.specs.Option.{option_and_then, option_map_or}
-use Rattle.std.specs.Str.{bytes_eq}
 use Rattle.std.specs.Cmp.Lexicographic.{slice_cmp}
 use Rattle.std.specs.Ordering.{nat_cmp}
 use Rattle.acl_names.specs.Ascending.{repeats, IsAscending}
@@ -108,7 +107,7 @@ fault_of known =
     else (if repeats_id known then Some RepeatedId
     else (if has_unknown_group known then Some UnknownGroup else None))))
 
--- the lists are refused for the first thing that is wrong with them, and for want of memory only where nothing is
+-- the lists are refused for the first thing that is wrong with them, and as out of memory only if nothing is
 abbrev pub IsRefusedFor : Known → SetupFault → Type 0
 IsRefusedFor known Memory = fault_of known ≡ None
 IsRefusedFor known fault = fault_of known ≡ Some fault

@@ -36,8 +36,8 @@ impl Asker {
         is_gid(self.gid, gid) || is_gid(self.other_gid, gid)
     }
 
-    /// The same user with the same groups, to be asked about wherever a requester is wanted. It is refused only for want of
-    /// memory.
+    /// The same user with the same groups, to be asked about wherever a requester is wanted. It fails only if memory runs
+    /// out.
     pub fn requester(&self, alloc: Global) -> Result<Requester, AllocError>
         ensures { IfOk result (λ requester. requester ≡ identity_of self.now) }
     {

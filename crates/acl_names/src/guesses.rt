@@ -72,8 +72,8 @@ fn guessed<'a, T: Named>(members: &'a [T], guesses: &[u16], hash: u64, name: &[u
     }
 }
 
-/// What stands before the first separator, if it isn't longer than a name, and its hash, by which a directory finds who has the
-/// name; and what stands behind the separator.
+/// What stands before the first separator, its hash for `uid_by_hash` and `gid_by_hash`, and what stands after the separator.
+/// `None` if there is no separator within the first `MAX_NAME_LEN` + 1 bytes.
 pub fn split_name(separator: u8, text: &[u8]) -> Option<(&[u8], u64, &[u8])>
     ensures parts { IfSome result (λ found. text.now ≡ found.0.now ++ separator ∷ found.2.now) }
     ensures first { IfSome result (λ found. list_any (λ x. x == separator) found.0.now ≡ false) }

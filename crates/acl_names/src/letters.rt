@@ -57,8 +57,8 @@ fn bits_of_letter(table: &[Letter], letter: u8) -> u32
     bits
 }
 
-/// Appends the letters of the bits that are set, in the order of the table. `Err` is want of memory, only where `out` has no
-/// room for them; the letters that found room stand in `out` then.
+/// Appends the letters of the bits that are set, in the order of the table. If memory runs out, the letters that found room
+/// stand in `out`; that happens only if `out` has no room for all of them.
 #[tactic(auto, using(crate::proofs::LettersAgain::letters_again))]
 pub fn push_letters(table: &[Letter], bits: u32, out: &mut Vec<u8>) -> Result<(), AllocError>
     ensures text { OnOk result (out.new.items ≡ out.old.items ++ letters_text table.now bits) }

@@ -10,8 +10,8 @@ use crate::uid::Uid;
 use itoa::Buffer;
 use std::alloc::AllocError;
 
-/// Appends the name, or the decimal of an id that has none. `Err` is want of memory, only where `out` has no room for that;
-/// what `out` held still stands in front then.
+/// Appends the name, or the decimal of an id that has none. If memory runs out, what `out` held still stands in front; that
+/// happens only if `out` has no room for the text.
 pub fn push_id(name: Option<&str>, id: u32, out: &mut Vec<u8>) -> Result<(), AllocError>
     ensures text { OnOk result (out.new.items ≡ out.old.items ++ unwrap_or (option_map (λ bytes. bytes.now) name.entry) (decimal id)) }
     ensures kept { take (length out.old.items) out.new.items ≡ out.old.items }
@@ -25,7 +25,8 @@ pub fn push_id(name: Option<&str>, id: u32, out: &mut Vec<u8>) -> Result<(), All
     }
 }
 
-/// Appends the name, or the decimal of an id that has none, where `out` has room for it.
+/// Appends the name, or the decimal of an id that has none. `out` must have room for `MAX_NAME_LEN` bytes, and the name be no
+/// longer.
 #[inline(always)]
 pub fn put_id(name: Option<&str>, id: u32, out: &mut Vec<u8>)
     requires room { vec_len out.old + MAX_NAME_LEN ≤ vec_capacity out.old }
@@ -40,7 +41,7 @@ pub fn put_id(name: Option<&str>, id: u32, out: &mut Vec<u8>)
     }
 }
 
-/// Appends the bytes, where `out` has room for them.
+/// Appends the bytes, for which `out` must have room.
 #[inline(always)]
 pub fn put_bytes(bytes: &[u8], out: &mut Vec<u8>)
     requires { vec_len out.old + length bytes.now ≤ vec_capacity out.old }
@@ -53,7 +54,7 @@ pub fn put_bytes(bytes: &[u8], out: &mut Vec<u8>)
     }
 }
 
-/// Appends the decimal, where `out` has room for it.
+/// Appends the decimal. `out` must have room for `MAX_DIGITS` bytes.
 #[inline(always)]
 pub fn put_decimal(number: u32, out: &mut Vec<u8>)
     requires { vec_len out.old + MAX_DIGITS ≤ vec_capacity out.old }
@@ -136,7 +137,7 @@ impl Directory {
     ghost use Rattle.acl_names.specs.Directory.{group_name, user_name};
     ghost use Rattle.acl_names.specs.Ids.{id_text};
 
-    /// Appends the name of the user with this uid, or the decimal where none has one, where `out` has room for `MAX_NAME_LEN`
+    /// Appends the name of the user with this uid, or the decimal if no user has it. `out` must have room for `MAX_NAME_LEN`
     /// bytes.
     #[inline(always)]
     pub fn put_user(&self, uid: Uid, out: &mut Vec<u8>)
@@ -150,7 +151,7 @@ impl Directory {
         put_id(self.user_name(uid), uid.value(), out);
     }
 
-    /// Appends the name of the group with this gid, or the decimal where none has one, where `out` has room for `MAX_NAME_LEN`
+    /// Appends the name of the group with this gid, or the decimal if no group has it. `out` must have room for `MAX_NAME_LEN`
     /// bytes.
     #[inline(always)]
     pub fn put_group(&self, gid: Gid, out: &mut Vec<u8>)

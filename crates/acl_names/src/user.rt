@@ -21,6 +21,7 @@ use std::marker::Model;
 pub struct User {
     pub name: String,
     pub uid: Uid,
+    /// The names of the user's groups, the first group first.
     pub groups: Vec<String>,
 }
 

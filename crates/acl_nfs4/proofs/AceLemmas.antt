@@ -41,12 +41,16 @@ within-or a b all in_a in_b = within-from _ all (λ k e. go k (or_cases (has a k
 
 -- ---- the flags of an entry
 
+-- a who asks for no flag, or for a group's
+pub by_flags_of_who : (P : ℕ → Type 0) → P 0 → P (2 ^ identifier_group) → (who : Who) → P (flags_of_who who)
+by_flags_of_who P none group Owner = none
+by_flags_of_who P none group Group = none
+by_flags_of_who P none group Everyone = none
+by_flags_of_who P none group (User uid) = none
+by_flags_of_who P none group (NamedGroup gid) = group
+
 pub within-flags_of_who : (who : Who) → flags_of_who who ∩ all_flags ≡ flags_of_who who
-within-flags_of_who Owner = refl
-within-flags_of_who Group = refl
-within-flags_of_who Everyone = refl
-within-flags_of_who (User uid) = refl
-within-flags_of_who (NamedGroup gid) = refl
+within-flags_of_who = by_flags_of_who (λ flags. flags ∩ all_flags ≡ flags) refl refl
 
 has-flags_of_who : (who : Who) → has (flags_of_who who) identifier_group ≡ is_named_group who
 unfolding has
@@ -89,11 +93,7 @@ IsAce-made kind flags who mask {own_flags} {own_mask} f m =
 
 idle-flags_of_who : (who : Who) → (has (flags_of_who who) 3 && not (has (flags_of_who who) 0 || has (flags_of_who who) 1)) ≡ false
 unfolding has
-idle-flags_of_who Owner = refl
-idle-flags_of_who Group = refl
-idle-flags_of_who Everyone = refl
-idle-flags_of_who (User uid) = refl
-idle-flags_of_who (NamedGroup gid) = refl
+idle-flags_of_who = by_flags_of_who (λ flags. (has flags 3 && not (has flags 0 || has flags 1)) ≡ false) refl refl
 
 -- an entry with no flags of its own
 pub IsAce-plain : (kind : AceType) (who : Who) (mask : ℕ) {own_flags : ℕ} → own_flags ≡ flags_of_who who → mask ∩ all_masks ≡ mask

@@ -1,10 +1,9 @@
 -- Which of some bits a list allows, as a loop over its entries finds them.
-use Rattle.std.proofs.Common.{◌≡◌, ◌≢◌, ◌↔◌, ◌+◌, ◌<◌, ℕ, Bool, true, false, cond, not, ◌&&◌, ◌||◌, refl, sym, ap, ap₂, subst, ◌∙◌, List, ◌∷◌, Option, Some, None, length, drop, get_or}
-use Rattle.std.specs.Prelude.{MatchOption}
-use Rattle.std.proofs.lemmas.Bool.{true≢false, and_parts}
+use Rattle.std.proofs.Common.{◌≡◌, ◌≢◌, ◌↔◌, ◌+◌, ◌<◌, ℕ, Bool, true, false, not, ◌&&◌, ◌||◌, refl, sym, ap, ap₂, subst, ◌∙◌, List, ◌∷◌, Option, Some, None, length, drop, get_or, MatchOption}
+use Rattle.std.proofs.lemmas.Bool.{true≢false}
 use Rattle.acl_names.specs.Bits.{has, without, ◌∩◌, ◌∪◌}
 use Rattle.acl_names.proofs.AnyLemmas.{or_false}
-use Rattle.acl_names.proofs.BitSets.{has-and, has-or, has-without, has-zero, same_bits, no_bits}
+use Rattle.acl_names.proofs.BitSets.{has-or, has-without, has-zero, same_bits, no_bits}
 use Rattle.acl_nfs4.specs.Ace.{Nfsace4, decides, is_allow}
 use Rattle.acl_names.specs.Asker.{identity_of}
 use Rattle.acl_nfs4.specs.Comparison.{Decider, DecideAlike, IsDifference}

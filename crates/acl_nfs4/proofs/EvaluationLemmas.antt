@@ -1,15 +1,13 @@
 -- What a list says of a bit, part by part.
-use Rattle.std.proofs.Common.{◌≡◌, ℕ, Bool, true, false, cond, ◌&&◌, refl, sym, ap, ◌∙◌, List, [], ◌∷◌, ◌++◌, Option, Some, None}
-use Rattle.std.specs.Prelude.{◌==◌, find, option_map}
-use Rattle.std.proofs.lemmas.Bool.{eqb-true}
+use Rattle.std.proofs.Common.{◌≡◌, ℕ, Bool, true, false, cond, ◌&&◌, refl, sym, ap, ◌∙◌, List, [], ◌∷◌, ◌++◌, Option, Some, None, ◌==◌, find, option_map, eqb-true}
 use Rattle.acl_names.specs.Bits.{has}
 use Rattle.acl_nfs4.specs.Ace.{decides, is_allow, plain, unless_empty, Nfsace4}
 use Rattle.acl_nfs4.specs.Who.{flags_of_who}
 use Rattle.acl_nfs4.specs.Evaluation.{speaks, verdict}
 use Rattle.acl_nfs4.specs.declared.ace.AceType.TheVariants.{Allow, Deny}
 use Rattle.acl_nfs4.specs.declared.who.Who.{Who}
-use Rattle.acl_nfs4.specs.declared.who.Who.TheVariants.{Owner, Group, Everyone, User, NamedGroup}
 use Rattle.acl_names.proofs.BitSets.{has-zero}
+use Rattle.acl_nfs4.proofs.AceLemmas.{by_flags_of_who}
 
 -- the first of two answers that there is
 abbrev pub or_else : {A : Type 0} → Option A → Option A → Option A
@@ -55,20 +53,12 @@ module _ (applies : Who → Bool) (bit : ℕ) where
   pub speaks-allow : (who : Who) (mask : ℕ)
       → speaks applies bit (record { kind = Allow; flags = flags_of_who who; who = who; mask = mask }) ≡ (applies who && has mask bit)
   unfolding speaks decides has
-  speaks-allow Owner mask = refl
-  speaks-allow Group mask = refl
-  speaks-allow Everyone mask = refl
-  speaks-allow (User uid) mask = refl
-  speaks-allow (NamedGroup gid) mask = refl
+  speaks-allow who mask = by_flags_of_who (λ flags. speaks applies bit (record { kind = Allow; flags = flags; who = who; mask = mask }) ≡ (applies who && has mask bit)) refl refl who
 
   pub speaks-deny : (who : Who) (mask : ℕ)
       → speaks applies bit (record { kind = Deny; flags = flags_of_who who; who = who; mask = mask }) ≡ (applies who && has mask bit)
   unfolding speaks decides has
-  speaks-deny Owner mask = refl
-  speaks-deny Group mask = refl
-  speaks-deny Everyone mask = refl
-  speaks-deny (User uid) mask = refl
-  speaks-deny (NamedGroup gid) mask = refl
+  speaks-deny who mask = by_flags_of_who (λ flags. speaks applies bit (record { kind = Deny; flags = flags; who = who; mask = mask }) ≡ (applies who && has mask bit)) refl refl who
 
   pub verdict-allow : (who : Who) (mask : ℕ) → verdict applies bit (plain Allow who mask) ≡ cond (applies who && has mask bit) (Some true) None
   verdict-allow who mask = verdict-unless_empty _ ∙ ap (λ b. cond b (Some true) None) (speaks-allow who mask)

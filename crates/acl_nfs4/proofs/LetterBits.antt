@@ -1,6 +1,5 @@
 -- Letters that are read by a list of their bits.
-use Rattle.std.proofs.Common.{◌≡◌, ◌≢◌, ℕ, zero, suc, ◌<◌, ◌+◌, ◌==◌, Bool, true, false, cond, ◌&&◌, ◌||◌, List, [], ◌∷◌, take, get_or, length, filter, nat_le, nat_lt, None, refl, sym, ap, subst, ◌∙◌, arith, bit_and, bit_or, ◌⊎◌, inl, inr}
-use Rattle.std.specs.Prelude.{slice_index}
+use Rattle.std.proofs.Common.{◌≡◌, ◌≢◌, ℕ, zero, suc, ◌<◌, ◌+◌, ◌==◌, Bool, true, false, cond, ◌&&◌, ◌||◌, List, [], ◌∷◌, take, get_or, length, filter, nat_le, nat_lt, None, refl, sym, ap, subst, ◌∙◌, arith, bit_and, bit_or, ◌⊎◌, inl, inr, slice_index}
 use Rattle.std.specs.List.{AllByRecursion, list_any}
 use Rattle.std.proofs.lemmas.Bool.{cases_Bool, eqb-true, true≢false}
 use Rattle.std.proofs.lemmas.Bool.Decides.{nat_tests, Decides-eqb}

@@ -1,6 +1,5 @@
 -- What the letters of flags spell.
-use Rattle.std.proofs.Common.{◌≡◌, ℕ, ◌≤◌, Bool, true, false, cond, List, [], ◌∷◌, Some, None, refl, sym, subst, map}
-use Rattle.std.specs.Prelude.{fold, filter, not, bit_and, ◌==◌}
+use Rattle.std.proofs.Common.{◌≡◌, ℕ, ◌≤◌, Bool, true, false, cond, List, [], ◌∷◌, Some, None, refl, sym, subst, map, fold, filter, not, bit_and, ◌==◌}
 use Rattle.std.proofs.lemmas.List.Elements.{All-nil, All-cons}
 use Rattle.acl_names.specs.Plain.{IsField, is_field_byte}
 use Rattle.std.specs.List.{AllByRecursion}

@@ -1,6 +1,5 @@
 -- The bits of a mask that a file mode speaks of.
-use Rattle.std.proofs.Common.{◌≡◌, ℕ, zero, suc, ◌^◌, ◌<◌, Bool, true, false, cond, not, ◌&&◌, refl, sym, ap, ◌∙◌, arith, lit<}
-use Rattle.std.proofs.lemmas.Bool.{true≢false}
+use Rattle.std.proofs.Common.{◌≡◌, ℕ, zero, suc, ◌^◌, ◌<◌, Bool, true, false, cond, not, ◌&&◌, refl, sym, ap, ◌∙◌, arith, lit<, true≢false}
 use Rattle.acl_names.specs.Bits.{has, ◌∪◌}
 use Rattle.acl_names.proofs.BitSets.{has-without, has-above}
 use Rattle.acl_nfs4.specs.Mask.{mode_bits, mask_of, rest_of}

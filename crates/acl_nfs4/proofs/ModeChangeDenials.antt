@@ -1,7 +1,6 @@
 -- What a list with a mode set denies those whom the old list names.
-use Rattle.std.proofs.Common.{◌≡◌, ℕ, Bool, true, false, cond, not, ◌&&◌, ◌||◌, refl, sym, ap, ◌∙◌, List, [], ◌∷◌, ◌++◌, ap₂}
+use Rattle.std.proofs.Common.{◌≡◌, ℕ, Bool, true, false, cond, not, ◌&&◌, ◌||◌, refl, sym, ap, ◌∙◌, List, [], ◌∷◌, ◌++◌, ap₂, filter, map}
 use mathlib.Core.Path.{fun_ext}
-use Rattle.std.specs.Prelude.{filter, map}
 use Rattle.std.specs.List.{list_any}
 use Rattle.std.proofs.lemmas.Bool.{true≢false, and_parts, and_from, eqb-true, eq-eqb}
 use Rattle.acl_names.specs.Bits.{has, without, union, ◌∪◌}
@@ -16,6 +15,7 @@ use Rattle.acl_nfs4.specs.declared.who.Who.TheVariants.{Owner, Group, Everyone, 
 use Rattle.acl_names.proofs.BitSets.{has-or, has-zero, has-without, same_bits}
 use Rattle.acl_nfs4.proofs.ModeChangeKept.{kept_of-cases, kept-cons, inherited_part, effective_part, reduced, decides-effective_part, decides-reduced, unless_empty-cases}
 use Rattle.acl_names.proofs.AnyLemmas.{or_true, or_false, list_any-append, list_any-elim, list_any-flat_map, list_any-filter, list_any-map, list_any-weaken}
+use Rattle.acl_nfs4.proofs.AceLemmas.{by_flags_of_who}
 
 -- ---- whos
 
@@ -189,11 +189,7 @@ kept_of-denies group who bit named ace e =
 -- an entry with no flags of its own decides
 pub decides-plain_deny : (who : Who) (mask : ℕ) → decides (record { kind = Deny; flags = flags_of_who who; who = who; mask = mask }) ≡ true
 unfolding decides has
-decides-plain_deny Owner mask = refl
-decides-plain_deny Group mask = refl
-decides-plain_deny Everyone mask = refl
-decides-plain_deny (User uid) mask = refl
-decides-plain_deny (NamedGroup gid) mask = refl
+decides-plain_deny who mask = by_flags_of_who (λ flags. decides (record { kind = Deny; flags = flags; who = who; mask = mask }) ≡ true) refl refl who
 
 denial_of-denies : (group : ℕ) (aces : List Nfsace4) (who : Who) (bit : ℕ)
     → has (rest_of group) bit ≡ true → has (denied_to who aces) bit ≡ false → list_any (denies who bit) (denial_of group aces who) ≡ true

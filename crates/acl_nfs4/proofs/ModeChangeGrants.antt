@@ -1,6 +1,5 @@
 -- Whom a list with a mode set grants what.
-use Rattle.std.proofs.Common.{◌≡◌, ℕ, Bool, true, false, cond, not, ◌&&◌, ◌||◌, refl, sym, ap, ◌∙◌, List, [], ◌∷◌, ◌++◌, ap₂, Option, Some, None, inl, inr, ◌⊎◌}
-use Rattle.std.specs.Prelude.{find, filter, option_map, unwrap_or}
+use Rattle.std.proofs.Common.{◌≡◌, ℕ, Bool, true, false, cond, not, ◌&&◌, ◌||◌, refl, sym, ap, ◌∙◌, List, [], ◌∷◌, ◌++◌, ap₂, Option, Some, None, inl, inr, ◌⊎◌, find, filter, option_map, unwrap_or}
 use Rattle.std.specs.List.{list_any}
 use Rattle.std.proofs.lemmas.Bool.{true≢false, and_parts, and_from, eq-eqb, ne_eqb, or_cases}
 use Rattle.acl_names.specs.Bits.{has, without}

@@ -1,6 +1,5 @@
 -- What an entry leaves beside a mode.
-use Rattle.std.proofs.Common.{◌≡◌, ℕ, ◌^◌, Bool, true, false, cond, not, ◌&&◌, ◌||◌, refl, sym, ap, ◌∙◌, subst, List, [], ◌∷◌, ◌++◌, append-nil, ap₂}
-use Rattle.std.specs.Prelude.{◌==◌, flat_map, bit_or}
+use Rattle.std.proofs.Common.{◌≡◌, ℕ, ◌^◌, Bool, true, false, cond, not, ◌&&◌, ◌||◌, refl, sym, ap, ◌∙◌, subst, List, [], ◌∷◌, ◌++◌, append-nil, ap₂, ◌==◌, flat_map, bit_or}
 use Rattle.std.proofs.lemmas.Bool.{true≢false, and_parts, and_from, eqb-true}
 use Rattle.acl_names.specs.Bits.{has, without}
 use Rattle.acl_nfs4.specs.Ace.{decides, is_allow, is_deny, unless_empty, is_inheritable, Nfsace4}

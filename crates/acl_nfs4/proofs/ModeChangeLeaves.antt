@@ -1,6 +1,5 @@
 -- What a change of mode leaves alone.
-use Rattle.std.proofs.Common.{◌≡◌, ℕ, Bool, true, false, cond, not, ◌&&◌, ◌||◌, refl, sym, ap, ◌∙◌, subst, List, [], ◌∷◌, ◌++◌, append-nil, ap₂, Option, Some, None}
-use Rattle.std.specs.Prelude.{flat_map, filter_map, bit_or, option_map}
+use Rattle.std.proofs.Common.{◌≡◌, ℕ, Bool, true, false, cond, not, ◌&&◌, ◌||◌, refl, sym, ap, ◌∙◌, subst, List, [], ◌∷◌, ◌++◌, append-nil, ap₂, Option, Some, None, flat_map, filter_map, bit_or, option_map}
 use Rattle.std.specs.List.{cons_option}
 use Rattle.std.proofs.lemmas.Bool.{and_parts, or_parts}
 use Rattle.acl_names.specs.Bits.{has}
@@ -18,11 +17,12 @@ use Rattle.acl_nfs4.specs.declared.ace.AceType.TheVariants.{Allow, Deny, Audit, 
 use Rattle.acl_nfs4.specs.declared.inheritance.Kind.{Kind}
 use Rattle.acl_nfs4.specs.declared.inheritance.Kind.TheVariants.{File, Dir}
 use Rattle.acl_nfs4.specs.declared.who.Who.{Who}
-use Rattle.acl_nfs4.specs.declared.who.Who.TheVariants.{Owner, Group, Everyone, User, NamedGroup}
+use Rattle.acl_nfs4.specs.declared.who.Who.TheVariants.{Owner, Group, Everyone}
 use Rattle.acl_names.proofs.BitSets.{has-and, has-or, has-without, same_bits}
 use Rattle.acl_nfs4.proofs.ListLemmas.{filter-append}
 use Rattle.acl_nfs4.proofs.ModeChangeKept.{kept_of-cases, kept-cons, inherited_part, effective_part, reduced, unless_empty-cases, is_inheritable-effective_part}
 use Rattle.acl_names.proofs.AnyLemmas.{or_false, and_false}
+use Rattle.acl_nfs4.proofs.AceLemmas.{by_flags_of_who}
 
 -- ---- a function of lists that goes entry by entry, and that a change of mode leaves as it is
 
@@ -161,11 +161,7 @@ inherited-kept_of kind group ace =
 not_inheritable-plain : (kind : AceType) (who : Who) (mask : ℕ)
     → is_inheritable (record { kind = kind; flags = flags_of_who who; who = who; mask = mask }) ≡ false
 unfolding has
-not_inheritable-plain kind Owner mask = refl
-not_inheritable-plain kind Group mask = refl
-not_inheritable-plain kind Everyone mask = refl
-not_inheritable-plain kind (User uid) mask = refl
-not_inheritable-plain kind (NamedGroup gid) mask = refl
+not_inheritable-plain kind who mask = by_flags_of_who (λ flags. is_inheritable (record { kind = kind; flags = flags; who = who; mask = mask }) ≡ false) refl refl who
 
 pub inherited-with_mode : (kind : Kind) (aces : List Nfsace4) (mode : Classes) → inherited_list kind (with_mode aces mode) ≡ inherited_list kind aces
 inherited-with_mode kind aces mode =

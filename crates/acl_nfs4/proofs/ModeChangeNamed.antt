@@ -1,11 +1,7 @@
 -- The whos that a list names, as its entries come one by one: what a loop over the entries keeps.
-use Rattle.std.proofs.Common.{ℕ, ◌+◌, ◌<◌, ap₂, take, drop, get_or, length, add-one, append_assoc, ◌≡◌, Bool, true, false, cond, not, ◌&&◌, ◌||◌, refl, sym, ap, ◌∙◌, List, [], ◌∷◌, ◌++◌, append-nil}
-use Rattle.std.proofs.Math.Seq.{take-suc}
-use Rattle.std.proofs.lemmas.List.{take-append-drop}
-use Rattle.std.specs.Prelude.{filter, map, flat_map}
+use Rattle.std.proofs.Common.{ℕ, ◌+◌, ◌<◌, ap₂, take, drop, get_or, length, add-one, append_assoc, ◌≡◌, Bool, true, false, cond, not, ◌&&◌, ◌||◌, refl, sym, ap, ◌∙◌, List, [], ◌∷◌, ◌++◌, append-nil, take-suc, take-append-drop, filter, map, flat_map, true≢false}
 use Rattle.acl_names.proofs.AnyLemmas.{flat_map-append}
 use Rattle.std.specs.List.{list_any}
-use Rattle.std.proofs.lemmas.Bool.{true≢false}
 use Rattle.acl_nfs4.specs.Ace.{decides, Nfsace4}
 use Rattle.acl_nfs4.specs.Who.{is_special, same_who}
 use Rattle.acl_nfs4.specs.ModeChange.{distinct, named_in, names, names_someone}

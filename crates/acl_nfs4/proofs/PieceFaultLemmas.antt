@@ -1,6 +1,5 @@
 -- Which fault a piece has that says no entry.
-use Rattle.std.proofs.Common.{◌≡◌, ◌≢◌, ◌↔◌, ℕ, Bool, true, false, cond, List, [], ◌∷◌, Option, Some, None, option_map, Result, Ok, Err, codes, refl, sym, ap, subst, ◌∙◌}
-use Rattle.std.specs.Str.{bytes_eq}
+use Rattle.std.proofs.Common.{◌≡◌, ◌≢◌, ◌↔◌, ℕ, Bool, true, false, cond, List, [], ◌∷◌, Option, Some, None, option_map, Result, Ok, Err, codes, refl, sym, ap, subst, ◌∙◌, bytes_eq}
 use Rattle.std.proofs.lemmas.Slice.Eq.{bytes_eq-Decides}
 use Rattle.acl_names.specs.Bytes.{at_sign}
 use Rattle.acl_names.specs.Bits.{has}
@@ -9,7 +8,7 @@ use Rattle.acl_names.specs.Ids.{Written, Number, Name, written_id, has_name_shap
 use Rattle.acl_names.specs.Letters.{letters_of}
 use Rattle.acl_names.specs.Pieces.{parts as split_at_byte}
 use Rattle.acl_names.specs.Steps.{◌>>=◌, or_fault}
-use Rattle.acl_names.proofs.StepLemmas.{given, some_from_cond}
+use Rattle.acl_names.proofs.StepLemmas.{some_from_cond}
 use Rattle.acl_posix.proofs.PieceFaultLemmas.{knowing, knowing_faultless, knows_user, knows_group, unfound_name}
 use Rattle.acl_posix.proofs.StepFaults.{same_fault, fault_behind, other_fault}
 use Rattle.acl_nfs4.specs.Ace.{Nfsace4, ace_of, is_idle}
@@ -23,7 +22,7 @@ use Rattle.acl_nfs4.specs.declared.reading.PieceFault.{PieceFault}
 use Rattle.acl_nfs4.specs.declared.reading.PieceFault.TheVariants.{Syntax, UnknownName, InheritOnly}
 use Rattle.acl_nfs4.specs.declared.who.Who.{Who}
 use Rattle.acl_nfs4.specs.declared.who.Who.TheVariants as one
-use Rattle.acl_nfs4.proofs.ReadLemmas.{Parts, parts_of}
+use Rattle.acl_nfs4.proofs.ReadLemmas.{Shaped, Parts, parts_of, shaped}
 use Rattle.acl_nfs4.proofs.ShapeLemmas.{name_says, ace_of_parts, value_of_written}
 
 -- ---- the faults are told apart
@@ -100,22 +99,13 @@ misshapen_anywhere known other piece =
 
 -- ---- what a piece with another fault is made of
 
-record ShapedParts (known : Known) (piece : List ℕ) (fault : PieceFault) : Type 0 where
-  pub fields : AceFields
-  pub kind : AceType
-  pub flags : ℕ
-  pub written : WrittenWho
-  pub mask : ℕ
-  pub cut : fields_of piece ≡ Some fields
-  pub kind_is : type_of fields.kind ≡ Some kind
-  pub flags_are : letters_of flag_table fields.flags ≡ Some flags
-  pub written_is : written_who fields.who ≡ Some written
-  pub mask_is : letters_of mask_table fields.letters ≡ Some mask
-  pub rest : after_mask known kind flags written mask ≡ Err fault
+-- its shape, behind which the fault lies
+abbrev ShapedBefore : Known → List ℕ → PieceFault → Type 0
+ShapedBefore known piece fault = (shape : Shaped piece) × (after_mask known shape.kind shape.flags shape.written shape.mask ≡ Err fault)
 
-shaped_parts : (known : Known) (piece : List ℕ) (fault : PieceFault) → Syntax ≢ fault → piece_value known piece ≡ Err fault → ShapedParts known piece fault
+shaped_before : (known : Known) (piece : List ℕ) (fault : PieceFault) → Syntax ≢ fault → piece_value known piece ≡ Err fault → ShapedBefore known piece fault
 unfolding piece_value
-shaped_parts known piece fault apart e =
+shaped_before known piece fault apart e =
     let cut = fault_behind fault (or_fault Syntax (fields_of piece)) (after_fields known) (other_fault Syntax fault apart (fields_of piece)) e in
     let kind = fault_behind fault (or_fault Syntax (type_of cut.0.kind)) (after_kind known cut.0) (other_fault Syntax fault apart (type_of cut.0.kind)) cut.2 in
     let flags = fault_behind fault (or_fault Syntax (letters_of flag_table cut.0.flags)) (after_flags known cut.0 kind.0)
@@ -123,53 +113,22 @@ shaped_parts known piece fault apart e =
     let written = fault_behind fault (or_fault Syntax (written_who cut.0.who)) (after_who known cut.0 kind.0 flags.0) (other_fault Syntax fault apart (written_who cut.0.who)) flags.2 in
     let mask = fault_behind fault (or_fault Syntax (letters_of mask_table cut.0.letters)) (after_mask known kind.0 flags.0 written.0)
     (other_fault Syntax fault apart (letters_of mask_table cut.0.letters)) written.2 in
-    record {
-      fields = cut.0;
-      kind = kind.0;
-      flags = flags.0;
-      written = written.0;
-      mask = mask.0;
-      cut = given Syntax (fields_of piece) cut.0 cut.1;
-      kind_is = given Syntax (type_of cut.0.kind) kind.0 kind.1;
-      flags_are = given Syntax (letters_of flag_table cut.0.flags) flags.0 flags.1;
-      written_is = given Syntax (written_who cut.0.who) written.0 written.1;
-      mask_is = given Syntax (letters_of mask_table cut.0.letters) mask.0 mask.1;
-      rest = mask.2;
-    }
-
--- with a who that is found, they write an entry
-written_with : (known other : Known) (piece : List ℕ) (fault : PieceFault) (parts : ShapedParts known piece fault) (who : Who)
-    → resolved_who other (has parts.flags identifier_group) parts.written ≡ Some who → Parts other piece (ace_of parts.kind parts.flags who parts.mask)
-written_with known other piece fault parts who found = record {
-  fields = parts.fields;
-  kind = parts.kind;
-  flags = parts.flags;
-  written = parts.written;
-  mask = parts.mask;
-  who = who;
-  cut = parts.cut;
-  kind_is = parts.kind_is;
-  flags_are = parts.flags_are;
-  written_is = parts.written_is;
-  mask_is = parts.mask_is;
-  who_is = found;
-  made = refl;
-}
+    (shaped cut.1 kind.1 flags.1 written.1 mask.1, mask.2)
 
 -- ---- an entry without effect
 
 idle_written : (known : Known) (piece : List ℕ) → piece_value known piece ≡ Err InheritOnly → HasNoEffect known piece
-idle_written known piece e = go (resolved_who known (has parts.flags identifier_group) parts.written) refl parts.rest
+idle_written known piece e = go (resolved_who known (has before.0.flags identifier_group) before.0.written) refl before.1
   where
-    parts : ShapedParts known piece InheritOnly
-    parts = shaped_parts known piece InheritOnly not_idle e
+    before : ShapedBefore known piece InheritOnly
+    before = shaped_before known piece InheritOnly not_idle e
 
-    go : (who : Option Who) → resolved_who known (has parts.flags identifier_group) parts.written ≡ who
-        → (or_fault UnknownName who >>= (λ who. effective (ace_of parts.kind parts.flags who parts.mask))) ≡ Err InheritOnly → HasNoEffect known piece
+    go : (who : Option Who) → resolved_who known (has before.0.flags identifier_group) before.0.written ≡ who
+        → (or_fault UnknownName who >>= (λ who. effective (ace_of before.0.kind before.0.flags who before.0.mask))) ≡ Err InheritOnly → HasNoEffect known piece
     go None is f = let same : UnknownName ≡ InheritOnly = cc in absurd (unknown_not_idle same)
     go (Some who) is f =
-        let ace = ace_of parts.kind parts.flags who parts.mask in
-        (ace, ace_of_parts known piece ace (written_with known known piece InheritOnly parts who is), idle_fault ace f)
+        let ace = ace_of before.0.kind before.0.flags who before.0.mask in
+        (ace, ace_of_parts known piece ace (record { shape = before.0; who = who; who_is = is; made = refl }), idle_fault ace f)
 
 -- ---- a name that is unknown is known elsewhere
 
@@ -262,12 +221,13 @@ is_lost (Some who) ace_for e = absurd (effect_fault (ace_for who) UnknownName un
 
 written_elsewhere : (known : Known) (piece : List ℕ) → piece_value known piece ≡ Err UnknownName → (other : Known) × (fault_of other ≡ None) × IsWritten other piece
 written_elsewhere known piece e =
-    let parts = shaped_parts known piece UnknownName not_unknown e in
-    let is_group = has parts.flags identifier_group in
-    let ace_for : Who → Nfsace4 = λ who. ace_of parts.kind parts.flags who parts.mask in
-    let lost = is_lost (resolved_who known is_group parts.written) ace_for parts.rest in
-    let there = who_somewhere known is_group parts.written lost (split_at_byte at_sign parts.fields.who) parts.written_is in
-    let written = written_with known there.known piece UnknownName parts there.who there.found in
+    let before = shaped_before known piece UnknownName not_unknown e in
+    let shape = before.0 in
+    let is_group = has shape.flags identifier_group in
+    let ace_for : Who → Nfsace4 = λ who. ace_of shape.kind shape.flags who shape.mask in
+    let lost = is_lost (resolved_who known is_group shape.written) ace_for before.1 in
+    let there = who_somewhere known is_group shape.written lost (split_at_byte at_sign shape.fields.who) shape.written_is in
+    let written : Parts there.known piece (ace_for there.who) = record { shape = shape; who = there.who; who_is = there.found; made = refl } in
     (there.known, there.faultless, (ace_for there.who, ace_of_parts there.known piece (ace_for there.who) written))
 
 -- ---- the laws

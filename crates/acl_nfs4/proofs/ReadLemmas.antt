@@ -1,6 +1,5 @@
 -- What a piece says that is read: an entry with an effect.
-use Rattle.std.proofs.Common.{◌≡◌, ℕ, Bool, true, false, cond, List, [], ◌∷◌, Some, Ok, Err, refl, sym, ap, subst, ◌∙◌}
-use Rattle.std.specs.List.{All}
+use Rattle.std.proofs.Common.{◌≡◌, ℕ, Bool, true, false, cond, List, [], ◌∷◌, Some, Ok, Err, refl, sym, ap, subst, ◌∙◌, All}
 use Rattle.std.proofs.lemmas.List.Elements.{All-nil, All-cons}
 use Rattle.acl_names.specs.Bits.{has}
 use Rattle.acl_names.specs.Directory.{Known}
@@ -26,21 +25,42 @@ effective_ok ace made e = go (is_idle made) e
     go true e = absurd (cc)
     go false e = (cc, refl)
 
--- the parts of a piece that writes an entry
-pub record Parts (known : Known) (piece : List ℕ) (ace : Nfsace4) : Type 0 where
+-- the parts of a piece in the shape of an entry
+pub record Shaped (piece : List ℕ) : Type 0 where
   pub fields : AceFields
   pub kind : AceType
   pub flags : ℕ
   pub written : WrittenWho
   pub mask : ℕ
-  pub who : Who
   pub cut : fields_of piece ≡ Some fields
   pub kind_is : type_of fields.kind ≡ Some kind
   pub flags_are : letters_of flag_table fields.flags ≡ Some flags
   pub written_is : written_who fields.who ≡ Some written
   pub mask_is : letters_of mask_table fields.letters ≡ Some mask
-  pub who_is : resolved_who known (has flags identifier_group) written ≡ Some who
-  pub made : ace_of kind flags who mask ≡ ace
+
+-- each part was read
+abbrev pub shaped : {piece : List ℕ} {fields : AceFields} {kind : AceType} {flags : ℕ} {written : WrittenWho} {mask : ℕ} → or_fault Syntax (fields_of piece) ≡ Ok fields
+    → or_fault Syntax (type_of fields.kind) ≡ Ok kind → or_fault Syntax (letters_of flag_table fields.flags) ≡ Ok flags
+    → or_fault Syntax (written_who fields.who) ≡ Ok written → or_fault Syntax (letters_of mask_table fields.letters) ≡ Ok mask → Shaped piece
+shaped {piece} {fields} {kind} {flags} {written} {mask} cut kind_is flags_are written_is mask_is = record {
+  fields = fields;
+  kind = kind;
+  flags = flags;
+  written = written;
+  mask = mask;
+  cut = given Syntax (fields_of piece) fields cut;
+  kind_is = given Syntax (type_of fields.kind) kind kind_is;
+  flags_are = given Syntax (letters_of flag_table fields.flags) flags flags_are;
+  written_is = given Syntax (written_who fields.who) written written_is;
+  mask_is = given Syntax (letters_of mask_table fields.letters) mask mask_is;
+}
+
+-- the parts of a piece that writes an entry
+pub record Parts (known : Known) (piece : List ℕ) (ace : Nfsace4) : Type 0 where
+  pub shape : Shaped piece
+  pub who : Who
+  pub who_is : resolved_who known (has shape.flags identifier_group) shape.written ≡ Some who
+  pub made : ace_of shape.kind shape.flags who shape.mask ≡ ace
 
 pub parts_of : (known : Known) (piece : List ℕ) (ace : Nfsace4) → piece_value known piece ≡ Ok ace → Parts known piece ace × (is_idle ace ≡ false)
 unfolding piece_value
@@ -53,17 +73,8 @@ parts_of known piece ace e =
     let who = bind_ok (or_fault UnknownName (resolved_who known (has flags.0 identifier_group) written.0)) _ ace mask.2 in
     let last = effective_ok ace (ace_of kind.0 flags.0 who.0 mask.0) who.2 in (
       record {
-        fields = cut.0;
-        kind = kind.0;
-        flags = flags.0;
-        written = written.0;
-        mask = mask.0;
+        shape = shaped cut.1 kind.1 flags.1 written.1 mask.1;
         who = who.0;
-        cut = given Syntax (fields_of piece) cut.0 cut.1;
-        kind_is = given Syntax (type_of cut.0.kind) kind.0 kind.1;
-        flags_are = given Syntax (letters_of flag_table cut.0.flags) flags.0 flags.1;
-        written_is = given Syntax (written_who cut.0.who) written.0 written.1;
-        mask_is = given Syntax (letters_of mask_table cut.0.letters) mask.0 mask.1;
         who_is = given UnknownName (resolved_who known (has flags.0 identifier_group) written.0) who.0 who.1;
         made = last.0;
       },
@@ -74,7 +85,8 @@ parts_of known piece ace e =
 pub value_of_parts : (known : Known) (piece : List ℕ) (ace : Nfsace4) → Parts known piece ace → piece_value known piece ≡ effective ace
 unfolding piece_value
 value_of_parts known piece ace parts =
-    rw (parts.cut, parts.kind_is, parts.flags_are, parts.written_is, parts.mask_is, parts.who_is) (ap effective parts.made)
+    let shape = parts.shape in
+    rw (shape.cut, shape.kind_is, shape.flags_are, shape.written_is, shape.mask_is, parts.who_is) (ap effective parts.made)
 
 pub effective_said : (ace : Nfsace4) → is_idle ace ≡ false → effective ace ≡ Ok ace
 effective_said ace has_effect = ap (λ b. cond b (Err InheritOnly) (Ok ace)) has_effect
@@ -91,7 +103,7 @@ each_said P known holds (text ∷ texts) (ace ∷ aces) said =
 
 pub IsAce-read : (known : Known) (piece : List ℕ) (ace : Nfsace4) → piece_value known piece ≡ Ok ace → IsAce ace
 IsAce-read known piece ace e =
-    let parts = (parts_of known piece ace e).0 in subst IsAce parts.made (IsAce-ace_of parts.kind parts.flags parts.who parts.mask)
+    let parts = (parts_of known piece ace e).0 in subst IsAce parts.made (IsAce-ace_of parts.shape.kind parts.shape.flags parts.who parts.shape.mask)
 
 pub AreAces-read : (known : Known) (text : List ℕ) (aces : List Nfsace4) → Spells (piece_value known) MAX_ACES text aces → AreAces aces
 AreAces-read known text aces spells = record {

@@ -1,10 +1,7 @@
 -- The printed text of a list spells its entries.
-use Rattle.std.proofs.Common.{◌≡◌, ℕ, ◌≤◌, ◌<◌, Bool, true, false, cond, not, ◌&&◌, ◌||◌, List, [], ◌∷◌, ◌++◌, length, map, Option, Some, None, option_map, Ok, refl, sym, ap, subst, ◌∙◌, arith, codes, decimal, length-append, nat_le}
-use Rattle.std.specs.Prelude.{◌==◌}
+use Rattle.std.proofs.Common.{◌≡◌, ℕ, ◌≤◌, ◌<◌, Bool, true, false, cond, not, ◌&&◌, ◌||◌, List, [], ◌∷◌, ◌++◌, length, map, Option, Some, None, option_map, Ok, refl, sym, ap, subst, ◌∙◌, arith, codes, decimal, length-append, nat_le, ◌==◌, bytes_eq, eqb-true}
 use Rattle.std.specs.List.{All, AllByRecursion, join_with_byte, list_all}
 use Rattle.std.specs.Char.{is_ascii_digit}
-use Rattle.std.specs.Str.{bytes_eq}
-use Rattle.std.proofs.lemmas.Bool.{eqb-true}
 use Rattle.std.proofs.lemmas.Bool.Decides.{nat_tests}
 use Rattle.std.proofs.lemmas.Fmt.{decimal_is_IsNumeral}
 use Rattle.std.proofs.lemmas.List.Elements.{All-head, All-tail, All-cons, All-append, All-weaker}
@@ -21,11 +18,10 @@ use Rattle.acl_names.specs.ListText.{Say, Spells}
 use Rattle.acl_names.specs.Pieces.{parts}
 use Rattle.acl_names.proofs.BitSets.{has-and, has-or, has-without, has-zero, same_bits}
 use Rattle.acl_names.proofs.Decimals.{digits_model}
-use Rattle.acl_names.specs.Plain.{is_field_byte, IsField}
+use Rattle.acl_names.specs.Plain.{is_field_byte, IsField, IsPlain}
 use Rattle.acl_names.proofs.Fields.{fields_again, joined_plain, tested_field, name_byte_in_field, digit_in_field}
 use Rattle.acl_names.proofs.IdTexts.{and_second, written_name, written_decimal}
 use Rattle.acl_names.proofs.LettersAgain.{letters_again}
-use Rattle.acl_names.specs.Plain.{IsPlain}
 use Rattle.acl_names.proofs.PlainLines.{IsMark, nothing, pieces_of_lines}
 use Rattle.acl_nfs4.specs.Ace.{Nfsace4, IsAce, ace_of, flags_for, is_idle}
 use Rattle.acl_nfs4.specs.AceText.{AceFields, WrittenWho, as_fields, fields_of, type_of, written_who, who_of_parts, name_at, named, resolved_who, effective, piece_value}
@@ -232,23 +228,25 @@ module _ (known : Known) (apart : TellsNamesApart known) where
       let reads = subst (λ (b : Bool). ReadsAs (who_text known ace.who) b ace.who) (sym is.group_flag) (who_again ace.who has_id) in
       value_of_parts known (ace_text known ace) ace
       (record {
-        fields = record {
-          kind = type_text ace.kind;
-          flags = letters_text flag_table ace.flags;
-          who = who_text known ace.who;
-          letters = letters_text mask_table ace.mask;
+        shape = record {
+          fields = record {
+            kind = type_text ace.kind;
+            flags = letters_text flag_table ace.flags;
+            who = who_text known ace.who;
+            letters = letters_text mask_table ace.mask;
+          };
+          kind = ace.kind;
+          flags = ace.flags;
+          written = reads.written;
+          mask = ace.mask;
+          cut = ap as_fields (fields_again (type_text ace.kind) (letters_text flag_table ace.flags ∷ who_text known ace.who ∷ letters_text mask_table ace.mask ∷ [])
+              (fields_are ace has_id));
+          kind_is = type_again ace.kind;
+          flags_are = letters_again flag_table ace.flags flag_table_is is.known_flags;
+          written_is = reads.written_is;
+          mask_is = letters_again mask_table ace.mask mask_table_is is.known_mask;
         };
-        kind = ace.kind;
-        flags = ace.flags;
-        written = reads.written;
-        mask = ace.mask;
         who = ace.who;
-        cut = ap as_fields (fields_again (type_text ace.kind) (letters_text flag_table ace.flags ∷ who_text known ace.who ∷ letters_text mask_table ace.mask ∷ [])
-            (fields_are ace has_id));
-        kind_is = type_again ace.kind;
-        flags_are = letters_again flag_table ace.flags flag_table_is is.known_flags;
-        written_is = reads.written_is;
-        mask_is = letters_again mask_table ace.mask mask_table_is is.known_mask;
         who_is = reads.who_is;
         made = ace_of-same ace is;
       })

@@ -1,8 +1,7 @@
 -- What the reader's function answers is what the shapes say.
-use Rattle.std.proofs.Common.{◌≡◌, ℕ, Bool, true, false, cond, ◌&&◌, ◌↔◌, List, [], ◌∷◌, ◌++◌, length, nat_le, Option, Some, None, option_map, Ok, refl, sym, ap, subst, ◌∙◌, inl, inr, codes}
+use Rattle.std.proofs.Common.{◌≡◌, ℕ, Bool, true, false, cond, ◌&&◌, ◌↔◌, List, [], ◌∷◌, ◌++◌, length, nat_le, Option, Some, None, option_map, Ok, refl, sym, ap, subst, ◌∙◌, inl, inr, codes, bytes_eq}
 use Rattle.std.specs.List.{join_with_byte, list_all}
 use Rattle.std.specs.Char.{is_ascii_digit}
-use Rattle.std.specs.Str.{bytes_eq}
 use Rattle.std.specs.Str.Parse.{digits_value}
 use Rattle.std.proofs.lemmas.List.Splits.{join_with_byte-slice_split}
 use Rattle.std.proofs.lemmas.List.Sums.{AllPass-from_list_all}
@@ -231,19 +230,20 @@ who_read known false text (one.NamedGroup gid) (is, writes) = absurd (cc)
 -- a piece of these parts writes the entry
 pub ace_of_parts : (known : Known) (piece : List ℕ) (ace : Nfsace4) → Parts known piece ace → WritesAce known piece ace
 ace_of_parts known piece ace parts =
-    let flags_in = flags-known parts.fields.flags parts.flags (sym parts.flags_are) in
-    let mask_in = mask-known parts.fields.letters parts.mask (sym parts.mask_is) in
+    let shape = parts.shape in
+    let flags_in = flags-known shape.fields.flags shape.flags (sym shape.flags_are) in
+    let mask_in = mask-known shape.fields.letters shape.mask (sym shape.mask_is) in
     record {
-      fields = parts.fields;
-      flags = parts.flags;
-      cut = parts.cut;
-      kind_is = subst (IsTypeLetter parts.fields.kind) (ap (λ (a : Nfsace4). a.kind) parts.made) (type_says parts.fields.kind parts.kind parts.kind_is);
-      flags_are = parts.flags_are;
-      who_is = subst (IsWho known (has parts.flags identifier_group) parts.fields.who) (ap (λ (a : Nfsace4). a.who) parts.made)
-          (who_says known (has parts.flags identifier_group) parts.fields.who parts.written parts.who parts.written_is parts.who_is);
-      mask_is = parts.mask_is ∙ ap Some (sym mask_in ∙ ap (λ (a : Nfsace4). a.mask) parts.made);
+      fields = shape.fields;
+      flags = shape.flags;
+      cut = shape.cut;
+      kind_is = subst (IsTypeLetter shape.fields.kind) (ap (λ (a : Nfsace4). a.kind) parts.made) (type_says shape.fields.kind shape.kind shape.kind_is);
+      flags_are = shape.flags_are;
+      who_is = subst (IsWho known (has shape.flags identifier_group) shape.fields.who) (ap (λ (a : Nfsace4). a.who) parts.made)
+          (who_says known (has shape.flags identifier_group) shape.fields.who shape.written parts.who shape.written_is parts.who_is);
+      mask_is = shape.mask_is ∙ ap Some (sym mask_in ∙ ap (λ (a : Nfsace4). a.mask) parts.made);
       flags_kept = sym (ap (λ (a : Nfsace4). a.flags) parts.made) ∙ ap (flags_for parts.who) flags_in
-          ∙ ap (λ (w : Who). flags_for w parts.flags) (ap (λ (a : Nfsace4). a.who) parts.made);
+          ∙ ap (λ (w : Who). flags_for w shape.flags) (ap (λ (a : Nfsace4). a.who) parts.made);
     }
 
 -- and the other way round: what it says is the entry if it has an effect
@@ -252,17 +252,19 @@ value_of_written known piece ace shape =
     let reads = who_read known (has shape.flags identifier_group) shape.fields.who ace.who shape.who_is in
     value_of_parts known piece ace
     (record {
-      fields = shape.fields;
-      kind = ace.kind;
-      flags = shape.flags;
-      written = reads.written;
-      mask = ace.mask;
+      shape = record {
+        fields = shape.fields;
+        kind = ace.kind;
+        flags = shape.flags;
+        written = reads.written;
+        mask = ace.mask;
+        cut = shape.cut;
+        kind_is = type_read shape.fields.kind ace.kind shape.kind_is;
+        flags_are = shape.flags_are;
+        written_is = reads.written_is;
+        mask_is = shape.mask_is;
+      };
       who = ace.who;
-      cut = shape.cut;
-      kind_is = type_read shape.fields.kind ace.kind shape.kind_is;
-      flags_are = shape.flags_are;
-      written_is = reads.written_is;
-      mask_is = shape.mask_is;
       who_is = reads.who_is;
       made = λ i. record {
         kind = ace.kind;

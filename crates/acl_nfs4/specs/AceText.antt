@@ -1,6 +1,5 @@
 -- How entries are written: `type:flags:who:letters`.
-use Rattle.std.specs.Prelude.{ℕ, List, [], ◌∷◌, Bool, true, false, Option, Some, None, Result, Ok, Err, codes, option_map, if◌then◌else◌}
-use Rattle.std.specs.Str.{bytes_eq}
+use Rattle.std.specs.Prelude.{ℕ, List, [], ◌∷◌, Bool, true, false, Option, Some, None, Result, Ok, Err, codes, option_map, if◌then◌else◌, bytes_eq}
 use Rattle.acl_names.specs.Bytes.{colon, at_sign}
 use Rattle.acl_names.specs.Bits.{has}
 use Rattle.acl_names.specs.Directory.{Known, uid_of, gid_of}

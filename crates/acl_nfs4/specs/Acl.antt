@@ -1,6 +1,5 @@
 -- Lists of entries: the limit on their length, and the entries that one may have.
-use Rattle.std.specs.Prelude.{◌≡◌, ◌<◌, ◌≤◌, ℕ, false, List, length}
-use Rattle.std.specs.List.{All}
+use Rattle.std.specs.Prelude.{◌≡◌, ◌<◌, ◌≤◌, ℕ, false, List, length, All}
 use Rattle.acl_nfs4.specs.Ace.{Nfsace4, IsAce, is_idle}
 use Rattle.acl_nfs4.specs.declared.limits.TheConstants.{MAX_ACES}
 use Rattle.acl_nfs4.specs.declared.acl.AceFault.{AceFault}

@@ -54,7 +54,7 @@ impl Acl4 {
         }
     }
 
-    /// The list with no entries and room for this many, so that it grows once at most. `Err` is want of memory.
+    /// The list with no entries and room for this many, so that it grows once at most. Fails only if memory runs out.
     pub fn with_capacity(alloc: Global, capacity: usize) -> Result<Acl4, AllocError>
         ensures value { IfOk result (λ acl. acl ≡ []) }
         ensures short { capacity ≤ 16 → IsOk result }
@@ -83,7 +83,7 @@ impl Acl4 {
         ensures err { OnErr result (self.new ≡ self.old) }
         ensures short { length self.old < 16 → result ≢ Err AceFault.Memory }
     {
-        // An entry tells that its bits have names where it is looked at.
+        // For the proof only: calling a reader brings the invariant of `ace` into scope.
         let _mask = ace.mask();
         if self.aces.len() >= MAX_ACES {
             return Err(AceFault::TooMany);
@@ -105,7 +105,7 @@ impl Acl4 {
         self.aces.as_slice()
     }
 
-    /// A list of the same entries. `Err` is want of memory.
+    /// A list of the same entries. Fails only if memory runs out.
     pub fn try_clone(&self, alloc: Global) -> Result<Acl4, AllocError>
         ensures value { IfOk result (λ acl. acl ≡ self.now) }
         ensures short { length self.now ≤ 16 → IsOk result }

@@ -53,14 +53,14 @@ impl<const N: usize> Draft<N> {
         let _ = &self.aces;
     }
 
-    /// Puts the entry behind the others. It is refused only for want of memory, and not up to `N` entries.
+    /// Puts the entry behind the others. It fails only if memory runs out, and not up to `N` entries.
     pub(crate) fn push_within(&mut self, ace: Ace) -> Result<(), Full>
         requires room { length self.old < MAX_ACES }
         requires effective { is_idle ace ≡ false }
         ensures ok { OnOk result (self.new ≡ self.old ++ ace ∷ []) }
         ensures full { OnErr result (IsTooLong N (self.old ++ ace ∷ [])) }
     {
-        // An entry tells that its bits have names where it is looked at.
+        // For the proof only: calling a reader brings the invariant of `ace` into scope.
         let _mask = ace.mask();
         match self.aces.push(ace) {
             Ok(()) => Ok(()),

@@ -63,7 +63,7 @@ impl Acl4 {
     /// The list of a new file or directory in a directory with this list, before a mode is set: each entry that it inherits,
     /// in order (RFC 8881, section 6.4.3). Files take over entries with `FILE_INHERIT`, and their inheritance flags go;
     /// directories those with `DIRECTORY_INHERIT`, and those with `FILE_INHERIT` alone only to pass them on. With
-    /// `NO_PROPAGATE_INHERIT` nothing is passed on. `Err` is want of memory.
+    /// `NO_PROPAGATE_INHERIT` nothing is passed on. Fails only if memory runs out.
     pub fn inherited(&self, alloc: Global, kind: Kind) -> Result<Acl4, AllocError>
         ensures value { IfOk result (λ acl. acl ≡ inherited_list kind self.now) }
         ensures short { length (inherited_list kind self.now) ≤ 16 → IsOk result }

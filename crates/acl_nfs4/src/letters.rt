@@ -125,8 +125,8 @@ pub(crate) fn read_flags(text: &[u8]) -> Option<Flags>
     }
 }
 
-/// Appends the letters of the mask's bits, in the order `rwaxdDtTnNcCoy`. `Err` is want of memory, only where `out` has no room
-/// for them; what was there stays then.
+/// Appends the letters of the mask's bits, in the order `rwaxdDtTnNcCoy`. If memory runs out, what was there stays; that happens
+/// only if `out` has no room for them.
 pub fn push_mask(mask: Mask, out: &mut Vec<u8>) -> Result<(), AllocError>
     ensures text { OnOk result (out.new.items ≡ out.old.items ++ letters_text mask_table (mask_bits mask)) }
     ensures kept { take (length out.old.items) out.new.items ≡ out.old.items }

@@ -302,7 +302,7 @@ impl Acl4 {
         // To set the mode again changes nothing.
         ensures again { OnOk result (with_mode self.new mode ≡ self.new) }
     {
-        // A mode tells that it has permissions alone where it is looked at.
+        // For the proof only: reading a field brings the invariant of `mode` into scope.
         let _user = mode.user;
         match with_mode::<INLINE_ACES>(alloc, self.aces(), mode) {
             Ok(draft) => {

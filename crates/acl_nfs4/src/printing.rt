@@ -14,7 +14,7 @@ use crate::{Ace, AceType, Acl4, Who};
 use acl_names::{Directory, push_id};
 use std::alloc::AllocError;
 
-/// How many bytes a line mostly has at the most.
+/// The length to reserve for each line; longer lines are rare.
 const USUAL_LINE: usize = 32;
 
 /// How many bytes each line has at the least: a type, three colons and a newline.
@@ -22,8 +22,8 @@ const SHORTEST_LINE: usize = 5;
 
 impl Acl4 {
     /// Appends the entries in order, one per line: `type:flags:who:letters` and a newline. `who` is the special word,
-    /// `name@domain` where the directory has a name, and else a decimal. For want of memory `out` is as it was; it runs out only
-    /// where `out` has no room for the text.
+    /// `name@domain` if the directory has a name, and else a decimal. If memory runs out, `out` is as it was; that happens only
+    /// if `out` has no room for the text.
     pub fn print_aces(&self, directory: &Directory, out: &mut Vec<u8>) -> Result<(), AllocError>
         ensures text { OnOk result (out.new.items ≡ out.old.items ++ aces_text directory.now self.now) }
         ensures unchanged { OnErr result (out.new.items ≡ out.old.items) }

@@ -1,5 +1,4 @@
-use Rattle.std.proofs.Common.{◌≡◌, ◌∙◌, sym, subst, List, ap}
-use Rattle.std.specs.Prelude.{OnOk}
+use Rattle.std.proofs.Common.{◌≡◌, ◌∙◌, sym, subst, List, ap, OnOk}
 use Rattle.acl_nfs4.specs.Ace.{Nfsace4, is_idle}
 use Rattle.acl_bridge.proofs.PassLemmas.{ace_of-effect, is_idle-effect, made-empty, made-full, room-full}
 use Rattle.acl_bridge.proofs.passes.push_made.Goals as goal

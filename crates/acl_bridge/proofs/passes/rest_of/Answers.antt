@@ -1,6 +1,5 @@
 use Rattle.bitflags.proofs.OnLiterals.{bitflags_on_literals}
-use Rattle.std.proofs.Common.{◌≡◌, ◌∙◌, ap, ap₂, refl}
-use Rattle.std.specs.Prelude.{bit_xor}
+use Rattle.std.proofs.Common.{◌≡◌, ◌∙◌, ap, ap₂, refl, bit_xor}
 use Rattle.acl_names.specs.Bits.{has, without}
 use Rattle.acl_nfs4.specs.Mask.{mask_of, mode_bits}
 use Rattle.acl_bridge.proofs.passes.rest_of.Goals as goal

@@ -1,5 +1,4 @@
-use Rattle.std.proofs.Common.{◌≡◌, ◌↔◌, subst, List, Option, None}
-use Rattle.std.specs.Prelude.{MatchOption}
+use Rattle.std.proofs.Common.{◌≡◌, ◌↔◌, subst, List, Option, None, MatchOption}
 use Rattle.acl_names.specs.Requester.{Identity}
 use Rattle.acl_posix.specs.Entry.{Triple}
 use Rattle.acl_posix.specs.Perms.{bits_of}

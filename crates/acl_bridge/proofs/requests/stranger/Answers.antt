@@ -1,16 +1,10 @@
-use Rattle.std.proofs.Common.{◌≤◌, ◌+◌, length, arith}
+use Rattle.std.proofs.Common.{arith}
 use Rattle.acl_bridge.proofs.ComparisonPairs.{asked_few}
 use Rattle.acl_bridge.proofs.requests.stranger.Goals as goal
 
 -- after so many numbers there were more that entries ask for than entries
 pub returns-clause-first : goal.returns-clause-first
-returns-clause-first c =
-    let few : c.loop-number.number ≤ length c.args.first.now + length c.args.second.now =
-    asked_few c.args.owner c.loop-number.number c.args.first.now c.args.second.now (omega arith) c.loop-number.invariant in
-    absurd (omega (arith, few))
+returns-clause-first c = absurd (omega (arith, asked_few c.args.owner c.loop-number.number c.args.first.now c.args.second.now (omega arith) c.loop-number.invariant))
 
 pub returns-clause-second : goal.returns-clause-second
-returns-clause-second c =
-    let few : c.loop-number.number ≤ length c.args.first.now + length c.args.second.now =
-    asked_few c.args.owner c.loop-number.number c.args.first.now c.args.second.now (omega arith) c.loop-number.invariant in
-    absurd (omega (arith, few))
+returns-clause-second c = absurd (omega (arith, asked_few c.args.owner c.loop-number.number c.args.first.now c.args.second.now (omega arith) c.loop-number.invariant))

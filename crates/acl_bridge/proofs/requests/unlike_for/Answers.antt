@@ -1,7 +1,4 @@
-use Rattle.std.proofs.Common.{◌∙◌, subst, Option}
-use Rattle.std.specs.Prelude.{MatchOption}
-use Rattle.std.specs.List.{All}
-use Rattle.std.proofs.lemmas.List.{take_all}
+use Rattle.std.proofs.Common.{◌∙◌, subst, Option, MatchOption, All, take_all}
 use Rattle.acl_posix.specs.Entry.{Triple}
 use Rattle.acl_posix.specs.Perms.{bits_of}
 use Rattle.acl_nfs4.specs.declared.who.Who.{Who}

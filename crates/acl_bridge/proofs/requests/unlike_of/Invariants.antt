@@ -1,5 +1,4 @@
-use Rattle.std.proofs.Common.{take}
-use Rattle.std.specs.List.{All}
+use Rattle.std.proofs.Common.{take, All}
 use Rattle.acl_posix.specs.Perms.{bits_of}
 use Rattle.acl_bridge.specs.Comparison.{GrantAlikeAt, OfEachTag}
 use Rattle.acl_bridge.specs.Translation.{who_of}

@@ -1,5 +1,4 @@
-use Rattle.std.proofs.Common.{◌≡◌, ◌++◌, drop}
-use Rattle.std.specs.Prelude.{flat_map}
+use Rattle.std.proofs.Common.{◌≡◌, ◌++◌, drop, flat_map}
 use Rattle.acl_bridge.specs.Effects.{with_effect}
 use Rattle.acl_bridge.specs.Translation.{made_by_pass, passes, translation}
 use Rattle.acl_bridge.proofs.translation.translation_for.Given as goal

@@ -1,5 +1,4 @@
-use Rattle.std.proofs.Common.{◌≡◌, ◌≤◌, ◌+◌, ◌++◌, length, take}
-use Rattle.std.specs.Prelude.{vec_len, vec_capacity}
+use Rattle.std.proofs.Common.{◌≡◌, ◌≤◌, ◌+◌, ◌++◌, length, take, vec_len, vec_capacity}
 use Rattle.acl_names.specs.Letters.{letters_text}
 use Rattle.acl_names.proofs.letters.push_letters.Given as goal
 

@@ -1,5 +1,4 @@
-use Rattle.std.proofs.Common.{◌≡◌, sym, subst, ◌∙◌, take, arith}
-use Rattle.std.proofs.lemmas.List.{take_all}
+use Rattle.std.proofs.Common.{◌≡◌, sym, subst, ◌∙◌, take, arith, take_all}
 use Rattle.acl_names.proofs.LettersInTurn.{AreRead, nothing_is_read, one_more_read, refused_letter, refused_repeat, all_read}
 use Rattle.acl_names.proofs.letters.read_letters.Goals as goal
 

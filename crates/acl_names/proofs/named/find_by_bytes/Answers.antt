@@ -1,7 +1,5 @@
-use Rattle.std.proofs.Common.{◌∙◌, ◌<◌, length, sym, ap, Some, rules}
+use Rattle.std.proofs.Common.{◌∙◌, ◌<◌, length, sym, ap, Some, rules, nat_cmp, bytes_eq}
 use Rattle.std.specs.Cmp.Lexicographic.{slice_cmp}
-use Rattle.std.specs.Ordering.{nat_cmp}
-use Rattle.std.specs.Str.{bytes_eq}
 use Rattle.std.proofs.lemmas.Cmp.{nat_list_cmp_total}
 use Rattle.std.proofs.lemmas.Fn.{always_returns_same}
 use Rattle.acl_names.proofs.AscendingLemmas.{find-searched, find-absent, slice_get-within}

@@ -1,5 +1,4 @@
-use Rattle.std.proofs.Common.{ℕ, ◌<◌, ◌∙◌, nat_eq, length, sym, ap, option_map, rules}
-use Rattle.std.specs.Ordering.{nat_cmp}
+use Rattle.std.proofs.Common.{ℕ, ◌<◌, ◌∙◌, nat_eq, length, sym, ap, option_map, rules, nat_cmp}
 use Rattle.std.proofs.lemmas.Cmp.{nat_cmp_total}
 use Rattle.std.proofs.lemmas.List.Sorted.{answers_always}
 use Rattle.acl_names.proofs.AscendingLemmas.{find-absent, find-searched, slice_get-within}

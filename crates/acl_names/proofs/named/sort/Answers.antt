@@ -1,7 +1,5 @@
-use Rattle.std.proofs.Common.{◌∙◌, ap, not, nat_eq}
+use Rattle.std.proofs.Common.{◌∙◌, ap, not, nat_eq, nat_cmp, bytes_eq}
 use Rattle.std.specs.Cmp.Lexicographic.{slice_cmp}
-use Rattle.std.specs.Ordering.{nat_cmp}
-use Rattle.std.specs.Str.{bytes_eq}
 use Rattle.std.proofs.lemmas.Cmp.{nat_cmp_total, nat_list_cmp_total}
 use Rattle.std.proofs.lemmas.List.Sorted.{IsPermutation-trans}
 use Rattle.acl_names.proofs.AscendingLemmas.{repeats-permutation}

@@ -1,6 +1,4 @@
-use Rattle.std.proofs.Common.{◌≡◌, ◌∙◌, ℕ, List, Option, Some, None, find, get_or, option_map, string_bytes, ap, sym}
-use Rattle.std.specs.Str.{bytes_eq}
-use Rattle.std.proofs.lemmas.List.{append-nil}
+use Rattle.std.proofs.Common.{◌≡◌, ◌∙◌, ℕ, List, Option, Some, None, find, get_or, option_map, string_bytes, ap, sym, bytes_eq, append-nil}
 use Rattle.acl_names.proofs.MapLemmas.{filter_map-one_more}
 use Rattle.acl_names.proofs.user.gids_of.Goals as goal
 use Rattle.acl_names.proofs.user.gids_of.Goals.{in-Some+in_ok-push, in_default}

@@ -1,6 +1,4 @@
-use Rattle.std.proofs.Common.{◌≡◌, option_map, find, take, string_bytes}
-use Rattle.std.specs.List.{filter_map}
-use Rattle.std.specs.Str.{bytes_eq}
+use Rattle.std.proofs.Common.{◌≡◌, option_map, find, take, string_bytes, filter_map, bytes_eq}
 use Rattle.acl_names.proofs.user.gids_of.Given as goal
 
 -- the gids of the names that were passed

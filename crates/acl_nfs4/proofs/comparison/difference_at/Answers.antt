@@ -1,8 +1,6 @@
-use Rattle.std.proofs.Common.{◌≢◌, ◌∙◌, sym, ap, ℕ, ap₂}
-use Rattle.std.proofs.lemmas.Bool.{true≢false, eq-eqb}
-use Rattle.acl_names.specs.Bits.{◌∪◌}
+use Rattle.std.proofs.Common.{◌≢◌, ◌∙◌, sym, ap, ℕ, ap₂, true≢false, eq-eqb}
+use Rattle.acl_names.specs.Bits.{◌∪◌, has}
 use Rattle.acl_names.specs.Asker.{identity_of}
-use Rattle.acl_names.specs.Bits.{has}
 use Rattle.acl_nfs4.specs.Mask.{mask_bits}
 use Rattle.acl_nfs4.specs.Who.{matches}
 use Rattle.acl_nfs4.proofs.AllowedBits.{are_lost, are_gained, some_only}

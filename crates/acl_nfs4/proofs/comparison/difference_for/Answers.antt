@@ -1,6 +1,4 @@
-use Rattle.std.proofs.Common.{subst}
-use Rattle.std.specs.List.{All}
-use Rattle.std.proofs.lemmas.List.{take_all}
+use Rattle.std.proofs.Common.{subst, All, take_all}
 use Rattle.acl_nfs4.specs.Ace.{Nfsace4}
 use Rattle.acl_nfs4.specs.Comparison.{AlikeAt, OfEachWho, IsDifference, decided_by}
 use Rattle.acl_nfs4.specs.Mask.{mask_bits}

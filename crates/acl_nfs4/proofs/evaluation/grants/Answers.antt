@@ -1,5 +1,4 @@
-use Rattle.std.proofs.Common.{◌≡◌, ◌↔◌, ◌∙◌, ◌+◌, refl, sym, ap, subst, drop, not, ◌∷◌, List, ℕ, bit_and}
-use Rattle.std.specs.Prelude.{◌==◌}
+use Rattle.std.proofs.Common.{◌≡◌, ◌↔◌, ◌∙◌, ◌+◌, refl, sym, ap, subst, drop, not, ◌∷◌, List, ℕ, bit_and, ◌==◌}
 use Rattle.std.proofs.lemmas.Bool.{and_parts, eqb-true, eq-eqb, true≢false, not-false}
 use Rattle.std.proofs.lemmas.List.{drop_all}
 use Rattle.acl_names.specs.Bits.{without}

@@ -1,5 +1,4 @@
-use Rattle.std.proofs.Common.{◌≡◌, sym, subst, take, arith}
-use Rattle.std.proofs.lemmas.List.{take_all}
+use Rattle.std.proofs.Common.{◌≡◌, sym, subst, take, arith, take_all}
 use Rattle.acl_names.proofs.LettersInTurn.{AreRead, nothing_is_read, all_read}
 use Rattle.acl_nfs4.proofs.LetterBits.{refused_zero, refused_again, read_more}
 use Rattle.acl_nfs4.proofs.letter_bits.read_bits.Goals as goal

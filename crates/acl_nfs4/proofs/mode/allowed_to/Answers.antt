@@ -1,5 +1,4 @@
-use Rattle.std.proofs.Common.{◌≡◌, ◌∙◌, ◌+◌, sym, ap, subst, drop, List, ℕ}
-use Rattle.std.proofs.lemmas.Bool.{eqb-true}
+use Rattle.std.proofs.Common.{◌≡◌, ◌∙◌, ◌+◌, sym, ap, subst, drop, List, ℕ, eqb-true}
 use Rattle.acl_names.specs.Bits.{without, ◌∩◌, ◌∪◌}
 use Rattle.acl_nfs4.specs.Ace.{Nfsace4, is_allow}
 use Rattle.acl_nfs4.specs.Evaluation.{of_class}

@@ -1,5 +1,4 @@
-use Rattle.std.proofs.Common.{◌∙◌, sym, ap, true, ℕ, arith}
-use Rattle.std.specs.Prelude.{slice_index_or}
+use Rattle.std.proofs.Common.{◌∙◌, sym, ap, true, ℕ, arith, slice_index_or}
 use Rattle.acl_nfs4.proofs.MarkLemmas.{denied-none, same_inside}
 use Rattle.acl_nfs4.proofs.mode_change.marked_denied_to.Goals as goal
 

@@ -1,5 +1,4 @@
-use Rattle.std.proofs.Common.{subst, set, true, ◌+◌, Bool, ℕ, ◌∙◌, sym, ap, ◌++◌, List, take, append_assoc}
-use Rattle.std.specs.Prelude.{flat_map}
+use Rattle.std.proofs.Common.{subst, set, true, ◌+◌, Bool, ℕ, ◌∙◌, sym, ap, ◌++◌, List, take, append_assoc, flat_map}
 use Rattle.std.specs.List.{list_any}
 use Rattle.acl_posix.specs.Perms.{bits_of}
 use Rattle.acl_nfs4.specs.Ace.{Nfsace4}

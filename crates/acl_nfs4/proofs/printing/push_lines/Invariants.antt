@@ -1,5 +1,4 @@
-use Rattle.std.proofs.Common.{◌≡◌, ◌≤◌, ◌++◌, take}
-use Rattle.std.specs.Prelude.{vec_capacity}
+use Rattle.std.proofs.Common.{◌≡◌, ◌≤◌, ◌++◌, take, vec_capacity}
 use Rattle.acl_nfs4.specs.PrintedText.{aces_text, HaveIds}
 use Rattle.acl_nfs4.proofs.printing.push_lines.Given as goal
 

@@ -1,6 +1,5 @@
-use Rattle.std.proofs.Common.{◌≡◌, ◌∙◌, not, length, sym, ap, None}
+use Rattle.std.proofs.Common.{◌≡◌, ◌∙◌, not, length, sym, ap, None, string_bytes}
 use Rattle.std.proofs.lemmas.List.Sorted.{length_permutation}
-use Rattle.std.specs.String.{string_bytes}
 use Rattle.acl_names.specs.Directory.{Known, fault_of}
 use Rattle.acl_names.proofs.DirectoryLemmas.{answers_alike, fault_of-moved, no_name_twice, none_from, not_refused, refused_for}
 use Rattle.acl_names.proofs.directory.Directory.from_parts.Goals as goal

@@ -1,5 +1,4 @@
-use Rattle.std.proofs.Common.{◌≡◌, ◌∙◌, sym, length, rules}
-use Rattle.std.specs.String.{string_bytes}
+use Rattle.std.proofs.Common.{◌≡◌, ◌∙◌, sym, length, rules, string_bytes}
 use Rattle.std.proofs.lemmas.List.{length-map}
 use Rattle.acl_names.proofs.user.User.group_count.Goals as goal
 

@@ -1,7 +1,5 @@
-use Rattle.std.proofs.Common.{◌∙◌, sym, ap, is_none, find}
+use Rattle.std.proofs.Common.{◌∙◌, sym, ap, is_none, find, bytes_eq, string_bytes}
 use Rattle.std.specs.List.{list_any}
-use Rattle.std.specs.Str.{bytes_eq}
-use Rattle.std.specs.String.{string_bytes}
 use Rattle.acl_names.proofs.AnyLemmas.{list_any-map}
 use Rattle.acl_names.proofs.user.User.is_in_unknown_group.Goals as goal
 

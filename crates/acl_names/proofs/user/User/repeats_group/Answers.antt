@@ -1,6 +1,4 @@
-use Rattle.std.proofs.Common.{◌∙◌, sym, ap}
-use Rattle.std.specs.Str.{bytes_eq}
-use Rattle.std.specs.String.{string_bytes}
+use Rattle.std.proofs.Common.{◌∙◌, sym, ap, bytes_eq, string_bytes}
 use Rattle.acl_names.specs.Ascending.{repeats}
 use Rattle.acl_names.proofs.MapLemmas.{repeats-map}
 use Rattle.acl_names.proofs.user.User.repeats_group.Goals as goal

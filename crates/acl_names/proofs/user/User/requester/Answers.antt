@@ -1,7 +1,4 @@
-use Rattle.std.proofs.Common.{◌≡◌, ◌∙◌, ℕ, List, [], Option, sym, ap, find, map, option_map}
-use Rattle.std.specs.List.{filter_map}
-use Rattle.std.specs.Str.{bytes_eq}
-use Rattle.std.specs.String.{string_bytes}
+use Rattle.std.proofs.Common.{◌≡◌, ◌∙◌, ℕ, List, [], Option, sym, ap, find, map, option_map, filter_map, bytes_eq, string_bytes}
 use Rattle.acl_names.specs.Directory.{KnownGroup, as_requester}
 use Rattle.acl_names.proofs.MapLemmas.{filter_map-map}
 use Rattle.acl_names.proofs.user.User.requester.Goals as goal
