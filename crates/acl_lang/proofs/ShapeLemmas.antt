@@ -1,8 +1,6 @@
 -- What a line asks for is what its words say, both ways.
-use Rattle.std.proofs.Common.{◌≡◌, ◌≢◌, ◌∙◌, ℕ, List, [], ◌∷◌, Option, Some, None, Ok, Err, Bool, true, false, ◌⊎◌, ap, ap₂, codes, inl, inr, refl, subst}
+use Rattle.std.proofs.Common.{◌≡◌, ◌≢◌, ◌∙◌, ℕ, List, [], ◌∷◌, Option, Some, None, Ok, Err, Bool, true, false, ◌⊎◌, ap, ap₂, codes, inl, inr, refl, subst, Result, is_none, if◌then◌else◌, bytes_eq}
 use Rattle.std.proofs.lemmas.Slice.Eq.{bytes_eq-Decides}
-use Rattle.std.specs.Prelude.{Result, is_none, if◌then◌else◌}
-use Rattle.std.specs.Str.{bytes_eq}
 use Rattle.acl_names.proofs.ReadListLemmas.{spelt-read}
 use Rattle.acl_names.proofs.StepLemmas.{bind_ok, if_then, is_none-true}
 use Rattle.acl_names.specs.Directory.{Known}
@@ -29,7 +27,8 @@ use Rattle.acl_lang.specs.Commands.{asked_by, check, check4, chmod, command, cre
 use Rattle.acl_lang.specs.Fields.{accepted, acl_of, aces_of, as_ace, as_entry, default_of, entries_of, kind_of, mask_of, mode_of, path_of, perms_of, user_of}
 use Rattle.acl_posix.specs.InOrder.{in_order}
 use Rattle.acl_lang.specs.Printed.{kind_text}
-use Rattle.acl_lang.specs.Shapes.{Asks, IsPath, Sets, SpellsAcl, SpellsDefault}
+use Rattle.acl_lang.specs.Refusals.{Asked}
+use Rattle.acl_lang.specs.Shapes.{Asks, IsPath, Says, Sets, SpellsAcl, SpellsDefault}
 use Rattle.acl_lang.specs.Words.{words}
 use Rattle.acl_lang.proofs.ListLemmas.{aces_of-spelt, entries_of-spelt}
 
@@ -122,25 +121,31 @@ kind_of-text Dir = refl
 
 -- Commands.
 
+-- a path that is read first is the line's own
+path_read : (text : List ℕ) (rest : List ℕ → Asked Request) (request : Request) → (path_of text >>= rest) ≡ Ok request
+    → (path : List ℕ) × (text ≡ path) × IsPath path × (rest path ≡ Ok request)
+path_read text rest request read =
+    let at = bind_ok (path_of text) rest request read in
+    let there = path_of-ok text at.0 at.1 in
+    (at.0, there.0, there.1, at.2)
+
 module _ (known : Known) (line : List ℕ) where
   get-asks : first_word line ≡ codes "get" → (fields : List (List ℕ)) → words (after_word line) ≡ fields → (request : Request) → get fields ≡ Ok request → Asks known line request
   unfolding get
   get-asks word [] are request read = cc
   get-asks word (path ∷ []) are request read =
-      let at = bind_ok (path_of path) _ request read in
-      let there = path_of-ok path at.0 at.1 in
+      let at = path_read path _ request read in
       let same : Get at.0 ≡ request = cc in
-      subst (Asks known line) same (record { command_is = word; fields_are = are ∙ ap (λ p. p ∷ []) there.0 }, there.1)
+      subst (Asks known line) same (record { command_is = word; fields_are = are ∙ ap (λ p. p ∷ []) at.1 }, at.2)
   get-asks word (path ∷ (more ∷ rest)) are request read = cc
 
   translate-asks : first_word line ≡ codes "translate" → (fields : List (List ℕ)) → words (after_word line) ≡ fields → (request : Request) → translate fields ≡ Ok request → Asks known line request
   unfolding translate
   translate-asks word [] are request read = cc
   translate-asks word (path ∷ []) are request read =
-      let at = bind_ok (path_of path) _ request read in
-      let there = path_of-ok path at.0 at.1 in
+      let at = path_read path _ request read in
       let same : Translate at.0 ≡ request = cc in
-      subst (Asks known line) same (record { command_is = word; fields_are = are ∙ ap (λ p. p ∷ []) there.0 }, there.1)
+      subst (Asks known line) same (record { command_is = word; fields_are = are ∙ ap (λ p. p ∷ []) at.1 }, at.2)
   translate-asks word (path ∷ (more ∷ rest)) are request read = cc
 
   chmod-asks : first_word line ≡ codes "chmod" → (fields : List (List ℕ)) → words (after_word line) ≡ fields → (request : Request) → chmod fields ≡ Ok request → Asks known line request
@@ -148,11 +153,10 @@ module _ (known : Known) (line : List ℕ) where
   chmod-asks word [] are request read = cc
   chmod-asks word (path ∷ []) are request read = cc
   chmod-asks word (path ∷ (digits ∷ [])) are request read =
-      let at = bind_ok (path_of path) _ request read in
-      let there = path_of-ok path at.0 at.1 in
-      let mode = bind_ok (mode_of digits) _ request at.2 in
+      let at = path_read path _ request read in
+      let mode = bind_ok (mode_of digits) _ request at.3 in
       let same : Chmod at.0 mode.0 ≡ request = cc in
-      subst (Asks known line) same (digits, record { command_is = word; fields_are = are ∙ ap (λ p. p ∷ digits ∷ []) there.0 }, there.1, mode.1)
+      subst (Asks known line) same (digits, record { command_is = word; fields_are = are ∙ ap (λ p. p ∷ digits ∷ []) at.1 }, at.2, mode.1)
   chmod-asks word (path ∷ (digits ∷ (more ∷ rest))) are request read = cc
 
   create-asks : first_word line ≡ codes "create" → (fields : List (List ℕ)) → words (after_word line) ≡ fields → (request : Request) → create known fields ≡ Ok request → Asks known line request
@@ -163,40 +167,40 @@ module _ (known : Known) (line : List ℕ) where
   create-asks word (kind ∷ (path ∷ (name ∷ []))) are request read = cc
   create-asks word (kind ∷ (path ∷ (name ∷ (digits ∷ [])))) are request read =
       let made = bind_ok (kind_of kind) _ request read in
-      let at = bind_ok (path_of path) _ request made.2 in
-      let there = path_of-ok path at.0 at.1 in
-      let user = bind_ok (user_of known name) _ request at.2 in
+      let at = path_read path _ request made.2 in
+      let user = bind_ok (user_of known name) _ request at.3 in
       let mode = bind_ok (mode_of digits) _ request user.2 in
       let same : Create made.0 at.0 user.0 mode.0 ≡ request = cc in
       subst (Asks known line) same (
         name,
         digits,
-        record { command_is = word; fields_are = are ∙ ap₂ (λ k p. k ∷ p ∷ name ∷ digits ∷ []) (kind_of-ok kind made.0 made.1) there.0 },
-        there.1,
+        record { command_is = word; fields_are = are ∙ ap₂ (λ k p. k ∷ p ∷ name ∷ digits ∷ []) (kind_of-ok kind made.0 made.1) at.1 },
+        at.2,
         user.1,
         mode.1,
       )
   create-asks word (kind ∷ (path ∷ (name ∷ (digits ∷ (more ∷ rest))))) are request read = cc
+
+  -- `check` and `check4`, whose last fields are read each in its way
+  of_user-asks : {A : Type 0} (command : List ℕ) (read_last : List ℕ → Asked A) (ask : List ℕ → ℕ → A → Request)
+      → ((path : List ℕ) (user : ℕ) (asked : A) → (name : List ℕ) × (letters : List ℕ) × Says line command (path ∷ name ∷ letters ∷ []) × IsPath path
+      × (user_of known name ≡ Ok user) × (read_last letters ≡ Ok asked) → Asks known line (ask path user asked))
+      → first_word line ≡ command → (path name letters : List ℕ) → words (after_word line) ≡ path ∷ name ∷ letters ∷ [] → (request : Request)
+      → (path_of path >>= (λ path. user_of known name >>= (λ user. read_last letters >>= (λ asked. Ok (ask path user asked))))) ≡ Ok request → Asks known line request
+  of_user-asks command read_last ask says word path name letters are request read =
+      let at = path_read path _ request read in
+      let user = bind_ok (user_of known name) _ request at.3 in
+      let last = bind_ok (read_last letters) _ request user.2 in
+      let same : ask at.0 user.0 last.0 ≡ request = cc in
+      let fields = are ∙ ap (λ p. p ∷ name ∷ letters ∷ []) at.1 in
+      subst (Asks known line) same (says at.0 user.0 last.0 (name, letters, record { command_is = word; fields_are = fields }, at.2, user.1, last.1))
 
   check-asks : first_word line ≡ codes "check" → (fields : List (List ℕ)) → words (after_word line) ≡ fields → (request : Request) → check known fields ≡ Ok request → Asks known line request
   unfolding check
   check-asks word [] are request read = cc
   check-asks word (path ∷ []) are request read = cc
   check-asks word (path ∷ (name ∷ [])) are request read = cc
-  check-asks word (path ∷ (name ∷ (letters ∷ []))) are request read =
-      let at = bind_ok (path_of path) _ request read in
-      let there = path_of-ok path at.0 at.1 in
-      let user = bind_ok (user_of known name) _ request at.2 in
-      let perms = bind_ok (perms_of letters) _ request user.2 in
-      let same : Check at.0 user.0 perms.0 ≡ request = cc in
-      subst (Asks known line) same (
-        name,
-        letters,
-        record { command_is = word; fields_are = are ∙ ap (λ p. p ∷ name ∷ letters ∷ []) there.0 },
-        there.1,
-        user.1,
-        perms.1,
-      )
+  check-asks word (path ∷ (name ∷ (letters ∷ []))) are request read = of_user-asks (codes "check") perms_of Check (λ path user asked says. says) word path name letters are request read
   check-asks word (path ∷ (name ∷ (letters ∷ (more ∷ rest)))) are request read = cc
 
   check4-asks : first_word line ≡ codes "check4" → (fields : List (List ℕ)) → words (after_word line) ≡ fields → (request : Request) → check4 known fields ≡ Ok request → Asks known line request
@@ -204,67 +208,41 @@ module _ (known : Known) (line : List ℕ) where
   check4-asks word [] are request read = cc
   check4-asks word (path ∷ []) are request read = cc
   check4-asks word (path ∷ (name ∷ [])) are request read = cc
-  check4-asks word (path ∷ (name ∷ (letters ∷ []))) are request read =
-      let at = bind_ok (path_of path) _ request read in
-      let there = path_of-ok path at.0 at.1 in
-      let user = bind_ok (user_of known name) _ request at.2 in
-      let mask = bind_ok (mask_of letters) _ request user.2 in
-      let same : Check4 at.0 user.0 mask.0 ≡ request = cc in
-      subst (Asks known line) same (
-        name,
-        letters,
-        record { command_is = word; fields_are = are ∙ ap (λ p. p ∷ name ∷ letters ∷ []) there.0 },
-        there.1,
-        user.1,
-        mask.1,
-      )
+  check4-asks word (path ∷ (name ∷ (letters ∷ []))) are request read = of_user-asks (codes "check4") mask_of Check4 (λ path user asked says. says) word path name letters are request read
   check4-asks word (path ∷ (name ∷ (letters ∷ (more ∷ rest)))) are request read = cc
 
-  -- `set`, whose words are cut one by one
-  module _ (word : first_word line ≡ codes "set") (path text : List ℕ) (path_is : first_word (after_word line) ≡ path)
-      (text_is : after_word (after_word (after_word line)) ≡ text) (filled : text ≢ []) (request : Request) where
-    sets : (kind at : List ℕ) → first_word (after_word (after_word line)) ≡ kind → path ≡ at → Sets line at kind text
-    sets kind at kind_is there = record { command_is = word; path_is = path_is ∙ there; kind_is = kind_is; text_is = text_is; filled = filled }
-
-    access-asks : first_word (after_word (after_word line)) ≡ codes "access" → set_access known path text ≡ Ok request → Asks known line request
-    unfolding set_access
-    access-asks kind read =
-        let at = bind_ok (path_of path) _ request read in
-        let there = path_of-ok path at.0 at.1 in
-        let acl = bind_ok (acl_of known text) _ request at.2 in
-        let same : SetAccess at.0 acl.0 ≡ request = cc in
-        subst (Asks known line) same (text, sets (codes "access") at.0 kind there.0, there.1, acl_of-ok known text acl.0 acl.1)
-
-    default-asks : first_word (after_word (after_word line)) ≡ codes "default" → set_default known path text ≡ Ok request → Asks known line request
-    unfolding set_default
-    default-asks kind read =
-        let at = bind_ok (path_of path) _ request read in
-        let there = path_of-ok path at.0 at.1 in
-        let default = bind_ok (default_of known text) _ request at.2 in
-        let same : SetDefault at.0 default.0 ≡ request = cc in
-        subst (Asks known line) same (text, sets (codes "default") at.0 kind there.0, there.1, default_of-ok known text default.0 default.1)
-
-    nfs4-asks : first_word (after_word (after_word line)) ≡ codes "nfs4" → set_nfs4 known path text ≡ Ok request → Asks known line request
-    unfolding set_nfs4
-    nfs4-asks kind read =
-        let at = bind_ok (path_of path) _ request read in
-        let there = path_of-ok path at.0 at.1 in
-        let aces = bind_ok (aces_of known text) _ request at.2 in
-        let same : SetNfs4 at.0 aces.0 ≡ request = cc in
-        subst (Asks known line) same (text, sets (codes "nfs4") at.0 kind there.0, there.1, aces_of-ok known text aces.0 aces.1)
+  -- `set`, whose words are cut one by one, and whose kinds of lists are read each in its way
+  of_list-asks : {A : Type 0} (read_list : List ℕ → Asked A) (ask : List ℕ → A → Request) (path kind text : List ℕ) (request : Request)
+      → ((path : List ℕ) (list : A) → Sets line path kind text → IsPath path → read_list text ≡ Ok list → Asks known line (ask path list))
+      → Sets line path kind text → (path_of path >>= (λ path. read_list text >>= (λ list. Ok (ask path list)))) ≡ Ok request → Asks known line request
+  of_list-asks read_list ask path kind text request says sets read =
+      let at = path_read path _ request read in
+      let list = bind_ok (read_list text) _ request at.3 in
+      let same : ask at.0 list.0 ≡ request = cc in
+      subst (Asks known line) same (says at.0 list.0 (subst (λ p. Sets line p kind text) at.1 sets) at.2 list.1)
 
   set-asks : first_word line ≡ codes "set" → (path kind text : List ℕ) → first_word (after_word line) ≡ path → first_word (after_word (after_word line)) ≡ kind
       → after_word (after_word (after_word line)) ≡ text → (request : Request) → set_list known path kind text ≡ Ok request → Asks known line request
+  unfolding set_access set_default set_nfs4
   set-asks word path kind [] path_is kind_is text_is request read = cc
   set-asks word path kind (byte ∷ bytes) path_is kind_is text_is request read =
       let text = byte ∷ bytes in
-      let filled : text ≢ [] = λ none. cc in
+      let sets : (name : List ℕ) → bytes_eq kind name ≡ true → Sets line path name text = λ name same. record {
+        command_is = word;
+        path_is = path_is;
+        kind_is = kind_is ∙ is_word kind name same;
+        text_is = text_is;
+        filled = λ none. cc;
+      } in
       elim (branch (bytes_eq kind (codes "access")) (set_access known path text) _ request read) [
-        | inl access ↦ access-asks word path text path_is text_is filled request (kind_is ∙ is_word kind (codes "access") access.0) access.1
+        | inl access ↦
+            of_list-asks (acl_of known) SetAccess path (codes "access") text request (λ path acl says there is. (text, says, there, acl_of-ok known text acl is)) (sets (codes "access") access.0) access.1
         | inr other ↦ elim (branch (bytes_eq kind (codes "default")) (set_default known path text) _ request other.1) [
-          | inl default ↦ default-asks word path text path_is text_is filled request (kind_is ∙ is_word kind (codes "default") default.0) default.1
+          | inl default ↦
+              of_list-asks (default_of known) SetDefault path (codes "default") text request (λ path acl says there is. (text, says, there, default_of-ok known text acl is)) (sets (codes "default") default.0) default.1
           | inr another ↦ elim (branch (bytes_eq kind (codes "nfs4")) (set_nfs4 known path text) _ request another.1) [
-            | inl nfs4 ↦ nfs4-asks word path text path_is text_is filled request (kind_is ∙ is_word kind (codes "nfs4") nfs4.0) nfs4.1
+            | inl nfs4 ↦
+                of_list-asks (aces_of known) SetNfs4 path (codes "nfs4") text request (λ path aces says there is. (text, says, there, aces_of-ok known text aces is)) (sets (codes "nfs4") nfs4.0) nfs4.1
             | inr none ↦ let wrong = none.1 in cc
           ]
         ]
@@ -305,14 +283,11 @@ module _ (known : Known) (line : List ℕ) where
   path_of-is : (path : List ℕ) → IsPath path → path_of path ≡ Ok path
   path_of-is path is = rw is refl
 
-  set-said : (path kind text : List ℕ) → Sets line path kind text → asked_by known line ≡ set_list known path kind text
+  list_said : {A : Type 0} (read_list : List ℕ → Asked A) (list : A) (path kind text : List ℕ) (request : Request) → Sets line path kind text → read_list text ≡ Ok list
+      → ((byte : ℕ) (bytes : List ℕ) → read_list (byte ∷ bytes) ≡ Ok list → set_list known path kind (byte ∷ bytes) ≡ Ok request) → asked_by known line ≡ Ok request
   unfolding command
-  set-said path kind text says = rw (says.command_is, says.path_is, says.kind_is, says.text_is) refl
-
-  filled_list : (path kind text : List ℕ) → text ≢ [] → (request : Request)
-      → ((byte : ℕ) (bytes : List ℕ) → text ≡ byte ∷ bytes → set_list known path kind (byte ∷ bytes) ≡ Ok request) → set_list known path kind text ≡ Ok request
-  filled_list path kind [] filled request reads = absurd (filled refl)
-  filled_list path kind (byte ∷ bytes) filled request reads = reads byte bytes refl
+  list_said read_list list path kind [] request says read reads = absurd (says.filled refl)
+  list_said read_list list path kind (byte ∷ bytes) request says read reads = rw (says.command_is, says.path_is, says.kind_is, says.text_is) (reads byte bytes read)
 
   pub asks-asked_by : (request : Request) → Asks known line request → asked_by known line ≡ Ok request
   unfolding command get translate chmod create check check4 set_access set_default set_nfs4
@@ -326,18 +301,9 @@ module _ (known : Known) (line : List ℕ) where
   asks-asked_by (Check4 path user mask) (name, letters, says, there, user_is, mask_is) =
       rw (says.command_is, says.fields_are, path_of-is path there, user_is, mask_is) refl
   asks-asked_by (SetAccess path acl) (text, says, there, spells) =
-      set-said path (codes "access") text says
-      ∙ filled_list path (codes "access") text says.filled (SetAccess path acl) (λ byte bytes is.
-      let read : acl_of known (byte ∷ bytes) ≡ Ok acl = subst (λ t. acl_of known t ≡ Ok acl) is (acl_of-spelt known text acl spells) in
-      rw (path_of-is path there, read) refl)
+      list_said (acl_of known) acl path (codes "access") text (SetAccess path acl) says (acl_of-spelt known text acl spells) (λ byte bytes read. rw (path_of-is path there, read) refl)
   asks-asked_by (SetDefault path default) (text, says, there, spells) =
-      set-said path (codes "default") text says
-      ∙ filled_list path (codes "default") text says.filled (SetDefault path default) (λ byte bytes is.
-      let read : default_of known (byte ∷ bytes) ≡ Ok default = subst (λ t. default_of known t ≡ Ok default) is (default_of-spelt known text default spells) in
-      rw (path_of-is path there, read) refl)
+      list_said (default_of known) default path (codes "default") text (SetDefault path default) says (default_of-spelt known text default spells) (λ byte bytes read. rw (path_of-is path there, read) refl)
   asks-asked_by (SetNfs4 path aces) (text, says, there, spells) =
-      set-said path (codes "nfs4") text says
-      ∙ filled_list path (codes "nfs4") text says.filled (SetNfs4 path aces) (λ byte bytes is.
-      let read : aces_of known (byte ∷ bytes) ≡ Ok aces = subst (λ t. aces_of known t ≡ Ok aces) is (aces_of-spelt known text aces spells) in
-      rw (path_of-is path there, read) refl)
+      list_said (aces_of known) aces path (codes "nfs4") text (SetNfs4 path aces) says (aces_of-spelt known text aces spells) (λ byte bytes read. rw (path_of-is path there, read) refl)
   asks-asked_by (Bad fault) never = absurd never

@@ -1,6 +1,5 @@
 -- The commands, each with its fields from left to right: the first that doesn't read is the fault. Other words are no command.
-use Rattle.std.specs.Prelude.{ℕ, List, [], ◌∷◌, Ok, Err, codes, if◌then◌else◌}
-use Rattle.std.specs.Str.{bytes_eq}
+use Rattle.std.specs.Prelude.{ℕ, List, [], ◌∷◌, Ok, Err, codes, if◌then◌else◌, bytes_eq}
 use Rattle.acl_names.specs.Directory.{Known}
 use Rattle.acl_names.specs.Pieces.{first_word, after_word}
 use Rattle.acl_names.specs.Steps.{◌>>=◌}

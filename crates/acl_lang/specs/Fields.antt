@@ -1,7 +1,5 @@
 -- What the fields of a command say.
-use Rattle.std.specs.Prelude.{ℕ, ◌-◌, ◌&&◌, ◌==◌, nat_le, List, [], ◌∷◌, Option, Some, None, option_map, Result, Ok, Err, codes, is_none, if◌then◌else◌}
-use Rattle.std.specs.Option.{option_and_then}
-use Rattle.std.specs.Str.{bytes_eq}
+use Rattle.std.specs.Prelude.{ℕ, ◌-◌, ◌&&◌, ◌==◌, nat_le, List, [], ◌∷◌, Option, Some, None, option_map, Result, Ok, Err, codes, is_none, if◌then◌else◌, option_and_then, bytes_eq}
 use Rattle.acl_names.specs.Directory.{Known, uid_of}
 use Rattle.acl_names.specs.Ids.{written_id, resolved}
 use Rattle.acl_names.specs.Letters.{letters_of}

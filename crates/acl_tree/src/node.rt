@@ -15,8 +15,11 @@ use std::alloc::{AllocError, Global};
 /// A file or a directory. In a tree its kind, its owner and its group never change.
 #[derive(Debug, Drop)]
 pub struct Node {
+    /// Whether it is a file or a directory.
     pub kind: Kind,
+    /// Its owner.
     pub owner: Uid,
+    /// Its group.
     pub group: Gid,
     /// Its access control lists, of either style.
     pub acl: NodeAcl,

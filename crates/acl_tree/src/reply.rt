@@ -7,9 +7,13 @@ use acl_posix::Mode;
 /// What is shown of a node: all that there is of it, its path and its mode.
 #[derive(Debug, Drop)]
 pub struct View {
+    /// Its path.
     pub path: Path,
+    /// Whether it is a file or a directory.
     pub kind: Kind,
+    /// Its owner.
     pub owner: Uid,
+    /// Its group.
     pub group: Gid,
     /// The mode that its list shows.
     pub mode: Mode,

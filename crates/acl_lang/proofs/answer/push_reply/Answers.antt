@@ -1,5 +1,4 @@
-use Rattle.std.proofs.Common.{◌≡◌, ◌++◌, ◌∙◌, ap, sym, subst, append_assoc, List, ℕ}
-use Rattle.std.specs.Prelude.{OnOk, codes, ◌∷◌}
+use Rattle.std.proofs.Common.{◌≡◌, ◌++◌, ◌∙◌, ap, sym, subst, append_assoc, List, ℕ, OnOk, codes, ◌∷◌}
 use Rattle.acl_names.specs.Bytes.{newline}
 use Rattle.acl_nfs4.specs.Ace.{Nfsace4}
 use Rattle.acl_nfs4.specs.PrintedText.{aces_text}
