@@ -1,6 +1,5 @@
 -- What the reader of NFSv4 entries says of a text, as what the field reads.
-use Rattle.std.proofs.Common.{◌≡◌, List, Ok, ap}
-use Rattle.std.specs.Prelude.{Result}
+use Rattle.std.proofs.Common.{◌≡◌, List, Ok, ap, Result}
 use Rattle.clap.specs.Words.{Text}
 use Rattle.acl_names.specs.ListText.{IsFaultOf, Spells}
 use Rattle.acl_names.proofs.ReadListLemmas.{read-fault, read-many, read-spelt}

@@ -1,6 +1,5 @@
 -- What the reader of entries says of a text, as what the field reads.
-use Rattle.std.proofs.Common.{◌≡◌, ℕ, List, Ok, ap}
-use Rattle.std.specs.Prelude.{Result}
+use Rattle.std.proofs.Common.{◌≡◌, ℕ, List, Ok, ap, Result}
 use Rattle.clap.specs.Words.{Text}
 use Rattle.acl_names.specs.ListText.{IsFaultOf, Spells}
 use Rattle.acl_names.proofs.ReadListLemmas.{read-fault, read-many, read-spelt}

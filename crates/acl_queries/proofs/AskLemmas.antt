@@ -1,7 +1,6 @@
 -- Words ask what their fields give.
-use Rattle.std.proofs.Common.{◌≡◌, [], ◌∷◌, ℕ, List, Option, Some, None, Ok, Err, Bool, true, false, ap, codes, inl, inr, map, refl, subst, sym}
+use Rattle.std.proofs.Common.{◌≡◌, [], ◌∷◌, ℕ, List, Option, Some, None, Ok, Err, Bool, true, false, ap, codes, inl, inr, map, refl, subst, sym, Result, ◌↔◌, is_none}
 use Rattle.std.proofs.lemmas.Slice.Eq.{bytes_eq-Decides}
-use Rattle.std.specs.Prelude.{Result, ◌↔◌, is_none}
 use Rattle.clap.specs.Words.{Row, Text, first_of, matches_of}
 use Rattle.acl_names.specs.Bytes.{comma}
 use Rattle.acl_names.specs.Ids.{decimal_value}

@@ -1,6 +1,5 @@
 -- What the words of `compare` come to.
-use Rattle.std.proofs.Common.{◌≡◌, ◌≢◌, ◌∙◌, [], ◌∷◌, ℕ, List, Option, ap, refl, sym, subst, inl, inr, Ok}
-use Rattle.std.specs.Prelude.{IsOkAnd, Result}
+use Rattle.std.proofs.Common.{◌≡◌, ◌≢◌, ◌∙◌, [], ◌∷◌, ℕ, List, Option, ap, refl, sym, subst, inl, inr, Ok, IsOkAnd, Result}
 use Rattle.std.specs.Io.KnownBytes.{Keeps}
 use Rattle.clap.specs.Words.{Kinds, Text, fault_of}
 use Rattle.acl_queries.specs.Compared.{Compared, compared_by}

@@ -1,6 +1,5 @@
 -- The fields of `compare`, read in order.
-use Rattle.std.proofs.Common.{◌≡◌, ℕ, List, Ok, Err, codes, refl, sym, subst}
-use Rattle.std.specs.Prelude.{Result}
+use Rattle.std.proofs.Common.{◌≡◌, ℕ, List, Ok, Err, codes, refl, sym, subst, Result}
 use Rattle.clap.specs.Words.{Row}
 use Rattle.acl_names.specs.Steps.{◌>>=◌}
 use Rattle.acl_queries.specs.Asked.{id_in}

@@ -1,6 +1,5 @@
 -- What was found of two lists, as what they decide differently.
-use Rattle.std.proofs.Common.{◌≡◌, ◌∙◌, inl, inr, ℕ, List, Option, Some, None, refl, sym, subst, ◌||◌, Bool, true, false}
-use Rattle.std.specs.Prelude.{◌↔◌, IfSome, MatchOption}
+use Rattle.std.proofs.Common.{◌≡◌, ◌∙◌, inl, inr, ℕ, List, Option, Some, None, refl, sym, subst, ◌||◌, Bool, true, false, ◌↔◌, IfSome, MatchOption}
 use Rattle.acl_names.specs.Bits.{has, ◌∪◌}
 use Rattle.acl_names.proofs.BitSets.{has-or, same_bits}
 use Rattle.acl_nfs4.specs.Ace.{Nfsace4}

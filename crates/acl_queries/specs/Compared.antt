@@ -1,6 +1,5 @@
 -- Which lists the words of `compare` give, read field by field.
-use Rattle.std.specs.Prelude.{ℕ, List, Result, Ok, Err, codes, if◌then◌else◌}
-use Rattle.std.specs.Str.{bytes_eq}
+use Rattle.std.specs.Prelude.{ℕ, List, Result, Ok, Err, codes, if◌then◌else◌, bytes_eq}
 use Rattle.clap.specs.Words.{Text, Row, first_of, matches_of}
 use Rattle.acl_names.specs.Pieces.{pieces}
 use Rattle.acl_names.specs.ReadList.{at_most_read}

@@ -60,7 +60,7 @@ BecomesFault error (Run Output) = ⊥
 BecomesFault error (Run Stopped) = ⊥
 BecomesFault error (Run NoThread) = ⊥
 
--- the fault is that of the reading, or want of memory
+-- the fault is that of the reading, or out of memory
 abbrev pub Explains : {A : Type 0} → Result A FieldFault → DecideFault → Type 0
 Explains reading (Field fault) = reading ≡ Err fault
 Explains reading (Usage error) = ⊥

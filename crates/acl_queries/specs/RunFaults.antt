@@ -1,4 +1,4 @@
--- What is said of a command that was understood and came to no end.
+-- What is said of a valid command that failed.
 use Rattle.std.specs.Prelude.{ℕ, List, [], ◌∷◌, ◌++◌, codes}
 use Rattle.acl_names.specs.Bytes.{newline}
 use Rattle.acl_queries.specs.declared.fault.RunFault.{RunFault}

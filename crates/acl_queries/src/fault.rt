@@ -1,4 +1,4 @@
-//! Why a command that was understood came to no end.
+//! Why a valid command failed.
 ghost use Rattle.std.specs.Prelude.{◌≡◌, Some};
 
 use std::fmt;

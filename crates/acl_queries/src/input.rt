@@ -22,7 +22,7 @@ pub enum CapFault {
 }
 
 /// How many bytes one read asks for, at most.
-const PIECE: usize = 4096;
+const PIECE: usize = 32_768;
 
 /// All the bytes of the reader up to its end, of which there may be at most `cap`. It takes at most one more. A read that
 /// was interrupted is made again.

@@ -17,7 +17,8 @@ pub enum WordsFault {
     Memory,
 }
 
-/// The lines of a text as words: an empty line is an empty word.
+/// The lines of a text as words; an empty line is an empty word, and nothing follows a newline at the end. `BadWords` exactly if
+/// the bytes aren't UTF-8, `Memory` if memory runs out.
 pub fn words_of(alloc: Global, bytes: &[u8]) -> Result<Vec<String>, WordsFault>
     ensures lines { IfOk result (λ words. map string_bytes words.items ≡ lines_of bytes.now) }
     ensures bad_words { IsErrOf result WordsFault.BadWords ↔ (¬ (IsUtf8 bytes.now)) }

@@ -1,6 +1,5 @@
 -- What is printed of sessions, one after the other.
-use Rattle.std.proofs.Common.{◌≡◌, ◌<◌, ◌≤◌, ◌+◌, ◌++◌, ◌∷◌, [], ℕ, Bor, List, ap, append_assoc, append-nil, arith, codes, decimal, drop, get_or, length, map, refl}
-use Rattle.std.specs.List.{flat_map}
+use Rattle.std.proofs.Common.{◌≡◌, ◌<◌, ◌≤◌, ◌+◌, ◌++◌, ◌∷◌, [], ℕ, Bor, List, ap, append_assoc, append-nil, arith, codes, decimal, drop, get_or, length, map, refl, flat_map}
 use Rattle.std.proofs.lemmas.List.{drop_more}
 use Rattle.std.specs.declared.vec.Vec.{Vec}
 use Rattle.std.specs.declared.alloc.Global.{Global}

@@ -37,7 +37,7 @@ opened_in table = or_fault BadField (setup_in table) >>= opened_by
 abbrev pub IsOpened : Result Opened SetupError → Known → NodesUnderUmask → Type 0
 IsOpened reading known tree = IsOkAnd reading (λ opened. AnswersAs known opened.known × (tree ≡ opened.tree))
 
--- the fault is that of the reading, or want of memory
+-- the fault is that of the reading, or out of memory
 abbrev pub ExplainsSetup : Result Opened SetupError → SetupError → Type 0
 ExplainsSetup reading NotToml = ⊥
 ExplainsSetup reading Memory = ⊤
@@ -47,7 +47,7 @@ ExplainsSetup reading fault = reading ≡ Err fault
 abbrev pub Opens : List ℕ → Known → NodesUnderUmask → Type 0
 Opens bytes known tree = (table : Members) × ReadsAs bytes table × IsOpened (opened_in table) known tree
 
--- the bytes are refused for this: they are no document, or its table has this fault; want of memory says nothing of them
+-- the bytes are refused for this: they are no document, or its table has this fault; out of memory says nothing of them
 abbrev pub IsRefusedSetup : List ℕ → SetupError → Type 0
 IsRefusedSetup bytes NotToml = ¬ IsToml bytes
 IsRefusedSetup bytes Memory = ⊤

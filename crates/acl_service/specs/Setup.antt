@@ -1,6 +1,5 @@
 -- What a setup says, as a function of its table.
-use Rattle.std.specs.Prelude.{ℕ, ◌-◌, ◌&&◌, Bool, nat_le, List, [], ◌∷◌, Option, Some, None, codes, if◌then◌else◌}
-use Rattle.std.specs.Str.{bytes_eq}
+use Rattle.std.specs.Prelude.{ℕ, ◌-◌, ◌&&◌, Bool, nat_le, List, [], ◌∷◌, Option, Some, None, codes, if◌then◌else◌, bytes_eq}
 use Rattle.acl_names.specs.Bytes.{digit_0, digit_7}
 use Rattle.acl_names.specs.Directory.{Known, KnownGroup, KnownUser}
 use Rattle.acl_posix.specs.Mode.{Classes}

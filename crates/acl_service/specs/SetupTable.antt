@@ -1,6 +1,5 @@
 -- The values of a table, by their types.
-use Rattle.std.specs.Prelude.{◌≡◌, ⊤, ℕ, ℤ, pos, negsuc, List, [], ◌∷◌, Option, Some, None, Result, MatchResult, IsUtf8, if◌then◌else◌, nat_le}
-use Rattle.std.specs.Option.{option_and_then}
+use Rattle.std.specs.Prelude.{◌≡◌, ⊤, ℕ, ℤ, pos, negsuc, List, [], ◌∷◌, Option, Some, None, Result, MatchResult, IsUtf8, if◌then◌else◌, nat_le, option_and_then}
 use Rattle.acl_names.specs.declared.limits.TheConstants.{MAX_ID}
 use Rattle.toml.specs.Data.{Data, Items, Members, as_array, as_integer, as_str, as_table, get_member, item, no_items}
 use Rattle.toml.specs.Parse.{parse_document}
@@ -52,7 +51,7 @@ items_of read (Some value) = as_array value >>= each_item read
 unfoldable pub items_at : {A : Type 0} → (Data → Option A) → List ℕ → Members → Option (List A)
 items_at read key table = items_of read (get_member key table)
 
--- the fault is that the reading has no value, or want of memory
+-- the fault is that the reading has no value, or out of memory
 abbrev pub IsBadField : {A : Type 0} → Option A → SetupError → Type 0
 IsBadField reading NotToml = ⊥
 IsBadField reading BadField = reading ≡ None

@@ -46,7 +46,7 @@ fault_of_serve serve.ThreadRefused = Run run.NoThread
 abbrev pub lost_output : TextsFault
 lost_output = Run run.Output
 
--- the setup is refused, and not for want of memory
+-- the setup is refused, and not because memory ran out
 pub record RefusesSetup (bytes : List ℕ) : Type 0 where
   pub error : SetupError
   pub refused : IsRefusedSetup bytes error

@@ -12,7 +12,7 @@ use acl_tree::Tree;
 use std::alloc::{AllocError, Global};
 use std::io::Write;
 
-/// Why a session came to no end.
+/// Why a session failed.
 #[derive(Clone, Copy, Debug, PartialEq, Eq)]
 pub enum OneFault {
     /// Memory ran out. Nothing was written.
@@ -49,7 +49,8 @@ fn answer_lines(
 }
 
 /// Applies the commands of a text to the tree, line by line, and answers with the tree that they leave. Their answers go to
-/// `out`: all of them are made first and then written at once. The tree is dropped on a fault.
+/// `out`: all of them are made first and then written at once. The text has at most 1,048,576 bytes. On a fault the tree is
+/// dropped. `Memory`: nothing was written. `Write`: a front of the answers went out.
 pub fn run_one<W: Write>(
     alloc: Global,
     directory: &Directory,

@@ -8,8 +8,11 @@ use std::alloc::{AllocError, Global};
 /// A tree and its directory, with the allocator that its commands take.
 #[derive(Drop)]
 pub struct Served<'a> {
+    /// Where its commands take memory.
     pub alloc: Global,
+    /// The users and groups that there are.
     pub directory: &'a Directory,
+    /// The tree.
     pub tree: Tree,
 }
 

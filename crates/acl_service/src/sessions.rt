@@ -26,10 +26,10 @@ use std::time::Clock;
 
 /// Lets a session for each text work on the tree, all at the same time.
 ///
-/// Each session has a thread of its own, which reads its text line by line, asks the gate before it submits a request,
-/// prints its answers and tells the gate of each. This thread applies the requests of all, one after the other, and delivers
-/// the answers. With `max_errors` of K, a session ends at its K-th answer that is a refusal or a faulty line. Who finds
-/// nothing to do lets other threads go first, and then naps.
+/// Each session has a thread of its own, which reads its text line by line, asks the gate before it submits a request, prints
+/// its answers and tells the gate of each. This thread applies the requests of all, one after the other, and delivers the
+/// answers. With `max_errors` of K, a session ends at its K-th answer that is a refusal or a faulty line. A thread that finds
+/// nothing to do yields, and then naps.
 ///
 /// A fault ends the run: every worker is joined, and the journal, the answers and the tree are dropped. The texts are 1 to 64,
 /// each of at most 1,048,576 bytes, and an error limit is at least 1.
@@ -87,8 +87,8 @@ pub(crate) fn serve_in_print<'a, R: Threads + Wait + Clock + Sync, G: Gate>(
 /// Lets a session for each text work on the tree, all on this thread and in turn: the first request of each text that has
 /// one, in the order of the sessions, then the second of each, and so on.
 ///
-/// The only fault is want of memory; the journal, the answers and the tree are dropped then. The texts are 1 to 64, each of
-/// at most 1,048,576 bytes.
+/// The only fault is that memory runs out; the journal, the answers and the tree are dropped then. The texts are 1 to 64,
+/// each of at most 1,048,576 bytes.
 pub fn serve_rounds(
     alloc: Global,
     directory: &Directory,

@@ -13,7 +13,7 @@ pub record AreWordsOf (bytes : List ℕ) (words : List (List ℕ)) : Type 0 wher
   pub within : length bytes ≤ most_bytes
   pub lines : words ≡ lines_of bytes
 
--- what the bytes that a reader tells can be refused for; a failed read and want of memory say nothing of them
+-- what the bytes that a reader tells can be refused for; a failed read and out of memory say nothing of them
 abbrev pub IsInputFault : ProgramFault → List ℕ → Type 0
 IsInputFault CannotRead bytes = ⊤
 IsInputFault TooManyWords bytes = most_bytes < length bytes

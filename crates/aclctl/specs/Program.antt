@@ -1,7 +1,6 @@
 -- What the program comes to.
-use Rattle.std.specs.Prelude.{◌≡◌, ◌≤◌, ℕ, ◌⊎◌, ◌++◌, List, [], ◌∷◌, Option, Some, None, codes, if◌then◌else◌}
+use Rattle.std.specs.Prelude.{◌≡◌, ◌≤◌, ℕ, ◌⊎◌, ◌++◌, List, [], ◌∷◌, Option, Some, None, codes, if◌then◌else◌, bytes_eq}
 use Rattle.std.specs.Io.KnownBytes.{Appends, IsAtEnd, Keeps}
-use Rattle.std.specs.Str.{bytes_eq}
 use Rattle.acl_names.specs.Bytes.{newline}
 use Rattle.acl_queries.specs.CompareOutcome.{EndsAsCompared, IsCutShort}
 use Rattle.acl_queries.specs.Outcome.{EndsAs, Outcome, outcome_of}

@@ -13,7 +13,9 @@ use std::sync::Wait;
 use std::thread::Threads;
 use std::time::Clock;
 
-/// Runs the command that the first word names, and returns the exit status.
+/// Runs the command that the first word names (`decide`, `compare`, `run`, `--help`, `--version`). It returns the exit status: that
+/// of the command; 2 if the first word names none, and the commands go to `err`. At 3 (out of memory, a thread refused, a write
+/// failed, or the run stopped) nothing or a front of the output went out.
 pub fn run_command<R, F, S, I, W, E>(
     rt: &R,
     alloc: Global,
@@ -53,7 +55,7 @@ where
     }
 }
 
-/// Runs the command of the words given, or where there are none of those that the reader has, and returns the exit status.
+/// Runs the command of the words given, or if there are none of those that the reader has, and returns the exit status.
 pub fn run<R, F, I, W, E>(
     rt: &R,
     alloc: Global,

@@ -1,3 +1,4 @@
+//! Tests of the program.
 use crate::program::{run, run_command};
 use acl_service::OpenFiles;
 use std::alloc::{AllocError, Global};

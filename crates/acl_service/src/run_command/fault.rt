@@ -13,7 +13,7 @@ use thiserror::Error;
 pub(super) enum TextsFault {
     /// There are more texts than there may be sessions.
     TooManySessions,
-    /// The setup opens nothing, and not for want of memory.
+    /// The setup opens nothing, and not because memory ran out.
     Setup(SetupError),
     Run(RunFault),
 }

@@ -21,6 +21,7 @@ pub trait OpenFiles {
     /// The bytes of the file of a name, where they are known.
     ghost bytes_of: { Self → List ℕ → Option (List ℕ) };
 
+    /// Opens the file of this name to be read.
     fn open(&self, name: &str) -> io::Result<Self::File>
         ensures { IfOk result (λ file. Self.File.remaining file ≡ bytes_of self.now name.now) };
 }

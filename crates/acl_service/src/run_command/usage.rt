@@ -6,7 +6,7 @@ use acl_queries::RunFault;
 use clap::error::ErrorKind;
 use std::io::Write;
 
-/// Writes the parser's text, or the line of want of memory, if that can be done, and returns the exit status.
+/// Writes the parser's text, or the line that says that memory ran out, if that can be done, and returns the exit status.
 pub(super) fn report_usage<E: Write>(error: &clap::Error, err: &mut E) -> u8
     ensures usage { kind_of error.now ≢ ErrorKind.OutOfMemory → result ≡ 2 }
     ensures memory { kind_of error.now ≡ ErrorKind.OutOfMemory → result ≡ 3 }

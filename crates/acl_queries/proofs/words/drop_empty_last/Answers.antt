@@ -1,5 +1,4 @@
-use Rattle.std.proofs.Common.{◌≡◌, ◌∙◌, ◌-◌, ◌<◌, length, take, get_or, map, ap, rules}
-use Rattle.std.specs.String.{string_bytes}
+use Rattle.std.proofs.Common.{◌≡◌, ◌∙◌, ◌-◌, ◌<◌, length, take, get_or, map, ap, rules, string_bytes}
 use Rattle.acl_queries.proofs.LineLemmas.{without_empty_last-gone, without_empty_last-kept}
 use Rattle.acl_queries.proofs.words.drop_empty_last.Goals as goal
 

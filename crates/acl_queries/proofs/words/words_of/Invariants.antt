@@ -1,5 +1,4 @@
-use Rattle.std.proofs.Common.{◌≡◌, map}
-use Rattle.std.specs.String.{string_bytes}
+use Rattle.std.proofs.Common.{◌≡◌, map, string_bytes}
 use Rattle.acl_queries.proofs.words.words_of.Given as goal
 
 -- the words so far are the lines so far

@@ -1,6 +1,5 @@
-use Rattle.std.proofs.Common.{◌≡◌, ◌∙◌, ℕ, Bool, List, Option, Some, [], ap, codes, map, subst, sym, Vec, Global}
+use Rattle.std.proofs.Common.{◌≡◌, ◌∙◌, ℕ, Bool, List, Option, Some, [], ap, codes, map, subst, sym, Vec, Global, option_map, unwrap_or}
 use Rattle.std.proofs.Math.Logic.{⊎_map}
-use Rattle.std.specs.Prelude.{option_map, unwrap_or}
 use Rattle.clap.specs.Words.{Text, all_of, found_of, rows_of}
 use Rattle.acl_service.specs.RunTexts.{RunsTexts}
 use Rattle.acl_service.specs.RunWords.{AreTold, IsTold, RunsWords, sessions_in}

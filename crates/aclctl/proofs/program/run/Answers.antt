@@ -1,6 +1,5 @@
-use Rattle.std.proofs.Common.{ap, map, inl, subst, List, ℕ, Option, String, Global}
+use Rattle.std.proofs.Common.{ap, map, inl, subst, List, ℕ, Option, String, Global, string_bytes}
 use Rattle.std.proofs.lemmas.Option.{IfSome_then}
-use Rattle.std.specs.String.{string_bytes}
 use Rattle.aclctl.specs.Program.{EndsAsWords}
 use Rattle.aclctl.proofs.program.run.Goals as goal
 

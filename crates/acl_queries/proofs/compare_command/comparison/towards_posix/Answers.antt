@@ -1,5 +1,4 @@
-use Rattle.std.proofs.Common.{Option, inl, sym, subst}
-use Rattle.std.specs.Prelude.{IfSome}
+use Rattle.std.proofs.Common.{Option, inl, sym, subst, IfSome}
 use Rattle.acl_nfs4.specs.Comparison.{IsDifference, decided_by}
 use Rattle.acl_nfs4.specs.Mask.{mode_bits}
 use Rattle.acl_nfs4.specs.declared.comparison.Difference.{Difference}

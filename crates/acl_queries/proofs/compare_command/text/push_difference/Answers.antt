@@ -1,5 +1,4 @@
-use Rattle.std.proofs.Common.{◌≡◌, ◌∙◌, ap, ap₂, ℕ, List, ◌++◌, append_assoc, codes}
-use Rattle.std.specs.Prelude.{decimal}
+use Rattle.std.proofs.Common.{◌≡◌, ◌∙◌, ap, ap₂, ℕ, List, ◌++◌, append_assoc, codes, decimal}
 use Rattle.acl_nfs4.specs.Mask.{mask_bits}
 use Rattle.acl_queries.specs.Differences.{bits_text, gids_text}
 use Rattle.acl_queries.proofs.compare_command.text.push_difference.Goals as goal

@@ -1,5 +1,4 @@
-use Rattle.std.proofs.Common.{◌≡◌, ◌≤◌, ℕ, All, List, Option, Some, length, map, take}
-use Rattle.std.specs.Prelude.{IfSome}
+use Rattle.std.proofs.Common.{◌≡◌, ◌≤◌, ℕ, All, List, Option, Some, length, map, take, IfSome}
 use Rattle.acl_lang.specs.declared.limits.TheConstants.{MAX_TEXT_LEN}
 use Rattle.acl_service.specs.RunWords.{AreTold, IsTold}
 use Rattle.acl_service.proofs.run_command.files.read_sessions.Given as goal

@@ -1,5 +1,4 @@
-use Rattle.std.proofs.Common.{◌≡◌, ◌++◌, drop}
-use Rattle.std.specs.List.{flat_map}
+use Rattle.std.proofs.Common.{◌≡◌, ◌++◌, drop, flat_map}
 use Rattle.acl_service.specs.RunText.{entry_text, journal_text}
 use Rattle.acl_service.proofs.run_command.printing.print_journal.Given as goal
 

@@ -1,5 +1,4 @@
-use Rattle.std.proofs.Common.{◌≡◌, [], List, ℕ, Vec, Global, map, rules, subst}
-use Rattle.std.specs.Prelude.{if◌then◌else◌}
+use Rattle.std.proofs.Common.{◌≡◌, [], List, ℕ, Vec, Global, map, rules, subst, if◌then◌else◌}
 use Rattle.acl_queries.specs.Output.{AppendsFront}
 use Rattle.acl_queries.proofs.OutputLemmas.{front_behind, front_of_longer}
 use Rattle.acl_service.specs.RunText.{journal_text, run_text}

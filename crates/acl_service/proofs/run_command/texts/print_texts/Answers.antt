@@ -1,6 +1,4 @@
-use Rattle.std.specs.Option.{is_some}
-use Rattle.std.proofs.lemmas.Bool.{true≢false}
-use Rattle.std.proofs.Common.{◌≡◌, ◌∷◌, [], ℕ, Bool, List, Option, Some, None, Vec, Global, false, inl, inr, refl, rules}
+use Rattle.std.proofs.Common.{◌≡◌, ◌∷◌, [], ℕ, Bool, List, Option, Some, None, Vec, Global, false, inl, inr, refl, rules, is_some, true≢false}
 use Rattle.std.proofs.lemmas.Result.{on_ok_weaker}
 use Rattle.acl_names.specs.Directory.{Known}
 use Rattle.acl_tree.specs.Tree.{NodesUnderUmask}

@@ -1,5 +1,4 @@
-use Rattle.std.proofs.Common.{◌≡◌, ◌≤◌, ◌<◌, ◌^◌, All, length, map, take, vec_items, vec_len}
-use Rattle.std.specs.Vec.{vec_capacity}
+use Rattle.std.proofs.Common.{◌≡◌, ◌≤◌, ◌<◌, ◌^◌, All, length, map, take, vec_items, vec_len, vec_capacity}
 use Rattle.acl_service.specs.Cursor.{rest_of}
 use Rattle.acl_service.specs.Sessions.{requests_of_each}
 use Rattle.acl_service.proofs.sessions.cursor.open_all.Given as goal

@@ -1,5 +1,4 @@
-use Rattle.std.proofs.Common.{sym, subst}
-use Rattle.std.specs.Prelude.{MatchOption}
+use Rattle.std.proofs.Common.{sym, subst, MatchOption}
 use Rattle.acl_queries.specs.Comparing.{between}
 use Rattle.acl_queries.specs.Differences.{AreAlike, Differ}
 use Rattle.acl_queries.specs.declared.compare_command.list.AnyAcl.{AnyAcl}
