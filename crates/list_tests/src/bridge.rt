@@ -1,3 +1,4 @@
+//! Tests of what stands between both kinds of list.
 mod comparison;
 mod examples;
 mod refused_growths;

@@ -1,3 +1,4 @@
+//! Tests of `decide`.
 use acl_queries::decide;
 use std::alloc::Global;
 use std::io::{self, Write};

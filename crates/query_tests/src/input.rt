@@ -1,3 +1,4 @@
+//! Tests of reading up to a limit.
 use crate::words::says;
 use acl_queries::{CapFault, read_capped};
 use std::alloc::Global;

@@ -1,4 +1,4 @@
-//! Calls that may want memory: one refused growth, wherever it falls, is told by the call in which it falls, and the call
+//! Calls that may run out of memory: one refused growth, wherever it falls, is told by the call in which it falls, and the call
 //! may be made again.
 //!
 //! `rt try --test --fail-alloc N` refuses the growth N of a test. Each test here passes whichever growth that is, and prints
@@ -46,7 +46,7 @@ const GRANTED_NFS4: &str =
 enum Ending {
     /// With its answer, and nothing else.
     Answered,
-    /// With the line that tells of want of memory, and nothing else.
+    /// With the line that says that memory ran out, and nothing else.
     Memory,
     /// In any other way.
     Other,
@@ -76,7 +76,7 @@ fn ask(alloc: Global, words: &[&str], answer: &str) -> Ending {
     }
 }
 
-/// Asks again where the first is told of want of memory. Returns how the last ended, and how many were told of it.
+/// Asks again if the first call says that memory ran out. Returns how the last ended, and how many were told of it.
 fn ask_again(alloc: Global, words: &[&str], answer: &str) -> (Ending, u32) {
     match ask(alloc, words, answer) {
         Ending::Memory => (ask(alloc, words, answer), 1),

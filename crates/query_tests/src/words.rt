@@ -1,3 +1,4 @@
+//! Tests of words that are lines.
 use acl_queries::{WordsFault, words_of};
 use std::alloc::Global;
 use std::fmt::Display;

@@ -1,3 +1,4 @@
+//! Tests of one session by itself.
 use crate::fixture::tree;
 use acl_examples::directory;
 use acl_lang::MAX_TEXT_LEN;

@@ -1,4 +1,4 @@
-//! Calls that may want memory: one refused growth, wherever it falls, is told by the call in which it falls, and the call
+//! Calls that may run out of memory: one refused growth, wherever it falls, is told by the call in which it falls, and the call
 //! may be made again.
 //!
 //! `rt try --test --fail-alloc N` refuses the growth N of a test. Each test here passes whichever growth that is, and prints
@@ -22,7 +22,7 @@ use std::time::Clock;
 enum Ending {
     /// With its answer, and nothing else.
     Answered,
-    /// With the line that tells of want of memory, and nothing else.
+    /// With the line that says that memory ran out, and nothing else.
     Memory,
     /// In any other way.
     Other,
@@ -85,7 +85,7 @@ const SESSIONS: [&str; 2] = [
 const SECOND_OUTPUT: &str =
     "1 get / dir root root 755 posix\nuser::rwx\ngroup::r-x\nother::r-x\n2 error 1 syntax\n";
 
-/// How a run of the sessions ended. A thread that can't be started is one of the ends of want of memory.
+/// How a run of the sessions ended. A thread that can't be started is one of the ends of a run that memory ran out for.
 fn ending_of(ran: Option<Result<Report, ServeFault>>) -> Ending {
     match ran {
         Some(Ok(report)) if report.journal.len() == 5 && has_output(&report, 1, SECOND_OUTPUT) => {
@@ -118,7 +118,14 @@ fn serve_rounds_under_a_refused_growth(rt: HostRuntime) -> Result<(), Fail> {
 
 fn run_in_threads<R: Threads + Wait + Clock + Sync>(rt: &R, alloc: Global) -> Ending {
     match tree(alloc) {
-        Some(tree) => ending_of(serve_texts(rt, alloc, &OpenGate, tree, SESSIONS.as_slice(), None)),
+        Some(tree) => ending_of(serve_texts(
+            rt,
+            alloc,
+            &OpenGate,
+            tree,
+            SESSIONS.as_slice(),
+            Some(2),
+        )),
         None => Ending::Memory,
     }
 }

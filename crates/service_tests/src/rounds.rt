@@ -1,3 +1,4 @@
+//! Tests of sessions in rounds.
 use crate::fixture::tree;
 use crate::texts::{Seen, serving_in_rounds};
 

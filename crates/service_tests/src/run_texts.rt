@@ -84,7 +84,7 @@ const RUNS: [(&str, &[&str], bool, Option<u32>, &str); 4] = [
 ];
 
 /// What stands behind the examples' setup, and what is said of it.
-const SETUPS: [(&str, &str); 4] = [
+const SETUPS: [(&str, &str); 6] = [
     ("[[", "aclctl: setup: not toml\n"),
     ("[[user]]\nname = \"dave\"\n", "aclctl: setup: bad field\n"),
     (
@@ -94,6 +94,15 @@ const SETUPS: [(&str, &str); 4] = [
     (
         "[[user]]\nname = \"dave\"\nuid = 7\ngroups = [\"wheel\"]\n",
         "aclctl: setup: unknown group\n",
+    ),
+    // A user may be in 32 groups.
+    (
+        "[[user]]\nname = \"dave\"\nuid = 7\ngroups = [\"g1\", \"g2\", \"g3\", \"g4\", \"g5\", \"g6\", \"g7\", \"g8\", \"g9\", \"g10\", \"g11\", \"g12\", \"g13\", \"g14\", \"g15\", \"g16\", \"g17\", \"g18\", \"g19\", \"g20\", \"g21\", \"g22\", \"g23\", \"g24\", \"g25\", \"g26\", \"g27\", \"g28\", \"g29\", \"g30\", \"g31\", \"g32\"]\n",
+        "aclctl: setup: unknown group\n",
+    ),
+    (
+        "[[user]]\nname = \"dave\"\nuid = 7\ngroups = [\"g1\", \"g2\", \"g3\", \"g4\", \"g5\", \"g6\", \"g7\", \"g8\", \"g9\", \"g10\", \"g11\", \"g12\", \"g13\", \"g14\", \"g15\", \"g16\", \"g17\", \"g18\", \"g19\", \"g20\", \"g21\", \"g22\", \"g23\", \"g24\", \"g25\", \"g26\", \"g27\", \"g28\", \"g29\", \"g30\", \"g31\", \"g32\", \"g33\"]\n",
+        "aclctl: setup: too many\n",
     ),
 ];
 

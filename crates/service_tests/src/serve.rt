@@ -1,3 +1,4 @@
+//! Tests of sessions in threads.
 use crate::fixture::tree;
 use crate::gates::{AfterAnswer, Meeting, Shut, ShutAt};
 use crate::texts::{Seen, serving};
@@ -18,7 +19,19 @@ const CHECKS: &str = "check / bob r\ncheck / bob r\ncheck / bob r\n";
 const GRANTED: &str = "1 granted\n2 granted\n3 granted\n";
 
 /// What is run over a tree of a root alone: a name, the texts, how many errors end a session, and what is seen.
-const RUNS: [(&str, &[&str], Option<u32>, &[Seen<'static>]); 4] = [
+const RUNS: [(&str, &[&str], Option<u32>, &[Seen<'static>]); 6] = [
+    (
+        "empty text",
+        &[""],
+        None,
+        &[Seen::Output(0, ""), Seen::Entries(0)],
+    ),
+    (
+        "blanks and comments",
+        &[" \n# nothing\n\t\n"],
+        None,
+        &[Seen::Output(0, ""), Seen::Entries(0)],
+    ),
     (
         "two sessions, two directories",
         &TWO_DIRECTORIES,

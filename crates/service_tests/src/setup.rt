@@ -1,3 +1,4 @@
+//! Tests of setups.
 use acl_names::{Directory, Gid, Requester, SetupFault, Uid};
 use acl_service::{SetupError, read_setup};
 use acl_tree::{Path, Tree};

@@ -1,5 +1,5 @@
-//! Calls that want memory: one refused growth, wherever it falls, is told by the call in which it falls, leaves the list as
-//! it was, and the call may be made again.
+//! Calls that may run out of memory: one refused growth, wherever it falls, is told by the call in which it falls, leaves the
+//! list as it was, and the call may be made again.
 //!
 //! `rt try --test --fail-alloc N` refuses the growth N of a test. Each test here passes whichever growth that is, and prints
 //! how many refusals it was told of: one up to the last growth that it asks for, and none from then on.

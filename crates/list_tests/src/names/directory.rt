@@ -1,3 +1,4 @@
+//! Tests of directories.
 use acl_examples::{directory, group, groups, user, users};
 use acl_names::{Directory, Gid, Group, Requester, SetupFault, Uid, User, split_name};
 use std::alloc::Global;

@@ -1,3 +1,4 @@
+//! Tests of the texts of ids, names and letters.
 use acl_names::{
     Gid, Letter, Uid, WrittenId, is_domain, is_name, occurs, push_id, push_letters, put_decimal,
     read_decimal, read_decimal_until, read_letters, repeats, split_field, split_word, trim_blanks,

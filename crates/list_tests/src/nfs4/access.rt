@@ -1,3 +1,4 @@
+//! Tests of the evaluation of NFSv4 lists.
 use crate::files::{grants4, requester_named};
 use acl_nfs4::read_letters;
 use std::alloc::Global;

@@ -1,3 +1,4 @@
+//! Tests of comparisons of NFSv4 lists.
 use crate::files::owner_and_group;
 use acl_examples::acl4;
 use acl_names::{Asker, Gid, Uid};

@@ -1,3 +1,4 @@
+//! Tests of NFSv4 entries, and of lists that are made of them.
 use acl_examples::acl4;
 use acl_names::Gid;
 use acl_nfs4::{Ace, AceFault, AceType, Acl4, Flags, Mask, Who, mask_of};

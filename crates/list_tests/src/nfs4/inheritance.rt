@@ -1,3 +1,4 @@
+//! Tests of inheritance.
 use crate::nfs4::fixture::printed;
 use crate::texts::is_text;
 use acl_examples::acl4;

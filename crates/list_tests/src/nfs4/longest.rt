@@ -1,3 +1,4 @@
+//! Tests of the longest NFSv4 lists.
 use crate::nfs4::fixture::fault_of;
 use acl_examples::acl4;
 use acl_names::Uid;

@@ -1,3 +1,4 @@
+//! Tests of the mode of an NFSv4 list, and of setting it.
 use crate::nfs4::fixture::printed;
 use crate::texts::is_text;
 use acl_examples::acl4;

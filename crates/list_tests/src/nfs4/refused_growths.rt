@@ -1,4 +1,4 @@
-//! Calls that may want memory: one refused growth, wherever it falls, is told by the call in which it falls, leaves
+//! Calls that may run out of memory: one refused growth, wherever it falls, is told by the call in which it falls, leaves
 //! everything as it was, and the call may be made again.
 //!
 //! scripts/refused-growths refuses one growth of a test after the other. Each test here passes whichever growth that is,

@@ -1,3 +1,4 @@
+//! Tests of the texts of NFSv4 lists.
 use crate::nfs4::fixture::{fault_of, shown};
 use crate::texts::is_text;
 use acl_nfs4::{AceFault, Mask, read_letters};

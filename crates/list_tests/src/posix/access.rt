@@ -1,3 +1,4 @@
+//! Tests of the access check of POSIX lists.
 use crate::files::{grants, owner_and_group, requester, requester_named};
 use crate::posix::fixture::perms;
 use acl_examples::acl;

@@ -1,3 +1,4 @@
+//! Tests of the modes of POSIX lists, and of masks.
 use crate::posix::fixture::{effective, long, mode, perms};
 use crate::texts::is_text;
 use acl_examples::acl;

@@ -1,3 +1,4 @@
+//! Tests of the texts of POSIX lists.
 use crate::posix::fixture::{effective, effective_of, long_of};
 use crate::texts::is_text;
 use acl_examples::{acl, directory};

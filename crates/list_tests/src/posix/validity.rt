@@ -1,3 +1,4 @@
+//! Tests of the validity of POSIX lists.
 use crate::posix::fixture::long_of;
 use crate::texts::is_text;
 use acl_examples::directory;

@@ -7,7 +7,7 @@ use acl_tree::{Style, Tree};
 use std::alloc::Global;
 
 /// Sessions: the name of each, its text, and what it prints.
-const SESSIONS: [(&str, &str, &str); 13] = [
+const SESSIONS: [(&str, &str, &str); 18] = [
     (
         "create and get",
         "create file /a alice 666\nget /a\n",
@@ -29,6 +29,21 @@ const SESSIONS: [(&str, &str, &str); 13] = [
         "1 ok\n2 ok\n3 granted\n4 granted\n5 denied\n6 translated\nD::OWNER@:rwax\nA::GROUP@:r\nA:g:ops@example.org:wa\nD::GROUP@:wax\nD:g:ops@example.org:rx\n7 ok\n8 granted\n",
     ),
     (
+        "no fall-through to other",
+        "create file /a alice 666\nset /a access u::-,g::r,o::rwx\ncheck /a alice r\ncheck /a carol x\ncheck /a bob x\n",
+        "1 ok\n2 ok\n3 denied\n4 granted\n5 denied\n",
+    ),
+    (
+        "owner before named user",
+        "create file /a alice 666\nset /a access u::r,u:alice:rwx,g::-,m::rwx,o::-\ncheck /a alice w\n",
+        "1 ok\n2 ok\n3 denied\n",
+    ),
+    (
+        "many named users",
+        "create file /a alice 666\nset /a access u::r,g::r,m::r,o::-,u:1:r,u:2:r,u:3:r,u:4:r,u:5:r,u:6:r,u:7:r,u:8:r,u:9:r,u:10:r,u:11:r,u:12:r,u:13:r,u:14:r,u:15:r,u:16:r,u:17:r,u:18:r,u:19:r,u:20:r,u:21:r,u:22:r,u:23:r,u:24:r,u:25:r,u:26:r,u:27:r,u:28:r,u:29:r,u:30:r,u:31:r,u:32:r,u:33:r,u:34:r,u:35:r,u:36:r,u:37:r,u:38:r,u:39:r,u:40:r,u:41:r,u:42:r,u:43:r,u:44:r,u:45:r,u:46:r,u:47:r,u:48:r,u:49:r,u:50:r,u:51:r,u:52:r,u:53:r,u:54:r,u:55:r,u:56:r,u:57:r,u:58:r,u:59:r,u:60:r\ncheck /a 60 r\ncheck /a 1 r\ncheck /a 61 r\n",
+        "1 ok\n2 ok\n3 granted\n4 granted\n5 denied\n",
+    ),
+    (
         "default acl at creation",
         "create dir /d alice 755\nset /d default u::rwx,u:bob:rwx,g::r-x,m::rwx,o::-\ncreate file /d/f carol 640\nget /d/f\ncreate dir /d/e carol 750\nget /d/e\n",
         "1 ok\n2 ok\n3 ok\n4 get /d/f file carol guest 640 posix\nuser::rw-\nuser:bob:rwx\t#effective:r--\ngroup::r-x\t#effective:r--\nmask::r--\nother::---\n5 ok\n6 get /d/e dir carol guest 750 posix\nuser::rwx\nuser:bob:rwx\t#effective:r-x\ngroup::r-x\nmask::r-x\nother::---\ndefault:user::rwx\ndefault:user:bob:rwx\ndefault:group::r-x\ndefault:mask::rwx\ndefault:other::---\n",
@@ -40,8 +55,18 @@ const SESSIONS: [(&str, &str, &str); 13] = [
     ),
     (
         "default acl translated",
-        "create dir /d alice 755\nset /d default u::rwx,u:bob:rwx,g::r-x,m::rwx,o::-\ntranslate /d\n",
-        "1 ok\n2 ok\n3 translated\nA::OWNER@:rwax\nA::GROUP@:rx\nD::GROUP@:wa\nA::EVERYONE@:rx\nA:fdi:OWNER@:rwax\nA:fdi:bob@example.org:rwax\nA:fdi:GROUP@:rx\nD:fdi:GROUP@:wa\n",
+        "create dir /d alice 755\nset /d default u::rwx,u:bob:rwx,g::r-x,m::rwx,o::-\ntranslate /d\nset /d nfs4 A::OWNER@:rwax,A::GROUP@:rx,D::GROUP@:wa,A::EVERYONE@:rx,A:fdi:OWNER@:rwax,A:fdi:bob@example.org:rwax,A:fdi:GROUP@:rx,D:fdi:GROUP@:wa\ncreate file /d/f carol 640\nget /d/f\n",
+        "1 ok\n2 ok\n3 translated\nA::OWNER@:rwax\nA::GROUP@:rx\nD::GROUP@:wa\nA::EVERYONE@:rx\nA:fdi:OWNER@:rwax\nA:fdi:bob@example.org:rwax\nA:fdi:GROUP@:rx\nD:fdi:GROUP@:wa\n4 ok\n5 ok\n6 get /d/f file carol guest 640 nfs4\nA::OWNER@:rwa\nD::OWNER@:x\nA::bob@example.org:r\nD::bob@example.org:wax\nA::GROUP@:r\nD::GROUP@:wax\n",
+    ),
+    (
+        "order of nfsv4 entries",
+        "create file /a alice 666\nset /a nfs4 D::EVERYONE@:r,A::OWNER@:r\ncheck4 /a alice r\nset /a nfs4 A::OWNER@:r,D::EVERYONE@:r\ncheck4 /a alice r\ncheck4 /a alice x\ncheck4 /a alice rx\n",
+        "1 ok\n2 ok\n3 denied\n4 ok\n5 granted\n6 denied\n7 denied\n",
+    ),
+    (
+        "inheritance on an nfs4 directory",
+        "create dir /d alice 755\nset /d nfs4 A:f:bob:r,A:dng:ops:rx,D:fn:carol:w,A:fdi:EVERYONE@:tc\ncreate file /d/f carol 640\nget /d/f\ncreate dir /d/e carol 750\nget /d/e\n",
+        "1 ok\n2 ok\n3 ok\n4 get /d/f file carol guest 640 nfs4\nA::OWNER@:rwa\nD::OWNER@:x\nA::bob@example.org:r\nD::carol@example.org:w\nA::EVERYONE@:tc\nD::bob@example.org:wax\nD::carol@example.org:ax\nA::GROUP@:r\nD::GROUP@:wax\n5 ok\n6 get /d/e dir carol guest 750 nfs4\nA::OWNER@:rwax\nA:fi:bob@example.org:r\nA:g:ops@example.org:rx\nA:fdi:EVERYONE@:tc\nA::EVERYONE@:tc\nD:g:ops@example.org:wa\nA::GROUP@:rx\nD::GROUP@:wa\n",
     ),
     (
         "mode set on an nfs4 file",

@@ -1,3 +1,4 @@
+//! Tests of lines and their faults.
 use crate::lang::fixture::code_of;
 use std::alloc::Global;
 

@@ -1,3 +1,4 @@
+//! Tests of printed answers.
 use crate::lang::fixture::{Shown, boxed, is_printed};
 use crate::lists::Lists;
 use acl_examples::acl4;

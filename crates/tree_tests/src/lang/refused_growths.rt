@@ -1,4 +1,4 @@
-//! Calls that may want memory: one refused growth, wherever it falls, is told by the call in which it falls, leaves
+//! Calls that may run out of memory: one refused growth, wherever it falls, is told by the call in which it falls, leaves
 //! everything as it was, and the call may be made again.
 //!
 //! `rt try --test --fail-alloc N` refuses the growth N of a test. Each test here passes whichever growth that is, and prints

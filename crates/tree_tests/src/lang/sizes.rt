@@ -1,3 +1,4 @@
+//! Tests of the sizes of requests and answers.
 use acl_lang::{Answer, Numbered};
 use std::test::Fail;
 

@@ -1,3 +1,4 @@
+//! Tests of texts of commands.
 use crate::lang::fixture::code;
 use acl_examples::directory;
 use acl_lang::{Numbered, read_text};

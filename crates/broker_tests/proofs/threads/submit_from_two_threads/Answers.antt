@@ -1,5 +1,4 @@
-use Rattle.std.specs.Prelude.{[], ◌∷◌}
-use Rattle.std.proofs.Common.{sym, subst}
+use Rattle.std.proofs.Common.{sym, subst, [], ◌∷◌}
 use Rattle.acl_broker.specs.Ends.{AreEndsOf, StaysEndOf}
 use Rattle.acl_broker.specs.declared.end.End.TheVariants.{Open}
 use Rattle.acl_broker.proofs.EndLists.{two_ends_stay}

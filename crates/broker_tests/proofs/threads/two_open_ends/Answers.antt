@@ -1,6 +1,4 @@
-use Rattle.std.specs.Prelude.{◌≡◌, length, Some}
-use Rattle.std.proofs.Common.{ap, sym, ◌∙◌, arith}
-use Rattle.std.proofs.lemmas.Bool.{eqb-true}
+use Rattle.std.proofs.Common.{ap, sym, ◌∙◌, arith, ◌≡◌, length, Some, eqb-true}
 use Rattle.acl_broker.specs.declared.end.End.TheVariants.{Open}
 use Rattle.acl_broker.proofs.EndLists.{popped_both}
 use Rattle.broker_tests.proofs.threads.two_open_ends.Goals as goal
