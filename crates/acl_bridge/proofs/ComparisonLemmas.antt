@@ -4,7 +4,7 @@ use Rattle.std.proofs.lemmas.Option.{IfSome_then}
 use Rattle.acl_names.specs.Asker.{identity_of}
 use Rattle.acl_names.specs.Bits.{has}
 use Rattle.acl_names.proofs.BitSets.{has-or}
-use Rattle.acl_posix.specs.Entry.{Triple}
+use Rattle.acl_posix.specs.Entry.{EntryValue}
 use Rattle.acl_posix.specs.Validity.{IsValid}
 use Rattle.acl_nfs4.specs.Comparison.{Decider, DecideAlike, IsDifference}
 use Rattle.acl_nfs4.specs.Mask.{mode_bits}
@@ -13,7 +13,7 @@ use Rattle.acl_bridge.specs.Comparison.{DecidesEachBit, permission_bits}
 use Rattle.acl_bridge.specs.Translation.{translation}
 use Rattle.acl_bridge.proofs.TranslationDecides.{bit_granted}
 
-pub translation_decides_each_bit : (acl : List Triple) → IsValid acl → DecidesEachBit acl (translation acl)
+pub translation_decides_each_bit : (acl : List EntryValue) → IsValid acl → DecidesEachBit acl (translation acl)
 translation_decides_each_bit acl valid owner group requester bit of_mode = bit_granted acl valid owner group requester bit of_mode
 
 -- a permission's bit is one of a file mode's

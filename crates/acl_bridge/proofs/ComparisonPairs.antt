@@ -7,7 +7,7 @@ use Rattle.acl_names.specs.Bits.{has}
 use Rattle.acl_names.specs.Requester.{Identity}
 use Rattle.acl_names.proofs.AnyLemmas.{list_any-append, list_any-agree}
 use Rattle.acl_names.proofs.BitSets.{has-above}
-use Rattle.acl_posix.specs.Entry.{Triple}
+use Rattle.acl_posix.specs.Entry.{EntryValue}
 use Rattle.acl_posix.specs.Validity.{IsValid}
 use Rattle.acl_posix.specs.declared.entry.Tag.{Tag}
 use Rattle.acl_posix.specs.declared.entry.Tag.TheVariants.{UserObj}
@@ -27,15 +27,15 @@ use Rattle.acl_bridge.proofs.ComparisonRequests.{as_reading, with_perms, reading
 -- ---- what holds of each who that entries stand for holds of each entry of the translation
 
 module _ (P : Who → Type 0) where
-  pub of_translation : (acl : List Triple) → All (λ entry. P (who_of entry.tag)) acl → All (λ ace. P ace.who) (translation acl)
+  pub of_translation : (acl : List EntryValue) → All (λ entry. P (who_of entry.tag)) acl → All (λ ace. P ace.who) (translation acl)
   of_translation = All-translation P (λ (ace : Nfsace4). P ace.who) (λ kind who mask holds. holds)
 
-  pub of_reading : (request : ℕ) (acl : List Triple) → All (λ entry. P (who_of entry.tag)) acl → All (λ ace. P ace.who) (translation (as_reading request acl))
+  pub of_reading : (request : ℕ) (acl : List EntryValue) → All (λ entry. P (who_of entry.tag)) acl → All (λ ace. P ace.who) (translation (as_reading request acl))
   of_reading request acl all =
       of_translation (as_reading request acl)
-      (All-map (λ (entry : Triple). P (who_of entry.tag)) (with_perms (reading request acl)) acl all)
+      (All-map (λ (entry : EntryValue). P (who_of entry.tag)) (with_perms (reading request acl)) acl all)
 
-module _ (first second : List Triple) (valid_first : IsValid first) (valid_second : IsValid second) (owner group request stranger : ℕ) where
+module _ (first second : List EntryValue) (valid_first : IsValid first) (valid_second : IsValid second) (owner group request stranger : ℕ) where
   -- the translations, with the request as the bit to read, decide alike for the asker of these two
   abbrev pub At : Who → Who → Type 0
   At who other =
@@ -79,31 +79,31 @@ asked_uid : (owner uid : ℕ) (tag : Tag) → is_of_user owner uid tag ≡ is_at
 asked_uid owner uid UserObj = refl
 asked_uid owner uid _ = refl
 
-asked : (owner uid : ℕ) (acl : List Triple) → list_any (λ entry. is_at uid (needed_uid owner (who_of entry.tag))) acl ≡ asks_for owner uid acl
+asked : (owner uid : ℕ) (acl : List EntryValue) → list_any (λ entry. is_at uid (needed_uid owner (who_of entry.tag))) acl ≡ asks_for owner uid acl
 asked owner uid acl =
-    list_any-agree (λ (entry : Triple). is_at uid (needed_uid owner (who_of entry.tag))) (λ (entry : Triple). is_of_user owner uid entry.tag)
+    list_any-agree (λ (entry : EntryValue). is_at uid (needed_uid owner (who_of entry.tag))) (λ (entry : EntryValue). is_of_user owner uid entry.tag)
     (λ entry. sym (asked_uid owner uid entry.tag)) acl
 
-pub asked_few : (owner n : ℕ) (first second : List Triple) → n ≤ 129
+pub asked_few : (owner n : ℕ) (first second : List EntryValue) → n ≤ 129
     → ((k : ℕ) → k < n → (asks_for owner (tried k) first || asks_for owner (tried k) second) ≡ true)
     → n ≤ length first + length second
 asked_few owner n first second few each =
     let both : n ≤ length (first ++ second) =
-    enough (λ (entry : Triple). needed_uid owner (who_of entry.tag)) tried n (first ++ second) (tried_apart n (omega (arith, few)))
-    (λ k below. list_any-append (λ (entry : Triple). is_at (tried k) (needed_uid owner (who_of entry.tag))) first second
+    enough (λ (entry : EntryValue). needed_uid owner (who_of entry.tag)) tried n (first ++ second) (tried_apart n (omega (arith, few)))
+    (λ k below. list_any-append (λ (entry : EntryValue). is_at (tried k) (needed_uid owner (who_of entry.tag))) first second
     ∙ ap₂ (λ a b. a || b) (asked owner (tried k) first) (asked owner (tried k) second) ∙ each k below) in
     omega (arith, both, length-append first second)
 
-pub is_stranger : (owner uid : ℕ) (acl : List Triple) → asks_for owner uid acl ≡ false → IsStranger owner acl uid
-is_stranger owner uid [] none = All-nil (λ (entry : Triple). needed_uid owner (who_of entry.tag) ≢ Some uid)
+pub is_stranger : (owner uid : ℕ) (acl : List EntryValue) → asks_for owner uid acl ≡ false → IsStranger owner acl uid
+is_stranger owner uid [] none = All-nil (λ (entry : EntryValue). needed_uid owner (who_of entry.tag) ≢ Some uid)
 is_stranger owner uid (entry ∷ rest) none =
     let parts = or_parts (is_of_user owner uid entry.tag) (asks_for owner uid rest) none in
-    All-cons (λ (other : Triple). needed_uid owner (who_of other.tag) ≢ Some uid) entry rest
+    All-cons (λ (other : EntryValue). needed_uid owner (who_of other.tag) ≢ Some uid) entry rest
     (λ e. true≢false (sym (asked_uid owner uid entry.tag ∙ ap (is_at uid) e ∙ eq-eqb uid uid refl) ∙ parts.0))
     (is_stranger owner uid rest parts.1)
 
 -- lists that grant the request differently to someone don't grant it alike to all
-pub unlike_tells : (first second : List Triple) (owner group request : ℕ) (unlike : Unlike) → IsUnlike first second owner group request unlike
+pub unlike_tells : (first second : List EntryValue) (owner group request : ℕ) (unlike : Unlike) → IsUnlike first second owner group request unlike
     → ((requester : Identity) → GrantAlike first second owner group request requester) → ⊥
 unlike_tells first second owner group request unlike is alike =
     differs unlike.before (sym is.before ∙ alike (identity_of unlike.asker) ∙ is.after)

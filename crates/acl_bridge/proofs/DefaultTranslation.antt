@@ -3,7 +3,7 @@ use Rattle.std.proofs.Common.{◌≡◌, ℕ, refl, sym, ap, ◌∙◌, subst, L
 use Rattle.std.specs.List.{All, cons_option}
 use Rattle.std.proofs.lemmas.List.Elements.{All-head, All-tail}
 use Rattle.acl_names.specs.Bits.{has, without}
-use Rattle.acl_posix.specs.Entry.{Triple}
+use Rattle.acl_posix.specs.Entry.{EntryValue}
 use Rattle.acl_nfs4.specs.Ace.{Nfsace4}
 use Rattle.acl_nfs4.specs.Inheritance.{inherited_list, inherited_entry}
 use Rattle.acl_nfs4.specs.Who.{flags_of_who}
@@ -19,7 +19,7 @@ use Rattle.acl_nfs4.proofs.AceLemmas.{by_flags_of_who}
 abbrev IsPlain : Nfsace4 → Type 0
 IsPlain ace = ace.flags ≡ flags_of_who ace.who
 
-AllPlain-translation : (acl : List Triple) → All IsPlain (translation acl)
+AllPlain-translation : (acl : List EntryValue) → All IsPlain (translation acl)
 AllPlain-translation acl = All-translation (λ who. Unit {0}) IsPlain (λ kind who mask any. refl) acl (λ k d inside. tt)
 
 -- what a new file and a new directory take over from an entry handed down
@@ -54,11 +54,11 @@ map-same [] = refl
 map-same (ace ∷ aces) = ap (λ rest. ace ∷ rest) (map-same aces)
 
 -- a file inherits the translation
-pub inherited_by_file : (acl : List Triple) → inherited_list File (default_translation acl) ≡ translation acl
+pub inherited_by_file : (acl : List EntryValue) → inherited_list File (default_translation acl) ≡ translation acl
 inherited_by_file acl =
     inherited_list-handed_down File (λ ace. ace) file_takes (translation acl) (AllPlain-translation acl) ∙ map-same (translation acl)
 
 -- a directory inherits it as its own, and hands it on
-pub inherited_by_directory : (acl : List Triple) → inherited_list Dir (default_translation acl) ≡ map (with_flags handed_on) (translation acl)
+pub inherited_by_directory : (acl : List EntryValue) → inherited_list Dir (default_translation acl) ≡ map (with_flags handed_on) (translation acl)
 inherited_by_directory acl =
     inherited_list-handed_down Dir (with_flags handed_on) directory_takes (translation acl) (AllPlain-translation acl)

@@ -5,7 +5,7 @@ use Rattle.acl_names.specs.Bits.{has, without, ◌∩◌, ◌∪◌}
 use Rattle.acl_names.proofs.AnyLemmas.{or_false}
 use Rattle.acl_names.proofs.BitSets.{has-or, has-zero, same_bits}
 use Rattle.acl_posix.specs.Access.{effective_perms}
-use Rattle.acl_posix.specs.Entry.{Triple}
+use Rattle.acl_posix.specs.Entry.{EntryValue}
 use Rattle.acl_nfs4.specs.Ace.{Nfsace4, ace_of, flags_for, is_idle, plain, unless_empty}
 use Rattle.acl_nfs4.specs.Flags.{all_flags, identifier_group}
 use Rattle.acl_nfs4.specs.Mask.{all_masks, mask_of, rest_of}
@@ -96,7 +96,7 @@ room-full {most} effect old kind who mask full room =
 
 -- ---- a pass, and all of them
 
-module _ (effect : Effect) (acl : List Triple) (old whole : List Nfsace4) where
+module _ (effect : Effect) (acl : List EntryValue) (old whole : List Nfsace4) where
   -- what is made next is no longer than all that is still to be made
   room-next : (all made rest : List Nfsace4) → all ≡ made ++ rest → old ++ with_effect effect all ≡ whole
       → length (old ++ with_effect effect made) ≤ length whole
@@ -110,14 +110,14 @@ module _ (effect : Effect) (acl : List Triple) (old whole : List Nfsace4) where
       omega arith
 
   -- the entry at hand makes no more than the pass
-  pub pass-room : (class : Class) (part : Part) (entries : List Triple) (i : ℕ) (entry : Triple)
+  pub pass-room : (class : Class) (part : Part) (entries : List EntryValue) (i : ℕ) (entry : EntryValue)
       → i < length entries → entry ≡ get_or entries i entry → is_in class entry.tag ≡ true
       → old ++ with_effect effect (flat_map (made_by part acl) (in_class class (drop i entries))) ≡ whole
       → length (old ++ with_effect effect (made_by part acl entry)) ≤ length whole
   pass-room class part entries i entry inside here taken =
       let rest = in_class class (drop (i + 1) entries) in
       room-next _ (made_by part acl entry) (flat_map (made_by part acl) rest)
-      (ap (λ (xs : List Triple). flat_map (made_by part acl) (in_class class xs)) (drop-here entries i entry inside here)
+      (ap (λ (xs : List EntryValue). flat_map (made_by part acl) (in_class class xs)) (drop-here entries i entry inside here)
       ∙ ap (λ (b : Bool). flat_map (made_by part acl) (cond b (entry ∷ rest) rest)) taken)
 
   -- the pass at hand makes no more than all of them
@@ -151,14 +151,14 @@ module _ (P : Who → Type 0) (Q : Nfsace4 → Type 0) (each : (kind : AceType) 
       All-append Q (plain Allow who (mask_of perms)) (plain Deny who (rest_of perms))
       (All-plain Allow who (mask_of perms) holds) (All-plain Deny who (rest_of perms) holds)
 
-  pub All-translation : (acl : List Triple) → All (λ entry. P (who_of entry.tag)) acl → All Q (translation acl)
+  pub All-translation : (acl : List EntryValue) → All (λ entry. P (who_of entry.tag)) acl → All Q (translation acl)
   All-translation acl all = All-flat_map (λ pass. Unit {0}) Q (λ pass. made_by_pass pass acl) of_pass passes (λ k d inside. tt)
     where
       of_pass : (pass : Class × Part) → Unit {0} → All Q (made_by_pass pass acl)
       of_pass (class, part) any =
-          All-flat_map (λ (entry : Triple). P (who_of entry.tag)) Q (made_by part acl)
+          All-flat_map (λ (entry : EntryValue). P (who_of entry.tag)) Q (made_by part acl)
           (λ entry. All-made_for part (who_of entry.tag) (effective_perms acl entry)) (in_class class acl)
-          (All-filter (λ (entry : Triple). is_in class entry.tag) (λ (entry : Triple). P (who_of entry.tag)) acl all)
+          (All-filter (λ (entry : EntryValue). is_in class entry.tag) (λ (entry : EntryValue). P (who_of entry.tag)) acl all)
 
 -- what holds of the value that a result can only have holds of what it has
 pub IfOk-is : {T E : Type 0} (result : Result T E) (value : T) (P : T → Type 0) → P value → IfOk result (λ x. x ≡ value) → IfOk result P

@@ -7,7 +7,7 @@ use Rattle.acl_names.specs.Requester.{Identity}
 use Rattle.acl_names.proofs.AnyLemmas.{list_any-weaken, list_any-agree}
 use Rattle.acl_names.proofs.BitSets.{has-and, has-above}
 use Rattle.acl_posix.specs.Access.{effective_perms, deciding_set, first_nonempty, is_for_group_of, grants}
-use Rattle.acl_posix.specs.Entry.{Triple, same_tag, entries_of}
+use Rattle.acl_posix.specs.Entry.{EntryValue, same_tag, entries_of}
 use Rattle.acl_posix.specs.Validity.{IsValid, count_of}
 use Rattle.acl_posix.specs.declared.entry.Tag.{Tag}
 use Rattle.acl_posix.specs.declared.entry.Tag.TheVariants.{UserObj, User, GroupObj, Group, Mask, Other}
@@ -28,13 +28,13 @@ use Rattle.acl_bridge.proofs.FilterLemmas.{length-filter, filter_twice, filter_t
 -- ---- a valid list has one entry at most for the owner, and for a user
 
 -- where all entries of a class to which the translation's apply have one tag, there is one at most
-pub few : (acl : List Triple) → IsValid acl → (applies : Who → Bool) (class : Class) (of : Tag)
+pub few : (acl : List EntryValue) → IsValid acl → (applies : Who → Bool) (class : Class) (of : Tag)
     → ((tag : Tag) → is_in class tag ≡ true → applies (who_of tag) ≡ true → same_tag tag of ≡ true) → FewFor acl applies class
 few acl valid applies class of only =
     let below : length (matching applies acl class) ≤ length (entries_of of acl) =
-    length-filter_twice (λ (entry : Triple). is_in class entry.tag) (λ (entry : Triple). applies (who_of entry.tag))
-    (λ (entry : Triple). same_tag entry.tag of) (λ entry. only entry.tag) acl in
-    let counted = length-filter (λ (entry : Triple). same_tag entry.tag of) acl in
+    length-filter_twice (λ (entry : EntryValue). is_in class entry.tag) (λ (entry : EntryValue). applies (who_of entry.tag))
+    (λ (entry : EntryValue). same_tag entry.tag of) (λ entry. only entry.tag) acl in
+    let counted = length-filter (λ (entry : EntryValue). same_tag entry.tag of) acl in
     let once : count_of of acl ≤ 1 = IsValid-count_of acl valid of in
     omega arith
 
@@ -64,7 +64,7 @@ eqb_swap a b =
 
 -- ---- the theorem
 
-module _ (acl : List Triple) (valid : IsValid acl) (owner group : ℕ) (requester : Identity) where
+module _ (acl : List EntryValue) (valid : IsValid acl) (owner group : ℕ) (requester : Identity) where
   abbrev applies : Who → Bool
   applies = matches owner group requester
 
@@ -101,24 +101,24 @@ module _ (acl : List Triple) (valid : IsValid acl) (owner group : ℕ) (requeste
   matching-is : (class : Class) (test : Tag → Bool) → ((tag : Tag) → (is_in class tag && applies (who_of tag)) ≡ test tag)
       → matching applies acl class ≡ filter (λ entry. test entry.tag) acl
   matching-is class test same =
-      filter_twice (λ (entry : Triple). is_in class entry.tag) (λ (entry : Triple). applies (who_of entry.tag)) (λ (entry : Triple). test entry.tag)
+      filter_twice (λ (entry : EntryValue). is_in class entry.tag) (λ (entry : EntryValue). applies (who_of entry.tag)) (λ (entry : EntryValue). test entry.tag)
       (λ entry. same entry.tag) acl
 
   for_owner : (b : Bool) → (requester.uid == owner) ≡ b → matching applies acl Owner ≡ cond b (entries_of UserObj acl) []
   for_owner true is = matching-is Owner (λ tag. same_tag tag UserObj) (the_owner is)
   for_owner false not =
-      filter_twice-none (λ (entry : Triple). is_in Owner entry.tag) (λ (entry : Triple). applies (who_of entry.tag))
+      filter_twice-none (λ (entry : EntryValue). is_in Owner entry.tag) (λ (entry : EntryValue). applies (who_of entry.tag))
       (λ entry. no_owner not entry.tag) acl
 
   same_deciding : deciding applies acl ≡ deciding_set acl owner group requester
   same_deciding =
       ap first_nonempty
-      (ap₂ (λ (entries : List Triple) (rest : List (List Triple)). entries ∷ rest) (for_owner (requester.uid == owner) refl)
-      (ap₂ (λ (entries : List Triple) (rest : List (List Triple)). entries ∷ rest)
+      (ap₂ (λ (entries : List EntryValue) (rest : List (List EntryValue)). entries ∷ rest) (for_owner (requester.uid == owner) refl)
+      (ap₂ (λ (entries : List EntryValue) (rest : List (List EntryValue)). entries ∷ rest)
       (matching-is Users (λ tag. same_tag tag (User requester.uid)) the_user)
-      (ap₂ (λ (entries : List Triple) (rest : List (List Triple)). entries ∷ rest)
+      (ap₂ (λ (entries : List EntryValue) (rest : List (List EntryValue)). entries ∷ rest)
       (matching-is Groups (is_for_group_of requester group) the_groups)
-      (ap (λ (entries : List Triple). entries ∷ []) (matching-is Others (λ tag. same_tag tag Other) the_others)))))
+      (ap (λ (entries : List EntryValue). entries ∷ []) (matching-is Others (λ tag. same_tag tag Other) the_others)))))
 
   -- of a mode's bit the translation tells what a deciding entry has
   bit_allowed : (bit : ℕ) → has mode_bits bit ≡ true
@@ -128,15 +128,15 @@ module _ (acl : List Triple) (valid : IsValid acl) (owner group : ℕ) (requeste
       allows-translation acl applies bit of_mode
       (few acl valid applies Owner UserObj (owners_alone applies))
       (few acl valid applies Users (User requester.uid) users_alone)
-      ∙ ap (list_any (λ (entry : Triple). has (effective_perms acl entry) (permission_of bit))) same_deciding
+      ∙ ap (list_any (λ (entry : EntryValue). has (effective_perms acl entry) (permission_of bit))) same_deciding
 
   grants_as_much : (perms : ℕ) → IsTrue (grants acl owner group requester perms) → Grants applies (translation acl) (mask_of perms)
   grants_as_much perms granted bit asked =
       let of_mode : has mode_bits bit ≡ true = mask_of-within perms bit asked in
       let has_it : has perms (permission_of bit) ≡ true = sym (has-mask_of perms bit of_mode) ∙ asked in
       bit_allowed bit of_mode
-      ∙ list_any-weaken (λ (entry : Triple). has_all (effective_perms acl entry) perms)
-      (λ (entry : Triple). has (effective_perms acl entry) (permission_of bit))
+      ∙ list_any-weaken (λ (entry : EntryValue). has_all (effective_perms acl entry) perms)
+      (λ (entry : EntryValue). has (effective_perms acl entry) (permission_of bit))
       (λ entry whole. has_all-has (effective_perms acl entry) perms (permission_of bit) whole has_it)
       (deciding_set acl owner group requester) granted
 
@@ -144,8 +144,8 @@ module _ (acl : List Triple) (valid : IsValid acl) (owner group : ℕ) (requeste
   granted_alone : (bit : ℕ) → has mode_bits bit ≡ true → IsTrue (allows applies bit (translation acl))
       → IsTrue (grants acl owner group requester (2 ^ permission_of bit))
   granted_alone bit of_mode allowed =
-      list_any-agree (λ (entry : Triple). has_all (effective_perms acl entry) (2 ^ permission_of bit))
-      (λ (entry : Triple). has (effective_perms acl entry) (permission_of bit))
+      list_any-agree (λ (entry : EntryValue). has_all (effective_perms acl entry) (2 ^ permission_of bit))
+      (λ (entry : EntryValue). has (effective_perms acl entry) (permission_of bit))
       (λ entry. contains-one (effective_perms acl entry) (permission_of bit)) (deciding_set acl owner group requester)
       ∙ sym (bit_allowed bit of_mode)
       ∙ allowed
@@ -154,24 +154,24 @@ module _ (acl : List Triple) (valid : IsValid acl) (owner group : ℕ) (requeste
   pub bit_granted : (bit : ℕ) → has mode_bits bit ≡ true
       → grants acl owner group requester (2 ^ permission_of bit) ≡ allows applies bit (translation acl)
   bit_granted bit of_mode =
-      list_any-agree (λ (entry : Triple). has_all (effective_perms acl entry) (2 ^ permission_of bit))
-      (λ (entry : Triple). has (effective_perms acl entry) (permission_of bit))
+      list_any-agree (λ (entry : EntryValue). has_all (effective_perms acl entry) (2 ^ permission_of bit))
+      (λ (entry : EntryValue). has (effective_perms acl entry) (permission_of bit))
       (λ entry. contains-one (effective_perms acl entry) (permission_of bit)) (deciding_set acl owner group requester)
       ∙ sym (bit_allowed bit of_mode)
 
 -- a valid list's translation grants whatever the list grants
-pub translation_grants_as_much : (acl : List Triple) → IsValid acl → GrantsAsMuch acl (translation acl)
+pub translation_grants_as_much : (acl : List EntryValue) → IsValid acl → GrantsAsMuch acl (translation acl)
 translation_grants_as_much acl valid owner group requester perms = grants_as_much acl valid owner group requester perms
 
 -- a valid list and its translation decide alike of the permission of a bit that stands for it
-agree_on : (acl : List Triple) → IsValid acl → (bit : ℕ) → has mode_bits bit ≡ true → has (mask_of (2 ^ permission_of bit)) bit ≡ true
+agree_on : (acl : List EntryValue) → IsValid acl → (bit : ℕ) → has mode_bits bit ≡ true → has (mask_of (2 ^ permission_of bit)) bit ≡ true
     → AgreeOn acl (translation acl) (2 ^ permission_of bit)
 agree_on acl valid bit of_mode asked owner group requester = (
   grants_as_much acl valid owner group requester (2 ^ permission_of bit),
   λ granted. granted_alone acl valid owner group requester bit of_mode (granted bit asked),
 )
 
-pub translation_decides_alike : (acl : List Triple) → IsValid acl → DecideAlike acl (translation acl)
+pub translation_decides_alike : (acl : List EntryValue) → IsValid acl → DecideAlike acl (translation acl)
 unfolding has mask_of
 translation_decides_alike acl valid = record {
   to_read = agree_on acl valid 0 refl refl;

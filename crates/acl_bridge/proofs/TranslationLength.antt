@@ -5,7 +5,7 @@ use Rattle.std.proofs.lemmas.List.Concat.{length-flat_map}
 use Rattle.acl_names.proofs.Counting.{count_by-cons}
 use Rattle.acl_posix.specs.Access.{effective_perms}
 use Rattle.acl_posix.specs.Canonical.{IsAcl}
-use Rattle.acl_posix.specs.Entry.{Triple, same_tag, is_named}
+use Rattle.acl_posix.specs.Entry.{EntryValue, same_tag, is_named}
 use Rattle.acl_posix.specs.Validity.{count_of, names_someone}
 use Rattle.acl_posix.specs.declared.entry.Tag.{Tag}
 use Rattle.acl_posix.specs.declared.entry.Tag.TheVariants.{UserObj, User, GroupObj, Group, Mask, Other}
@@ -50,14 +50,14 @@ length-made_for Settled who perms =
     let denied = length-plain Deny who (rest_of perms) in
     omega arith
 
-length-pass : (class : Class) (part : Part) (acl : List Triple)
+length-pass : (class : Class) (part : Part) (acl : List EntryValue)
     → length (made_by_pass (class, part) acl) ≤ most_of part * length (in_class class acl)
 length-pass class part acl =
     length-flat_map-most (most_of part) (made_by part acl) (λ entry. length-made_for part (who_of entry.tag) (effective_perms acl entry))
     (in_class class acl)
 
 -- two of each entry at most but of the mask and the others'
-length-translation : (acl : List Triple)
+length-translation : (acl : List EntryValue)
     → length (translation acl)
     ≤ 2 * length (in_class Owner acl) + 2 * length (in_class Users acl) + 2 * length (in_class Groups acl) + length (in_class Others acl)
 length-translation acl =
@@ -75,7 +75,7 @@ length-translation acl =
 abbrev one_if : Bool → ℕ
 one_if b = cond b 1 0
 
-length-in_class : (class : Class) (entry : Triple) (acl : List Triple)
+length-in_class : (class : Class) (entry : EntryValue) (acl : List EntryValue)
     → length (in_class class (entry ∷ acl)) ≡ one_if (is_in class entry.tag) + length (in_class class acl)
 length-in_class class entry acl =
     elim (is_in class entry.tag)
@@ -83,7 +83,7 @@ length-in_class class entry acl =
     [ true ↦ omega arith | false ↦ omega arith ]
 
 -- how many there are of each kind
-record Kinds (acl : List Triple) : Type 0 where
+record Kinds (acl : List EntryValue) : Type 0 where
   pub all : length (in_class Owner acl) + length (in_class Users acl) + length (in_class Groups acl)
       + count_of Mask acl + length (in_class Others acl) ≡ length acl
   pub owners : length (in_class Owner acl) ≡ count_of UserObj acl
@@ -106,7 +106,7 @@ one_kind (Group gid) = record { all = refl; owners = refl; others = refl; unname
 one_kind Mask = record { all = refl; owners = refl; others = refl; unnamed = λ no. refl }
 one_kind Other = record { all = refl; owners = refl; others = refl; unnamed = λ no. refl }
 
-kinds : (acl : List Triple) → Kinds acl
+kinds : (acl : List EntryValue) → Kinds acl
 kinds [] = record { all = refl; owners = refl; others = refl; unnamed = λ no. refl }
 kinds (entry ∷ acl) =
     let rest = kinds acl in
@@ -116,13 +116,13 @@ kinds (entry ∷ acl) =
     let groups = length-in_class Groups entry acl in
     let others = length-in_class Others entry acl in
     let masks : count_of Mask (entry ∷ acl) ≡ one_if (same_tag entry.tag Mask) + count_of Mask acl =
-    count_by-cons (λ (e : Triple). same_tag e.tag Mask) entry acl in
+    count_by-cons (λ (e : EntryValue). same_tag e.tag Mask) entry acl in
     let user_obj : count_of UserObj (entry ∷ acl) ≡ one_if (same_tag entry.tag UserObj) + count_of UserObj acl =
-    count_by-cons (λ (e : Triple). same_tag e.tag UserObj) entry acl in
+    count_by-cons (λ (e : EntryValue). same_tag e.tag UserObj) entry acl in
     let group_obj : count_of GroupObj (entry ∷ acl) ≡ one_if (same_tag entry.tag GroupObj) + count_of GroupObj acl =
-    count_by-cons (λ (e : Triple). same_tag e.tag GroupObj) entry acl in
+    count_by-cons (λ (e : EntryValue). same_tag e.tag GroupObj) entry acl in
     let other : count_of Other (entry ∷ acl) ≡ one_if (same_tag entry.tag Other) + count_of Other acl =
-    count_by-cons (λ (e : Triple). same_tag e.tag Other) entry acl in
+    count_by-cons (λ (e : EntryValue). same_tag e.tag Other) entry acl in
     record {
       all = let now = one.all in let before = rest.all in omega arith;
       owners = let now = one.owners in let before = rest.owners in omega arith;
@@ -135,7 +135,7 @@ kinds (entry ∷ acl) =
     }
 
 -- a list has at most 62 entries beside the mask and the others', or there is no mask, and it has three
-pub short_translation : (acl : List Triple) → IsAcl acl → length (translation acl) ≤ most_translated
+pub short_translation : (acl : List EntryValue) → IsAcl acl → length (translation acl) ≤ most_translated
 short_translation acl is =
     let made = length-translation acl in
     let has = kinds acl in
@@ -152,7 +152,7 @@ short_translation acl is =
     ]
 
 -- two of each entry at most
-pub doubled-translation : (acl : List Triple) → length (translation acl) ≤ 2 * length acl
+pub doubled-translation : (acl : List EntryValue) → length (translation acl) ≤ 2 * length acl
 doubled-translation acl =
     let made = length-translation acl in
     let all = (kinds acl).all in

@@ -5,7 +5,7 @@ use Rattle.std.proofs.lemmas.Nat.{and_le_l}
 use Rattle.acl_names.specs.Bits.{has}
 use Rattle.acl_names.proofs.AnyLemmas.{or_false}
 use Rattle.acl_posix.specs.Access.{effective_perms, first_nonempty, is_under_mask, masked}
-use Rattle.acl_posix.specs.Entry.{Triple, same_tag, entries_of, perms_of, HavePermissions}
+use Rattle.acl_posix.specs.Entry.{EntryValue, same_tag, entries_of, perms_of, HavePermissions}
 use Rattle.acl_posix.specs.Mode.{perms_at}
 use Rattle.acl_posix.specs.Perms.{IsPermissions}
 use Rattle.acl_posix.specs.Validity.{IsValid, count_of}
@@ -33,7 +33,7 @@ effective-small : (limited : Bool) (mask : Option ℕ) (perms : ℕ) → perms <
 effective-small true mask perms small = masked-small mask perms small
 effective-small false mask perms small = small
 
-module _ (acl : List Triple) (valid : IsValid acl) (small : HavePermissions acl) where
+module _ (acl : List EntryValue) (valid : IsValid acl) (small : HavePermissions acl) where
   -- what permissions an entry of a tag has that stand in it
   abbrev limited : Tag → ℕ → ℕ
   limited tag perms = cond (is_under_mask tag) (masked (perms_of Mask acl) perms) perms
@@ -41,46 +41,46 @@ module _ (acl : List Triple) (valid : IsValid acl) (small : HavePermissions acl)
   -- what is shown to those for whom one entry alone decides is what it has
   shown_by_one : (class : Who) (tag : Tag) → count_of tag acl ≡ 1
       → ((other : Tag) → is_in Users other ≡ true → of_class class (who_of other) ≡ true → same_tag other UserObj ≡ true)
-      → ((entry : Triple) → entries_of tag acl ≡ entry ∷ [] → deciding (of_class class) acl ≡ entry ∷ [])
+      → ((entry : EntryValue) → entries_of tag acl ≡ entry ∷ [] → deciding (of_class class) acl ≡ entry ∷ [])
       → shown_to (of_class class) (translation acl) ≡ limited tag (perms_at tag acl)
   shown_by_one class tag one no_user alone = go (the_one has_tag acl (length-filter has_tag acl ∙ one))
     where
-      has_tag : Triple → Bool
+      has_tag : EntryValue → Bool
       has_tag entry = same_tag entry.tag tag
 
-      go : (e : Triple) × (filter has_tag acl ≡ e ∷ []) × (find has_tag acl ≡ Some e)
+      go : (e : EntryValue) × (filter has_tag acl ≡ e ∷ []) × (find has_tag acl ≡ Some e)
           → shown_to (of_class class) (translation acl) ≡ limited tag (perms_at tag acl)
       go (e, is_alone, is_found) =
-          let known = find-passes (λ (entry : Triple). IsPermissions entry.perms) has_tag acl e small is_found in
+          let known = find-passes (λ (entry : EntryValue). IsPermissions entry.perms) has_tag acl e small is_found in
           shown_to-allows (of_class class) (translation acl) (effective_perms acl e)
           (effective-small (is_under_mask e.tag) (perms_of Mask acl) e.perms known.1)
           (λ bit of_mode.
           allows-translation acl (of_class class) bit of_mode
           (few acl valid (of_class class) Owner UserObj (owners_alone (of_class class)))
           (few acl valid (of_class class) Users UserObj no_user)
-          ∙ ap (list_any (λ (entry : Triple). has (effective_perms acl entry) (permission_of bit))) (alone e is_alone)
+          ∙ ap (list_any (λ (entry : EntryValue). has (effective_perms acl entry) (permission_of bit))) (alone e is_alone)
           ∙ or_false (has (effective_perms acl e) (permission_of bit)))
           ∙ ap (λ (of : Tag). limited of e.perms) (same_tag-true e.tag tag known.0)
-          ∙ sym (ap (λ (o : Option Triple). limited tag (unwrap_or (option_map (λ (entry : Triple). entry.perms) o) 0)) is_found)
+          ∙ sym (ap (λ (o : Option EntryValue). limited tag (unwrap_or (option_map (λ (entry : EntryValue). entry.perms) o) 0)) is_found)
 
   -- the entries of a class to which these of a mode's apply, as those of one tag
   all_of : (who : Who) (class : Class) (test : Tag → Bool) → ((tag : Tag) → (is_in class tag && of_class who (who_of tag)) ≡ test tag)
       → matching (of_class who) acl class ≡ filter (λ entry. test entry.tag) acl
   all_of who class test same =
-      filter_twice (λ (entry : Triple). is_in class entry.tag) (λ (entry : Triple). of_class who (who_of entry.tag))
-      (λ (entry : Triple). test entry.tag) (λ entry. same entry.tag) acl
+      filter_twice (λ (entry : EntryValue). is_in class entry.tag) (λ (entry : EntryValue). of_class who (who_of entry.tag))
+      (λ (entry : EntryValue). test entry.tag) (λ entry. same entry.tag) acl
 
   none_of : (who : Who) (class : Class) → ((tag : Tag) → (is_in class tag && of_class who (who_of tag)) ≡ false)
       → matching (of_class who) acl class ≡ []
   none_of who class none =
-      filter_twice-none (λ (entry : Triple). is_in class entry.tag) (λ (entry : Triple). of_class who (who_of entry.tag)) (λ entry. none entry.tag) acl
+      filter_twice-none (λ (entry : EntryValue). is_in class entry.tag) (λ (entry : EntryValue). of_class who (who_of entry.tag)) (λ entry. none entry.tag) acl
 
-  stop_at : (entries : List Triple) (rest : List (List Triple)) (entry : Triple) → entries ≡ entry ∷ []
+  stop_at : (entries : List EntryValue) (rest : List (List EntryValue)) (entry : EntryValue) → entries ≡ entry ∷ []
       → first_nonempty (entries ∷ rest) ≡ entry ∷ []
-  stop_at entries rest entry one = ap (λ (xs : List Triple). first_nonempty (xs ∷ rest)) one
+  stop_at entries rest entry one = ap (λ (xs : List EntryValue). first_nonempty (xs ∷ rest)) one
 
-  pass_over : (entries : List Triple) (rest : List (List Triple)) → entries ≡ [] → first_nonempty (entries ∷ rest) ≡ first_nonempty rest
-  pass_over entries rest none = ap (λ (xs : List Triple). first_nonempty (xs ∷ rest)) none
+  pass_over : (entries : List EntryValue) (rest : List (List EntryValue)) → entries ≡ [] → first_nonempty (entries ∷ rest) ≡ first_nonempty rest
+  pass_over entries rest none = ap (λ (xs : List EntryValue). first_nonempty (xs ∷ rest)) none
 
   -- a class of the mode has no named user
   no_named : (class : Who) → ((uid : ℕ) → of_class class (whos.User uid) ≡ false) → (tag : Tag) → is_in Users tag ≡ true
@@ -139,7 +139,7 @@ module _ (acl : List Triple) (valid : IsValid acl) (small : HavePermissions acl)
       the_other _ = refl
 
 -- the mode that a valid list shows through its translation
-pub mode_of-translation : (acl : List Triple) → IsValid acl → HavePermissions acl → mode_of (translation acl) ≡ translated_mode acl
+pub mode_of-translation : (acl : List EntryValue) → IsValid acl → HavePermissions acl → mode_of (translation acl) ≡ translated_mode acl
 mode_of-translation acl valid small =
     let owner = shown_to_owner acl valid small in
     let group = shown_to_group acl valid small in

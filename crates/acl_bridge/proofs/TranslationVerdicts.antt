@@ -4,7 +4,7 @@ use Rattle.std.specs.List.{filter, list_any}
 use Rattle.acl_names.specs.Bits.{has}
 use Rattle.acl_names.proofs.AnyLemmas.{list_any-filter, or_false}
 use Rattle.acl_posix.specs.Access.{effective_perms, first_nonempty}
-use Rattle.acl_posix.specs.Entry.{Triple}
+use Rattle.acl_posix.specs.Entry.{EntryValue}
 use Rattle.acl_nfs4.specs.Mask.{mode_bits, mask_of, rest_of}
 use Rattle.acl_nfs4.specs.Evaluation.{verdict, allows}
 use Rattle.acl_nfs4.specs.declared.who.Who.{Who}
@@ -40,31 +40,31 @@ or_else_assoc (Some a) b c = refl
 -- ---- the classes
 
 -- the entries of a class to which the translation's apply
-abbrev pub matching : (Who → Bool) → List Triple → Class → List Triple
+abbrev pub matching : (Who → Bool) → List EntryValue → Class → List EntryValue
 matching applies acl class = filter (λ entry. applies (who_of entry.tag)) (in_class class acl)
 
 -- whether a class has one entry at most for those to whom the translation's entries apply
-abbrev pub FewFor : List Triple → (Who → Bool) → Class → Type 0
+abbrev pub FewFor : List EntryValue → (Who → Bool) → Class → Type 0
 FewFor acl applies class = length (matching applies acl class) ≤ 1
 
 -- those of the first class that has any decide
-abbrev pub deciding : (Who → Bool) → List Triple → List Triple
+abbrev pub deciding : (Who → Bool) → List EntryValue → List EntryValue
 deciding applies acl = first_nonempty (map (matching applies acl) (Owner ∷ Users ∷ Groups ∷ Others ∷ []))
 
-module _ (acl : List Triple) (applies : Who → Bool) (bit : ℕ) (of_mode : has mode_bits bit ≡ true) where
-  abbrev pub is_for : Triple → Bool
+module _ (acl : List EntryValue) (applies : Who → Bool) (bit : ℕ) (of_mode : has mode_bits bit ≡ true) where
+  abbrev pub is_for : EntryValue → Bool
   is_for entry = applies (who_of entry.tag)
 
-  abbrev pub has_permission : Triple → Bool
+  abbrev pub has_permission : EntryValue → Bool
   has_permission entry = has (effective_perms acl entry) (permission_of bit)
 
-  verdict-allowed : (entry : Triple)
+  verdict-allowed : (entry : EntryValue)
       → verdict applies bit (made_by Allowed acl entry) ≡ cond (is_for entry && has_permission entry) (Some true) None
   verdict-allowed entry =
       verdict-allow applies bit (who_of entry.tag) (mask_of (effective_perms acl entry))
       ∙ ap (λ b. cond (is_for entry && b) (Some true) None) (has-mask_of (effective_perms acl entry) bit of_mode)
 
-  verdict-denied : (entry : Triple)
+  verdict-denied : (entry : EntryValue)
       → verdict applies bit (made_by Denied acl entry) ≡ cond (is_for entry && not (has_permission entry)) (Some false) None
   verdict-denied entry =
       verdict-deny applies bit (who_of entry.tag) (rest_of (effective_perms acl entry))
@@ -75,27 +75,27 @@ module _ (acl : List Triple) (applies : Who → Bool) (bit : ℕ) (of_mode : has
   allow_then_deny true false = refl
   allow_then_deny false h = refl
 
-  verdict-settled : (entry : Triple) → verdict applies bit (made_by Settled acl entry) ≡ cond (is_for entry) (Some (has_permission entry)) None
+  verdict-settled : (entry : EntryValue) → verdict applies bit (made_by Settled acl entry) ≡ cond (is_for entry) (Some (has_permission entry)) None
   verdict-settled entry =
       verdict-append applies bit (made_by Allowed acl entry) (made_by Denied acl entry)
       ∙ ap₂ or_else (verdict-allowed entry) (verdict-denied entry)
       ∙ allow_then_deny (is_for entry) (has_permission entry)
 
   -- what is said of the entries of a class: the first of the answers on each
-  verdict-first : (part : Part) (entry : Triple) (entries : List Triple) (here after : Option Bool)
+  verdict-first : (part : Part) (entry : EntryValue) (entries : List EntryValue) (here after : Option Bool)
       → verdict applies bit (made_by part acl entry) ≡ here → verdict applies bit (flat_map (made_by part acl) entries) ≡ after
       → verdict applies bit (flat_map (made_by part acl) (entry ∷ entries)) ≡ or_else here after
   verdict-first part entry entries here after is rest =
       verdict-append applies bit (made_by part acl entry) (flat_map (made_by part acl) entries) ∙ ap₂ or_else is rest
 
   -- where at most one entry is for the requester, it decides
-  settled : (entries : List Triple) → length (filter is_for entries) ≤ 1
+  settled : (entries : List EntryValue) → length (filter is_for entries) ≤ 1
       → verdict applies bit (flat_map (made_by Settled acl) entries) ≡ said_by has_permission (filter is_for entries)
   settled [] few = refl
   settled (entry ∷ entries) few =
       verdict-first Settled entry entries _ _ (verdict-settled entry) refl ∙ go (is_for entry) few (settled entries)
     where
-      alone : (others : List Triple) → length (entry ∷ others) ≤ 1 → Some (has_permission entry) ≡ said_by has_permission (entry ∷ others)
+      alone : (others : List EntryValue) → length (entry ∷ others) ≤ 1 → Some (has_permission entry) ≡ said_by has_permission (entry ∷ others)
       alone [] few = ap Some (sym (or_false (has_permission entry)))
       alone (other ∷ others) few = absurd (omega arith)
 
@@ -112,26 +112,26 @@ module _ (acl : List Triple) (applies : Who → Bool) (bit : ℕ) (of_mode : has
   or_else-cond answer false b = refl
 
   -- where all entries of a class give one answer or none, it is given where one of them gives it
-  joined : (part : Part) (answer : Bool) (says : Triple → Bool)
-      → ((entry : Triple) → verdict applies bit (made_by part acl entry) ≡ cond (is_for entry && says entry) (Some answer) None)
-      → (entries : List Triple)
+  joined : (part : Part) (answer : Bool) (says : EntryValue → Bool)
+      → ((entry : EntryValue) → verdict applies bit (made_by part acl entry) ≡ cond (is_for entry && says entry) (Some answer) None)
+      → (entries : List EntryValue)
       → verdict applies bit (flat_map (made_by part acl) entries) ≡ cond (list_any says (filter is_for entries)) (Some answer) None
   joined part answer says each entries = go entries ∙ ap (λ b. cond b (Some answer) None) (list_any-filter is_for says entries)
     where
-      go : (entries : List Triple)
+      go : (entries : List EntryValue)
           → verdict applies bit (flat_map (made_by part acl) entries)
           ≡ cond (list_any (λ entry. is_for entry && says entry) entries) (Some answer) None
       go [] = refl
       go (entry ∷ entries) = verdict-first part entry entries _ _ (each entry) (go entries) ∙ or_else-cond answer _ _
 
   -- one class after another: those that follow are asked where the class has no entry for the requester
-  next_class : (v rest : Option Bool) (matching : List Triple) (others : List (List Triple))
+  next_class : (v rest : Option Bool) (matching : List EntryValue) (others : List (List EntryValue))
       → v ≡ said_by has_permission matching → unwrap_or rest false ≡ list_any has_permission (first_nonempty others)
       → unwrap_or (or_else v rest) false ≡ list_any has_permission (first_nonempty (matching ∷ others))
   next_class v rest [] others here after = ap (λ v. unwrap_or (or_else v rest) false) here ∙ after
   next_class v rest (entry ∷ entries) others here after = ap (λ v. unwrap_or (or_else v rest) false) here
 
-  last_class : (matching : List Triple)
+  last_class : (matching : List EntryValue)
       → unwrap_or (or_else (cond (list_any has_permission matching) (Some true) None) None) false
       ≡ list_any has_permission (first_nonempty (matching ∷ []))
   last_class [] = refl

@@ -2,7 +2,7 @@
 use Rattle.std.specs.Prelude.{ℕ, Bool, true, false, ◌+◌, ◌^◌, List, [], ◌∷◌, ◌++◌, map, flat_map, filter}
 use Rattle.acl_names.specs.Bits.{◌∪◌}
 use Rattle.acl_posix.specs.Access.{effective_perms}
-use Rattle.acl_posix.specs.Entry.{Triple}
+use Rattle.acl_posix.specs.Entry.{EntryValue}
 use Rattle.acl_posix.specs.declared.entry.Tag.{Tag}
 use Rattle.acl_posix.specs.declared.entry.Tag.TheVariants.{UserObj, User, GroupObj, Group, Other}
 use Rattle.acl_nfs4.specs.Ace.{Nfsace4, plain}
@@ -34,7 +34,7 @@ is_in Others Other = true
 is_in _ _ = false
 
 -- the entries of a class, in their order
-abbrev pub in_class : Class → List Triple → List Triple
+abbrev pub in_class : Class → List EntryValue → List EntryValue
 in_class class acl = filter (λ entry. is_in class entry.tag) acl
 
 -- what is made for one who has these permissions: what they allow, the rest, which is denied, or the one and then the other
@@ -44,11 +44,11 @@ made_for Denied who perms = plain Deny who (rest_of perms)
 made_for Settled who perms = plain Allow who (mask_of perms) ++ plain Deny who (rest_of perms)
 
 -- what is made of an entry under the mask
-abbrev pub made_by : Part → List Triple → Triple → List Nfsace4
+abbrev pub made_by : Part → List EntryValue → EntryValue → List Nfsace4
 made_by part acl entry = made_for part (who_of entry.tag) (effective_perms acl entry)
 
 -- what a pass over a list makes of the entries of its class
-abbrev pub made_by_pass : Class × Part → List Triple → List Nfsace4
+abbrev pub made_by_pass : Class × Part → List EntryValue → List Nfsace4
 made_by_pass (class, part) acl = flat_map (made_by part acl) (in_class class acl)
 
 -- The owner and each user are settled one by one. Entries for groups join, so that none of them denies before all of them
@@ -56,7 +56,7 @@ made_by_pass (class, part) acl = flat_map (made_by part acl) (in_class class acl
 abbrev pub passes : List (Class × Part)
 passes = (Owner, Settled) ∷ (Users, Settled) ∷ (Groups, Allowed) ∷ (Groups, Denied) ∷ (Others, Allowed) ∷ []
 
-abbrev pub translation : List Triple → List Nfsace4
+abbrev pub translation : List EntryValue → List Nfsace4
 translation acl = flat_map (λ pass. made_by_pass pass acl) passes
 
 -- the entry with further flags
@@ -72,5 +72,5 @@ abbrev pub handed_down : ℕ
 handed_down = handed_on + 2 ^ inherit_only
 
 -- a default list: its translation, which is only inherited
-abbrev pub default_translation : List Triple → List Nfsace4
+abbrev pub default_translation : List EntryValue → List Nfsace4
 default_translation acl = map (with_flags handed_down) (translation acl)

@@ -6,11 +6,11 @@ ghost use Rattle.acl_posix.specs.Perms.{bits_of};
 ghost use Rattle.acl_nfs4.specs.Ace.{is_idle, plain};
 ghost use Rattle.acl_nfs4.specs.declared.limits.TheConstants.{MAX_ACES};
 ghost use Rattle.acl_nfs4.specs.Flags.{flag_bits};
-ghost use Rattle.acl_nfs4.specs.Mask.{mask_bits, all_masks, rest_of};
+ghost use Rattle.acl_nfs4.specs.Mask.{mask_bits, all_masks};
 ghost use Rattle.acl_bridge.specs.Effects.{flags_of, with_effect};
 ghost use Rattle.acl_bridge.specs.Translation.{who_of, is_in, made_for, made_by_pass};
 
-use acl_nfs4::{Ace, AceFault, AceType, Acl4, Flags, Mask, Who, mask_of};
+use acl_nfs4::{Ace, AceFault, AceType, Acl4, Flags, Mask, Who, mask_of, rest_of};
 use acl_posix::{Acl, Entry, Perms, Tag};
 use bitflags::Flags as FlagSet;
 use std::alloc::AllocError;
@@ -110,14 +110,6 @@ fn effective_perms(entry: &Entry, mask: Option<Perms>) -> Perms
         Some(mask) => entry.perms.intersection(mask),
         None => entry.perms,
     }
-}
-
-/// The bits of a file mode that the permissions lack.
-fn rest_of(perms: Perms) -> Mask
-    ensures { mask_bits result ≡ rest_of (bits_of perms) }
-{
-    let all = mask_of(Perms::all());
-    all.symmetric_difference(all.intersection(mask_of(perms)))
 }
 
 /// Puts an entry behind the others. The list may have one more, so that it fails only if memory runs out.

@@ -29,8 +29,9 @@ struct Asked {
     stranger: Uid,
 }
 
-/// Two POSIX lists grant a request, of however many permissions, to the same requesters where they grant it alike to the asker
-/// of each pair of entries, one of each list. So they do where they grant it alike to everyone who is in at most two groups.
+/// Two POSIX lists grant a request, of however many permissions, to the same requesters if they grant it alike to the asker
+/// of each pair of entries, one of each list. So they do if they grant it alike to everyone who is in at most two groups.
+/// There is nothing to run here: a proof cites the contract.
 pub fn posix_comparison_laws()
     ensures pairs { PairsSuffice }
     ensures two_groups { TwoGroupsSuffice }

@@ -37,11 +37,11 @@ fn translation_for(alloc: Global, acl: &Acl, effect: Effect) -> Result<Acl4, All
 /// fails only if memory runs out.
 pub fn translate(alloc: Global, acl: &Acl) -> Result<Acl4, AllocError>
     ensures list { IfOk result (λ aces. aces ≡ translation acl.now) }
-    ensures no_memory { length acl.now ≤ 8 → IsOk result }
+    ensures short { length acl.now ≤ 8 → IsOk result }
     ensures alike { IfOk result (DecideAlike acl.now) }
     ensures as_much { IfOk result (GrantsAsMuch acl.now) }
     ensures mode { IfOk result (λ aces. mode_of aces ≡ translated_mode acl.now) }
-    ensures short { IfOk result (λ aces. length aces ≤ most_translated) }
+    ensures length { IfOk result (λ aces. length aces ≤ most_translated) }
 {
     translation_for(alloc, acl, Effect::Here)
 }
@@ -51,10 +51,10 @@ pub fn translate(alloc: Global, acl: &Acl) -> Result<Acl4, AllocError>
 /// memory runs out.
 pub fn translate_default(alloc: Global, acl: &Acl) -> Result<Acl4, AllocError>
     ensures list { IfOk result (λ aces. aces ≡ default_translation acl.now) }
-    ensures no_memory { length acl.now ≤ 8 → IsOk result }
+    ensures short { length acl.now ≤ 8 → IsOk result }
     ensures file { IfOk result (λ aces. inherited_list Kind.File aces ≡ translation acl.now) }
     ensures directory { IfOk result (λ aces. inherited_list Kind.Dir aces ≡ map (with_flags handed_on) (translation acl.now)) }
-    ensures short { IfOk result (λ aces. length aces ≤ most_translated) }
+    ensures length { IfOk result (λ aces. length aces ≤ most_translated) }
 {
     translation_for(alloc, acl, Effect::Below)
 }

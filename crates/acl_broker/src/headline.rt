@@ -5,7 +5,7 @@ ghost use Rattle.acl_broker.specs.Headline.{Merges};
 
 use crate::Service;
 
-/// For every service and every list of steps with their results: where a broker went on by these steps, each by its row
+/// For every service and every list of steps with their results: if a broker went on by these steps, each by its row
 /// of the step table, its journal is a merge of prefixes of the sessions' accepted commands, each once, in its session's
 /// order, none submitted after that session's close, none taken after its cancel; each answer is the service's answer at
 /// its place; and the state is the journal's result.

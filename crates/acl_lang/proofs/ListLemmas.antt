@@ -7,7 +7,7 @@ use Rattle.acl_nfs4.specs.AceText.{piece_value}
 use Rattle.acl_nfs4.specs.ReadFault as aces_fault
 use Rattle.acl_nfs4.specs.declared.acl.AceFault.{AceFault}
 use Rattle.acl_nfs4.specs.declared.acl.AceFault.TheVariants as ace
-use Rattle.acl_posix.specs.Entry.{Triple}
+use Rattle.acl_posix.specs.Entry.{EntryValue}
 use Rattle.acl_posix.specs.EntryText.{entry_of}
 use Rattle.acl_posix.specs.ReadFault as entries_fault
 use Rattle.acl_posix.specs.declared.entries.TextFault.{TextFault}
@@ -22,19 +22,19 @@ use Rattle.acl_lang.specs.Refusals.{Asked, Reads, aces_refusal, text_refusal}
 module _ (known : Known) (text : List ℕ) where
   -- a piece, as the field has it
 
-  abbrev entry_in : List ℕ → Asked Triple
+  abbrev entry_in : List ℕ → Asked EntryValue
   entry_in piece = as_entry (entry_of known piece)
 
   abbrev ace_in : List ℕ → Asked Nfsace4
   ace_in piece = as_ace (piece_value known piece)
 
-  entry_in-ok : (piece : List ℕ) (entry : Triple) → entry_of known piece ≡ Ok entry → entry_in piece ≡ Ok entry
+  entry_in-ok : (piece : List ℕ) (entry : EntryValue) → entry_of known piece ≡ Ok entry → entry_in piece ≡ Ok entry
   entry_in-ok piece entry is = ap as_entry is
 
   ace_in-ok : (piece : List ℕ) (ace : Nfsace4) → piece_value known piece ≡ Ok ace → ace_in piece ≡ Ok ace
   ace_in-ok piece ace is = ap as_ace is
 
-  pub entries_of-spelt : (entries : List Triple) → Spells (entry_of known) MAX_ENTRIES text entries → entries_of known text ≡ Ok entries
+  pub entries_of-spelt : (entries : List EntryValue) → Spells (entry_of known) MAX_ENTRIES text entries → entries_of known text ≡ Ok entries
   entries_of-spelt = read-spelt (entry_of known) entry_in TooMany MAX_ENTRIES text entry_in-ok
 
   -- a text that is refused doesn't read

@@ -10,7 +10,7 @@ use Rattle.acl_posix.proofs.InOrderLemmas.{in_order-acl}
 use Rattle.acl_posix.proofs.RoundTrip.{text_spells}
 use Rattle.acl_posix.proofs.ValidityLemmas.{valid_iff}
 use Rattle.acl_posix.specs.Canonical.{IsAcl}
-use Rattle.acl_posix.specs.Entry.{Triple}
+use Rattle.acl_posix.specs.Entry.{EntryValue}
 use Rattle.acl_posix.specs.InOrder.{in_order}
 use Rattle.acl_posix.specs.Validity.{fault_of}
 use Rattle.acl_lang.specs.Fields.{acl_of, aces_of}
@@ -18,7 +18,7 @@ use Rattle.acl_lang.specs.Printed.{access_text}
 use Rattle.acl_lang.specs.ReadAgain.{NameIds, NameIdsOfAces}
 use Rattle.acl_lang.proofs.ListLemmas.{aces_of-spelt, entries_of-spelt}
 
-pub acl_again : (known : Known) (acl : List Triple) → TellsNamesApart known → IsAcl acl → NameIds acl → acl_of known (access_text known acl) ≡ Ok acl
+pub acl_again : (known : Known) (acl : List EntryValue) → TellsNamesApart known → IsAcl acl → NameIds acl → acl_of known (access_text known acl) ≡ Ok acl
 acl_again known acl names is ids =
     let spelt = entries_of-spelt known (access_text known acl) acl (text_spells known _ acl names ids is.permissions is.within) in
     let right : fault_of acl ≡ None = (valid_iff acl).0 is.valid in

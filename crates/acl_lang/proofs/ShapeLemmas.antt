@@ -14,7 +14,7 @@ use Rattle.acl_nfs4.specs.declared.inheritance.Kind.TheVariants.{File, Dir}
 use Rattle.acl_nfs4.specs.declared.limits.TheConstants.{MAX_ACES}
 use Rattle.acl_nfs4.specs.declared.reading.PieceFault as aces
 use Rattle.acl_posix.proofs.ValidityLemmas.{valid_iff}
-use Rattle.acl_posix.specs.Entry.{Triple}
+use Rattle.acl_posix.specs.Entry.{EntryValue}
 use Rattle.acl_posix.specs.EntryText.{entry_of}
 use Rattle.acl_posix.specs.Validity.{fault_of}
 use Rattle.acl_posix.specs.declared.limits.TheConstants.{MAX_ENTRIES}
@@ -52,7 +52,7 @@ other_is false text word same other = refl
 
 -- Lists that are read.
 
-as_entry-ok : (r : Result Triple entries.PieceFault) (entry : Triple) → as_entry r ≡ Ok entry → r ≡ Ok entry
+as_entry-ok : (r : Result EntryValue entries.PieceFault) (entry : EntryValue) → as_entry r ≡ Ok entry → r ≡ Ok entry
 as_entry-ok (Ok x) entry is = cc
 as_entry-ok (Err fault) entry is = cc
 
@@ -61,7 +61,7 @@ as_ace-ok (Ok x) ace is = cc
 as_ace-ok (Err fault) ace is = cc
 
 module _ (known : Known) where
-  entries_of-ok : (text : List ℕ) (list : List Triple) → entries_of known text ≡ Ok list → Spells (entry_of known) MAX_ENTRIES text list
+  entries_of-ok : (text : List ℕ) (list : List EntryValue) → entries_of known text ≡ Ok list → Spells (entry_of known) MAX_ENTRIES text list
   entries_of-ok text =
       spelt-read (entry_of known) (λ piece. as_entry (entry_of known piece)) TooMany MAX_ENTRIES text (λ piece entry. as_entry-ok (entry_of known piece) entry)
 
@@ -69,7 +69,7 @@ module _ (known : Known) where
   aces_of-ok text =
       spelt-read (piece_value known) (λ piece. as_ace (piece_value known piece)) TooMany MAX_ACES text (λ piece ace. as_ace-ok (piece_value known piece) ace)
 
-  acl_of-ok : (text : List ℕ) (acl : List Triple) → acl_of known text ≡ Ok acl → SpellsAcl known text acl
+  acl_of-ok : (text : List ℕ) (acl : List EntryValue) → acl_of known text ≡ Ok acl → SpellsAcl known text acl
   acl_of-ok text acl is =
       let read = bind_ok (entries_of known text) accepted acl is in
       let test = if_then (is_none (fault_of read.0)) InvalidAcl (in_order read.0) acl read.2 in
@@ -80,11 +80,11 @@ module _ (known : Known) where
         in_order_is = test.1;
       }
 
-  acl_of-spelt : (text : List ℕ) (acl : List Triple) → SpellsAcl known text acl → acl_of known text ≡ Ok acl
+  acl_of-spelt : (text : List ℕ) (acl : List EntryValue) → SpellsAcl known text acl → acl_of known text ≡ Ok acl
   acl_of-spelt text acl spells =
       rw (entries_of-spelt known text spells.entries spells.spelt, (valid_iff spells.entries).0 spells.valid) (ap Ok spells.in_order_is)
 
-  default_of-ok : (text : List ℕ) (default : Option (List Triple)) → default_of known text ≡ Ok default → SpellsDefault known text default
+  default_of-ok : (text : List ℕ) (default : Option (List EntryValue)) → default_of known text ≡ Ok default → SpellsDefault known text default
   default_of-ok text default is =
       elim (branch (bytes_eq text (codes "none")) (Ok None) (acl_of known text >>= (λ acl. Ok (Some acl))) default is) [
         | inl none ↦ subst (SpellsDefault known text) (let same : None ≡ default = cc in same) (is_word text (codes "none") none.0)
@@ -94,7 +94,7 @@ module _ (known : Known) where
             subst (SpellsDefault known text) same (is_other text (codes "none") other.0, acl_of-ok text read.0 read.1)
       ]
 
-  default_of-spelt : (text : List ℕ) (default : Option (List Triple)) → SpellsDefault known text default → default_of known text ≡ Ok default
+  default_of-spelt : (text : List ℕ) (default : Option (List EntryValue)) → SpellsDefault known text default → default_of known text ≡ Ok default
   default_of-spelt text None none = rw none refl
   default_of-spelt text (Some acl) (other, spells) =
       rw (other_is (bytes_eq text (codes "none")) text (codes "none") refl other, acl_of-spelt text acl spells) refl

@@ -15,7 +15,7 @@ use Rattle.acl_nfs4.specs.declared.limits.TheConstants.{MAX_ACES}
 use Rattle.acl_nfs4.specs.declared.mask.Mask.{Mask}
 use Rattle.acl_nfs4.specs.declared.reading.PieceFault as aces
 use Rattle.acl_nfs4.specs.declared.reading.PieceFault.TheVariants as ace
-use Rattle.acl_posix.specs.Entry.{Triple}
+use Rattle.acl_posix.specs.Entry.{EntryValue}
 use Rattle.acl_posix.specs.EntryText.{entry_of}
 use Rattle.acl_posix.specs.InOrder.{in_order}
 use Rattle.acl_posix.specs.Mode.{Classes}
@@ -73,23 +73,23 @@ abbrev pub entry_fault : entries.PieceFault → LineFault
 entry_fault entry.Syntax = BadAcl
 entry_fault entry.UnknownName = UnknownName
 
-abbrev pub as_entry : Result Triple entries.PieceFault → Asked Triple
+abbrev pub as_entry : Result EntryValue entries.PieceFault → Asked EntryValue
 as_entry (Ok entry) = Ok entry
 as_entry (Err fault) = Err (entry_fault fault)
 
 -- the entries that a text spells
-abbrev pub entries_of : Known → List ℕ → Asked (List Triple)
+abbrev pub entries_of : Known → List ℕ → Asked (List EntryValue)
 entries_of known text = at_most_read TooMany MAX_ENTRIES (λ piece. as_entry (entry_of known piece)) (pieces text)
 
 -- the access control list of these entries
-abbrev pub accepted : List Triple → Asked (List Triple)
+abbrev pub accepted : List EntryValue → Asked (List EntryValue)
 accepted entries = if is_none (fault_of entries) then Ok (in_order entries) else Err InvalidAcl
 
-abbrev pub acl_of : Known → List ℕ → Asked (List Triple)
+abbrev pub acl_of : Known → List ℕ → Asked (List EntryValue)
 acl_of known text = entries_of known text >>= accepted
 
 -- `none`, or an access control list
-abbrev pub default_of : Known → List ℕ → Asked (Option (List Triple))
+abbrev pub default_of : Known → List ℕ → Asked (Option (List EntryValue))
 default_of known text = if bytes_eq text (codes "none") then Ok None else acl_of known text >>= (λ acl. Ok (Some acl))
 
 -- TEXT, where it is an access control list of the nfs4 style

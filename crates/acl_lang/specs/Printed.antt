@@ -7,7 +7,7 @@ use Rattle.acl_names.specs.Ids.{id_text}
 use Rattle.acl_nfs4.specs.PrintedText.{aces_text}
 use Rattle.acl_nfs4.specs.declared.inheritance.Kind.{Kind}
 use Rattle.acl_nfs4.specs.declared.inheritance.Kind.TheVariants.{File, Dir}
-use Rattle.acl_posix.specs.Entry.{Triple, perms_of}
+use Rattle.acl_posix.specs.Entry.{EntryValue, perms_of}
 use Rattle.acl_posix.specs.Mode.{Classes}
 use Rattle.acl_posix.specs.PrintedText.{default_text, effective_text}
 use Rattle.acl_posix.specs.declared.entry.Tag.TheVariants.{Mask}
@@ -64,12 +64,12 @@ style_text (Posix access default) = codes "posix"
 style_text (Nfs4 acl) = codes "nfs4"
 
 -- a default list, where there is one, with `default:` before each line
-abbrev pub below_text : Known → Option (List Triple) → List ℕ
+abbrev pub below_text : Known → Option (List EntryValue) → List ℕ
 below_text known None = []
 below_text known (Some default) = default_text known (perms_of Mask default) default
 
 -- an access list, with the permissions that its mask leaves
-abbrev pub access_text : Known → List Triple → List ℕ
+abbrev pub access_text : Known → List EntryValue → List ℕ
 access_text known access = effective_text known (perms_of Mask access) access
 
 -- a list of either style, one entry a line

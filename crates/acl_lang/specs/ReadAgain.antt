@@ -2,11 +2,11 @@
 use Rattle.std.specs.Prelude.{List}
 use Rattle.acl_nfs4.specs.Ace.{Nfsace4}
 use Rattle.acl_nfs4.specs.PrintedText as aces
-use Rattle.acl_posix.specs.Entry.{Triple}
+use Rattle.acl_posix.specs.Entry.{EntryValue}
 use Rattle.acl_posix.specs.PrintedText as entries
 
 -- the numbers that the entries name are ids
-abbrev pub NameIds : List Triple → Type 0
+abbrev pub NameIds : List EntryValue → Type 0
 NameIds = entries.HaveIds
 
 -- and those of ACEs

@@ -26,7 +26,7 @@ pub const MAX_DIGITS: usize = 10;
 /// The uid that systems give to nobody: where someone is wanted whom no list names, the search begins here.
 pub const NOBODY: u32 = 65534;
 
-/// The limits as numbers. There is nothing to run here: it states the law.
+/// The limits as numbers. There is nothing to run here: a proof cites the contract.
 pub fn limits_in_numbers()
     ensures users { MAX_USERS ≡ 1024 }
     ensures groups { MAX_GROUPS ≡ 1024 }

@@ -12,7 +12,7 @@ use Rattle.acl_names.proofs.StepLemmas.{some_from_cond}
 use Rattle.acl_posix.proofs.PieceFaultLemmas.{knowing, knowing_faultless, knows_user, knows_group, unfound_name}
 use Rattle.acl_posix.proofs.StepFaults.{same_fault, fault_behind, other_fault}
 use Rattle.acl_nfs4.specs.Ace.{Nfsace4, ace_of, is_idle}
-use Rattle.acl_nfs4.specs.AceText.{AceFields, WrittenWho, fields_of, type_of, special_of, name_at, who_of_parts, written_who, named, resolved_who, effective, piece_value}
+use Rattle.acl_nfs4.specs.AceText.{AceFields, WrittenWho, fields_of, type_of, special_of, name_at, who_of_parts, written_who, named, resolved_who, refuse_idle, piece_value}
 use Rattle.acl_nfs4.specs.AceText as form
 use Rattle.acl_nfs4.specs.Faults.{IsWritten, HasNoShape, HasUnknownName, HasNoEffect}
 use Rattle.acl_nfs4.specs.Flags.{identifier_group}
@@ -47,14 +47,14 @@ unknown_not_idle : UnknownName ≢ InheritOnly
 unknown_not_idle e = subst IsUnknown e tt
 
 -- an entry that is written has no fault but that it has no effect
-effect_fault : (ace : Nfsace4) (fault : PieceFault) → fault ≢ InheritOnly → effective ace ≢ Err fault
+effect_fault : (ace : Nfsace4) (fault : PieceFault) → fault ≢ InheritOnly → refuse_idle ace ≢ Err fault
 effect_fault ace fault apart e = go (is_idle ace) e
   where
     go : (b : Bool) → cond b (Err InheritOnly) (Ok ace) ≡ Err fault → ⊥
     go true e = let is : InheritOnly ≡ fault = cc in apart (sym is)
     go false e = cc
 
-idle_fault : (ace : Nfsace4) → effective ace ≡ Err InheritOnly → is_idle ace ≡ true
+idle_fault : (ace : Nfsace4) → refuse_idle ace ≡ Err InheritOnly → is_idle ace ≡ true
 idle_fault ace e = go (is_idle ace) e
   where
     go : (b : Bool) → cond b (Err InheritOnly) (Ok ace) ≡ Err InheritOnly → b ≡ true
@@ -64,7 +64,7 @@ idle_fault ace e = go (is_idle ace) e
 -- ---- the steps of a piece, each with those behind it
 
 abbrev after_mask : Known → AceType → ℕ → WrittenWho → ℕ → Result Nfsace4 PieceFault
-after_mask known kind flags written mask = or_fault UnknownName (resolved_who known (has flags identifier_group) written) >>= (λ who. effective (ace_of kind flags who mask))
+after_mask known kind flags written mask = or_fault UnknownName (resolved_who known (has flags identifier_group) written) >>= (λ who. refuse_idle (ace_of kind flags who mask))
 
 abbrev after_who : Known → AceFields → AceType → ℕ → WrittenWho → Result Nfsace4 PieceFault
 after_who known fields kind flags written = or_fault Syntax (letters_of mask_table fields.letters) >>= after_mask known kind flags written
@@ -83,7 +83,7 @@ after_fields known fields = or_fault Syntax (type_of fields.kind) >>= after_kind
 who_is_shaped : (known : Known) (kind : AceType) (flags : ℕ) (written : WrittenWho) (mask : ℕ) → after_mask known kind flags written mask ≢ Err Syntax
 who_is_shaped known kind flags written mask = go (resolved_who known (has flags identifier_group) written)
   where
-    go : (who : Option Who) → (or_fault UnknownName who >>= (λ who. effective (ace_of kind flags who mask))) ≢ Err Syntax
+    go : (who : Option Who) → (or_fault UnknownName who >>= (λ who. refuse_idle (ace_of kind flags who mask))) ≢ Err Syntax
     go None = λ e. let is : UnknownName ≡ Syntax = cc in not_unknown (sym is)
     go (Some who) = effect_fault (ace_of kind flags who mask) Syntax not_idle
 
@@ -124,7 +124,7 @@ idle_written known piece e = go (resolved_who known (has before.0.flags identifi
     before = shaped_before known piece InheritOnly not_idle e
 
     go : (who : Option Who) → resolved_who known (has before.0.flags identifier_group) before.0.written ≡ who
-        → (or_fault UnknownName who >>= (λ who. effective (ace_of before.0.kind before.0.flags who before.0.mask))) ≡ Err InheritOnly → HasNoEffect known piece
+        → (or_fault UnknownName who >>= (λ who. refuse_idle (ace_of before.0.kind before.0.flags who before.0.mask))) ≡ Err InheritOnly → HasNoEffect known piece
     go None is f = let same : UnknownName ≡ InheritOnly = cc in absurd (unknown_not_idle same)
     go (Some who) is f =
         let ace = ace_of before.0.kind before.0.flags who before.0.mask in
@@ -215,7 +215,7 @@ who_somewhere known is_group written lost (name ∷ [] ∷ more ∷ rest) e = ab
 who_somewhere known is_group written lost (name ∷ (byte ∷ bytes) ∷ more ∷ rest) e = absurd (cc)
 
 -- a look-up that tells the name to be unknown finds nobody
-is_lost : (found : Option Who) (ace_for : Who → Nfsace4) → (or_fault UnknownName found >>= (λ who. effective (ace_for who))) ≡ Err UnknownName → found ≡ None
+is_lost : (found : Option Who) (ace_for : Who → Nfsace4) → (or_fault UnknownName found >>= (λ who. refuse_idle (ace_for who))) ≡ Err UnknownName → found ≡ None
 is_lost None ace_for e = refl
 is_lost (Some who) ace_for e = absurd (effect_fault (ace_for who) UnknownName unknown_not_idle e)
 

@@ -8,7 +8,7 @@ use Rattle.acl_names.specs.ListText.{Say, Spells}
 use Rattle.acl_names.specs.Steps.{or_fault}
 use Rattle.acl_names.proofs.StepLemmas.{bind_ok, given}
 use Rattle.acl_nfs4.specs.Ace.{Nfsace4, IsAce, ace_of, is_idle}
-use Rattle.acl_nfs4.specs.AceText.{AceFields, WrittenWho, fields_of, type_of, written_who, resolved_who, effective, piece_value}
+use Rattle.acl_nfs4.specs.AceText.{AceFields, WrittenWho, fields_of, type_of, written_who, resolved_who, refuse_idle, piece_value}
 use Rattle.acl_nfs4.specs.Acl.{AreAces}
 use Rattle.acl_nfs4.specs.Flags.{identifier_group}
 use Rattle.acl_nfs4.specs.Letters.{flag_table, mask_table}
@@ -18,8 +18,8 @@ use Rattle.acl_nfs4.specs.declared.reading.PieceFault.TheVariants.{Syntax, Unkno
 use Rattle.acl_nfs4.specs.declared.who.Who.{Who}
 use Rattle.acl_nfs4.proofs.AceLemmas.{IsAce-ace_of}
 
-effective_ok : (ace made : Nfsace4) → effective made ≡ Ok ace → (made ≡ ace) × (is_idle made ≡ false)
-effective_ok ace made e = go (is_idle made) e
+refuse_idle_ok : (ace made : Nfsace4) → refuse_idle made ≡ Ok ace → (made ≡ ace) × (is_idle made ≡ false)
+refuse_idle_ok ace made e = go (is_idle made) e
   where
     go : (b : Bool) → cond b (Err InheritOnly) (Ok made) ≡ Ok ace → (made ≡ ace) × (b ≡ false)
     go true e = absurd (cc)
@@ -71,7 +71,7 @@ parts_of known piece ace e =
     let written = bind_ok (or_fault Syntax (written_who cut.0.who)) _ ace flags.2 in
     let mask = bind_ok (or_fault Syntax (letters_of mask_table cut.0.letters)) _ ace written.2 in
     let who = bind_ok (or_fault UnknownName (resolved_who known (has flags.0 identifier_group) written.0)) _ ace mask.2 in
-    let last = effective_ok ace (ace_of kind.0 flags.0 who.0 mask.0) who.2 in (
+    let last = refuse_idle_ok ace (ace_of kind.0 flags.0 who.0 mask.0) who.2 in (
       record {
         shape = shaped cut.1 kind.1 flags.1 written.1 mask.1;
         who = who.0;
@@ -82,14 +82,14 @@ parts_of known piece ace e =
     )
 
 -- an entry that is written is said if it has an effect
-pub value_of_parts : (known : Known) (piece : List ℕ) (ace : Nfsace4) → Parts known piece ace → piece_value known piece ≡ effective ace
+pub value_of_parts : (known : Known) (piece : List ℕ) (ace : Nfsace4) → Parts known piece ace → piece_value known piece ≡ refuse_idle ace
 unfolding piece_value
 value_of_parts known piece ace parts =
     let shape = parts.shape in
-    rw (shape.cut, shape.kind_is, shape.flags_are, shape.written_is, shape.mask_is, parts.who_is) (ap effective parts.made)
+    rw (shape.cut, shape.kind_is, shape.flags_are, shape.written_is, shape.mask_is, parts.who_is) (ap refuse_idle parts.made)
 
-pub effective_said : (ace : Nfsace4) → is_idle ace ≡ false → effective ace ≡ Ok ace
-effective_said ace has_effect = ap (λ b. cond b (Err InheritOnly) (Ok ace)) has_effect
+pub refuse_idle_said : (ace : Nfsace4) → is_idle ace ≡ false → refuse_idle ace ≡ Ok ace
+refuse_idle_said ace has_effect = ap (λ b. cond b (Err InheritOnly) (Ok ace)) has_effect
 
 -- what holds of each value of a piece holds of each member of a list that pieces say
 each_said : (P : Nfsace4 → Type 0) (known : Known) → ((piece : List ℕ) (ace : Nfsace4) → piece_value known piece ≡ Ok ace → P ace)

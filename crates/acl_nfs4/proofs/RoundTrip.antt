@@ -24,7 +24,7 @@ use Rattle.acl_names.proofs.IdTexts.{and_second, written_name, written_decimal}
 use Rattle.acl_names.proofs.LettersAgain.{letters_again}
 use Rattle.acl_names.proofs.PlainLines.{IsMark, nothing, pieces_of_lines}
 use Rattle.acl_nfs4.specs.Ace.{Nfsace4, IsAce, ace_of, flags_for, is_idle}
-use Rattle.acl_nfs4.specs.AceText.{AceFields, WrittenWho, as_fields, fields_of, type_of, written_who, who_of_parts, name_at, named, resolved_who, effective, piece_value}
+use Rattle.acl_nfs4.specs.AceText.{AceFields, WrittenWho, as_fields, fields_of, type_of, written_who, who_of_parts, name_at, named, resolved_who, refuse_idle, piece_value}
 use Rattle.acl_nfs4.specs.AceText as form
 use Rattle.acl_nfs4.specs.Flags.{identifier_group}
 use Rattle.acl_nfs4.specs.Letters.{flag_table, mask_table}
@@ -37,7 +37,7 @@ use Rattle.acl_nfs4.specs.declared.ace.AceType.TheVariants.{Allow, Deny, Audit, 
 use Rattle.acl_nfs4.specs.declared.who.Who.{Who}
 use Rattle.acl_nfs4.specs.declared.who.Who.TheVariants.{Owner, Group, Everyone, User, NamedGroup}
 use Rattle.acl_nfs4.proofs.LetterLemmas.{flag_table_is, mask_table_is, flags-field, mask-field}
-use Rattle.acl_nfs4.proofs.ReadLemmas.{value_of_parts, effective_said}
+use Rattle.acl_nfs4.proofs.ReadLemmas.{value_of_parts, refuse_idle_said}
 use Rattle.acl_nfs4.proofs.MaskBits.{contains-one, lacks-one}
 
 -- ---- bytes of fields
@@ -250,7 +250,7 @@ module _ (known : Known) (apart : TellsNamesApart known) where
         who_is = reads.who_is;
         made = ace_of-same ace is;
       })
-      ∙ effective_said ace effect
+      ∙ refuse_idle_said ace effect
 
   -- ---- the list
 

@@ -16,7 +16,7 @@ use Rattle.acl_names.proofs.IdTexts.{and_first, and_second, written_name}
 use Rattle.acl_names.proofs.StepLemmas.{some_from_cond, written_by}
 use Rattle.acl_nfs4.specs.Ace.{Nfsace4, flags_for}
 use Rattle.acl_nfs4.specs.AceShapes.{IsTypeLetter, WritesId, IsWho, WritesAce, HasShape}
-use Rattle.acl_nfs4.specs.AceText.{WrittenWho, type_of, special_of, name_at, who_of_parts, written_who, named, resolved_who, effective, piece_value}
+use Rattle.acl_nfs4.specs.AceText.{WrittenWho, type_of, special_of, name_at, who_of_parts, written_who, named, resolved_who, refuse_idle, piece_value}
 use Rattle.acl_nfs4.specs.AceText as form
 use Rattle.acl_nfs4.specs.Flags.{identifier_group}
 use Rattle.acl_nfs4.specs.declared.ace.AceType.{AceType}
@@ -24,7 +24,7 @@ use Rattle.acl_nfs4.specs.declared.ace.AceType.TheVariants.{Allow, Deny, Audit, 
 use Rattle.acl_nfs4.specs.declared.who.Who.{Who}
 use Rattle.acl_nfs4.specs.declared.who.Who.TheVariants as one
 use Rattle.acl_nfs4.proofs.LetterLemmas.{flags-known, mask-known}
-use Rattle.acl_nfs4.proofs.ReadLemmas.{Parts, parts_of, value_of_parts, effective_said}
+use Rattle.acl_nfs4.proofs.ReadLemmas.{Parts, parts_of, value_of_parts, refuse_idle_said}
 use Rattle.acl_nfs4.proofs.RoundTrip.{at_again, parts_at, parts_name, parts_digits}
 
 same_bytes : (a b : List ℕ) → bytes_eq a b ≡ true → a ≡ b
@@ -247,7 +247,7 @@ ace_of_parts known piece ace parts =
     }
 
 -- and the other way round: what it says is the entry if it has an effect
-pub value_of_written : (known : Known) (piece : List ℕ) (ace : Nfsace4) → WritesAce known piece ace → piece_value known piece ≡ effective ace
+pub value_of_written : (known : Known) (piece : List ℕ) (ace : Nfsace4) → WritesAce known piece ace → piece_value known piece ≡ refuse_idle ace
 value_of_written known piece ace shape =
     let reads = who_read known (has shape.flags identifier_group) shape.fields.who ace.who shape.who_is in
     value_of_parts known piece ace
@@ -280,7 +280,7 @@ shape_of_value known piece ace e =
     record { written = ace_of_parts known piece ace parts.0; has_effect = parts.1 }
 
 value_of_shape : (known : Known) (piece : List ℕ) (ace : Nfsace4) → HasShape known piece ace → piece_value known piece ≡ Ok ace
-value_of_shape known piece ace shape = value_of_written known piece ace shape.written ∙ effective_said ace shape.has_effect
+value_of_shape known piece ace shape = value_of_written known piece ace shape.written ∙ refuse_idle_said ace shape.has_effect
 
 pub value_is_shape : (known : Known) (piece : List ℕ) (ace : Nfsace4) → (piece_value known piece ≡ Ok ace) ↔ HasShape known piece ace
 value_is_shape known piece ace = (shape_of_value known piece ace, value_of_shape known piece ace)

@@ -83,8 +83,8 @@ resolved_who known is_group (Id written) = named known is_group written
 resolved_who known is_group (At name domain) = if bytes_eq domain known.domain then named known is_group (Name name) else None
 
 -- the entry, unless it has an effect neither where it stands nor below
-abbrev pub effective : Nfsace4 → Result Nfsace4 PieceFault
-effective ace = if is_idle ace then Err InheritOnly else Ok ace
+abbrev pub refuse_idle : Nfsace4 → Result Nfsace4 PieceFault
+refuse_idle ace = if is_idle ace then Err InheritOnly else Ok ace
 
 -- what a piece of a text says: an entry, or what is wrong with it
 unfoldable pub piece_value : Known → List ℕ → Result Nfsace4 PieceFault
@@ -95,4 +95,4 @@ piece_value known piece = do
   written ← or_fault Syntax (written_who fields.who)
   mask ← or_fault Syntax (letters_of mask_table fields.letters)
   who ← or_fault UnknownName (resolved_who known (has flags identifier_group) written)
-  effective (ace_of kind flags who mask)
+  refuse_idle (ace_of kind flags who mask)

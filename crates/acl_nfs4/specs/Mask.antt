@@ -29,21 +29,21 @@ abbrev pub mode_bits : ℕ
 mode_bits = 2 ^ read_data + 2 ^ write_data + 2 ^ append_data + 2 ^ execute
 
 -- the places of a file mode's read, write and execute
-abbrev pub read : ℕ
-read = 2
+abbrev pub read_permission : ℕ
+read_permission = 2
 
-abbrev pub write : ℕ
-write = 1
+abbrev pub write_permission : ℕ
+write_permission = 1
 
-abbrev pub run : ℕ
-run = 0
+abbrev pub execute_permission : ℕ
+execute_permission = 0
 
 -- the mask that stands for a file mode's permissions
 unfoldable pub mask_of : ℕ → ℕ
 mask_of perms =
-    (if has perms read then 2 ^ read_data else 0)
-    ∪ (if has perms write then 2 ^ write_data + 2 ^ append_data else 0)
-    ∪ (if has perms run then 2 ^ execute else 0)
+    (if has perms read_permission then 2 ^ read_data else 0)
+    ∪ (if has perms write_permission then 2 ^ write_data + 2 ^ append_data else 0)
+    ∪ (if has perms execute_permission then 2 ^ execute else 0)
 
 -- the mode's bits that these permissions lack
 abbrev pub rest_of : ℕ → ℕ

@@ -34,9 +34,9 @@ struct Question {
     stranger: Uid,
 }
 
-/// Two lists decide alike for everyone where they decide alike for the asker of each pair of entries, one of each list:
-/// someone who is whom both entries name, and in no other group. So they do where they decide alike for everyone who is in at
-/// most two groups.
+/// Two lists decide alike for everyone if they decide alike for the asker of each pair of entries, one of each list: someone
+/// who is whom both entries name, and in no other group. So they do if they decide alike for everyone who is in at most two
+/// groups. There is nothing to run here: a proof cites the contract.
 pub fn comparison_laws()
     ensures pairs { PairsSuffice }
     ensures two_groups { TwoGroupsSuffice }

@@ -46,7 +46,7 @@ impl<const N: usize> Draft<N> {
         }
     }
 
-    /// A list in the making is no longer than a list may be. This does nothing: it states what a draft keeps.
+    /// A list in the making is no longer than a list may be. There is nothing to run here: a proof cites the contract.
     pub(crate) fn tell_length(&self)
         ensures { length self.now ≤ MAX_ACES }
     {

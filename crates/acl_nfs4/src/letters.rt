@@ -146,7 +146,7 @@ pub(crate) fn push_flags(flags: Flags, out: &mut Vec<u8>) -> Result<(), AllocErr
     push_letters_of(&FLAG_TABLE, u32::from(flags.bits()), out)
 }
 
-/// Each letter stands for one bit, and no two letters are the same. This does nothing: it states the law.
+/// Each letter stands for one bit, and no two letters are the same. There is nothing to run here: a proof cites the contract.
 pub fn letters_are_told_apart()
     ensures flags { IsTable flag_table }
     ensures mask { IsTable mask_table }

@@ -28,7 +28,7 @@ pub use flags::Flags;
 pub use inheritance::Kind;
 pub use letters::{letters_are_told_apart, push_mask, read_letters};
 pub use limits::{MAX_ACES, limits_in_numbers};
-pub use mask::{Mask, mask_of};
+pub use mask::{Mask, mask_of, rest_of};
 pub use mode_change::Fault4;
 pub use reading::{PieceFault, faults_of_pieces, pieces_have_shapes, read_aces};
 pub use who::Who;

@@ -8,7 +8,7 @@ pub const MAX_ACES: usize = 128;
 /// How many entries a list has in itself; with more it has them all in memory of their own.
 pub(crate) const INLINE_ACES: usize = 16;
 
-/// The limits as numbers. There is nothing to run here: it states the law.
+/// The limits as numbers. There is nothing to run here: a proof cites the contract.
 pub fn limits_in_numbers()
     ensures aces { MAX_ACES ≡ 128 }
 {}

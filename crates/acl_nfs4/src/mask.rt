@@ -128,8 +128,8 @@ pub fn mask_of(perms: Perms) -> Mask
     read.union(write).union(execute)
 }
 
-/// The bits of a file mode that the permissions lack.
-pub(crate) fn rest_of(perms: Perms) -> Mask
+/// The mask of what a file mode's permissions lack: the rest of `mask_of(Perms::all())`.
+pub fn rest_of(perms: Perms) -> Mask
     ensures { mask_bits result ≡ rest_of (bits_of perms) }
 {
     Mask::OF_MODE.without(mask_of(perms))

@@ -10,7 +10,7 @@ ghost use Rattle.acl_names.specs.Views.{view_written};
 ghost use Rattle.acl_nfs4.specs.Ace.{Nfsace4};
 ghost use Rattle.acl_nfs4.specs.AceShapes.{HasShape};
 ghost use Rattle.acl_nfs4.specs.Faults.{HasNoEffect, HasNoShape, HasUnknownName};
-ghost use Rattle.acl_nfs4.specs.AceText.{effective, fields_of, name_at, named, piece_value, resolved_who, special_of, type_of, written_who};
+ghost use Rattle.acl_nfs4.specs.AceText.{refuse_idle, fields_of, name_at, named, piece_value, resolved_who, special_of, type_of, written_who};
 ghost use Rattle.acl_nfs4.specs.AceViews.{view_fields, view_who};
 ghost use Rattle.acl_nfs4.specs.ReadFault.{list_fault, IsTextFault};
 ghost use Rattle.acl_nfs4.specs.declared.acl.AceFault.TheVariants.{Memory};
@@ -96,7 +96,7 @@ fn value_of_fields(directory: &Directory, fields: AceFields<'_>) -> Result<Ace, 
     let who = resolve(directory, flags.has_identifier_group(), written).ok_or(
         PieceFault::UnknownName,
     )?;
-    effective(Ace::new(kind, flags, who, mask))
+    refuse_idle(Ace::new(kind, flags, who, mask))
 }
 
 /// The fields that the text begins with, with no blank round them, and what stands behind them.
@@ -288,8 +288,8 @@ fn named(directory: &Directory, is_group: bool, written: WrittenId<'_>) -> Optio
     }
 }
 
-fn effective(ace: Ace) -> Result<Ace, PieceFault>
-    ensures { result ≡ effective ace }
+fn refuse_idle(ace: Ace) -> Result<Ace, PieceFault>
+    ensures { result ≡ refuse_idle ace }
 {
     if ace.is_idle() {
         Err(PieceFault::InheritOnly)
@@ -298,13 +298,14 @@ fn effective(ace: Ace) -> Result<Ace, PieceFault>
     }
 }
 
-/// What a piece says is what the shapes say, both ways. This does nothing: it states the law.
+/// What a piece says is what the shapes say, both ways. There is nothing to run here: a proof cites the contract.
 pub fn pieces_have_shapes()
     ensures { (known : Known) (piece : List ℕ) (ace : Nfsace4) → (piece_value known piece ≡ Ok ace) ↔ HasShape known piece ace }
 {}
 
 /// A piece that says no entry is refused for an unknown name exactly if it writes one where the name is known, for being
-/// inherit-only exactly if it writes one without effect, and else for its shape. This does nothing: it states the law.
+/// inherit-only exactly if it writes one without effect, and else for its shape. There is nothing to run here: a proof cites
+/// the contract.
 pub fn faults_of_pieces()
     ensures syntax { (known : Known) (piece : List ℕ) → (piece_value known piece ≡ Err PieceFault.Syntax) ↔ HasNoShape piece }
     ensures unknown_name { (known : Known) (piece : List ℕ) → (piece_value known piece ≡ Err PieceFault.UnknownName) ↔ HasUnknownName known piece }

@@ -6,7 +6,7 @@ use Rattle.std.proofs.lemmas.Bool.{cases_Bool, false≢true, le-ltb, lt-ltb}
 use Rattle.acl_names.specs.Requester.{Identity, is_in_group}
 use Rattle.acl_posix.specs.declared.entry.Tag.{Tag}
 use Rattle.acl_posix.specs.declared.entry.Tag.TheVariants.{UserObj, User, GroupObj, Group, Mask, Other}
-use Rattle.acl_posix.specs.Entry.{Triple, same_tag, perms_of}
+use Rattle.acl_posix.specs.Entry.{EntryValue, same_tag, perms_of}
 use Rattle.acl_names.specs.Bits.{has_all}
 use Rattle.acl_posix.specs.CheckSteps.{has_tag, tag_answer, tag_has, has_group, group_has, mask_allows}
 use Rattle.acl_posix.specs.Validity.{IsValid, count_of}
@@ -48,54 +48,54 @@ group_entry mask requester group (Group gid) perms request = under mask (is_in_g
 group_entry mask requester group _ perms request = refl
 
 -- a first list with a member is the first that isn't empty
-first : (entries : List Triple) (rest : List (List Triple)) → list_any (λ _. true) entries ≡ true → first_nonempty (entries ∷ rest) ≡ entries
+first : (entries : List EntryValue) (rest : List (List EntryValue)) → list_any (λ _. true) entries ≡ true → first_nonempty (entries ∷ rest) ≡ entries
 first [] rest some = absurd (false≢true some)
 first (entry ∷ entries) rest some = refl
 
-only : (entries : List Triple) → first_nonempty (entries ∷ []) ≡ entries
+only : (entries : List EntryValue) → first_nonempty (entries ∷ []) ≡ entries
 only [] = refl
 only (entry ∷ entries) = refl
 
-first_kept : (p : Triple → Bool) (acl : List Triple) (rest : List (List Triple)) → list_any p acl ≡ true
+first_kept : (p : EntryValue → Bool) (acl : List EntryValue) (rest : List (List EntryValue)) → list_any p acl ≡ true
     → first_nonempty (filter p acl ∷ rest) ≡ filter p acl
 first_kept p acl rest some =
     first (filter p acl) rest
     (sym (list_any-filter p (λ _. true) acl) ∙ list_any-agree (λ e. p e && true) p (λ e. and_true (p e)) acl ∙ some)
 
-first_dropped : (p : Triple → Bool) (acl : List Triple) (rest : List (List Triple)) → list_any p acl ≡ false
+first_dropped : (p : EntryValue → Bool) (acl : List EntryValue) (rest : List (List EntryValue)) → list_any p acl ≡ false
     → first_nonempty (filter p acl ∷ rest) ≡ first_nonempty rest
 first_dropped p acl rest none = ap (λ entries. first_nonempty (entries ∷ rest)) (filter-none p acl none)
 
 -- whether one of these has the whole of the request in its effective permissions
-abbrev one_has : List Triple → ℕ → List Triple → Bool
+abbrev one_has : List EntryValue → ℕ → List EntryValue → Bool
 one_has acl request entries = list_any (λ entry. has_all (effective_perms acl entry) request) entries
 
 -- in a valid list there is an entry for the owner
-pub has_tag-valid : (acl : List Triple) → IsValid acl → has_tag UserObj acl ≡ true
+pub has_tag-valid : (acl : List EntryValue) → IsValid acl → has_tag UserObj acl ≡ true
 has_tag-valid acl valid =
     let one = valid.user_obj in
-    list_any-count_by (λ (entry : Triple). same_tag entry.tag UserObj) acl ∙ lt-ltb 0 (count_of UserObj acl) (omega arith)
+    list_any-count_by (λ (entry : EntryValue). same_tag entry.tag UserObj) acl ∙ lt-ltb 0 (count_of UserObj acl) (omega arith)
 
-module _ (acl : List Triple) (owner group : ℕ) (requester : Identity) (request : ℕ) where
-  abbrev is_for_owner : Triple → Bool
+module _ (acl : List EntryValue) (owner group : ℕ) (requester : Identity) (request : ℕ) where
+  abbrev is_for_owner : EntryValue → Bool
   is_for_owner entry = same_tag entry.tag UserObj
 
-  abbrev is_for_user : Triple → Bool
+  abbrev is_for_user : EntryValue → Bool
   is_for_user entry = same_tag entry.tag (User requester.uid)
 
-  abbrev is_for_group : Triple → Bool
+  abbrev is_for_group : EntryValue → Bool
   is_for_group entry = is_for_group_of requester group entry.tag
 
-  abbrev is_for_others : Triple → Bool
+  abbrev is_for_others : EntryValue → Bool
   is_for_others entry = same_tag entry.tag Other
 
-  abbrev has_effective : Triple → Bool
+  abbrev has_effective : EntryValue → Bool
   has_effective entry = has_all (effective_perms acl entry) request
 
-  abbrev has_own : Triple → Bool
+  abbrev has_own : EntryValue → Bool
   has_own entry = has_all entry.perms request
 
-  abbrev groups_on : List (List Triple)
+  abbrev groups_on : List (List EntryValue)
   groups_on = filter is_for_group acl ∷ filter is_for_others acl ∷ []
 
   -- the owner's own entry decides
@@ -152,26 +152,26 @@ module _ (acl : List Triple) (owner group : ℕ) (requester : Identity) (request
       (λ e. other_entry (perms_of Mask acl) e.tag e.perms request) acl
 
 -- whether there is an entry, by what is found
-pub has_tag-perms_of : (tag : Tag) (acl : List Triple) → has_tag tag acl ≡ is_some (perms_of tag acl)
+pub has_tag-perms_of : (tag : Tag) (acl : List EntryValue) → has_tag tag acl ≡ is_some (perms_of tag acl)
 has_tag-perms_of tag [] = refl
 has_tag-perms_of tag (x ∷ xs) =
-    elim (same_tag x.tag tag) as (λ b. (b || has_tag tag xs) ≡ is_some (option_map (λ (e : Triple). e.perms) (cond b (Some x) (find (λ (e : Triple). same_tag e.tag tag) xs)))) [
+    elim (same_tag x.tag tag) as (λ b. (b || has_tag tag xs) ≡ is_some (option_map (λ (e : EntryValue). e.perms) (cond b (Some x) (find (λ (e : EntryValue). same_tag e.tag tag) xs)))) [
       | true ↦ refl
       | false ↦ has_tag-perms_of tag xs
     ]
 
 -- where a tag stands once at most, its entry has the request if what is found has it
-pub tag_has-perms_of : (tag : Tag) (acl : List Triple) (request : ℕ) → count_of tag acl ≤ 1
+pub tag_has-perms_of : (tag : Tag) (acl : List EntryValue) (request : ℕ) → count_of tag acl ≤ 1
     → tag_has tag acl request ≡ option_map_or (λ perms. has_all perms request) (perms_of tag acl) false
 tag_has-perms_of tag [] request once = refl
 tag_has-perms_of tag (x ∷ xs) request once =
-    let has : Triple → Bool = λ entry. same_tag entry.tag tag in
+    let has : EntryValue → Bool = λ entry. same_tag entry.tag tag in
     let counts : count_of tag (x ∷ xs) ≡ cond (has x) 1 0 + count_of tag xs = count_by-cons has x xs in
     elim (cases_Bool (has x)) [
       | inl passes ↦
           let one : cond {A = ℕ} (has x) 1 0 ≡ 1 = ap (λ b. cond {A = ℕ} b 1 0) passes in
           let none : has_tag tag xs ≡ false = list_any-count_by has xs ∙ le-ltb 0 (count_of tag xs) (omega arith) in
-          rw (passes, list_any-none_and has (λ (e : Triple). has_all e.perms request) xs none) (or_false (has_all x.perms request))
+          rw (passes, list_any-none_and has (λ (e : EntryValue). has_all e.perms request) xs none) (or_false (has_all x.perms request))
       | inr fails ↦
           let zero_more : cond {A = ℕ} (has x) 1 0 ≡ 0 = ap (λ b. cond {A = ℕ} b 1 0) fails in
           rw fails (tag_has-perms_of tag xs request (omega arith))
@@ -187,7 +187,7 @@ unanswered true answer is = absurd (cc)
 unanswered false answer is = refl
 
 -- what an entry that is found answers
-pub tag_answer-found : (tag : Tag) (acl : List Triple) (request : ℕ) → count_of tag acl ≤ 1 → (perms : ℕ) → Some perms ≡ perms_of tag acl
+pub tag_answer-found : (tag : Tag) (acl : List EntryValue) (request : ℕ) → count_of tag acl ≤ 1 → (perms : ℕ) → Some perms ≡ perms_of tag acl
     → Some (has_all perms request) ≡ tag_answer tag acl request
 tag_answer-found tag acl request once perms found =
     let there : has_tag tag acl ≡ true = has_tag-perms_of tag acl ∙ ap is_some (sym found) in
@@ -195,7 +195,7 @@ tag_answer-found tag acl request once perms found =
     tag_has-perms_of tag acl request once ∙ ap (λ o. option_map_or (λ p. has_all p request) o false) (sym found) in
     ap Some (sym has) ∙ sym (ap (λ b. cond b (Some (tag_has tag acl request)) None) there)
 
-pub tag_answer-none : (tag : Tag) (acl : List Triple) (request : ℕ) → None ≡ perms_of tag acl → None ≡ tag_answer tag acl request
+pub tag_answer-none : (tag : Tag) (acl : List EntryValue) (request : ℕ) → None ≡ perms_of tag acl → None ≡ tag_answer tag acl request
 tag_answer-none tag acl request found =
     let absent : has_tag tag acl ≡ false = has_tag-perms_of tag acl ∙ ap is_some (sym found) in
     sym (ap (λ b. cond b (Some (tag_has tag acl request)) None) absent)

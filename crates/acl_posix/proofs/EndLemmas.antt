@@ -12,18 +12,18 @@ use Rattle.acl_posix.specs.declared.entry.Tag.{Tag}
 use Rattle.acl_posix.specs.declared.entry.Tag.TheVariants.{UserObj, Other}
 use Rattle.acl_posix.specs.Canonical.{IsAcl, tag_cmp, tag_of}
 use Rattle.acl_posix.specs.CheckSteps.{tag_has}
-use Rattle.acl_posix.specs.Entry.{Triple, same_tag}
+use Rattle.acl_posix.specs.Entry.{EntryValue, same_tag}
 use Rattle.acl_posix.specs.Validity.{count_of}
 use Rattle.acl_posix.proofs.AccessLemmas.{tag_has-perms_of}
 use Rattle.acl_posix.proofs.CanonicalLemmas.{same_tag-tag_cmp, tag_cmp_total}
 use Rattle.acl_posix.proofs.TagLemmas.{same_tag-true}
 
-module _ (acl : List Triple) (is : IsAcl acl) (request : ℕ) where
+module _ (acl : List EntryValue) (is : IsAcl acl) (request : ℕ) where
   -- a tag that stands once, and nowhere but at one place, has what the entry there has
-  tag_has-at : (tag : Tag) (at : ℕ) (entry : Triple) → count_of tag acl ≡ 1 → at < length acl → entry ≡ get_or acl at entry
+  tag_has-at : (tag : Tag) (at : ℕ) (entry : EntryValue) → count_of tag acl ≡ 1 → at < length acl → entry ≡ get_or acl at entry
       → ((k : ℕ) → k < length acl → k ≢ at → tag_of (get_or acl k entry) ≢ tag) → has_all entry.perms request ≡ tag_has tag acl request
   tag_has-at tag at entry one inside here apart =
-      let has : Triple → Bool = λ e. same_tag e.tag tag in
+      let has : EntryValue → Bool = λ e. same_tag e.tag tag in
       let found = Any-from_list_any has acl (list_any-count_by has acl ∙ lt-ltb 0 (count_of tag acl) (omega arith)) in
       let tagged : tag_of (get_or acl found.0 entry) ≡ tag =
       ap tag_of (get_or-within acl found.0 entry found.1 found.2 ∙ found.3) ∙ same_tag-true (tag_of found.1) tag found.4 in
@@ -35,7 +35,7 @@ module _ (acl : List Triple) (is : IsAcl acl) (request : ℕ) where
       ∙ slice_get-within acl at entry inside ∙ ap Some (sym here) in
       sym (tag_has-perms_of tag acl request (omega arith) ∙ ap (λ o. option_map_or (λ p. has_all p request) (option_map (λ e. e.perms) o) false) first)
 
-  pub owner_has : (entry : Triple) → 0 < length acl → entry ≡ get_or acl 0 entry → has_all entry.perms request ≡ tag_has UserObj acl request
+  pub owner_has : (entry : EntryValue) → 0 < length acl → entry ≡ get_or acl 0 entry → has_all entry.perms request ≡ tag_has UserObj acl request
   owner_has entry some here =
       tag_has-at UserObj 0 entry is.valid.user_obj some here (λ k inside other owner.
       none (tag_of (get_or acl 0 entry)) (rw owner at (is.canonical 0 k entry (omega (arith, other)) inside)))
@@ -44,7 +44,7 @@ module _ (acl : List Triple) (is : IsAcl acl) (request : ℕ) where
       none UserObj = λ e. cc
       none _ = λ e. cc
 
-  pub others_have : (entry : Triple) (at : ℕ) → at + 1 ≡ length acl → entry ≡ get_or acl at entry → has_all entry.perms request ≡ tag_has Other acl request
+  pub others_have : (entry : EntryValue) (at : ℕ) → at + 1 ≡ length acl → entry ≡ get_or acl at entry → has_all entry.perms request ≡ tag_has Other acl request
   others_have entry at last here =
       tag_has-at Other at entry is.valid.other (omega arith) here (λ k inside other others.
       none (tag_of (get_or acl at entry)) (rw others at (is.canonical k at entry (omega (arith, other)) (omega arith))))

@@ -8,7 +8,7 @@ use Rattle.std.proofs.lemmas.List.Sorted.{IsPartitionedBy-ltb, IsPermutation-ins
 use lib.Dec.{ltb}
 use Rattle.acl_posix.specs.Canonical.{tag_cmp, tag_of}
 use Rattle.acl_posix.specs.Entries.{IsSortedCopy}
-use Rattle.acl_posix.specs.Entry.{Triple}
+use Rattle.acl_posix.specs.Entry.{EntryValue}
 use Rattle.acl_posix.proofs.CanonicalLemmas.{tag_cmp_total}
 use Rattle.acl_posix.proofs.InOrderLemmas.{precedes, IsSorted, NotBefore, not_before, sorted-cons, sorted-first, sorted-rest}
 
@@ -18,21 +18,21 @@ lowest_place Equal = refl
 lowest_place Greater = refl
 
 -- sorted entries are parted by whether they are shown before another
-pub parted : (entry : Triple) (entries : List Triple) → IsSorted entries → IsPartitionedBy (λ other. precedes other entry) entries
+pub parted : (entry : EntryValue) (entries : List EntryValue) → IsSorted entries → IsPartitionedBy (λ other. precedes other entry) entries
 parted entry entries sorted = λ i j d before inside is.
     let rises = searchable_from_sorted tag_cmp_total tag_of entries entry.tag sorted in
     lowest_place _ ∙ IsPartitionedBy-ltb (λ other. ordering_index (tag_cmp (tag_of other) entry.tag)) entries 1 rises i j d before inside (sym (lowest_place _) ∙ is)
 
-NotBefore-insert : (first entry : Triple) (entries : List Triple) (place : ℕ) → NotBefore first entries → precedes entry first ≡ false
+NotBefore-insert : (first entry : EntryValue) (entries : List EntryValue) (place : ℕ) → NotBefore first entries → precedes entry first ≡ false
     → NotBefore first (insert entries place entry)
 NotBefore-insert first entry [] zero before is = is
 NotBefore-insert first entry [] (suc place) before is = is
 NotBefore-insert first entry (next ∷ more) zero before is = is
 NotBefore-insert first entry (next ∷ more) (suc place) before is = before
 
-insert-sorted : (entry : Triple) (entries : List Triple) (place : ℕ) → place ≤ length entries → IsSorted entries
-    → ((k : ℕ) (d : Triple) → k < place → precedes (get_or entries k d) entry ≡ true)
-    → ((k : ℕ) (d : Triple) → place ≤ k → k < length entries → precedes (get_or entries k d) entry ≡ false)
+insert-sorted : (entry : EntryValue) (entries : List EntryValue) (place : ℕ) → place ≤ length entries → IsSorted entries
+    → ((k : ℕ) (d : EntryValue) → k < place → precedes (get_or entries k d) entry ≡ true)
+    → ((k : ℕ) (d : EntryValue) → place ≤ k → k < length entries → precedes (get_or entries k d) entry ≡ false)
     → IsSorted (insert entries place entry)
 insert-sorted entry [] zero inside sorted front back = sorted-cons entry [] tt sorted
 insert-sorted entry [] (suc place) inside sorted front back = absurd (omega arith)
@@ -45,7 +45,7 @@ insert-sorted entry (first ∷ more) (suc place) inside sorted front back =
     (NotBefore-insert first entry more place (sorted-first first more sorted) (not_before first entry (front zero first (omega arith)))) later
 
 -- a sorted copy of entries, into which another is inserted in its place, is one of the entries with that one behind them
-pub copy_with : (entry : Triple) (entries copy : List Triple) (place : ℕ) → IsPermutation entries copy → IsSorted copy → place ≤ length copy
+pub copy_with : (entry : EntryValue) (entries copy : List EntryValue) (place : ℕ) → IsPermutation entries copy → IsSorted copy → place ≤ length copy
     → IsPartitionPoint (λ other. precedes other entry ≡ true) (λ other. precedes other entry ≡ false) copy place
     → IsSortedCopy (entries ++ entry ∷ []) (insert copy place entry)
 copy_with entry entries copy place moved sorted inside point =

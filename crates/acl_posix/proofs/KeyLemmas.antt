@@ -8,7 +8,7 @@ use Rattle.std.proofs.lemmas.List.{get_or-map, length-map}
 use Rattle.std.proofs.lemmas.List.Sorted.{All-permutation, IsPermutation-map}
 use Rattle.acl_posix.specs.declared.entry.Tag.{Tag}
 use Rattle.acl_posix.specs.Canonical.{tag_cmp, tag_of}
-use Rattle.acl_posix.specs.Entry.{Triple}
+use Rattle.acl_posix.specs.Entry.{EntryValue}
 use Rattle.acl_posix.specs.Keys.{AreKeys, IsKey, IsShort, entry_at, order_of}
 
 -- of two tags, that with the greater number isn't shown before the other
@@ -19,7 +19,7 @@ not_below : (x y : ℕ) → is_lt (nat_cmp y x) ≡ false → x ≤ y
 not_below x y above = grind (arith, common_steps)
 
 -- where the keys are sorted, the entries that they name are
-pub sorted_by_keys : (entries : List Triple) (keys moved : List ℕ) → AreKeys entries (length entries) keys → IsPermutation keys moved → IsSorted nat_cmp moved
+pub sorted_by_keys : (entries : List EntryValue) (keys moved : List ℕ) → AreKeys entries (length entries) keys → IsPermutation keys moved → IsSorted nat_cmp moved
     → IsPermutation entries (map (entry_at entries) moved) × IsSortedByKey tag_of tag_cmp (map (entry_at entries) moved)
 sorted_by_keys entries keys moved are same sorted = (
   rw (are.name, take-length entries) at (IsPermutation-map (entry_at entries) keys moved same),

@@ -7,7 +7,7 @@ use Rattle.std.proofs.lemmas.List.Folds.{fold-map}
 use Rattle.std.proofs.lemmas.Nat.{and_le_l}
 use Rattle.acl_posix.specs.declared.entry.Tag.{Tag}
 use Rattle.acl_posix.specs.declared.entry.Tag.TheVariants.{UserObj, User, GroupObj, Group, Mask, Other}
-use Rattle.acl_posix.specs.Entry.{Triple, same_tag, is_named}
+use Rattle.acl_posix.specs.Entry.{EntryValue, same_tag, is_named}
 use Rattle.acl_posix.specs.Perms.{IsPermissions}
 use Rattle.acl_posix.specs.Validity.{count_of}
 use Rattle.acl_posix.specs.Canonical.{IsAcl}
@@ -18,15 +18,15 @@ list_any-map : {X Y : Type 0} (p : X → Bool) (f : Y → X) (ys : List Y) → l
 list_any-map p f [] = refl
 list_any-map p f (y ∷ ys) = ap (λ b. p (f y) || b) (list_any-map p f ys)
 
-module _ (perms : Triple → ℕ) where
+module _ (perms : EntryValue → ℕ) where
   -- an entry with other permissions
-  abbrev changed : Triple → Triple
+  abbrev changed : EntryValue → EntryValue
   changed entry = record { tag = entry.tag; perms = perms entry }
 
-  count_of-changed : (tag : Tag) (acl : List Triple) → count_of tag (map changed acl) ≡ count_of tag acl
+  count_of-changed : (tag : Tag) (acl : List EntryValue) → count_of tag (map changed acl) ≡ count_of tag acl
   count_of-changed tag acl = fold-map (λ a entry. a + cond (same_tag entry.tag tag) 1 0) changed 0 acl
 
-  pub IsAcl-changed : ((entry : Triple) → IsPermissions entry.perms → IsPermissions (perms entry)) → (acl : List Triple) → IsAcl acl → IsAcl (map changed acl)
+  pub IsAcl-changed : ((entry : EntryValue) → IsPermissions entry.perms → IsPermissions (perms entry)) → (acl : List EntryValue) → IsAcl acl → IsAcl (map changed acl)
   IsAcl-changed known acl is = record {
     valid = record {
       user_obj = count_of-changed UserObj acl ∙ is.valid.user_obj;
@@ -42,8 +42,8 @@ module _ (perms : Triple → ℕ) where
         let second : j < length acl = omega arith in
         let first : i < length acl = omega arith in
         rw (get_or-map changed acl i d d first, get_or-map changed acl j d d second) (is.canonical i j d before second);
-    permissions = All-map (λ (e : Triple). IsPermissions e.perms) changed acl
-        (All-weaker (λ (e : Triple). IsPermissions e.perms) (λ (e : Triple). IsPermissions (perms e)) known acl is.permissions);
+    permissions = All-map (λ (e : EntryValue). IsPermissions e.perms) changed acl
+        (All-weaker (λ (e : EntryValue). IsPermissions e.perms) (λ (e : EntryValue). IsPermissions (perms e)) known acl is.permissions);
     within = rw (length-map acl changed) is.within;
   }
 
@@ -69,16 +69,16 @@ IsPermissions-masked : (said : Option ℕ) (perms : ℕ) → IsPermissions perms
 IsPermissions-masked None perms is = is
 IsPermissions-masked (Some mask) perms is = let small = and_le_l perms mask in omega arith
 
-pub IsAcl-chmod : (acl : List Triple) (mode : Classes) → AreClasses mode → IsAcl acl → IsAcl (chmod acl mode)
+pub IsAcl-chmod : (acl : List EntryValue) (mode : Classes) → AreClasses mode → IsAcl acl → IsAcl (chmod acl mode)
 IsAcl-chmod acl mode are is =
-    let said = λ (entry : Triple). mode_perms (group_class_tag acl) mode entry.tag in
-    IsAcl-changed (λ (entry : Triple). unwrap_or (said entry) entry.perms)
+    let said = λ (entry : EntryValue). mode_perms (group_class_tag acl) mode entry.tag in
+    IsAcl-changed (λ (entry : EntryValue). unwrap_or (said entry) entry.perms)
     (λ entry known. IsPermissions-unwrap_or (said entry) entry.perms (mode_perms-IsPermissions (group_class_tag acl) mode are entry.tag) known)
     acl is
 
-pub IsAcl-at_creation : (acl : List Triple) (mode : Classes) → IsAcl acl → IsAcl (at_creation acl mode)
+pub IsAcl-at_creation : (acl : List EntryValue) (mode : Classes) → IsAcl acl → IsAcl (at_creation acl mode)
 IsAcl-at_creation acl mode is =
-    let said = λ (entry : Triple). mode_perms (group_class_tag acl) mode entry.tag in
-    IsAcl-changed (λ (entry : Triple). masked (said entry) entry.perms)
+    let said = λ (entry : EntryValue). mode_perms (group_class_tag acl) mode entry.tag in
+    IsAcl-changed (λ (entry : EntryValue). masked (said entry) entry.perms)
     (λ entry known. IsPermissions-masked (said entry) entry.perms known)
     acl is

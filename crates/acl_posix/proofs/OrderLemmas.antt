@@ -8,7 +8,7 @@ use Rattle.std.proofs.lemmas.List.Sorted.{list_any-IsPermutation}
 use Rattle.acl_names.specs.Requester.{Identity}
 use Rattle.acl_posix.specs.declared.entry.Tag.{Tag}
 use Rattle.acl_posix.specs.declared.entry.Tag.TheVariants.{UserObj, User, Mask, Other}
-use Rattle.acl_posix.specs.Entry.{Triple, same_tag}
+use Rattle.acl_posix.specs.Entry.{EntryValue, same_tag}
 use Rattle.acl_names.specs.Bits.{has_all}
 use Rattle.acl_posix.specs.Validity.{IsValid}
 use Rattle.acl_posix.specs.Access.{is_for_group_of, grants}
@@ -37,7 +37,7 @@ only_one p f (x ∷ xs) one =
     or_false true = refl
     or_false false = refl
 
-module _ (xs ys : List Triple) (moved : IsPermutation xs ys) (valid : IsValid xs) (request : ℕ) where
+module _ (xs ys : List EntryValue) (moved : IsPermutation xs ys) (valid : IsValid xs) (request : ℕ) where
   same_has_tag : (tag : Tag) → has_tag tag xs ≡ has_tag tag ys
   same_has_tag tag = list_any-IsPermutation (λ entry. same_tag entry.tag tag) xs ys moved
 
@@ -46,14 +46,14 @@ module _ (xs ys : List Triple) (moved : IsPermutation xs ys) (valid : IsValid xs
 
   same_mask_allows : mask_allows xs request ≡ mask_allows ys request
   same_mask_allows =
-      let has = λ (entry : Triple). same_tag entry.tag Mask in
-      let allows = λ (entry : Triple). has_all entry.perms request in
+      let has = λ (entry : EntryValue). same_tag entry.tag Mask in
+      let allows = λ (entry : EntryValue). has_all entry.perms request in
       let other = IsValid-permutation xs ys moved valid in
       mapped (find has xs) ∙ only_one has allows xs valid.mask
       ∙ ap (λ b. not b || tag_has Mask xs request) (same_has_tag Mask) ∙ ap (λ b. not (has_tag Mask ys) || b) (same_tag_has Mask)
       ∙ sym (mapped (find has ys) ∙ only_one has allows ys other.mask)
     where
-      mapped : (found : Option Triple)
+      mapped : (found : Option EntryValue)
           → option_map_or (λ mask. has_all mask request) (option_map (λ entry. entry.perms) found) true ≡ option_map_or (λ entry. has_all entry.perms request) found true
       mapped None = refl
       mapped (Some entry) = refl
@@ -61,8 +61,8 @@ module _ (xs ys : List Triple) (moved : IsPermutation xs ys) (valid : IsValid xs
   pub grants-permutation : (owner group : ℕ) (requester : Identity) → grants xs owner group requester request ≡ grants ys owner group requester request
   grants-permutation owner group requester =
       let user = User requester.uid in
-      let first = list_any-IsPermutation (λ (entry : Triple). is_for_group_of requester group entry.tag) xs ys moved in
-      let second = list_any-IsPermutation (λ (entry : Triple). is_for_group_of requester group entry.tag && has_all entry.perms request) xs ys moved in
+      let first = list_any-IsPermutation (λ (entry : EntryValue). is_for_group_of requester group entry.tag) xs ys moved in
+      let second = list_any-IsPermutation (λ (entry : EntryValue). is_for_group_of requester group entry.tag && has_all entry.perms request) xs ys moved in
       elim (cases_Bool (requester.uid == owner)) [
         | inl owns ↦
             grants-owner xs owner group requester request owns (has_tag-valid xs valid) ∙ same_tag_has UserObj

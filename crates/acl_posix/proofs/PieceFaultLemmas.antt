@@ -6,7 +6,7 @@ use Rattle.acl_names.specs.Directory.{Known, uid_of, gid_of, fault_of}
 use Rattle.acl_names.specs.Ids.{Written, Number, Name, written_id, number_or_name, decimal_value, has_name_shape, has_domain_shape, resolved}
 use Rattle.acl_names.specs.Steps.{◌>>=◌, or_fault}
 use Rattle.acl_names.proofs.StepLemmas.{given, some_from_cond}
-use Rattle.acl_posix.specs.Entry.{Triple}
+use Rattle.acl_posix.specs.Entry.{EntryValue}
 use Rattle.acl_posix.specs.EntryText.{Fields, fields_of, tag_word, tag_of, qualified, entry_of}
 use Rattle.acl_posix.specs.Faults.{IsEntry, HasUnknownName, HasNoShape}
 use Rattle.acl_posix.specs.PermsText.{perms_of_text}
@@ -55,13 +55,13 @@ tag_misshapen known other word.Other (Some []) e = cc
 tag_misshapen known other word.Other (Some (b ∷ bs)) e = e
 
 -- the steps of a piece, each with those behind it
-abbrev after_perms : Known → Fields → TagWord → ℕ → Result Triple PieceFault
+abbrev after_perms : Known → Fields → TagWord → ℕ → Result EntryValue PieceFault
 after_perms known fields w perms = tag_of known w fields.qualifier >>= (λ t. Ok (record { tag = t; perms = perms }))
 
-abbrev after_word : Known → Fields → TagWord → Result Triple PieceFault
+abbrev after_word : Known → Fields → TagWord → Result EntryValue PieceFault
 after_word known fields w = or_fault Syntax (perms_of_text fields.perms) >>= after_perms known fields w
 
-abbrev after_fields : Known → Fields → Result Triple PieceFault
+abbrev after_fields : Known → Fields → Result EntryValue PieceFault
 after_fields known fields = or_fault Syntax (tag_word fields.tag) >>= after_word known fields
 
 misshapen_anywhere : (known other : Known) (piece : List ℕ) → entry_of known piece ≡ Err Syntax → entry_of other piece ≡ Err Syntax
@@ -70,7 +70,7 @@ misshapen_anywhere known other piece =
     same_fault Syntax (or_fault Syntax (fields_of piece)) (after_fields known) (after_fields other)
     (λ fields. same_fault Syntax (or_fault Syntax (tag_word fields.tag)) (after_word known fields) (after_word other fields)
     (λ w. same_fault Syntax (or_fault Syntax (perms_of_text fields.perms)) (after_perms known fields w) (after_perms other fields w)
-    (λ perms e. let end : Tag → Triple = λ t. record { tag = t; perms = perms } in
+    (λ perms e. let end : Tag → EntryValue = λ t. record { tag = t; perms = perms } in
     ap (λ r. r >>= (λ t. Ok (end t))) (tag_misshapen known other w fields.qualifier (fault_before Syntax (tag_of known w fields.qualifier) end e)))))
 
 -- ---- a name that is unknown is known elsewhere
@@ -146,7 +146,7 @@ entry_elsewhere known piece e =
     let fields = fault_behind UnknownName (or_fault Syntax (fields_of piece)) (after_fields known) (other_fault Syntax UnknownName apart (fields_of piece)) e in
     let word = fault_behind UnknownName (or_fault Syntax (tag_word fields.0.tag)) (after_word known fields.0) (other_fault Syntax UnknownName apart (tag_word fields.0.tag)) fields.2 in
     let perms = fault_behind UnknownName (or_fault Syntax (perms_of_text fields.0.perms)) (after_perms known fields.0 word.0) (other_fault Syntax UnknownName apart (perms_of_text fields.0.perms)) word.2 in
-    let end : Tag → Triple = λ t. record { tag = t; perms = perms.0 } in
+    let end : Tag → EntryValue = λ t. record { tag = t; perms = perms.0 } in
     let says = tag_elsewhere known word.0 fields.0.qualifier (fault_before UnknownName (tag_of known word.0 fields.0.qualifier) end perms.2) in
     let cut = given Syntax (fields_of piece) fields.0 fields.1 in
     let named = given Syntax (tag_word fields.0.tag) word.0 word.1 in
@@ -162,7 +162,7 @@ no_entry known piece fault e (entry, shape) = let read : entry_of known piece �
 by_fault : (known : Known) (piece : List ℕ) → ¬ IsEntry known piece → (fault : PieceFault) × (entry_of known piece ≡ Err fault)
 by_fault known piece none = go (entry_of known piece) refl
   where
-    go : (r : Result Triple PieceFault) → entry_of known piece ≡ r → (fault : PieceFault) × (entry_of known piece ≡ Err fault)
+    go : (r : Result EntryValue PieceFault) → entry_of known piece ≡ r → (fault : PieceFault) × (entry_of known piece ≡ Err fault)
     go (Ok entry) e = absurd (none (entry, shape_of_read known piece entry e))
     go (Err fault) e = (fault, e)
 

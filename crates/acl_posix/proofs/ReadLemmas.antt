@@ -5,7 +5,7 @@ use Rattle.acl_names.specs.Bytes.{letter_r, letter_w, letter_x}
 use Rattle.acl_names.specs.Directory.{Known}
 use Rattle.acl_names.specs.Letters.{occurs}
 use Rattle.acl_names.specs.ListText.{Say}
-use Rattle.acl_posix.specs.Entry.{Triple, HavePermissions}
+use Rattle.acl_posix.specs.Entry.{EntryValue, HavePermissions}
 use Rattle.acl_posix.specs.EntryText.{entry_of}
 use Rattle.acl_posix.specs.Perms.{IsPermissions}
 use Rattle.acl_posix.specs.PermsText.{is_perms_text, perms_of_text, perms_with, three_letters}
@@ -44,16 +44,16 @@ perms_of_text-IsPermissions text perms is = go (is_perms_text text) is
         subst IsPermissions these (perms_with-IsPermissions (occurs letter_r text) (occurs letter_w text) (occurs letter_x text))
     go false none = absurd (cc)
 
-abbrev ok : Triple → Result Triple PieceFault
+abbrev ok : EntryValue → Result EntryValue PieceFault
 ok entry = Ok entry
 
 -- entries that pieces say have known permissions
-pub HavePermissions-Say : (known : Known) (texts : List (List ℕ)) (entries : List Triple) → Say (entry_of known) texts entries → HavePermissions entries
-HavePermissions-Say known texts [] said = All-nil (λ (entry : Triple). IsPermissions entry.perms)
+pub HavePermissions-Say : (known : Known) (texts : List (List ℕ)) (entries : List EntryValue) → Say (entry_of known) texts entries → HavePermissions entries
+HavePermissions-Say known texts [] said = All-nil (λ (entry : EntryValue). IsPermissions entry.perms)
 HavePermissions-Say known [] (entry ∷ entries) said = absurd (cc)
 HavePermissions-Say known (text ∷ texts) (entry ∷ entries) said =
     let first : entry_of known text ≡ ok entry = cc in
     let rest : map (entry_of known) texts ≡ map ok entries = cc in
     let shape = shape_of_read known text entry first in
-    All-cons (λ (e : Triple). IsPermissions e.perms) entry entries
+    All-cons (λ (e : EntryValue). IsPermissions e.perms) entry entries
     (perms_of_text-IsPermissions shape.fields.perms entry.perms shape.allowed) (HavePermissions-Say known texts entries rest)

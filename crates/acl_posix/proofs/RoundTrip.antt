@@ -14,7 +14,7 @@ use Rattle.acl_names.specs.Plain.{is_field_byte, IsField}
 use Rattle.acl_names.proofs.Fields.{id_field, fields_again, joined_plain, tested_field}
 use Rattle.acl_names.specs.Plain.{IsPlain, is_plain}
 use Rattle.acl_names.proofs.PlainLines.{IsMark, nothing, comment, plain_lacks_newline, pieces_of_lines}
-use Rattle.acl_posix.specs.Entry.{Triple, HavePermissions}
+use Rattle.acl_posix.specs.Entry.{EntryValue, HavePermissions}
 use Rattle.acl_posix.specs.declared.limits.TheConstants.{MAX_ENTRIES}
 use Rattle.acl_posix.specs.declared.entry.Tag.{Tag}
 use Rattle.acl_posix.specs.declared.entry.Tag.TheVariants.{UserObj, User, GroupObj, Group, Mask, Other}
@@ -71,7 +71,7 @@ qualifier_field known GroupObj is has = All-nil (λ byte. is_field_byte byte ≡
 qualifier_field known Mask is has = All-nil (λ byte. is_field_byte byte ≡ true)
 qualifier_field known Other is has = All-nil (λ byte. is_field_byte byte ≡ true)
 
-fields_are : (known : Known) (entry : Triple) → TellsNamesApart known → HasId entry.tag
+fields_are : (known : Known) (entry : EntryValue) → TellsNamesApart known → HasId entry.tag
     → AllByRecursion IsField (word_text entry.tag ∷ qualifier_text known entry.tag ∷ perms_text entry.perms ∷ [])
 fields_are known entry is has = (word_field entry.tag, (qualifier_field known entry.tag is has, (perms_field entry.perms, tt)))
 
@@ -126,7 +126,7 @@ unfolding entry_of
 read_parts known piece fields word perms tag cut said allowed tagged = rw (cut, said, allowed, tagged) refl
 
 -- an entry is read again
-pub entry_again : (known : Known) (entry : Triple) → TellsNamesApart known → HasId entry.tag → IsPermissions entry.perms → entry_of known (entry_text known entry) ≡ Ok entry
+pub entry_again : (known : Known) (entry : EntryValue) → TellsNamesApart known → HasId entry.tag → IsPermissions entry.perms → entry_of known (entry_text known entry) ≡ Ok entry
 entry_again known entry is has allowed =
     let fields : Fields = record { tag = word_text entry.tag; qualifier = Some (qualifier_text known entry.tag); perms = perms_text entry.perms } in
     let cut : fields_of (entry_text known entry) ≡ Some fields = ap as_fields (fields_again (word_text entry.tag) (qualifier_text known entry.tag ∷ perms_text entry.perms ∷ []) (fields_are known entry is has)) in
@@ -150,15 +150,15 @@ mark_if true left =
     let text = codes "effective:" ++ perms_text left in
     comment text (plain_lacks_newline text (AllPass-from_list_all is_plain text (marked_three_pass (has_all left 4) (has_all left 2) (has_all left 1))))
 
-mark_is : (mask : Option ℕ) (entry : Triple) → IsMark (effective_mark mask entry)
+mark_is : (mask : Option ℕ) (entry : EntryValue) → IsMark (effective_mark mask entry)
 mark_is None entry = nothing
 mark_is (Some mask) entry = mark_if (is_under_mask entry.tag && not (has_all mask entry.perms)) (entry.perms ∩ mask)
 
 -- what a printed line is made of
-abbrev IsLine : Known → Option ℕ → Triple → Type 0
+abbrev IsLine : Known → Option ℕ → EntryValue → Type 0
 IsLine known mask entry = (0 < length (entry_text known entry)) × IsPlain (entry_text known entry) × IsMark (effective_mark mask entry)
 
-line_is : (known : Known) (mask : Option ℕ) (entry : Triple) → TellsNamesApart known → HasId entry.tag → IsLine known mask entry
+line_is : (known : Known) (mask : Option ℕ) (entry : EntryValue) → TellsNamesApart known → HasId entry.tag → IsLine known mask entry
 line_is known mask entry is has =
     let rest = qualifier_text known entry.tag ∷ perms_text entry.perms ∷ [] in (
       omega (arith, length-append (word_text entry.tag) (colon ∷ join_with_byte colon rest)),
@@ -167,22 +167,22 @@ line_is known mask entry is has =
     )
 
 -- each printed entry says the entry
-each_again : (known : Known) (entries : List Triple) → TellsNamesApart known → HaveIds entries → HavePermissions entries → Say (entry_of known) (map (entry_text known) entries) entries
+each_again : (known : Known) (entries : List EntryValue) → TellsNamesApart known → HaveIds entries → HavePermissions entries → Say (entry_of known) (map (entry_text known) entries) entries
 each_again known [] is have known_perms = refl
 each_again known (entry ∷ entries) is have known_perms =
-    let has : HasId entry.tag = All-head (λ (e : Triple). HasId e.tag) entry entries have in
-    let allowed : IsPermissions entry.perms = All-head (λ (e : Triple). IsPermissions e.perms) entry entries known_perms in
+    let has : HasId entry.tag = All-head (λ (e : EntryValue). HasId e.tag) entry entries have in
+    let allowed : IsPermissions entry.perms = All-head (λ (e : EntryValue). IsPermissions e.perms) entry entries known_perms in
     rw (
       entry_again known entry is has allowed,
-      each_again known entries is (All-tail (λ (e : Triple). HasId e.tag) entry entries have) (All-tail (λ (e : Triple). IsPermissions e.perms) entry entries known_perms),
+      each_again known entries is (All-tail (λ (e : EntryValue). HasId e.tag) entry entries have) (All-tail (λ (e : EntryValue). IsPermissions e.perms) entry entries known_perms),
     ) refl
 
-pub text_says : (known : Known) (mask : Option ℕ) (entries : List Triple) → TellsNamesApart known → HaveIds entries → HavePermissions entries → Say (entry_of known) (pieces (effective_text known mask entries)) entries
+pub text_says : (known : Known) (mask : Option ℕ) (entries : List EntryValue) → TellsNamesApart known → HaveIds entries → HavePermissions entries → Say (entry_of known) (pieces (effective_text known mask entries)) entries
 text_says known mask entries is have known_perms =
-    let lines : All (IsLine known mask) entries = All-weaker (λ (e : Triple). HasId e.tag) (IsLine known mask) (λ e has. line_is known mask e is has) entries have in
+    let lines : All (IsLine known mask) entries = All-weaker (λ (e : EntryValue). HasId e.tag) (IsLine known mask) (λ e has. line_is known mask e is has) entries have in
     ap (map (entry_of known)) (pieces_of_lines (entry_text known) (effective_mark mask) entries lines) ∙ each_again known entries is have known_perms
 
 -- the printed text spells the entries
-pub text_spells : (known : Known) (mask : Option ℕ) (entries : List Triple) → TellsNamesApart known → HaveIds entries → HavePermissions entries → length entries ≤ MAX_ENTRIES
+pub text_spells : (known : Known) (mask : Option ℕ) (entries : List EntryValue) → TellsNamesApart known → HaveIds entries → HavePermissions entries → length entries ≤ MAX_ENTRIES
     → Spells (entry_of known) MAX_ENTRIES (effective_text known mask entries) entries
 text_spells known mask entries is have known_perms few = record { said = text_says known mask entries is have known_perms; within = few }

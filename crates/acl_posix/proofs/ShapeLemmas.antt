@@ -15,7 +15,7 @@ use Rattle.acl_names.specs.Steps.{◌>>=◌, or_fault}
 use Rattle.acl_posix.specs.PermsText.{perms_of_text}
 use Rattle.acl_posix.specs.EntryText.{Fields, fields_of, is_word, tag_word, tag_of, qualified, entry_of}
 use Rattle.acl_posix.specs.Shapes.{IsWord, WritesId, IsTagged, HasShape}
-use Rattle.acl_posix.specs.Entry.{Triple}
+use Rattle.acl_posix.specs.Entry.{EntryValue}
 use Rattle.acl_posix.specs.declared.entry.Tag.{Tag}
 use Rattle.acl_posix.specs.declared.entry.Tag.TheVariants.{UserObj, User, GroupObj, Group, Mask, Other}
 use Rattle.acl_posix.specs.declared.reading.PieceFault.{PieceFault}
@@ -29,10 +29,10 @@ ok_tag tag = Ok tag
 same_oks : (x y : Tag) → ok_tag x ≡ ok_tag y → x ≡ y
 same_oks x y e = cc
 
-abbrev ok_entry : Triple → Result Triple PieceFault
+abbrev ok_entry : EntryValue → Result EntryValue PieceFault
 ok_entry entry = Ok entry
 
-same_entries : (x y : Triple) → ok_entry x ≡ ok_entry y → x ≡ y
+same_entries : (x y : EntryValue) → ok_entry x ≡ ok_entry y → x ≡ y
 same_entries x y e = cc
 
 or_cases : (a b : Bool) → (a || b) ≡ true → (a ≡ true) ⊎ (b ≡ true)
@@ -96,25 +96,25 @@ tag_says known text word.Other (Some []) tag is e = subst (IsTagged known text (
 tag_says known text word.Other (Some (b ∷ bs)) tag is e = cc
 
 -- what is read has a shape
-pub shape_of_read : (known : Known) (piece : List ℕ) (entry : Triple) → entry_of known piece ≡ Ok entry → HasShape known piece entry
+pub shape_of_read : (known : Known) (piece : List ℕ) (entry : EntryValue) → entry_of known piece ≡ Ok entry → HasShape known piece entry
 unfolding entry_of
 shape_of_read known piece entry e =
-    let end : ℕ → Tag → Result Triple PieceFault = λ p t. Ok (record { tag = t; perms = p }) in
-    let with_perms : Fields → TagWord → ℕ → Result Triple PieceFault = λ f w p. tag_of known w f.qualifier >>= end p in
-    let with_word : Fields → TagWord → Result Triple PieceFault = λ f w. or_fault Syntax (perms_of_text f.perms) >>= with_perms f w in
-    let with_fields : Fields → Result Triple PieceFault = λ f. or_fault Syntax (tag_word f.tag) >>= with_word f in
+    let end : ℕ → Tag → Result EntryValue PieceFault = λ p t. Ok (record { tag = t; perms = p }) in
+    let with_perms : Fields → TagWord → ℕ → Result EntryValue PieceFault = λ f w p. tag_of known w f.qualifier >>= end p in
+    let with_word : Fields → TagWord → Result EntryValue PieceFault = λ f w. or_fault Syntax (perms_of_text f.perms) >>= with_perms f w in
+    let with_fields : Fields → Result EntryValue PieceFault = λ f. or_fault Syntax (tag_word f.tag) >>= with_word f in
     let fields = bind_ok (or_fault Syntax (fields_of piece)) with_fields entry e in
     let word = bind_ok (or_fault Syntax (tag_word fields.0.tag)) (with_word fields.0) entry fields.2 in
     let perms = bind_ok (or_fault Syntax (perms_of_text fields.0.perms)) (with_perms fields.0 word.0) entry word.2 in
     let tag = bind_ok (tag_of known word.0 fields.0.qualifier) (end perms.0) entry perms.2 in
-    let made : Triple = record { tag = tag.0; perms = perms.0 } in
+    let made : EntryValue = record { tag = tag.0; perms = perms.0 } in
     let whole : made ≡ entry = same_entries made entry tag.2 in
     let said : IsWordOf word.0 fields.0.tag = word_says fields.0.tag word.0 (given Syntax (tag_word fields.0.tag) word.0 word.1) in
     record {
       fields = fields.0;
       cut = given Syntax (fields_of piece) fields.0 fields.1;
-      tagged = subst (λ (en : Triple). IsTagged known fields.0.tag fields.0.qualifier en.tag) whole (tag_says known fields.0.tag word.0 fields.0.qualifier tag.0 said tag.1);
-      allowed = given Syntax (perms_of_text fields.0.perms) perms.0 perms.1 ∙ ap (λ (en : Triple). Some en.perms) whole;
+      tagged = subst (λ (en : EntryValue). IsTagged known fields.0.tag fields.0.qualifier en.tag) whole (tag_says known fields.0.tag word.0 fields.0.qualifier tag.0 said tag.1);
+      allowed = given Syntax (perms_of_text fields.0.perms) perms.0 perms.1 ∙ ap (λ (en : EntryValue). Some en.perms) whole;
     }
 
 -- ---- the way back
@@ -145,7 +145,7 @@ qualified_read : (tag : ℕ → Tag) (id_of : List ℕ → Option ℕ) (text : L
 qualified_read tag id_of text id writes = qualified_by tag id_of id (written_id text) (id_read id_of text id writes)
 
 -- a piece of a shape is read
-pub read_of_shape : (known : Known) (piece : List ℕ) (entry : Triple) → HasShape known piece entry → entry_of known piece ≡ Ok entry
+pub read_of_shape : (known : Known) (piece : List ℕ) (entry : EntryValue) → HasShape known piece entry → entry_of known piece ≡ Ok entry
 read_of_shape known piece entry shape = by_tag entry.tag shape.tagged
   where
     by_tag : (tag : Tag) → IsTagged known shape.fields.tag shape.fields.qualifier tag → entry_of known piece ≡ Ok (record { tag = tag; perms = entry.perms })

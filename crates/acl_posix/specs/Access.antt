@@ -5,7 +5,7 @@ use Rattle.std.specs.List.{filter, list_any}
 use Rattle.acl_names.specs.Requester.{Identity, is_in_group}
 use Rattle.acl_posix.specs.declared.entry.Tag.{Tag}
 use Rattle.acl_posix.specs.declared.entry.Tag.TheVariants.{UserObj, User, GroupObj, Group, Mask, Other}
-use Rattle.acl_posix.specs.Entry.{Triple, entries_of, perms_of}
+use Rattle.acl_posix.specs.Entry.{EntryValue, entries_of, perms_of}
 use Rattle.acl_names.specs.Bits.{◌∩◌, has_all}
 
 -- whether it is the entry of a group that the requester is in: of the file's group, or of one by its id
@@ -15,14 +15,14 @@ is_for_group_of requester group (Group gid) = is_in_group requester gid
 is_for_group_of requester group _ = false
 
 -- the first list that isn't empty
-abbrev pub first_nonempty : List (List Triple) → List Triple
+abbrev pub first_nonempty : List (List EntryValue) → List EntryValue
 first_nonempty [] = []
 first_nonempty ([] ∷ rest) = first_nonempty rest
 first_nonempty ((entry ∷ entries) ∷ rest) = entry ∷ entries
 
 -- The entries that decide are those for the owner, if that is who asks; else those for the user who asks; else those for
 -- the groups of who asks; else those for the others. The first of these that there are decide alone.
-abbrev pub deciding_set : List Triple → ℕ → ℕ → Identity → List Triple
+abbrev pub deciding_set : List EntryValue → ℕ → ℕ → Identity → List EntryValue
 deciding_set acl owner group requester =
     first_nonempty (
     (if requester.uid == owner then entries_of UserObj acl else [])
@@ -45,10 +45,10 @@ masked None perms = perms
 masked (Some mask) perms = perms ∩ mask
 
 -- the effective permissions of an entry: its own, as far as the mask leaves them
-abbrev pub effective_perms : List Triple → Triple → ℕ
+abbrev pub effective_perms : List EntryValue → EntryValue → ℕ
 effective_perms acl entry = if is_under_mask entry.tag then masked (perms_of Mask acl) entry.perms else entry.perms
 
 -- A request is granted if one of the entries that decide has the whole of it in its effective permissions.
-abbrev pub grants : List Triple → ℕ → ℕ → Identity → ℕ → Bool
+abbrev pub grants : List EntryValue → ℕ → ℕ → Identity → ℕ → Bool
 grants acl owner group requester request =
     list_any (λ entry. has_all (effective_perms acl entry) request) (deciding_set acl owner group requester)

@@ -5,41 +5,41 @@ use Rattle.std.specs.Option.{option_map_or}
 use Rattle.acl_names.specs.Bits.{has_all}
 use Rattle.acl_names.specs.Requester.{Identity}
 use Rattle.acl_posix.specs.Access.{is_for_group_of}
-use Rattle.acl_posix.specs.Entry.{Triple, same_tag, perms_of}
+use Rattle.acl_posix.specs.Entry.{EntryValue, same_tag, perms_of}
 use Rattle.acl_posix.specs.declared.entry.Tag.{Tag}
 use Rattle.acl_posix.specs.declared.entry.Tag.TheVariants.{User, Mask}
 
 -- whether there is an entry with the tag, and whether one has the whole of the request
-abbrev pub has_tag : Tag → List Triple → Bool
+abbrev pub has_tag : Tag → List EntryValue → Bool
 has_tag tag acl = list_any (λ entry. same_tag entry.tag tag) acl
 
-abbrev pub tag_has : Tag → List Triple → ℕ → Bool
+abbrev pub tag_has : Tag → List EntryValue → ℕ → Bool
 tag_has tag acl request = list_any (λ entry. same_tag entry.tag tag && has_all entry.perms request) acl
 
 -- the same of the entries for the groups of the requester
-abbrev pub has_group : Identity → ℕ → List Triple → Bool
+abbrev pub has_group : Identity → ℕ → List EntryValue → Bool
 has_group requester group acl = list_any (λ entry. is_for_group_of requester group entry.tag) acl
 
-abbrev pub group_has : Identity → ℕ → List Triple → ℕ → Bool
+abbrev pub group_has : Identity → ℕ → List EntryValue → ℕ → Bool
 group_has requester group acl request = list_any (λ entry. is_for_group_of requester group entry.tag && has_all entry.perms request) acl
 
 -- whether the mask, where there is one, has the whole of the request
-abbrev pub mask_allows : List Triple → ℕ → Bool
+abbrev pub mask_allows : List EntryValue → ℕ → Bool
 mask_allows acl request = option_map_or (λ mask. has_all mask request) (perms_of Mask acl) true
 
 -- what the entry with a tag answers, if there is one
-abbrev pub tag_answer : Tag → List Triple → ℕ → Option Bool
+abbrev pub tag_answer : Tag → List EntryValue → ℕ → Option Bool
 tag_answer tag acl request = if has_tag tag acl then Some (tag_has tag acl request) else None
 
 -- what the entry of the user answers under the mask, if there is one
-abbrev pub user_answer : List Triple → ℕ → ℕ → Option Bool
+abbrev pub user_answer : List EntryValue → ℕ → ℕ → Option Bool
 user_answer acl uid request = if has_tag (User uid) acl then Some (tag_has (User uid) acl request && mask_allows acl request) else None
 
 -- what the entries for the requester's groups answer together, if there are any, before the mask
-abbrev pub groups_answer : List Triple → ℕ → Identity → ℕ → Option Bool
+abbrev pub groups_answer : List EntryValue → ℕ → Identity → ℕ → Option Bool
 groups_answer acl group requester request = if has_group requester group acl then Some (group_has requester group acl request) else None
 
 -- and under the mask
-abbrev pub group_answer : List Triple → ℕ → Identity → ℕ → Option Bool
+abbrev pub group_answer : List EntryValue → ℕ → Identity → ℕ → Option Bool
 group_answer acl group requester request =
     if has_group requester group acl then Some (group_has requester group acl request && mask_allows acl request) else None

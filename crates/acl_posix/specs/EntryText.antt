@@ -7,7 +7,7 @@ use Rattle.acl_names.specs.Ids.{written_id, resolved}
 use Rattle.acl_names.specs.Pieces.{trimmed_parts}
 use Rattle.acl_names.specs.Steps.{◌>>=◌, or_fault}
 use Rattle.acl_posix.specs.PermsText.{perms_of_text}
-use Rattle.acl_posix.specs.Entry.{Triple}
+use Rattle.acl_posix.specs.Entry.{EntryValue}
 use Rattle.acl_posix.specs.declared.entry.Tag.{Tag}
 use Rattle.acl_posix.specs.declared.entry.Tag.TheVariants.{UserObj, User, GroupObj, Group, Mask, Other}
 use Rattle.acl_posix.specs.declared.reading.PieceFault.{PieceFault}
@@ -64,7 +64,7 @@ tag_of known word.Other (Some []) = Ok Other
 tag_of known word.Other (Some (byte ∷ bytes)) = Err Syntax
 
 -- what a piece of a text says: an entry, or what is wrong with it
-unfoldable pub entry_of : Known → List ℕ → Result Triple PieceFault
+unfoldable pub entry_of : Known → List ℕ → Result EntryValue PieceFault
 entry_of known piece = do
   fields ← or_fault Syntax (fields_of piece)
   word ← or_fault Syntax (tag_word fields.tag)

@@ -1,12 +1,12 @@
 -- Which fault a piece of a text has that is no entry.
 use Rattle.std.specs.Prelude.{◌≡◌, ℕ, List, None}
 use Rattle.acl_names.specs.Directory.{Known, fault_of}
-use Rattle.acl_posix.specs.Entry.{Triple}
+use Rattle.acl_posix.specs.Entry.{EntryValue}
 use Rattle.acl_posix.specs.Shapes.{HasShape}
 
 -- the piece is an entry where there are these users and groups
 abbrev pub IsEntry : Known → List ℕ → Type 0
-IsEntry known piece = (entry : Triple) × HasShape known piece entry
+IsEntry known piece = (entry : EntryValue) × HasShape known piece entry
 
 -- UnknownName: the piece is no entry here, and is one by the users and groups of some faultless directory
 abbrev pub HasUnknownName : Known → List ℕ → Type 0

@@ -4,7 +4,7 @@ use Rattle.std.specs.List.{All}
 use Rattle.acl_posix.specs.declared.entry.Tag.{Tag}
 use Rattle.acl_posix.specs.declared.entry.Tag.TheVariants.{UserObj}
 use Rattle.acl_posix.specs.Canonical.{place_of, qualifier_of}
-use Rattle.acl_posix.specs.Entry.{Triple}
+use Rattle.acl_posix.specs.Entry.{EntryValue}
 
 -- the place and the id in one number
 abbrev pub order_of : Tag → ℕ
@@ -15,17 +15,17 @@ abbrev pub IsShort : Tag → Type 0
 IsShort tag = qualifier_of tag < 4294967296
 
 -- the entry whose index a key has in its lowest six bits
-abbrev pub entry_at : List Triple → ℕ → Triple
+abbrev pub entry_at : List EntryValue → ℕ → EntryValue
 entry_at entries key = get_or entries (key % 64) (record { tag = UserObj; perms = 0 })
 
 -- a key has the index of an entry, and above it what the order goes by
-pub record IsKey (entries : List Triple) (key : ℕ) : Type 0 where
+pub record IsKey (entries : List EntryValue) (key : ℕ) : Type 0 where
   pub inside : key % 64 < length entries
   pub order : key / 64 ≡ order_of (entry_at entries key).tag
   pub short : IsShort (entry_at entries key).tag
 
 -- the keys of the first so many entries
-pub record AreKeys (entries : List Triple) (n : ℕ) (keys : List ℕ) : Type 0 where
+pub record AreKeys (entries : List EntryValue) (n : ℕ) (keys : List ℕ) : Type 0 where
   pub count : length keys ≡ n
   pub name : map (entry_at entries) keys ≡ take n entries
   pub are : All (IsKey entries) keys

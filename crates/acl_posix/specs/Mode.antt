@@ -3,7 +3,7 @@ use Rattle.std.specs.Prelude.{ℕ, ◌+◌, ◌*◌, ◌/◌, ◌%◌, Option, S
 use Rattle.std.specs.List.{filter, fold}
 use Rattle.acl_posix.specs.declared.entry.Tag.{Tag}
 use Rattle.acl_posix.specs.declared.entry.Tag.TheVariants.{UserObj, GroupObj, Mask, Other}
-use Rattle.acl_posix.specs.Entry.{Triple, same_tag, perms_of}
+use Rattle.acl_posix.specs.Entry.{EntryValue, same_tag, perms_of}
 use Rattle.acl_names.specs.Bits.{◌∪◌}
 use Rattle.acl_posix.specs.Perms.{IsPermissions}
 use Rattle.acl_posix.specs.Access.{is_under_mask, masked}
@@ -29,15 +29,15 @@ abbrev pub classes_of : ℕ → Classes
 classes_of number = record { user = number / 64; group = number / 8 % 8; other = number % 8 }
 
 -- the permissions of the entry with the tag; none where there is no such entry
-abbrev pub perms_at : Tag → List Triple → ℕ
+abbrev pub perms_at : Tag → List EntryValue → ℕ
 perms_at tag acl = unwrap_or (perms_of tag acl) 0
 
 -- the entry that stands for the group in a mode: the mask where there is one, else that of the file's group
-abbrev pub group_class_tag : List Triple → Tag
+abbrev pub group_class_tag : List EntryValue → Tag
 group_class_tag acl = if is_some (perms_of Mask acl) then Mask else GroupObj
 
 -- the mode of an access control list
-abbrev pub mode_of : List Triple → Classes
+abbrev pub mode_of : List EntryValue → Classes
 mode_of acl = record { user = perms_at UserObj acl; group = perms_at (group_class_tag acl) acl; other = perms_at Other acl }
 
 -- what a mode says of the entry with the tag, where it says anything
@@ -47,22 +47,22 @@ mode_perms group_class mode Other = Some mode.other
 mode_perms group_class mode tag = if same_tag tag group_class then Some mode.group else None
 
 -- an entry with what the mode says of it, and one with no more than that
-abbrev pub set_to : Tag → Classes → Triple → Triple
+abbrev pub set_to : Tag → Classes → EntryValue → EntryValue
 set_to group_class mode entry = record { tag = entry.tag; perms = unwrap_or (mode_perms group_class mode entry.tag) entry.perms }
 
-abbrev pub met_with : Tag → Classes → Triple → Triple
+abbrev pub met_with : Tag → Classes → EntryValue → EntryValue
 met_with group_class mode entry = record { tag = entry.tag; perms = masked (mode_perms group_class mode entry.tag) entry.perms }
 
 -- an access control list whose mode is changed
-abbrev pub chmod : List Triple → Classes → List Triple
+abbrev pub chmod : List EntryValue → Classes → List EntryValue
 chmod acl mode = map (set_to (group_class_tag acl) mode) acl
 
 -- the access control list of a new file under a default one
-abbrev pub at_creation : List Triple → Classes → List Triple
+abbrev pub at_creation : List EntryValue → Classes → List EntryValue
 at_creation default mode = map (met_with (group_class_tag default) mode) default
 
 -- the access control list that says what a mode says
-abbrev pub of_mode : Classes → List Triple
+abbrev pub of_mode : Classes → List EntryValue
 of_mode mode =
     record { tag = UserObj; perms = mode.user }
     ∷ record { tag = GroupObj; perms = mode.group }
@@ -70,5 +70,5 @@ of_mode mode =
     ∷ []
 
 -- the union of the permissions that a mask would limit
-abbrev pub calc_mask : List Triple → ℕ
+abbrev pub calc_mask : List EntryValue → ℕ
 calc_mask acl = fold (λ all entry. all ∪ entry.perms) 0 (filter (λ entry. is_under_mask entry.tag) acl)

@@ -8,7 +8,7 @@ use Rattle.acl_names.specs.Directory.{Known, group_name, user_name}
 use Rattle.acl_names.specs.Ids.{id_text}
 use Rattle.acl_posix.specs.Access.{is_under_mask}
 use Rattle.acl_posix.specs.PermsText.{perms_text}
-use Rattle.acl_posix.specs.Entry.{Triple}
+use Rattle.acl_posix.specs.Entry.{EntryValue}
 use Rattle.acl_posix.specs.declared.entry.Tag.{Tag}
 use Rattle.acl_posix.specs.declared.entry.Tag.TheVariants.{UserObj, User, GroupObj, Group, Mask, Other}
 
@@ -30,11 +30,11 @@ qualifier_text known Mask = []
 qualifier_text known Other = []
 
 -- `tag:qualifier:perms`
-abbrev pub entry_text : Known → Triple → List ℕ
+abbrev pub entry_text : Known → EntryValue → List ℕ
 entry_text known entry = join_with_byte colon (word_text entry.tag ∷ qualifier_text known entry.tag ∷ perms_text entry.perms ∷ [])
 
 -- one entry per line
-abbrev pub long_text : Known → List Triple → List ℕ
+abbrev pub long_text : Known → List EntryValue → List ℕ
 long_text known = flat_map (λ entry. entry_text known entry ++ newline ∷ [])
 
 -- a tab, `#effective:` and three characters, where permissions are left by a mask that removes some
@@ -43,20 +43,20 @@ mark_of None = []
 mark_of (Some left) = tab ∷ codes "#effective:" ++ perms_text left
 
 -- the mark of an entry, where the mask removes something from it
-abbrev pub effective_mark : Option ℕ → Triple → List ℕ
+abbrev pub effective_mark : Option ℕ → EntryValue → List ℕ
 effective_mark None entry = []
 effective_mark (Some mask) entry = if is_under_mask entry.tag && not (has_all mask entry.perms) then mark_of (Some (entry.perms ∩ mask)) else []
 
 -- a line: the entry, its mark, and a newline
-abbrev pub line_text : Known → Option ℕ → Triple → List ℕ
+abbrev pub line_text : Known → Option ℕ → EntryValue → List ℕ
 line_text known mask entry = entry_text known entry ++ (effective_mark mask entry ++ newline ∷ [])
 
 -- one entry per line, with its mark
-abbrev pub effective_text : Known → Option ℕ → List Triple → List ℕ
+abbrev pub effective_text : Known → Option ℕ → List EntryValue → List ℕ
 effective_text known mask = flat_map (line_text known mask)
 
 -- the same of a directory's default list, with `default:` before each line
-abbrev pub default_text : Known → Option ℕ → List Triple → List ℕ
+abbrev pub default_text : Known → Option ℕ → List EntryValue → List ℕ
 default_text known mask = flat_map (λ entry. codes "default:" ++ line_text known mask entry)
 
 -- an id within the range of ids; other tags have none
@@ -69,5 +69,5 @@ HasId Mask = Unit {0}
 HasId Other = Unit {0}
 
 -- the ids of the entries are within their range
-abbrev pub HaveIds : List Triple → Type 0
+abbrev pub HaveIds : List EntryValue → Type 0
 HaveIds = All (λ entry. HasId entry.tag)

@@ -4,7 +4,7 @@ use Rattle.acl_names.specs.Directory.{Known, uid_of, gid_of}
 use Rattle.acl_names.specs.Ids.{decimal_value, has_name_shape}
 use Rattle.acl_posix.specs.PermsText.{perms_of_text}
 use Rattle.acl_posix.specs.EntryText.{Fields, fields_of}
-use Rattle.acl_posix.specs.Entry.{Triple}
+use Rattle.acl_posix.specs.Entry.{EntryValue}
 use Rattle.acl_posix.specs.declared.entry.Tag.{Tag}
 use Rattle.acl_posix.specs.declared.entry.Tag.TheVariants.{UserObj, User, GroupObj, Group, Mask, Other}
 
@@ -30,7 +30,7 @@ IsTagged known word qualifier Mask = IsWord (codes "mask") (codes "m") word × I
 IsTagged known word qualifier Other = IsWord (codes "other") (codes "o") word × IsAbsent qualifier
 
 -- the piece has one of the shapes, and this entry is its value
-pub record HasShape (known : Known) (piece : List ℕ) (entry : Triple) : Type 0 where
+pub record HasShape (known : Known) (piece : List ℕ) (entry : EntryValue) : Type 0 where
   pub fields : Fields
   pub cut : fields_of piece ≡ Some fields
   pub tagged : IsTagged known fields.tag fields.qualifier entry.tag

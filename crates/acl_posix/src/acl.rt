@@ -7,6 +7,7 @@ ghost use Rattle.std.specs.List.Sorted.{IsPermutation};
 mod access;
 mod modes;
 
+use crate::limits::INLINE_ENTRIES;
 use crate::{Entries, Entry, Perms, Tag};
 use smallvec::SmallVec;
 use std::marker::Model;
@@ -27,15 +28,15 @@ pub enum Invalid {
 /// An access control list: a valid set of entries, which are kept in canonical order.
 #[derive(Debug, Drop)]
 pub struct Acl {
-    sorted: SmallVec<Entry, 8>,
+    sorted: SmallVec<Entry, INLINE_ENTRIES>,
 }
 
 impl Model for Acl {
     ghost use Rattle.std.specs.Prelude.{List};
-    ghost use Rattle.acl_posix.specs.Entry.{Triple};
+    ghost use Rattle.acl_posix.specs.Entry.{EntryValue};
     ghost use Rattle.acl_posix.specs.Canonical.{IsAcl};
 
-    ghost Value = { List Triple };
+    ghost Value = { List EntryValue };
 
     ghost view = { λ acl. acl.sorted.items };
 
@@ -43,7 +44,7 @@ impl Model for Acl {
 }
 
 impl Acl {
-    ghost use Rattle.acl_posix.specs.Entry.{Triple, perms_of};
+    ghost use Rattle.acl_posix.specs.Entry.{EntryValue, perms_of};
     ghost use Rattle.acl_posix.specs.Validity.{IsValid, IsRefusedFor, fault_of};
     ghost use Rattle.acl_posix.specs.Canonical.{IsAcl, IsCanonical};
     ghost use Rattle.acl_posix.specs.InOrder.{in_order};
@@ -80,7 +81,7 @@ impl Acl {
         ensures acl { IsAcl self.now }
 
         // It is known by the set of its entries.
-        ensures one_list { (other : List Triple) → IsAcl other → ((entry : Triple) → Contains self.now entry ↔ Contains other entry)
+        ensures one_list { (other : List EntryValue) → IsAcl other → ((entry : EntryValue) → Contains self.now entry ↔ Contains other entry)
             → self.now ≡ other }
     {
         self.sorted.as_slice()

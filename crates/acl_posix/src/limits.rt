@@ -5,13 +5,16 @@ ghost use Rattle.acl_posix.specs.declared.limits.TheConstants.{MAX_DEFAULT_LINE,
 /// The most entries of an access control list.
 pub const MAX_ENTRIES: usize = 64;
 
+/// How many entries a list has in itself; with more it has them all in memory of their own.
+pub(crate) const INLINE_ENTRIES: usize = 8;
+
 /// The most bytes of a printed line: a word and a colon, a name, a colon and permissions, a mark, and a newline.
 pub const MAX_LINE: usize = 58;
 
 /// The most bytes of a printed line behind `default:`, these counted in.
 pub const MAX_DEFAULT_LINE: usize = 66;
 
-/// The limits as numbers. There is nothing to run here: it states the law.
+/// The limits as numbers. There is nothing to run here: a proof cites the contract.
 pub fn limits_in_numbers()
     ensures entries { MAX_ENTRIES ≡ 64 }
     ensures line { MAX_LINE ≡ 58 }

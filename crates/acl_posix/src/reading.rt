@@ -10,7 +10,7 @@ ghost use Rattle.acl_names.specs.Ids.{decimal_value};
 ghost use Rattle.acl_posix.specs.Shapes.{HasShape};
 ghost use Rattle.acl_posix.specs.Faults.{HasUnknownName, HasNoShape};
 ghost use Rattle.acl_posix.specs.Views.{view_fields};
-ghost use Rattle.acl_posix.specs.Entry.{Triple};
+ghost use Rattle.acl_posix.specs.Entry.{EntryValue};
 ghost use Rattle.acl_posix.specs.ReadFault.{IsTextFault, list_fault};
 
 use crate::limits::MAX_ENTRIES;
@@ -93,7 +93,7 @@ pub fn read_entries(alloc: Global, text: &[u8], directory: &Directory) -> Result
     ensures read { IfOk result (λ entries. Spells (entry_of directory.now) MAX_ENTRIES text.now entries) }
     ensures fault { IfErr result (IsTextFault directory.now text.now) }
     // What is spelt is read, unless memory runs out; so a text spells at most one list.
-    ensures only { (entries : List Triple) → Spells (entry_of directory.now) MAX_ENTRIES text.now entries
+    ensures only { (entries : List EntryValue) → Spells (entry_of directory.now) MAX_ENTRIES text.now entries
         → MatchResult result (λ read. read ≡ entries) (λ fault. fault ≡ TextFault.Memory) }
     ensures short { length (pieces text.now) ≤ 8 → IfErr result (λ fault. fault ≢ TextFault.Memory) }
 {
@@ -117,13 +117,13 @@ fn text_fault(fault: ListFault<PieceFault>) -> TextFault
     }
 }
 
-/// What a piece says is what the shapes of entries say. This does nothing: it states the law.
+/// What a piece says is what the shapes of entries say. There is nothing to run here: a proof cites the contract.
 pub fn pieces_have_shapes()
-    ensures { (known : Known) (piece : List ℕ) (entry : Triple) → (entry_of known piece ≡ Ok entry) ↔ HasShape known piece entry }
+    ensures { (known : Known) (piece : List ℕ) (entry : EntryValue) → (entry_of known piece ≡ Ok entry) ↔ HasShape known piece entry }
 {}
 
 /// A piece that is no entry is refused for an unknown name exactly if it is one where the name is known, and else for its
-/// shape. This does nothing: it states the law.
+/// shape. There is nothing to run here: a proof cites the contract.
 pub fn faults_of_pieces()
     ensures unknown_name { (known : Known) (piece : List ℕ) → (entry_of known piece ≡ Err PieceFault.UnknownName) ↔ HasUnknownName known piece }
     ensures syntax { (known : Known) (piece : List ℕ) → (entry_of known piece ≡ Err PieceFault.Syntax) ↔ HasNoShape piece }

@@ -3,7 +3,7 @@ use Rattle.std.proofs.Common.{◌≡◌, ℕ, List, Ok, ap, Result}
 use Rattle.clap.specs.Words.{Text}
 use Rattle.acl_names.specs.ListText.{IsFaultOf, Spells}
 use Rattle.acl_names.proofs.ReadListLemmas.{read-fault, read-many, read-spelt}
-use Rattle.acl_posix.specs.Entry.{Triple}
+use Rattle.acl_posix.specs.Entry.{EntryValue}
 use Rattle.acl_posix.specs.EntryText.{entry_of}
 use Rattle.acl_posix.specs.ReadFault.{list_fault}
 use Rattle.acl_posix.specs.declared.entries.TextFault.{TextFault}
@@ -15,14 +15,14 @@ use Rattle.acl_queries.specs.declared.decide_command.fault.FieldFault.{FieldFaul
 use Rattle.acl_queries.specs.declared.decide_command.fault.FieldFault.TheVariants.{TooMany}
 
 -- what a piece says, as the field has it
-abbrev pub field_of : List ℕ → Result Triple FieldFault
+abbrev pub field_of : List ℕ → Result EntryValue FieldFault
 field_of piece = as_field (entry_of nobody piece)
 
-field_of-ok : (piece : List ℕ) (entry : Triple) → entry_of nobody piece ≡ Ok entry → field_of piece ≡ Ok entry
+field_of-ok : (piece : List ℕ) (entry : EntryValue) → entry_of nobody piece ≡ Ok entry → field_of piece ≡ Ok entry
 field_of-ok piece entry is = ap as_field is
 
 -- what is spelt is read
-pub entries_of-spelt : (text : Text) (entries : List Triple) → Spells (entry_of nobody) MAX_ENTRIES text entries → entries_of text ≡ Ok entries
+pub entries_of-spelt : (text : Text) (entries : List EntryValue) → Spells (entry_of nobody) MAX_ENTRIES text entries → entries_of text ≡ Ok entries
 entries_of-spelt text = read-spelt (entry_of nobody) field_of TooMany MAX_ENTRIES text field_of-ok
 
 -- a text that is refused doesn't read

@@ -12,7 +12,7 @@ use Rattle.acl_names.proofs.StepLemmas.{bind_ok, given, if_then, is_none-true}
 use Rattle.acl_names.specs.declared.limits.TheConstants.{MAX_GROUPS_OF_USER}
 use Rattle.acl_posix.specs.declared.limits.TheConstants.{MAX_ENTRIES}
 use Rattle.acl_posix.proofs.ValidityLemmas.{valid_iff}
-use Rattle.acl_posix.specs.Entry.{Triple}
+use Rattle.acl_posix.specs.Entry.{EntryValue}
 use Rattle.acl_posix.specs.EntryText.{entry_of}
 use Rattle.acl_posix.specs.InOrder.{in_order}
 use Rattle.acl_posix.specs.Validity.{IsValid, fault_of}
@@ -47,18 +47,18 @@ Write-Say (text ∷ texts) (id ∷ ids) said =
 
 -- Entries.
 
-as_field-ok : (r : Result Triple PieceFault) (entry : Triple) → as_field r ≡ Ok entry → r ≡ Ok entry
+as_field-ok : (r : Result EntryValue PieceFault) (entry : EntryValue) → as_field r ≡ Ok entry → r ≡ Ok entry
 as_field-ok (Ok x) entry is = cc
 as_field-ok (Err fault) entry is = cc
 
-field_of-from : (piece : List ℕ) (entry : Triple) → field_of piece ≡ Ok entry → entry_of nobody piece ≡ Ok entry
+field_of-from : (piece : List ℕ) (entry : EntryValue) → field_of piece ≡ Ok entry → entry_of nobody piece ≡ Ok entry
 field_of-from piece entry = as_field-ok (entry_of nobody piece) entry
 
-acl_of-spelt : (text : Text) (entries : List Triple) → Spells (entry_of nobody) MAX_ENTRIES text entries → IsValid entries → acl_of text ≡ Ok (in_order entries)
+acl_of-spelt : (text : Text) (entries : List EntryValue) → Spells (entry_of nobody) MAX_ENTRIES text entries → IsValid entries → acl_of text ≡ Ok (in_order entries)
 acl_of-spelt text entries spelt valid = rw (entries_of-spelt text entries spelt, (valid_iff entries).0 valid) refl
 
-acl_of-ok : (text : Text) (acl : List Triple) → acl_of text ≡ Ok acl
-    → (entries : List Triple) × Spells (entry_of nobody) MAX_ENTRIES text entries × IsValid entries × (in_order entries ≡ acl)
+acl_of-ok : (text : Text) (acl : List EntryValue) → acl_of text ≡ Ok acl
+    → (entries : List EntryValue) × Spells (entry_of nobody) MAX_ENTRIES text entries × IsValid entries × (in_order entries ≡ acl)
 acl_of-ok text acl is =
     let read = bind_ok (entries_of text) accepted acl is in
     let test = if_then (is_none (fault_of read.0)) InvalidAcl (in_order read.0) acl read.2 in (
@@ -86,7 +86,7 @@ module _ (words : List Text) where
   perms_in-given : (perms : ℕ) → GivePerms words perms → perms_in rows ≡ Ok perms
   perms_in-given perms (text, given, is) = rw (given, is) refl
 
-  acl_in-given : (acl : List Triple) → GiveAcl words acl → acl_in rows ≡ Ok acl
+  acl_in-given : (acl : List EntryValue) → GiveAcl words acl → acl_in rows ≡ Ok acl
   acl_in-given acl (text, entries, given, spelt, valid, same) = rw (given, ← same) (acl_of-spelt text entries spelt valid)
 
   -- a field that reads is given
@@ -106,7 +106,7 @@ module _ (words : List Text) where
       let text = bind_ok (or_fault BadPerms (first_of (codes "perms") rows)) perms_of perms is in
       (text.0, given BadPerms _ _ text.1, given BadPerms _ _ text.2)
 
-  GiveAcl-read : (acl : List Triple) → acl_in rows ≡ Ok acl → GiveAcl words acl
+  GiveAcl-read : (acl : List EntryValue) → acl_in rows ≡ Ok acl → GiveAcl words acl
   GiveAcl-read acl is =
       let text = bind_ok (or_fault BadAcl (first_of (codes "text") rows)) acl_of acl is in
       let spelt = acl_of-ok text.0 acl text.2 in

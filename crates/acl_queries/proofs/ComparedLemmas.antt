@@ -29,17 +29,17 @@ module _ (owner group : ℕ) (first : AnyAcl) where
   last_explains s (Run NoThread) is = absurd is
 
   module _ (rows : List Row) (is_owner : id_in (codes "owner") rows ≡ Ok owner) (is_group : id_in (codes "group") rows ≡ Ok group)
-      (is_first : list_in (codes "kind") (codes "text") rows ≡ Ok first) where
-    pub compared-read : (second : AnyAcl) → list_in (codes "other-kind") (codes "other-text") rows ≡ Ok second
+      (is_first : list_in (codes "style") (codes "text") rows ≡ Ok first) where
+    pub compared-read : (second : AnyAcl) → list_in (codes "other-style") (codes "other-text") rows ≡ Ok second
         → compared_in rows ≡ Ok (between owner group first second)
     unfolding compared_in
     compared-read second is_second = rw (is_owner, is_group, is_first, is_second) refl
 
-    pub last-explains : (fault : DecideFault) → Explains (list_in (codes "other-kind") (codes "other-text") rows) fault → Explains (compared_in rows) fault
+    pub last-explains : (fault : DecideFault) → Explains (list_in (codes "other-style") (codes "other-text") rows) fault → Explains (compared_in rows) fault
     unfolding compared_in
     last-explains fault is =
-        let second = list_in (codes "other-kind") (codes "other-text") rows in
-        subst (λ (o : Result ℕ FieldFault). Explains (fields o (id_in (codes "group") rows) (list_in (codes "kind") (codes "text") rows) second) fault) (sym is_owner)
-        (subst (λ (g : Result ℕ FieldFault). Explains (fields (Ok owner) g (list_in (codes "kind") (codes "text") rows) second) fault) (sym is_group)
+        let second = list_in (codes "other-style") (codes "other-text") rows in
+        subst (λ (o : Result ℕ FieldFault). Explains (fields o (id_in (codes "group") rows) (list_in (codes "style") (codes "text") rows) second) fault) (sym is_owner)
+        (subst (λ (g : Result ℕ FieldFault). Explains (fields (Ok owner) g (list_in (codes "style") (codes "text") rows) second) fault) (sym is_group)
         (subst (λ (f : Result AnyAcl FieldFault). Explains (fields (Ok owner) (Ok group) f second) fault) (sym is_first)
         (last_explains second fault is)))

@@ -4,7 +4,7 @@ use Rattle.std.specs.List.{AllByRecursion}
 use Rattle.acl_names.specs.Asker.{identity_of}
 use Rattle.acl_names.specs.Bits.{has, ◌∪◌}
 use Rattle.acl_names.proofs.BitSets.{has-or, no_bits}
-use Rattle.acl_posix.specs.Entry.{Triple}
+use Rattle.acl_posix.specs.Entry.{EntryValue}
 use Rattle.acl_nfs4.specs.Comparison.{DecideAlike, Decider, IsDifference}
 use Rattle.acl_nfs4.specs.Mask.{mask_bits}
 use Rattle.acl_nfs4.specs.declared.comparison.Difference.{Difference}
@@ -32,7 +32,7 @@ module _ (before after : Decider) (bits : ℕ) (alike : DecideAlike before after
       ∙ is.gained bit ∙ not_one_alone (has bits bit) (after asker bit) (before asker bit) (λ asked. sym (alike asker bit asked)))
 
 -- no request differs where each is granted alike
-no_first_difference : (first second : List Triple) (owner group : ℕ) (requests : List ℕ) (difference : Difference)
+no_first_difference : (first second : List EntryValue) (owner group : ℕ) (requests : List ℕ) (difference : Difference)
     → AllByRecursion (GrantAlikeToAll first second owner group) requests → ¬ IsFirstDifference first second owner group requests difference
 no_first_difference first second owner group [] difference alike never = never
 no_first_difference first second owner group (request ∷ more) difference (here, later) (inl differs) = differs.apart (here (identity_of difference.asker))

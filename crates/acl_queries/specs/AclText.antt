@@ -5,7 +5,7 @@ use Rattle.acl_names.specs.Directory.{Known}
 use Rattle.acl_names.specs.Pieces.{pieces}
 use Rattle.acl_names.specs.ReadList.{at_most_read}
 use Rattle.acl_names.specs.Steps.{◌>>=◌}
-use Rattle.acl_posix.specs.Entry.{Triple}
+use Rattle.acl_posix.specs.Entry.{EntryValue}
 use Rattle.acl_posix.specs.EntryText.{entry_of}
 use Rattle.acl_posix.specs.InOrder.{in_order}
 use Rattle.acl_posix.specs.Validity.{fault_of}
@@ -24,18 +24,18 @@ abbrev pub piece_fault : PieceFault → FieldFault
 piece_fault piece.Syntax = BadAcl
 piece_fault piece.UnknownName = UnknownName
 
-abbrev pub as_field : Result Triple PieceFault → Result Triple FieldFault
+abbrev pub as_field : Result EntryValue PieceFault → Result EntryValue FieldFault
 as_field (Ok entry) = Ok entry
 as_field (Err fault) = Err (piece_fault fault)
 
 -- the entries that a text spells, at most 64
-abbrev pub entries_of : Text → Result (List Triple) FieldFault
+abbrev pub entries_of : Text → Result (List EntryValue) FieldFault
 entries_of text = at_most_read TooMany MAX_ENTRIES (λ piece. as_field (entry_of nobody piece)) (pieces text)
 
 -- the access control list of these entries
-abbrev pub accepted : List Triple → Result (List Triple) FieldFault
+abbrev pub accepted : List EntryValue → Result (List EntryValue) FieldFault
 accepted entries = if is_none (fault_of entries) then Ok (in_order entries) else Err InvalidAcl
 
 -- the access control list that a text spells
-abbrev pub acl_of : Text → Result (List Triple) FieldFault
+abbrev pub acl_of : Text → Result (List EntryValue) FieldFault
 acl_of text = entries_of text >>= accepted

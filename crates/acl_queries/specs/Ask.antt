@@ -6,7 +6,7 @@ use Rattle.acl_names.specs.Ids.{decimal_value}
 use Rattle.acl_names.specs.ListText.{Spells}
 use Rattle.acl_names.specs.Pieces.{parts}
 use Rattle.acl_names.specs.declared.limits.TheConstants.{MAX_GROUPS_OF_USER}
-use Rattle.acl_posix.specs.Entry.{Triple}
+use Rattle.acl_posix.specs.Entry.{EntryValue}
 use Rattle.acl_posix.specs.EntryText.{entry_of}
 use Rattle.acl_posix.specs.InOrder.{in_order}
 use Rattle.acl_posix.specs.PermsText.{perms_of_text}
@@ -38,8 +38,8 @@ abbrev pub GivePerms : List Text → ℕ → Type 0
 GivePerms words perms = (text : Text) × Give words (codes "perms") text × (perms_of_text text ≡ Some perms)
 
 -- the words give a text that spells valid entries, and the access control list is those in order
-abbrev pub GiveAcl : List Text → List Triple → Type 0
-GiveAcl words acl = (text : Text) × (entries : List Triple) × Give words (codes "text") text × Spells (entry_of nobody) MAX_ENTRIES text entries
+abbrev pub GiveAcl : List Text → List EntryValue → Type 0
+GiveAcl words acl = (text : Text) × (entries : List EntryValue) × Give words (codes "text") text × Spells (entry_of nobody) MAX_ENTRIES text entries
     × IsValid entries × (in_order entries ≡ acl)
 
 -- the words set the flag exactly where this is true; the parser gives it a value then, `true`

@@ -8,7 +8,7 @@ use Rattle.acl_names.specs.ReadList.{at_most_read}
 use Rattle.acl_names.specs.Requester.{Identity}
 use Rattle.acl_names.specs.Steps.{◌>>=◌, or_fault}
 use Rattle.acl_names.specs.declared.limits.TheConstants.{MAX_GROUPS_OF_USER}
-use Rattle.acl_posix.specs.Entry.{Triple}
+use Rattle.acl_posix.specs.Entry.{EntryValue}
 use Rattle.acl_posix.specs.PermsText.{perms_of_text}
 use Rattle.acl_queries.specs.AclText.{acl_of}
 use Rattle.acl_queries.specs.CommandLine.{decide_line}
@@ -22,7 +22,7 @@ pub record Asked : Type 0 where
   pub group : ℕ
   pub requester : Identity
   pub request : ℕ
-  pub acl : List Triple
+  pub acl : List EntryValue
   pub nfs4 : Bool
 
 -- the id that a text writes in decimal
@@ -54,7 +54,7 @@ gids_in rows = gids_of (first_of (codes "gids") rows)
 abbrev pub perms_in : List Row → Result ℕ FieldFault
 perms_in rows = or_fault BadPerms (first_of (codes "perms") rows) >>= perms_of
 
-abbrev pub acl_in : List Row → Result (List Triple) FieldFault
+abbrev pub acl_in : List Row → Result (List EntryValue) FieldFault
 acl_in rows = or_fault BadAcl (first_of (codes "text") rows) >>= acl_of
 
 abbrev pub flag_in : Text → List Row → Bool

@@ -14,10 +14,10 @@ use Rattle.acl_queries.specs.Asked.{id_in}
 use Rattle.acl_queries.specs.CompareLine.{compare_line}
 use Rattle.acl_queries.specs.declared.compare_command.list.AnyAcl.{AnyAcl}
 use Rattle.acl_queries.specs.declared.compare_command.list.AnyAcl.TheVariants as list
-use Rattle.acl_queries.specs.declared.compare_command.list.Kind.{Kind}
-use Rattle.acl_queries.specs.declared.compare_command.list.Kind.TheVariants as kind
+use Rattle.acl_queries.specs.declared.compare_command.list.Style.{Style}
+use Rattle.acl_queries.specs.declared.compare_command.list.Style.TheVariants as style
 use Rattle.acl_queries.specs.declared.decide_command.fault.FieldFault.{FieldFault}
-use Rattle.acl_queries.specs.declared.decide_command.fault.FieldFault.TheVariants.{BadAcl, BadKind, InheritOnly, TooMany, UnknownName}
+use Rattle.acl_queries.specs.declared.decide_command.fault.FieldFault.TheVariants.{BadAcl, BadStyle, InheritOnly, TooMany, UnknownName}
 
 -- a faulty piece of an NFSv4 list, as the fault of the field
 abbrev pub ace_fault : PieceFault → FieldFault
@@ -33,16 +33,16 @@ as_ace (Err fault) = Err (ace_fault fault)
 abbrev pub aces_of : Text → Result (List Nfsace4) FieldFault
 aces_of text = at_most_read TooMany MAX_ACES (λ piece. as_ace (piece_value nobody piece)) (pieces text)
 
--- the kind of list that has this name
-abbrev pub kind_of : Text → Result Kind FieldFault
-kind_of text =
-    if bytes_eq text (codes "posix") then Ok kind.Posix
-    else (if bytes_eq text (codes "nfs4") then Ok kind.Nfs4 else Err BadKind)
+-- the style of list that has this name
+abbrev pub style_of : Text → Result Style FieldFault
+style_of text =
+    if bytes_eq text (codes "posix") then Ok style.Posix
+    else (if bytes_eq text (codes "nfs4") then Ok style.Nfs4 else Err BadStyle)
 
--- the list of this kind that a text spells
-abbrev pub list_of : Kind → Text → Result AnyAcl FieldFault
-list_of kind.Posix text = acl_of text >>= (λ acl. Ok (list.Posix acl))
-list_of kind.Nfs4 text = aces_of text >>= (λ aces. Ok (list.Nfs4 aces))
+-- the list of this style that a text spells
+abbrev pub list_of : Style → Text → Result AnyAcl FieldFault
+list_of style.Posix text = acl_of text >>= (λ acl. Ok (list.Posix acl))
+list_of style.Nfs4 text = aces_of text >>= (λ aces. Ok (list.Nfs4 aces))
 
 -- two lists, compared for a file of this owner and this group
 pub record Compared : Type 0 where
@@ -51,19 +51,19 @@ pub record Compared : Type 0 where
   pub first : AnyAcl
   pub second : AnyAcl
 
--- the fields of a list by name: its kind, and then its text
+-- the fields of a list by name: its style, and then its text
 abbrev pub list_in : Text → Text → List Row → Result AnyAcl FieldFault
-list_in kind_name text_name rows = do
-  kind ← or_fault BadKind (first_of kind_name rows) >>= kind_of
-  or_fault BadAcl (first_of text_name rows) >>= list_of kind
+list_in style_name text_name rows = do
+  style ← or_fault BadStyle (first_of style_name rows) >>= style_of
+  or_fault BadAcl (first_of text_name rows) >>= list_of style
 
 -- what is compared, or the fault of the first field that doesn't read, in this order
 unfoldable pub compared_in : List Row → Result Compared FieldFault
 compared_in rows = do
   owner ← id_in (codes "owner") rows
   group ← id_in (codes "group") rows
-  first ← list_in (codes "kind") (codes "text") rows
-  second ← list_in (codes "other-kind") (codes "other-text") rows
+  first ← list_in (codes "style") (codes "text") rows
+  second ← list_in (codes "other-style") (codes "other-text") rows
   Ok (record { owner = owner; group = group; first = first; second = second })
 
 -- what the words compare, where the parser finds no fault in them

@@ -19,7 +19,7 @@ use Rattle.acl_queries.specs.declared.fault.RunFault.TheVariants.{Memory, Output
 use Rattle.acl_queries.specs.declared.decide_command.fault.DecideFault.{DecideFault}
 use Rattle.acl_queries.specs.declared.decide_command.fault.DecideFault.TheVariants.{Field, Usage, Run}
 use Rattle.acl_queries.specs.declared.decide_command.fault.FieldFault.{FieldFault}
-use Rattle.acl_queries.specs.declared.decide_command.fault.FieldFault.TheVariants.{BadId, TooMany, BadPerms, BadAcl, UnknownName, InvalidAcl, BadKind, InheritOnly}
+use Rattle.acl_queries.specs.declared.decide_command.fault.FieldFault.TheVariants.{BadId, TooMany, BadPerms, BadAcl, UnknownName, InvalidAcl, BadStyle, InheritOnly}
 
 abbrev pub field_fault_words : FieldFault → List ℕ
 field_fault_words BadId = codes "bad-id"
@@ -28,7 +28,7 @@ field_fault_words BadPerms = codes "bad-perms"
 field_fault_words BadAcl = codes "bad-acl"
 field_fault_words UnknownName = codes "unknown-name"
 field_fault_words InvalidAcl = codes "invalid-acl"
-field_fault_words BadKind = codes "bad-kind"
+field_fault_words BadStyle = codes "bad-style"
 field_fault_words InheritOnly = codes "inherit-only"
 
 abbrev pub field_fault_line : FieldFault → List ℕ

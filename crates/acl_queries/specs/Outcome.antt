@@ -7,7 +7,7 @@ use Rattle.acl_posix.specs.Access.{grants}
 use Rattle.acl_nfs4.specs.PrintedText.{aces_text}
 use Rattle.acl_bridge.specs.Translation.{translation}
 use Rattle.acl_queries.specs.AclText.{nobody}
-use Rattle.acl_posix.specs.Entry.{Triple}
+use Rattle.acl_posix.specs.Entry.{EntryValue}
 use Rattle.acl_queries.specs.Asked.{Asked, asked_by}
 use Rattle.acl_queries.specs.CommandLine.{decide_line}
 use Rattle.acl_queries.specs.declared.decide_command.fault.FieldFault.{FieldFault}
@@ -31,7 +31,7 @@ abbrev pub answer_line : Bool → List ℕ
 answer_line granted = if granted then codes "granted" ++ newline ∷ [] else codes "denied" ++ newline ∷ []
 
 -- the entries of the NFSv4 list that an access control list translates to, one a line
-abbrev pub translation_text : List Triple → List ℕ
+abbrev pub translation_text : List EntryValue → List ℕ
 translation_text acl = aces_text nobody (translation acl)
 
 -- the line, and behind it the translation where it is asked for

@@ -42,7 +42,7 @@ fn answer<S: AsStr, W: Write>(alloc: Global, words: &[S], out: &mut W) -> Result
 }
 
 /// Tells whether anybody at all gains or loses access where one access control list takes the place of another. The words are
-/// those of the command, its name first: `compare --owner N --group N KIND TEXT KIND TEXT`, where a KIND is `posix` or `nfs4`.
+/// those of the command, its name first: `compare --owner N --group N STYLE TEXT STYLE TEXT`, where a STYLE is `posix` or `nfs4`.
 /// The answer goes to `out`: `alike`, where both lists decide alike for every requester, of whatever uid and groups; else
 /// `differ`, and who is decided about differently, what is lost and what is gained, each on a line of its own. Who is told,
 /// where there are several, isn't fixed; it is someone in at most two groups. All of it is made first and then written at once.
@@ -75,8 +75,8 @@ pub fn compare<S: AsStr, W: Write, E: Write>(
     }
 }
 
-/// Lists that decide alike for every requester differ for nobody: of the two answers of `compare` at most one is right. There is
-/// nothing to run here: it states the law.
+/// Lists that decide alike for every requester differ for nobody: of the two answers of `compare` at most one is right. There
+/// is nothing to run here: a proof cites the contract.
 pub fn alike_lists_differ_for_nobody()
     ensures { (compared : Compared) (difference : Difference) → AreAlike compared → Differ compared difference → ⊥ }
 {}

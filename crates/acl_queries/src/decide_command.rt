@@ -90,7 +90,8 @@ pub fn decide<S: AsStr, W: Write, E: Write>(
     }
 }
 
-/// Words ask what their fields give, each field by itself, and nothing else. This does nothing: it states the law.
+/// Words ask what their fields give, each field by itself, and nothing else. There is nothing to run here: a proof cites the
+/// contract.
 pub fn words_ask_what_they_give()
     ensures { (words : List (List ℕ)) (asked : Asked)
         → Ask words asked ↔ (TakesWords words × (asked_by words ≡ Ok asked)) }

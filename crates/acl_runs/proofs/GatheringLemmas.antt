@@ -16,7 +16,7 @@ use Rattle.acl_runs.specs.ErrorLimit.{errors_in}
 use Rattle.acl_runs.specs.Taking.{made, AreLimited, StartsWith}
 use Rattle.acl_runs.specs.Workers.{IsServed}
 use Rattle.acl_runs.specs.Threads.{IsReady, Handle, AreStarted, AreGathered, AreServed}
-use Rattle.acl_runs.specs.declared.limits.Limits.{Limits}
+use Rattle.acl_runs.specs.declared.error_limits.ErrorLimits.{ErrorLimits}
 use Rattle.acl_runs.specs.declared.workers.Gathered.{Gathered}
 use Rattle.acl_runs.proofs.SettlingLemmas.{some_item}
 
@@ -90,7 +90,7 @@ module _ {State I R : Type 0} (next : State → I → State) (reply : State → 
   positive (suc allowed) some = omega arith
 
   -- the limits with which a run begins
-  pub limits_begin : (opening : State) (sessions : ℕ) (ends : List (End I R)) (taker : TakerState State I R) (limit : Option ℕ) (limits : Limits) → IsReady sessions ends taker → Keeps next reply opening taker → limit ≢ Some 0 → StartsWith limit sessions limits → AreLimited is_error limit limits taker.sides
+  pub limits_begin : (opening : State) (sessions : ℕ) (ends : List (End I R)) (taker : TakerState State I R) (limit : Option ℕ) (limits : ErrorLimits) → IsReady sessions ends taker → Keeps next reply opening taker → limit ≢ Some 0 → StartsWith limit sessions limits → AreLimited is_error limit limits taker.sides
   limits_begin opening sessions ends taker None limits ready keeps some starts = tt
   limits_begin opening sessions ends taker (Some allowed) limits ready keeps some starts =
       let count : sessions ≡ length taker.sides = sym ready.count ∙ ready.pairs.0 in (

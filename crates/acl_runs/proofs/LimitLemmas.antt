@@ -12,7 +12,7 @@ use Rattle.acl_broker.specs.declared.taker_side.TakerSide.{TakerSide}
 use Rattle.acl_broker.proofs.JournalEntries.{more_answers}
 use Rattle.acl_runs.specs.ErrorLimit.{errors_in, EndsAtError}
 use Rattle.acl_runs.specs.Taking.{made, IsLimited, AreLimited}
-use Rattle.acl_runs.specs.declared.limits.Limits.{Limits}
+use Rattle.acl_runs.specs.declared.error_limits.ErrorLimits.{ErrorLimits}
 use Rattle.acl_runs.proofs.WorkerLemmas.{errors_in-append}
 
 some_left : (left : ℕ) → nat_eq left 0 ≡ false → 0 < left
@@ -125,7 +125,7 @@ module _ {I R : Type 0} (is_error : R → Bool) where
       }
 
   -- the limits of all sessions, where one of them changes
-  pub limits_by : (limit : Option ℕ) (limits limits' : Limits) (session : ℕ) (sides sides' : List (TakerSide I R)) → SameExceptAt session sides sides'
+  pub limits_by : (limit : Option ℕ) (limits limits' : ErrorLimits) (session : ℕ) (sides sides' : List (TakerSide I R)) → SameExceptAt session sides sides'
       → ((allowed left : ℕ) (side : TakerSide I R) → session < length sides → length limits.left.items ≡ length sides
       → (length limits'.left.items ≡ length limits.left.items)
       × ((other : ℕ) (d : ℕ) → other ≢ session → get_or limits'.left.items other d ≡ get_or limits.left.items other d)
@@ -136,11 +136,11 @@ module _ {I R : Type 0} (is_error : R → Bool) where
   limits_by (Some allowed) limits limits' session sides sides' others here beyond limited =
       elim (leb_tells (length sides) session) [
         | inl past ↦ (
-          ap (λ (l : Limits). length l.left.items) (beyond past.1) ∙ limited.0 ∙ sym others.0,
+          ap (λ (l : ErrorLimits). length l.left.items) (beyond past.1) ∙ limited.0 ∙ sym others.0,
           λ s left side below.
               let within : s < length sides = omega (arith, below, others.0) in
               subst (λ found. IsLimited is_error allowed (get_or limits'.left.items s left) found) (sym (others.1 s side (λ same. absurd (omega (arith, same, within, past.1)))))
-              (subst (λ (l : Limits). IsLimited is_error allowed (get_or l.left.items s left) (get_or sides s side)) (sym (beyond past.1)) (limited.1 s left side within)),
+              (subst (λ (l : ErrorLimits). IsLimited is_error allowed (get_or l.left.items s left) (get_or sides s side)) (sym (beyond past.1)) (limited.1 s left side within)),
         )
         | inr inside ↦ (
           (here allowed 0 (some_side sides session (omega (arith, inside.1))) (omega (arith, inside.1)) limited.0).0 ∙ limited.0 ∙ sym others.0,

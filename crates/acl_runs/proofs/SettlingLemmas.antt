@@ -21,7 +21,7 @@ use Rattle.acl_runs.specs.RunReport.{IsReport}
 use Rattle.acl_runs.specs.Taking.{made, IsLimited, AreLimited}
 use Rattle.acl_runs.specs.Workers.{IsServed}
 use Rattle.acl_runs.specs.Threads.{AreServed}
-use Rattle.acl_runs.specs.declared.limits.Limits.{Limits}
+use Rattle.acl_runs.specs.declared.error_limits.ErrorLimits.{ErrorLimits}
 use Rattle.acl_runs.specs.declared.report.RunReport.{RunReport}
 use Rattle.acl_runs.specs.declared.workers.Gathered.{Gathered}
 use Rattle.acl_runs.proofs.WorkerLemmas.{errors_in-append, none_isnt_some, some_of}
@@ -99,7 +99,7 @@ module _ {I R : Type 0} (is_error : R → Bool) where
       ((prefix_trans items sent wanted items_are part.0, inr ((limited allowed refl).1 refl)), all_polled is_error allowed polled answers polled_are part.1 ((limited allowed refl).1 refl))
 
 module _ {State I R K : Type 0} (next : State → I → State) (reply : State → I → R) (text : R → List ℕ) (is_error : R → Bool) (keep : R → K) where
-  limit_at : (opening : State) (taker : TakerState State I R) (limit : Option ℕ) (limits : Limits) (session : ℕ) (side : TakerSide I R) → Keeps next reply opening taker → AreLimited is_error limit limits taker.sides → session < length taker.sides
+  limit_at : (opening : State) (taker : TakerState State I R) (limit : Option ℕ) (limits : ErrorLimits) (session : ℕ) (side : TakerSide I R) → Keeps next reply opening taker → AreLimited is_error limit limits taker.sides → session < length taker.sides
       → (allowed : ℕ) → limit ≡ Some allowed
       → (((get_or taker.sides session side).cancelled ≡ false → errors_in is_error (answers_to next reply session opening taker.journal) < allowed)
       × ((get_or taker.sides session side).cancelled ≡ true → EndsAtError is_error allowed (answers_to next reply session opening taker.journal)))
@@ -113,7 +113,7 @@ module _ {State I R K : Type 0} (next : State → I → State) (reply : State �
       )
 
   -- the report of a run, from what each session was served and where the rejoined broker stands
-  pub report_of : (opening : State) (limit : Option ℕ) (limits : Limits) (wanted : List (List I)) (taker : TakerState State I R) (gathered : Gathered I R K) (broker : BrokerState State I R) (report : RunReport State K I R)
+  pub report_of : (opening : State) (limit : Option ℕ) (limits : ErrorLimits) (wanted : List (List I)) (taker : TakerState State I R) (gathered : Gathered I R K) (broker : BrokerState State I R) (report : RunReport State K I R)
       → Keeps next reply opening taker → AreLimited is_error limit limits taker.sides → AreServed text is_error keep limit wanted gathered → AreEndsOf gathered.ends.items taker.sides
       → ((point : Point State I R) → IsPointOf opening taker gathered.ends.items point → StandsAt next reply point broker)
       → report.journal.items ≡ taker.journal → report.service ≡ taker.service → report.answers ≡ gathered.answers → report.outputs ≡ gathered.outputs

@@ -9,11 +9,11 @@ use Rattle.acl_broker.specs.declared.taker_side.TakerSide.{TakerSide}
 use Rattle.acl_broker.specs.declared.steps.TakeRefused.{TakeRefused}
 use Rattle.acl_broker.specs.declared.steps.TakeRefused.TheVariants.{UnknownSession}
 use Rattle.acl_runs.specs.Taking.{IsLimited, AreLimited, TakesOn, CountsDown, LastFails}
-use Rattle.acl_runs.specs.declared.limits.Limits.{Limits}
+use Rattle.acl_runs.specs.declared.error_limits.ErrorLimits.{ErrorLimits}
 use Rattle.acl_runs.proofs.LimitLemmas.{ok_isnt_err, OwesMore, owes_more, refused_made, delivered_made, limited_same, limited_more, limited_fewer, limited_over, limits_by}
 
 -- the limits after an error was counted
-counted : (limits limits' : Limits) (session left : ℕ) (last : Bool) → CountsDown session limits last limits' → session < length limits.left.items
+counted : (limits limits' : ErrorLimits) (session left : ℕ) (last : Bool) → CountsDown session limits last limits' → session < length limits.left.items
     → (length limits'.left.items ≡ length limits.left.items)
     × ((other d : ℕ) → other ≢ session → get_or limits'.left.items other d ≡ get_or limits.left.items other d)
     × (get_or limits'.left.items session left ≡ get_or limits.left.items session left - 1)
@@ -37,14 +37,14 @@ inside_of sessions session place unknown = elim (leb_tells sessions session) [
 
 module _ {I R : Type 0} (is_error : R → Bool) where
   -- nothing is counted, and the session's limit holds on
-  counts_stay : (limits : Limits) (session : ℕ) (old new : List (TakerSide I R)) → SameExceptAt session old new
+  counts_stay : (limits : ErrorLimits) (session : ℕ) (old new : List (TakerSide I R)) → SameExceptAt session old new
       → ((allowed left : ℕ) (side : TakerSide I R) → session < length old → IsLimited is_error allowed left (get_or old session side) → IsLimited is_error allowed left (get_or new session side))
       → (limit : Option ℕ) → AreLimited is_error limit limits old → AreLimited is_error limit limits new
   counts_stay limits session old new others here limit = limits_by is_error limit limits limits session old new others
       (λ allowed left side below count. (refl, λ other d differs. refl, here allowed (get_or limits.left.items session left) side below)) (λ past. refl)
 
   -- an error of the session is counted, and its limit holds on with what is left
-  counts_down : (limits limits' : Limits) (session : ℕ) (last : Bool) (old new : List (TakerSide I R)) → CountsDown session limits last limits' → session < length old → SameExceptAt session old new
+  counts_down : (limits limits' : ErrorLimits) (session : ℕ) (last : Bool) (old new : List (TakerSide I R)) → CountsDown session limits last limits' → session < length old → SameExceptAt session old new
       → ((allowed left : ℕ) (side : TakerSide I R) → nat_eq (left - 1) 0 ≡ last → IsLimited is_error allowed left (get_or old session side) → IsLimited is_error allowed (left - 1) (get_or new session side))
       → (limit : Option ℕ) → AreLimited is_error limit limits old → AreLimited is_error limit limits' new
   counts_down limits limits' session last old new counts inside others here limit = limits_by is_error limit limits limits' session old new others
@@ -57,7 +57,7 @@ module _ {I R : Type 0} (is_error : R → Bool) where
       (λ past. absurd (omega (arith, past, inside)))
 
 module _ {State I R : Type 0} (next : State → I → State) (reply : State → I → R) (is_error : R → Bool) where
-  pub takes_on_then : (a b c : TakerState State I R) (p q r : Limits) → TakesOn next reply is_error a p b q → TakesOn next reply is_error b q c r → TakesOn next reply is_error a p c r
+  pub takes_on_then : (a b c : TakerState State I R) (p q r : ErrorLimits) → TakesOn next reply is_error a p b q → TakesOn next reply is_error b q c r → TakesOn next reply is_error a p c r
   takes_on_then a b c p q r first second = record {
     pairs = λ ends are. second.pairs ends (first.pairs ends are);
     keeps = λ opening keeps. second.keeps opening (first.keeps opening keeps);
@@ -65,7 +65,7 @@ module _ {State I R : Type 0} (next : State → I → State) (reply : State → 
   }
 
   -- a take that is refused
-  pub takes_on_refused : (old new : TakerState State I R) (limits : Limits) (session : ℕ) (why : TakeRefused) → KeepEnds old.sides new.sides → StillKeeps next reply old new → At session old.sides new.sides (TakeMoves (Err why)) → SameExceptAt session old.sides new.sides → TakesOn next reply is_error old limits new limits
+  pub takes_on_refused : (old new : TakerState State I R) (limits : ErrorLimits) (session : ℕ) (why : TakeRefused) → KeepEnds old.sides new.sides → StillKeeps next reply old new → At session old.sides new.sides (TakeMoves (Err why)) → SameExceptAt session old.sides new.sides → TakesOn next reply is_error old limits new limits
   takes_on_refused old new limits session why pairs keeps moves others = record {
     pairs = pairs;
     keeps = keeps;
@@ -76,7 +76,7 @@ module _ {State I R : Type 0} (next : State → I → State) (reply : State → 
   }
 
   -- a delivery
-  pub takes_on_delivered : (old new : TakerState State I R) (limits : Limits) (session : ℕ) (delivered : Bool) → KeepEnds old.sides new.sides → StillKeeps next reply old new → At session old.sides new.sides (DeliverMoves delivered) → SameExceptAt session old.sides new.sides → TakesOn next reply is_error old limits new limits
+  pub takes_on_delivered : (old new : TakerState State I R) (limits : ErrorLimits) (session : ℕ) (delivered : Bool) → KeepEnds old.sides new.sides → StillKeeps next reply old new → At session old.sides new.sides (DeliverMoves delivered) → SameExceptAt session old.sides new.sides → TakesOn next reply is_error old limits new limits
   takes_on_delivered old new limits session delivered pairs keeps moves others = record {
     pairs = pairs;
     keeps = keeps;
@@ -86,7 +86,7 @@ module _ {State I R : Type 0} (next : State → I → State) (reply : State → 
         limit;
   }
 
-  module _ (old new : TakerState State I R) (limits : Limits) (session place : ℕ) (inside : session < length old.sides) (pairs : KeepEnds old.sides new.sides) (keeps : StillKeeps next reply old new) (appends : AppendsOne session old.journal new.journal) (moves : At session old.sides new.sides (TakeMoves (Ok place))) (others : SameExceptAt session old.sides new.sides) (failed : Bool) (last_fails : Of session new.sides (λ side. LastFails is_error failed (outbox side))) where
+  module _ (old new : TakerState State I R) (limits : ErrorLimits) (session place : ℕ) (inside : session < length old.sides) (pairs : KeepEnds old.sides new.sides) (keeps : StillKeeps next reply old new) (appends : AppendsOne session old.journal new.journal) (moves : At session old.sides new.sides (TakeMoves (Ok place))) (others : SameExceptAt session old.sides new.sides) (failed : Bool) (last_fails : Of session new.sides (λ side. LastFails is_error failed (outbox side))) where
     -- what is owed after an accepted take, and whether it is an error
     more_of : (opening : State) (default : TakerSide I R) → Keeps next reply opening old → OwesMore (get_or old.sides session default) (get_or new.sides session default)
     more_of opening default kept = owes_more next reply opening old new session default inside kept (keeps opening kept) appends others.0 (moves default inside).6
@@ -111,7 +111,7 @@ module _ {State I R : Type 0} (next : State → I → State) (reply : State → 
     }
 
     -- one whose answer is an error, but not the last one allowed
-    pub takes_on_fewer : (limits' : Limits) (last : Bool) → failed ≡ true → CountsDown session limits last limits' → last ≡ false → TakesOn next reply is_error old limits new limits'
+    pub takes_on_fewer : (limits' : ErrorLimits) (last : Bool) → failed ≡ true → CountsDown session limits last limits' → last ≡ false → TakesOn next reply is_error old limits new limits'
     takes_on_fewer limits' last fails counts not_last = record {
       pairs = pairs;
       keeps = keeps;
@@ -122,7 +122,7 @@ module _ {State I R : Type 0} (next : State → I → State) (reply : State → 
     }
 
     -- one whose answer is the last error allowed, after which the session is cancelled
-    pub takes_on_over : (limits' : Limits) (last : Bool) (after : TakerState State I R) → failed ≡ true → CountsDown session limits last limits' → last ≡ true
+    pub takes_on_over : (limits' : ErrorLimits) (last : Bool) (after : TakerState State I R) → failed ≡ true → CountsDown session limits last limits' → last ≡ true
         → KeepEnds new.sides after.sides → StillKeeps next reply new after → At session new.sides after.sides CancelsAlone → SameExceptAt session new.sides after.sides → TakesOn next reply is_error old limits after limits'
     takes_on_over limits' last after fails counts is_last pairs' keeps' cancels others' = record {
       pairs = λ ends are. pairs' ends (pairs ends are);

@@ -13,7 +13,7 @@ use Rattle.acl_runs.specs.RunReport.{IsReport}
 use Rattle.acl_runs.specs.Taking.{AreLimited, StartsWith}
 use Rattle.acl_runs.specs.declared.serving.Begun.{Begun}
 use Rattle.acl_broker.specs.declared.limits.TheConstants.{SESSIONS}
-use Rattle.acl_runs.specs.declared.limits.Limits.{Limits}
+use Rattle.acl_runs.specs.declared.error_limits.ErrorLimits.{ErrorLimits}
 use Rattle.acl_runs.specs.declared.report.RunReport.{RunReport}
 use Rattle.acl_runs.specs.Workers.{IsServed, IsFinished}
 use Rattle.acl_runs.specs.declared.worker.Finished.{Finished}
@@ -92,5 +92,5 @@ module _ {I R K : Type 0} where
 -- the report of a run in which each session was served, whatever opening state its taker keeps
 abbrev pub Settles : {State I R K : Type 0} → (State → I → State) → (State → I → R) → TakerState State I R → Gathered I R K → RunReport State K I R → Type 0
 Settles {State} {I} {R} {K} next reply taker gathered report =
-    (text : R → List ℕ) (is_error : R → Bool) (keep : R → K) (opening : State) (limit : Option ℕ) (limits : Limits) (wanted : List (List I))
+    (text : R → List ℕ) (is_error : R → Bool) (keep : R → K) (opening : State) (limit : Option ℕ) (limits : ErrorLimits) (wanted : List (List I))
     → Keeps next reply opening taker → AreLimited is_error limit limits taker.sides → AreServed text is_error keep limit wanted gathered → IsReport next reply text is_error keep opening limit wanted report

@@ -3,9 +3,9 @@
 //! two traits.
 #![tactic(auto)]
 
+mod error_limits;
 mod gate;
 mod idle;
-mod limits;
 mod printed;
 mod replies;
 mod report;
@@ -17,9 +17,9 @@ mod taking;
 mod worker;
 mod workers;
 
+pub(crate) use error_limits::ErrorLimits;
 pub use gate::{Gate, OpenGate};
 pub(crate) use idle::Idle;
-pub(crate) use limits::Limits;
 pub(crate) use printed::Printed;
 pub use replies::Replies;
 pub use report::RunReport;

@@ -8,7 +8,7 @@ ghost use Rattle.acl_runs.specs.Threads.{IsBegun, Settles};
 
 use crate::taking::take_turns;
 use crate::workers::{Gathered, join_workers, start_workers};
-use crate::{Gate, Limits, Replies, Requests, RunReport, ServeFault, Setting, Stop};
+use crate::{ErrorLimits, Gate, Replies, Requests, RunReport, ServeFault, Setting, Stop};
 use acl_broker::{Broker, End, Service, Taker};
 use std::alloc::{AllocError, Global};
 use std::sync::Wait;
@@ -77,7 +77,7 @@ where
 struct Begun<S: Service> {
     ends: Vec<End<S::Request, S::Reply>>,
     taker: Taker<S>,
-    limits: Limits,
+    limits: ErrorLimits,
 }
 
 /// The ends of these sessions and their taker, to which nothing was submitted yet, and the errors allowed to each.
@@ -97,7 +97,7 @@ where
     ensures keeps { IfOk result (λ begun. Keeps S.next S.reply service (view begun.taker)) }
 {
     let count = sessions.len() as u32;
-    let limits = Limits::new(alloc, count, max_errors)?;
+    let limits = ErrorLimits::new(alloc, count, max_errors)?;
     let Ok(broker) = Broker::open(alloc, count, service) else {
         return Err(AllocError);
     };

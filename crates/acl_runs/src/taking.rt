@@ -2,7 +2,7 @@
 ghost use Rattle.acl_broker.specs.Takers.{view};
 ghost use Rattle.acl_runs.specs.Taking.{TakesOn};
 
-use crate::{Idle, Limits, Replies, ServeFault, Stop, limits};
+use crate::{ErrorLimits, Idle, Replies, ServeFault, Stop, error_limits};
 use acl_broker::{Service, TakeRefused, Taker};
 use std::sync::Wait;
 use std::time::Clock;
@@ -12,7 +12,7 @@ pub(super) fn take_turns<R: Wait + Clock, P: Replies<Reply = S::Reply>, S: Servi
     rt: &R,
     stop: &Stop,
     taker: &mut Taker<S>,
-    limits: &mut Limits,
+    limits: &mut ErrorLimits,
     count: u32,
 ) -> Result<(), ServeFault>
 where
@@ -45,7 +45,7 @@ enum Round {
 /// Takes and delivers once for each session.
 fn take_round<P: Replies<Reply = S::Reply>, S: Service>(
     taker: &mut Taker<S>,
-    limits: &mut Limits,
+    limits: &mut ErrorLimits,
     count: u32,
 ) -> Result<Round, ServeFault>
 where
@@ -71,7 +71,7 @@ where
 /// Takes and delivers once for a session. False where nothing was taken or delivered.
 fn take_turn<P: Replies<Reply = S::Reply>, S: Service>(
     taker: &mut Taker<S>,
-    limits: &mut Limits,
+    limits: &mut ErrorLimits,
     session: u32,
 ) -> Result<bool, ServeFault>
 where
@@ -79,7 +79,7 @@ where
     S::Reply: Drop,
     ensures { TakesOn S.next S.reply P.is_error (view taker.old) limits.old (view taker.new) limits.new }
 {
-    let taken = match limits::take::<S, P>(taker, limits, session) {
+    let taken = match error_limits::take::<S, P>(taker, limits, session) {
         Ok(()) => true,
         Err(TakeRefused::Memory) => return Err(ServeFault::Memory),
         Err(_) => false,

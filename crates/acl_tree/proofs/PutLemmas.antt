@@ -2,7 +2,7 @@
 use Rattle.std.proofs.Common.{◌≡◌, ◌<◌, ℕ, Bool, true, false, ◌||◌, not, is_some, nat_lt, List, Option, Some, None, Ok, Err, IfOk, refl, sym, ap, subst, ltb-true, true≢false}
 use Rattle.std.specs.FinMap as map
 use Rattle.acl_names.specs.Directory.{Known}
-use Rattle.acl_posix.specs.Entry.{Triple}
+use Rattle.acl_posix.specs.Entry.{EntryValue}
 use Rattle.acl_posix.specs.Mode.{Classes}
 use Rattle.acl_nfs4.specs.Ace.{Nfsace4}
 use Rattle.acl_nfs4.specs.Inheritance.{has_inheritance}
@@ -41,10 +41,10 @@ pub record IsNew (tree : NodesUnderUmask) (path : List ℕ) : Type 0 where
 
 -- each change keeps the kind, the owner and the group
 
-access_keeps : (acl : List Triple) (node : Node) → IfOk (with_access acl node) (KeepsKindAndOwners node)
+access_keeps : (acl : List EntryValue) (node : Node) → IfOk (with_access acl node) (KeepsKindAndOwners node)
 access_keeps acl node = record { kind = refl; owner = refl; group = refl }
 
-default_keeps : (default : Option (List Triple)) (node : Node) → IfOk (with_default default node) (KeepsKindAndOwners node)
+default_keeps : (default : Option (List EntryValue)) (node : Node) → IfOk (with_default default node) (KeepsKindAndOwners node)
 default_keeps default node =
     under (KeepsKindAndOwners node) (posix_lists node.acl) _ (λ lists _. under (KeepsKindAndOwners node) (unless DefaultOnFile (is_dir node.kind)) _
     (λ _ _. record { kind = refl; owner = refl; group = refl }))

@@ -5,18 +5,18 @@ use Rattle.aclctl.specs.declared.fault.ProgramFault.{ProgramFault}
 use Rattle.aclctl.specs.declared.fault.ProgramFault.TheVariants.{CannotRead, TooManyWords, BadWords, NoCommand, Memory}
 
 -- how many bytes the words may take
-abbrev pub most_bytes : ℕ
-most_bytes = 65536
+abbrev pub max_bytes : ℕ
+max_bytes = 65536
 
 -- the words are the lines of the bytes, of which there are no more than may be
 pub record AreWordsOf (bytes : List ℕ) (words : List (List ℕ)) : Type 0 where
-  pub within : length bytes ≤ most_bytes
+  pub within : length bytes ≤ max_bytes
   pub lines : words ≡ lines_of bytes
 
 -- what the bytes that a reader tells can be refused for; a failed read and out of memory say nothing of them
 abbrev pub IsInputFault : ProgramFault → List ℕ → Type 0
 IsInputFault CannotRead bytes = ⊤
-IsInputFault TooManyWords bytes = most_bytes < length bytes
+IsInputFault TooManyWords bytes = max_bytes < length bytes
 IsInputFault BadWords bytes = ¬ IsUtf8 bytes
 IsInputFault NoCommand bytes = ⊥
 IsInputFault Memory bytes = ⊤

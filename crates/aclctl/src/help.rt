@@ -33,7 +33,7 @@ or a thread is lacking or the output can't be written.
 ";
 
 /// The most bytes of a word that is shown.
-const MOST_SHOWN: usize = 64;
+const MAX_SHOWN: usize = 64;
 
 const VERSION: &str = "aclctl 0.1.0\n";
 
@@ -75,7 +75,7 @@ pub fn report_no_command<E: Write>(word: Option<&str>, err: &mut E) -> u8
 {
     let status = ProgramFault::NoCommand.report(err);
     match word {
-        Some(word) if word.len() <= MOST_SHOWN => {
+        Some(word) if word.len() <= MAX_SHOWN => {
             let _ = writeln!(err, "{word:?} names no command");
         }
         _ => {}

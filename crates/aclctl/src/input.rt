@@ -10,7 +10,7 @@ use std::alloc::Global;
 use std::io::Read;
 
 /// How many bytes the words on standard input may take.
-const MOST_BYTES: usize = 65_536;
+const MAX_BYTES: usize = 65_536;
 
 /// The words given, or where there are none those that the reader has, one a line.
 pub fn command_words<R: Read>(
@@ -30,6 +30,6 @@ pub fn command_words<R: Read>(
     if !given.is_empty() {
         return Ok(given);
     }
-    let bytes = read_capped(alloc, reader, MOST_BYTES)?;
+    let bytes = read_capped(alloc, reader, MAX_BYTES)?;
     Ok(words_of(alloc, bytes.as_slice())?)
 }

@@ -2,7 +2,7 @@
 use acl_queries::compare;
 use std::alloc::Global;
 
-/// The fields in order: owner, group, first KIND and TEXT, second KIND and TEXT.
+/// The fields in order: owner, group, first STYLE and TEXT, second STYLE and TEXT.
 type Fields<'a> = [&'a str; 6];
 
 const LIST: &str = "u::rw,g::r,o::-";
@@ -13,7 +13,7 @@ const DIVIDED: &str = "u::-,g::r,g:50:w,m::rw,o::-";
 
 const JOINED: &str = "u::-,g::rw,o::-";
 
-/// First KIND and TEXT, second KIND and TEXT, and what is answered where the owner is 1000 and the group is 50.
+/// First STYLE and TEXT, second STYLE and TEXT, and what is answered where the owner is 1000 and the group is 50.
 const ANSWERS: [([&str; 4], &str); 15] = [
     (
         [
@@ -80,7 +80,7 @@ const ANSWERS: [([&str; 4], &str); 15] = [
         ["posix", "u::rw,g::r,o::-", "posix", "u::rx,g::r,o::-"],
         "differ\nrequester 1000 -\nlost w\ngained x\n",
     ),
-    // Between the kinds writing is two bits.
+    // Between the styles writing is two bits.
     (
         [
             "posix",
@@ -123,7 +123,7 @@ const ANSWERS: [([&str; 4], &str); 15] = [
 const FAULTS: [(Fields<'static>, &str); 11] = [
     (["x", "y", "z", "", "", ""], "aclctl: bad-id\n"),
     (["1", "4294967295", "z", "", "", ""], "aclctl: bad-id\n"),
-    (["1", "2", "POSIX", "x", "", ""], "aclctl: bad-kind\n"),
+    (["1", "2", "POSIX", "x", "", ""], "aclctl: bad-style\n"),
     (["1", "2", "posix", "x", "z", ""], "aclctl: bad-acl\n"),
     (
         ["1", "2", "posix", "u:bob:r", "z", ""],
@@ -133,7 +133,10 @@ const FAULTS: [(Fields<'static>, &str); 11] = [
         ["1", "2", "posix", "u::rw", "z", ""],
         "aclctl: invalid-acl\n",
     ),
-    (["1", "2", "posix", LIST, "nfs5", "x"], "aclctl: bad-kind\n"),
+    (
+        ["1", "2", "posix", LIST, "nfs5", "x"],
+        "aclctl: bad-style\n",
+    ),
     (["1", "2", "posix", LIST, "nfs4", "x"], "aclctl: bad-acl\n"),
     (
         ["1", "2", "nfs4", "A::bob:r", "z", ""],
@@ -149,7 +152,7 @@ const FAULTS: [(Fields<'static>, &str); 11] = [
     ),
 ];
 
-/// KIND and an entry that stands so many times in TEXT, the second KIND and TEXT, and how the comparison ends.
+/// STYLE and an entry that stands so many times in TEXT, the second STYLE and TEXT, and how the comparison ends.
 const MANY: [(&str, &str, usize, [&str; 2], (u8, &str, &str)); 3] = [
     (
         "nfs4",
@@ -228,21 +231,21 @@ fn many(alloc: Global, entry: &str, count: usize) -> Option<String> {
 /// Whether the comparison of so many entries with the other list ends so.
 fn many_ends_with(
     alloc: Global,
-    kind: &str,
+    style: &str,
     entry: &str,
     count: usize,
     other: [&str; 2],
     ending: (u8, &str, &str),
 ) -> Option<bool> {
     let list = many(alloc, entry, count)?;
-    let fields = ["1", "2", kind, list.as_str(), other[0], other[1]];
+    let fields = ["1", "2", style, list.as_str(), other[0], other[1]];
     Some(ends_with(alloc, &fields, ending.0, ending.1, ending.2))
 }
 
 #[test]
 fn too_many_entries(rt: HostRuntime) {
-    for (kind, entry, count, other, ending) in MANY {
-        let ends = many_ends_with(rt.alloc(), kind, entry, count, other, ending);
+    for (style, entry, count, other, ending) in MANY {
+        let ends = many_ends_with(rt.alloc(), style, entry, count, other, ending);
         assert_eq!(rt; ends, Some(true), "at {count} of {entry}");
     }
 }

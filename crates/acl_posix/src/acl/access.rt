@@ -6,7 +6,7 @@ ghost use Rattle.std.specs.List.Sorted.{IsPermutation};
 ghost use Rattle.acl_names.specs.Bits.{has_all};
 ghost use Rattle.acl_posix.specs.Access.{grants, is_for_group_of};
 ghost use Rattle.acl_posix.specs.CheckSteps.{group_answer, groups_answer, mask_allows, tag_answer, tag_has, user_answer};
-ghost use Rattle.acl_posix.specs.Entry.{Triple};
+ghost use Rattle.acl_posix.specs.Entry.{EntryValue};
 ghost use Rattle.acl_posix.specs.Perms.{bits_of};
 ghost use Rattle.acl_posix.specs.Validity.{IsValid};
 
@@ -24,7 +24,7 @@ impl Acl {
         ensures value { result ≡ grants self.now owner group requester.now (bits_of request) }
 
         // The entries count as a set: in any other order they answer alike.
-        ensures any_order { (entries : List Triple) → IsPermutation self.now entries
+        ensures any_order { (entries : List EntryValue) → IsPermutation self.now entries
             → result ≡ grants entries owner group requester.now (bits_of request) }
     {
         self.decide(owner, group, requester, request)

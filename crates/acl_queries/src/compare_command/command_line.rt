@@ -16,7 +16,7 @@ Exit status: 0 with an answer, whichever it is; 1 if a field doesn't read; 2 if 
 memory runs out or the answer can't be written.";
 
 /// The command line of `compare`. No value has a parser: what a field may be is for its reader to say.
-fn compare_command<'a>(alloc: Global) -> Result<Command<'a>, AllocError>
+fn command<'a>(alloc: Global) -> Result<Command<'a>, AllocError>
     ensures { IfOk result (λ command. app_of command ≡ compare_line) }
 {
     Command::new(alloc, "compare")
@@ -39,9 +39,9 @@ fn compare_command<'a>(alloc: Global) -> Result<Command<'a>, AllocError>
         ))?
         .arg(required_word(
             alloc,
-            "kind",
-            "KIND",
-            "The kind of the first list: posix or nfs4",
+            "style",
+            "STYLE",
+            "The style of the first list: posix or nfs4",
         ))?
         .arg(required_word(
             alloc,
@@ -49,7 +49,12 @@ fn compare_command<'a>(alloc: Global) -> Result<Command<'a>, AllocError>
             "TEXT",
             "The first access control list, as u::rw,g::r,o::- or A::OWNER@:rwa",
         ))?
-        .arg(required_word(alloc, "other-kind", "KIND", "The kind of the second list"))?
+        .arg(required_word(
+            alloc,
+            "other-style",
+            "STYLE",
+            "The style of the second list",
+        ))?
         .arg(required_word(
             alloc,
             "other-text",
@@ -66,5 +71,5 @@ pub(super) fn parse<'a, S: AsStr>(alloc: Global, words: &'a [S]) -> Result<ArgMa
     ensures refused { IfErr result (λ error. TakesCompareWords (map S.text words.entry.now)
         → kind_of error ≡ ErrorKind.OutOfMemory) }
 {
-    compare_command(alloc)?.try_get_matches_from(words)
+    command(alloc)?.try_get_matches_from(words)
 }

@@ -7,7 +7,7 @@ ghost use Rattle.acl_queries.specs.Comparing.{between, compared};
 ghost use Rattle.acl_queries.specs.Differences.{AreAlike, Differ};
 ghost use Rattle.acl_queries.specs.Faults.{Explains};
 
-use super::list::{AnyAcl, read_kind, read_list};
+use super::list::{AnyAcl, read_list, read_style};
 use crate::decide_command::fault::{DecideFault, FieldFault};
 use crate::decide_command::question::{gid_field, uid_field};
 use crate::options::text_field;
@@ -121,20 +121,20 @@ impl Comparison {
     }
 }
 
-/// The list whose kind and text have these names.
+/// The list whose style and text have these names.
 fn list_field(
     alloc: Global,
     matches: &ArgMatches<'_>,
-    kind_name: &str,
+    style_name: &str,
     text_name: &str,
 ) -> Result<AnyAcl, DecideFault>
-    ensures read { IfOk result (λ acl. list_in kind_name.now text_name.now (rows_of (found_of matches.now)) ≡ Ok acl) }
-    ensures refused { IfErr result (Explains (list_in kind_name.now text_name.now (rows_of (found_of matches.now)))) }
+    ensures read { IfOk result (λ acl. list_in style_name.now text_name.now (rows_of (found_of matches.now)) ≡ Ok acl) }
+    ensures refused { IfErr result (Explains (list_in style_name.now text_name.now (rows_of (found_of matches.now)))) }
 {
-    let kind = read_kind(text_field(matches, kind_name).ok_or(FieldFault::BadKind)?)?;
+    let style = read_style(text_field(matches, style_name).ok_or(FieldFault::BadStyle)?)?;
     read_list(
         alloc,
-        kind,
+        style,
         text_field(matches, text_name).ok_or(FieldFault::BadAcl)?,
     )
 }
@@ -150,8 +150,8 @@ pub(super) fn read_comparison(
 {
     let owner = uid_field(matches, "owner")?;
     let group = gid_field(matches, "group")?;
-    let first = list_field(alloc, matches, "kind", "text")?;
-    let second = list_field(alloc, matches, "other-kind", "other-text")?;
+    let first = list_field(alloc, matches, "style", "text")?;
+    let second = list_field(alloc, matches, "other-style", "other-text")?;
     Ok(Comparison {
         owner,
         group,

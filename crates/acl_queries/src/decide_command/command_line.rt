@@ -16,7 +16,7 @@ Exit status: 0 with an answer, granted or denied; 1 if a field doesn't read; 2 i
 memory runs out or the answer can't be written.";
 
 /// The command line of `decide`. No value has a parser: what a field may be is for its reader to say.
-fn decide_command<'a>(alloc: Global) -> Result<Command<'a>, AllocError>
+fn command<'a>(alloc: Global) -> Result<Command<'a>, AllocError>
     ensures { IfOk result (λ command. app_of command ≡ decide_line) }
 {
     Command::new(alloc, "decide")
@@ -69,5 +69,5 @@ pub(super) fn parse<'a, S: AsStr>(alloc: Global, words: &'a [S]) -> Result<ArgMa
     ensures refused { IfErr result (λ error. TakesWords (map S.text words.entry.now)
         → kind_of error ≡ ErrorKind.OutOfMemory) }
 {
-    decide_command(alloc)?.try_get_matches_from(words)
+    command(alloc)?.try_get_matches_from(words)
 }

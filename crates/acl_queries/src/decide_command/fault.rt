@@ -24,7 +24,7 @@ pub(crate) enum FieldFault {
     /// The entries are no access control list.
     InvalidAcl,
     /// No kind of list has this name.
-    BadKind,
+    BadStyle,
     /// An entry has an effect neither where it stands nor below.
     InheritOnly,
 }
@@ -43,7 +43,7 @@ impl FieldFault {
             FieldFault::BadAcl => "aclctl: bad-acl\n",
             FieldFault::UnknownName => "aclctl: unknown-name\n",
             FieldFault::InvalidAcl => "aclctl: invalid-acl\n",
-            FieldFault::BadKind => "aclctl: bad-kind\n",
+            FieldFault::BadStyle => "aclctl: bad-style\n",
             FieldFault::InheritOnly => "aclctl: inherit-only\n",
         }
     }

@@ -9,7 +9,7 @@ use acl_names::{Gid, MAX_GROUPS_OF_USER, Uid, read_decimal};
 use std::alloc::Global;
 
 /// How many groups who asks may have: as many as a user of a directory.
-const MOST_GIDS: usize = MAX_GROUPS_OF_USER;
+const MAX_GIDS: usize = MAX_GROUPS_OF_USER;
 
 /// The id that a text writes.
 fn read_id(text: &str) -> Result<u32, FieldFault>
@@ -40,7 +40,7 @@ pub(super) fn read_gids(alloc: Global, text: &str) -> Result<Vec<Gid>, DecideFau
 {
     let mut gids = Vec::new(alloc);
     for piece in text.split(',') {
-        if gids.len() == MOST_GIDS {
+        if gids.len() == MAX_GIDS {
             return Err(DecideFault::Field(FieldFault::TooMany));
         }
         let gid = read_gid(piece)?;

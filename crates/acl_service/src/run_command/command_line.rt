@@ -24,7 +24,7 @@ A session has a command a line, and each answer tells its line's number:
 The commands are get, set, chmod, create, check, check4 and translate.";
 
 /// The command line of `run`.
-fn run_command<'a>(alloc: Global) -> Result<Command<'a>, AllocError>
+fn command<'a>(alloc: Global) -> Result<Command<'a>, AllocError>
     ensures { IfOk result (λ command. app_of command ≡ run_line) }
 {
     Command::new(alloc, "run")
@@ -70,7 +70,7 @@ pub(super) fn parse<'a, S: AsStr>(alloc: Global, words: &'a [S]) -> Result<ArgMa
     ensures refused { IfErr result (λ error. RunTakes (map S.text words.entry.now)
         → kind_of error ≡ ErrorKind.OutOfMemory) }
 {
-    run_command(alloc)?.try_get_matches_from(words)
+    command(alloc)?.try_get_matches_from(words)
 }
 
 /// The name of the setup's file.

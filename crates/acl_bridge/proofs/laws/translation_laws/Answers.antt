@@ -15,5 +15,5 @@ returns-clause-each c = translation_grants_each
 pub returns-clause-mode : goal.returns-clause-mode
 returns-clause-mode c = mode_of-translation
 
-pub returns-clause-short : goal.returns-clause-short
-returns-clause-short c = short_translation
+pub returns-clause-length : goal.returns-clause-length
+returns-clause-length c = short_translation

@@ -1,6 +1,6 @@
 use Rattle.std.proofs.Common.{◌≡◌, ◌↔◌, subst, List, Option, None, MatchOption}
 use Rattle.acl_names.specs.Requester.{Identity}
-use Rattle.acl_posix.specs.Entry.{Triple}
+use Rattle.acl_posix.specs.Entry.{EntryValue}
 use Rattle.acl_posix.specs.Perms.{bits_of}
 use Rattle.acl_nfs4.proofs.AllowedBits.{none_exactly}
 use Rattle.acl_bridge.specs.Comparison.{GrantAlike, GrantAlikeAt, IsStranger, IsUnlike, OfEachTag}
@@ -11,8 +11,8 @@ use Rattle.acl_bridge.proofs.requests.request_difference.Goals as goal
 
 pub returns-clause-none : goal.returns-clause-none
 returns-clause-none c =
-    let first : List Triple = c.args.first.now in
-    let second : List Triple = c.args.second.now in
+    let first : List EntryValue = c.args.first.now in
+    let second : List EntryValue = c.args.second.now in
     let owner = c.args.owner in
     let group = c.args.group in
     let request = bits_of c.args.request in
@@ -25,6 +25,6 @@ returns-clause-none c =
     c.unlike_of.ensures
     (λ found is. none_exactly found _ _ _ is
     (pairs_suffice_posix first second c.entries.ensures.acl.valid c.entries-2.ensures.acl.valid owner group request stranger
-    (subst (λ (acl : List Triple). IsStranger owner acl stranger) c.entries.ensures.value c.stranger.ensures.first)
-    (subst (λ (acl : List Triple). IsStranger owner acl stranger) c.entries-2.ensures.value c.stranger.ensures.second))
+    (subst (λ (acl : List EntryValue). IsStranger owner acl stranger) c.entries.ensures.value c.stranger.ensures.first)
+    (subst (λ (acl : List EntryValue). IsStranger owner acl stranger) c.entries-2.ensures.value c.stranger.ensures.second))
     (unlike_tells first second owner group request))

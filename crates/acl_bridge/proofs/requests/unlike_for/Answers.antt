@@ -1,5 +1,5 @@
 use Rattle.std.proofs.Common.{◌∙◌, subst, Option, MatchOption, All, take_all}
-use Rattle.acl_posix.specs.Entry.{Triple}
+use Rattle.acl_posix.specs.Entry.{EntryValue}
 use Rattle.acl_posix.specs.Perms.{bits_of}
 use Rattle.acl_nfs4.specs.declared.who.Who.{Who}
 use Rattle.acl_nfs4.specs.declared.who.Who.TheVariants.{Everyone}
@@ -18,16 +18,16 @@ loop-entry-preserved c =
     let Tells = IsUnlike c.args.first.now c.args.second.now asked.owner asked.group (bits_of asked.request) in
     let here : Alike c.who_of.result =
     subst (λ (found : Option Unlike). MatchOption found (Alike c.who_of.result) Tells) c.in_default.is c.in_ok-unlike.ensures in
-    All-take-next (λ (entry : Triple). Alike (who_of entry.tag)) c.entries-entries.result.now c.loop-entry.entry-index c.entry-item.result
-    c.loop-entry-test.true c.entry-item.is c.loop-entry.invariant (subst (λ (entry : Triple). Alike (who_of entry.tag)) c.entry.view_is (subst Alike c.who_of.ensures here))
+    All-take-next (λ (entry : EntryValue). Alike (who_of entry.tag)) c.entries-entries.result.now c.loop-entry.entry-index c.entry-item.result
+    c.loop-entry-test.true c.entry-item.is c.loop-entry.invariant (subst (λ (entry : EntryValue). Alike (who_of entry.tag)) c.entry.view_is (subst Alike c.who_of.ensures here))
 
 pub returns : goal.returns
 returns c =
     let asked = c.args.asked.now in
     let Alike = λ (who : Who). GrantAlikeAt c.args.first.now c.args.second.now asked.owner asked.group (bits_of asked.request) asked.stranger c.args.who.now who in
     let Tells = IsUnlike c.args.first.now c.args.second.now asked.owner asked.group (bits_of asked.request) in
-    let all : All (λ (entry : Triple). Alike (who_of entry.tag)) c.args.second.now =
-    subst (All (λ (entry : Triple). Alike (who_of entry.tag)))
+    let all : All (λ (entry : EntryValue). Alike (who_of entry.tag)) c.args.second.now =
+    subst (All (λ (entry : EntryValue). Alike (who_of entry.tag)))
     (take_all c.loop-entry.entry-index c.entries-entries.result.now c.loop-entry-test.false ∙ c.entries-entries.ensures.value) c.loop-entry.invariant in
     ok_then c.unlike_at-2.result
     (λ (found : Option Unlike). MatchOption found (Alike Everyone) Tells)

@@ -29,7 +29,7 @@ returns-clause-mode c =
     IfOk-is c.translation_for.result (translation c.args.acl.now) (λ (aces : List Nfsace4). mode_of aces ≡ translated_mode c.args.acl.now)
     (mode_of-translation c.args.acl.now c.translation_for.ensures.acl.valid c.translation_for.ensures.acl.permissions) (returns-clause-list c)
 
-pub returns-clause-short : goal.returns-clause-short
-returns-clause-short c =
+pub returns-clause-length : goal.returns-clause-length
+returns-clause-length c =
     IfOk-is c.translation_for.result (translation c.args.acl.now) (λ (aces : List Nfsace4). length aces ≤ most_translated)
     (short_translation c.args.acl.now c.translation_for.ensures.acl) (returns-clause-list c)

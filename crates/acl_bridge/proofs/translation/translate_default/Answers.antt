@@ -22,8 +22,8 @@ returns-clause-directory c =
     (λ (aces : List Nfsace4). inherited_list Dir aces ≡ map (with_flags handed_on) (translation c.args.acl.now))
     (inherited_by_directory c.args.acl.now) c.translation_for.ensures.list
 
-pub returns-clause-short : goal.returns-clause-short
-returns-clause-short c =
+pub returns-clause-length : goal.returns-clause-length
+returns-clause-length c =
     IfOk-is c.translation_for.result (default_translation c.args.acl.now) (λ (aces : List Nfsace4). length aces ≤ most_translated)
     (subst (λ n. n ≤ most_translated) (sym (length-with_effect Below (translation c.args.acl.now)))
     (short_translation c.args.acl.now c.translation_for.ensures.acl))

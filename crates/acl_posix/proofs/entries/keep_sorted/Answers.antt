@@ -2,7 +2,7 @@ use Rattle.std.proofs.Common.{◌≡◌, ◌∙◌, ◌==◌, ◌≤◌, Bool, t
 use Rattle.std.specs.List.Sorted.{IsPartitionedBy, IsPartitionPoint, IsPermutation, IsSortedByKey}
 use Rattle.std.proofs.lemmas.Fn.{always_returns_same}
 use Rattle.acl_posix.specs.Canonical.{tag_cmp, tag_of}
-use Rattle.acl_posix.specs.Entry.{Triple}
+use Rattle.acl_posix.specs.Entry.{EntryValue}
 use Rattle.acl_posix.proofs.CopyLemmas.{copy_is}
 use Rattle.acl_posix.proofs.InOrderLemmas.{precedes}
 use Rattle.acl_posix.proofs.InsertLemmas.{copy_with, parted}
@@ -20,10 +20,10 @@ returns-clause-ok c =
           rw w.copy-is (copy_is entries c.args.copy.now.items c.requires.copy some)
     ] in
     let place = c.partition_point-place.result in
-    let before : Triple → Bool = λ other. precedes other c.args.entry in
+    let before : EntryValue → Bool = λ other. precedes other c.args.entry in
     let same : c.as_slice-2.result.now ≡ copy = c.as_slice-2.ensures.value in
-    let halves = subst (λ (others : List Triple). IsPartitionedBy before others) (sym same) (parted c.args.entry copy is.1) in
+    let halves = subst (λ (others : List EntryValue). IsPartitionedBy before others) (sym same) (parted c.args.entry copy is.1) in
     let point = c.partition_point-place.ensures.partitioned before (always_returns_same _ _ _ (λ a r f called. search rules)) halves in
-    let inside = subst (λ (others : List Triple). place ≤ length others) same c.partition_point-place.ensures.bound in
+    let inside = subst (λ (others : List EntryValue). place ≤ length others) same c.partition_point-place.ensures.bound in
     rw c.in_ok-insert.ensures.items (copy_with c.args.entry entries copy place is.0 is.1 inside
-    (subst (λ (others : List Triple). IsPartitionPoint (λ other. before other ≡ true) (λ other. before other ≡ false) others place) same point))
+    (subst (λ (others : List EntryValue). IsPartitionPoint (λ other. before other ≡ true) (λ other. before other ≡ false) others place) same point))

@@ -1,6 +1,6 @@
 use Rattle.std.proofs.Common.{◌∙◌, ◌++◌, sym, ap, take, option_map, List, ℕ, append_assoc, arith}
 use Rattle.std.specs.Prelude.{codes}
-use Rattle.acl_posix.specs.Entry.{Triple}
+use Rattle.acl_posix.specs.Entry.{EntryValue}
 use Rattle.acl_posix.specs.Perms.{bits_of}
 use Rattle.acl_posix.specs.PrintedText.{default_text, line_text}
 use Rattle.acl_posix.proofs.TakeLemmas.{flat_map-take-next}
@@ -15,7 +15,7 @@ loop-entry-preserved c =
     let entry = c.entry-item.result in
     let so_far = c.loop-entry.invariant in
     let front = c.replace-text.result.items in
-    let line = λ (entry : Triple). codes "default:" ++ line_text known mask entry in
+    let line = λ (entry : EntryValue). codes "default:" ++ line_text known mask entry in
     record {
       text =
           c.put_default_line.ensures.text

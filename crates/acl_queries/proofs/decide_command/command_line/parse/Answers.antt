@@ -4,12 +4,12 @@ use Rattle.acl_queries.proofs.decide_command.command_line.parse.Goals as goal
 
 pub returns-clause-taken : goal.returns-clause-taken
 returns-clause-taken g c =
-    FailsBy-ok _ _ (FailsBy-line decide_line _ _ c.in_ok-decide_command.ensures _ decide_line-free c.try_get_matches_from.ensures.kinds)
+    FailsBy-ok _ _ (FailsBy-line decide_line _ _ c.in_ok-command.ensures _ decide_line-free c.try_get_matches_from.ensures.kinds)
 
 pub returns-clause-fields : goal.returns-clause-fields
 returns-clause-fields g c =
-    IfOk-matches decide_line _ _ c.in_ok-decide_command.ensures _ decide_line-simple c.try_get_matches_from.ensures.matches
+    IfOk-matches decide_line _ _ c.in_ok-command.ensures _ decide_line-simple c.try_get_matches_from.ensures.matches
 
 pub returns-clause-refused : goal.returns-clause-refused
 returns-clause-refused g c =
-    FailsBy-err _ _ (FailsBy-line decide_line _ _ c.in_ok-decide_command.ensures _ decide_line-free c.try_get_matches_from.ensures.kinds)
+    FailsBy-err _ _ (FailsBy-line decide_line _ _ c.in_ok-command.ensures _ decide_line-free c.try_get_matches_from.ensures.kinds)

@@ -11,9 +11,9 @@ use Rattle.acl_queries.specs.declared.decide_command.fault.DecideFault.TheVarian
 use Rattle.acl_queries.specs.declared.decide_command.fault.FieldFault.TheVariants.{TooMany}
 use Rattle.acl_queries.proofs.decide_command.ids.read_gids.Goals as goal
 
-pub returns-then-len-eq-MOST_GIDS-clause-refused :
-    goal.returns-then-len-eq-MOST_GIDS-clause-refused
-returns-then-len-eq-MOST_GIDS-clause-refused c =
+pub returns-then-len-eq-MAX_GIDS-clause-refused :
+    goal.returns-then-len-eq-MAX_GIDS-clause-refused
+returns-then-len-eq-MAX_GIDS-clause-refused c =
     let full : length c.loop-piece.gids.items ≡ MAX_GROUPS_OF_USER = omega (arith, c.loop-piece.gids.ok.0) in
     let split = YieldsList-from_str_split comma c.args.text.now (lit< tt) (search rules) (search rules) (search rules) in
     let front = YieldsList-so_far split c.loop-piece.yielded _ c.loop-piece.yielded_by in

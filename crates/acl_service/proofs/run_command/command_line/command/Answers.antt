@@ -4,7 +4,7 @@ use Rattle.clap.specs.Words.{app_of, new_app}
 use Rattle.clap.specs.Simple.{app_of_fields}
 use Rattle.acl_service.specs.RunWords.{run_line}
 use Rattle.acl_queries.proofs.CommandLemmas.{app_of-arg}
-use Rattle.acl_service.proofs.run_command.command_line.run_command.Goals as goal
+use Rattle.acl_service.proofs.run_command.command_line.command.Goals as goal
 
 pub returns : goal.returns
 unfolding run_line
