@@ -34,6 +34,21 @@ const COMPARED: [&str; 9] = [
     "u::-,g::r,g:50:w,m::rw,o::-",
 ];
 
+/// A POSIX list, and its translation behind an entry that lets one user more read.
+const COMPARED_WITH_NFS4: [&str; 9] = [
+    "compare",
+    "--owner",
+    "1000",
+    "--group",
+    "50",
+    "posix",
+    LIST,
+    "nfs4",
+    "A::11:r,A::OWNER@:rwa,D::OWNER@:x,A::7:r,D::7:wax,A::8:r,D::8:wax,A::9:r,D::9:wax,A::10:r,D::10:wax,A::GROUP@:r,A:g:60:r,A:g:70:r,A:g:80:r,D::GROUP@:wax,D:g:60:wax,D:g:70:wax,D:g:80:wax",
+];
+
+const DIFFER_FROM_NFS4: &str = "differ\nrequester 11 -\nlost -\ngained r\n";
+
 const DIFFER: &str = "differ\nrequester 65534 50\nlost rw\ngained -\n";
 
 const GRANTED: &str = "granted\n";
@@ -108,9 +123,17 @@ fn compare_under_a_refused_growth(rt: HostRuntime) -> Result<(), Fail> {
     Ok(())
 }
 
+#[test]
+fn compare_with_nfs4_under_a_refused_growth(rt: HostRuntime) -> Result<(), Fail> {
+    let (ended, refusals) = ask_again(rt.alloc(), COMPARED_WITH_NFS4.as_slice(), DIFFER_FROM_NFS4);
+    assert_eq!(rt; ended, Ending::Answered);
+    println!(rt; "refusals: {refusals}")?;
+    Ok(())
+}
+
 /// Reads more than one piece.
 fn read(alloc: Global) -> Result<Vec<u8>, CapFault> {
-    read_capped(alloc, &mut io::repeat(b'x').take(10_000), 10_000)
+    read_capped(alloc, &mut io::repeat(b'x').take(100_000), 100_000)
 }
 
 #[test]
@@ -121,7 +144,7 @@ fn read_capped_under_a_refused_growth(rt: HostRuntime) -> Result<(), Fail> {
         refusals = 1;
         outcome = read(rt.alloc());
     }
-    assert_eq!(rt; outcome?.len(), 10_000);
+    assert_eq!(rt; outcome?.len(), 100_000);
     println!(rt; "refusals: {refusals}")?;
     Ok(())
 }

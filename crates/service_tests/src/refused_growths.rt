@@ -9,9 +9,11 @@ use crate::texts::{are_short, has_output, serve_texts, serve_texts_in_rounds};
 use acl_examples::{Refusals, directory};
 use acl_names::Directory;
 use acl_service::{
-    OneFault, OpenGate, Report, ServeFault, SetupError, read_setup, run_one, run_texts,
+    OneFault, OpenFiles, OpenGate, Report, ServeFault, SetupError, read_setup, run, run_one,
+    run_texts,
 };
 use std::alloc::Global;
+use std::io::{self, Read};
 use std::sync::Wait;
 use std::test::Fail;
 use std::thread::Threads;
@@ -35,7 +37,7 @@ const SESSION: &str =
 const LAST_ANSWERS: &str = "6 ok\n7 denied\n8 error 1 syntax\n";
 
 /// A session on a tree of its own, into a writer that takes no memory.
-fn run(alloc: Global, names: &Directory) -> Ending {
+fn run_session(alloc: Global, names: &Directory) -> Ending {
     let Some(tree) = tree(alloc) else {
         return Ending::Memory;
     };
@@ -60,10 +62,10 @@ fn names(alloc: Global, refusals: &mut Refusals) -> Option<Directory> {
 fn run_again(alloc: Global) -> Option<(Ending, u32)> {
     let mut refusals = Refusals::new();
     let names = names(alloc, &mut refusals)?;
-    let mut ended = run(alloc, &names);
+    let mut ended = run_session(alloc, &names);
     if ended == Ending::Memory {
         refusals.one_more();
-        ended = run(alloc, &names);
+        ended = run_session(alloc, &names);
     }
     Some((ended, refusals.told()))
 }
@@ -167,6 +169,30 @@ fn read_setup_under_a_refused_growth(rt: HostRuntime) -> Result<(), Fail> {
     Ok(())
 }
 
+/// How a run of one session with its journal ended, by its status, what it wrote and how much room it left, and the same of its
+/// faults.
+fn ending_of_status(
+    status: u8,
+    lines: &[u8; 1024],
+    room: usize,
+    faults: &[u8; 64],
+    fault_room: usize,
+) -> Ending {
+    let answered = match lines.get(..lines.len().saturating_sub(room)) {
+        Some(written) => written.ends_with(b"2 error 1 syntax\njournal\n0 1\n0 2\n".as_slice()),
+        None => false,
+    };
+    let memory = faults.starts_with(b"aclctl: run: memory\n".as_slice())
+        || faults.starts_with(b"aclctl: run: no thread\n".as_slice());
+    if (status, fault_room, answered) == (0, 64, true) {
+        Ending::Answered
+    } else if (status, room, memory) == (3, 1024, true) {
+        Ending::Memory
+    } else {
+        Ending::Other
+    }
+}
+
 /// One session with its journal, where both writers have room enough without any memory of their own.
 fn print_journal<R: Threads + Wait + Clock + Sync>(
     rt: &R,
@@ -188,19 +214,7 @@ fn print_journal<R: Threads + Wait + Clock + Sync>(
         rt, alloc, &OpenGate, setup, texts, true, None, &mut out, &mut err,
     );
     let (room, fault_room) = (out.len(), err.len());
-    let answered = match lines.get(..lines.len().saturating_sub(room)) {
-        Some(written) => written.ends_with(b"2 error 1 syntax\njournal\n0 1\n0 2\n".as_slice()),
-        None => false,
-    };
-    let memory = faults.starts_with(b"aclctl: run: memory\n".as_slice())
-        || faults.starts_with(b"aclctl: run: no thread\n".as_slice());
-    if (status, fault_room, answered) == (0, 64, true) {
-        Ending::Answered
-    } else if (status, room, memory) == (3, 1024, true) {
-        Ending::Memory
-    } else {
-        Ending::Other
-    }
+    ending_of_status(status, &lines, room, &faults, fault_room)
 }
 
 fn one_text(alloc: Global) -> Option<Vec<Vec<u8>>> {
@@ -226,6 +240,69 @@ fn print_again<R: Threads + Wait + Clock + Sync>(rt: &R, alloc: Global) -> Optio
 #[test]
 fn run_texts_under_a_refused_growth(rt: HostRuntime) -> Result<(), Fail> {
     let (ended, refusals) = print_again(&rt, rt.alloc()).ok_or("refused without cause")?;
+    assert_eq!(rt; ended, Ending::Answered);
+    println!(rt; "refusals: {refusals}")?;
+    Ok(())
+}
+
+/// A file in memory: what is left of it.
+#[derive(Drop)]
+struct Sheet {
+    left: &'static [u8],
+}
+
+impl Read for Sheet {
+    fn read(&mut self, buffer: &mut [u8]) -> io::Result<usize> {
+        self.left.read(buffer)
+    }
+}
+
+/// Two files in memory: the examples' setup, and a session under any other name.
+struct Shelf;
+
+impl OpenFiles for Shelf {
+    ghost use Rattle.std.specs.Prelude.{None};
+
+    type File = Sheet;
+
+    ghost bytes_of = { λ _ _. None };
+
+    fn open(&self, name: &str) -> io::Result<Sheet> {
+        let text = if name == "setup" { SETUP } else { "get /\nx\n" };
+        Ok(Sheet {
+            left: text.as_bytes(),
+        })
+    }
+}
+
+/// The same session in a file, where both writers have room enough without any memory of their own.
+fn run_files<R: Threads + Wait + Clock + Sync>(rt: &R, alloc: Global) -> Ending {
+    let words = ["run", "--setup", "setup", "--journal", "session"];
+    let mut lines = [0; 1024];
+    let mut faults = [0; 64];
+    let mut out = lines.as_mut_slice();
+    let mut err = faults.as_mut_slice();
+    let status = run(
+        rt,
+        alloc,
+        &Shelf,
+        words.as_slice(),
+        &mut io::empty(),
+        &mut out,
+        &mut err,
+    );
+    let (room, fault_room) = (out.len(), err.len());
+    ending_of_status(status, &lines, room, &faults, fault_room)
+}
+
+#[test]
+fn run_under_a_refused_growth(rt: HostRuntime) -> Result<(), Fail> {
+    let mut refusals = 0;
+    let mut ended = run_files(&rt, rt.alloc());
+    if ended == Ending::Memory {
+        refusals = 1;
+        ended = run_files(&rt, rt.alloc());
+    }
     assert_eq!(rt; ended, Ending::Answered);
     println!(rt; "refusals: {refusals}")?;
     Ok(())
