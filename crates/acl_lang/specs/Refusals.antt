@@ -1,4 +1,4 @@
--- What a call that reads says of what a text asks. Want of memory says nothing of it.
+-- What a call that reads says of what a text asks. That memory ran out says nothing of it.
 use Rattle.std.specs.Prelude.{◌≡◌, Result, Ok, Err}
 use Rattle.acl_nfs4.specs.declared.acl.AceFault.{AceFault}
 use Rattle.acl_nfs4.specs.declared.acl.AceFault.TheVariants as ace
@@ -23,8 +23,8 @@ Reads asked (Ok value) = asked ≡ Ok value
 Reads asked (Err (Fault fault)) = asked ≡ Err fault
 Reads asked (Err Memory) = Unit {0}
 
-abbrev pub want_of_memory : Refusal
-want_of_memory = Memory
+abbrev pub out_of_memory : Refusal
+out_of_memory = Memory
 
 abbrev pub refused : LineFault → Refusal
 refused fault = Fault fault

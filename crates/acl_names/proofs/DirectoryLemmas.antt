@@ -1,5 +1,5 @@
 -- The order of the users and of the groups plays no part in what is wrong with them and in what is found.
-use Rattle.std.proofs.Common.{◌≡◌, ◌∙◌, ℕ, ◌==◌, Bool, true, false, cond, not, nat_lt, nat_eq, ◌||◌, ◌<◌, Option, Some, None, List, [], length, get_or, arith, refl, sym, ap, inl, inr, find, option_map, is_none, IsPermutation, Result, Ok, Err, IsOk, nat_cmp, bytes_eq}
+use Rattle.std.proofs.Common.{◌≡◌, ◌∙◌, ℕ, ◌==◌, Bool, true, false, cond, not, nat_lt, nat_eq, ◌||◌, ◌<◌, Option, Some, None, List, [], length, get_or, arith, refl, sym, ap, inl, inr, find, option_map, is_none, IsPermutation, nat_cmp, bytes_eq}
 use Rattle.std.specs.Cmp.Lexicographic.{slice_cmp}
 use Rattle.std.specs.List.{Contains, list_any, filter_map, slice_get}
 use Rattle.std.specs.Option.{option_and_then, option_map_or}
@@ -41,7 +41,7 @@ none_wrong false false true d e is = absurd (cc)
 none_wrong false false false true e is = absurd (cc)
 none_wrong false false false false e is = (refl, refl)
 
--- no test tells of want of memory
+-- no test says that memory ran out
 no_memory : (a b c d e : Bool) → first_of_tests a b c d e ≡ Some Memory → ⊥
 unfolding first_of_tests
 no_memory true b c d e is = cc
@@ -173,11 +173,6 @@ pub none_from : (found : Option SetupFault) → ((fault : SetupFault) → found 
 none_from None never = refl
 none_from (Some fault) never = absurd (never fault refl)
 
--- what has to succeed isn't without a value
-pub not_refused : {T E : Type 0} (r : Result T E) → ((x : T) → r ≡ Ok x → ⊥) → IsOk r → ⊥
-not_refused (Ok x) never ok = never x refl
-not_refused (Err e) never ok = absurd (cc)
-
 not_false : (b : Bool) → not b ≡ false → b ≡ true
 not_false true e = refl
 not_false false e = absurd (cc)
@@ -260,16 +255,6 @@ tells_names_apart known faultless =
       users = read_back (λ (user : KnownUser). user.name) (λ user. user.uid) known.users names.0 shapes.1;
       groups = read_back (λ (group : KnownGroup). group.name) (λ group. group.gid) known.groups names.1 shapes_both.1;
     }
-
--- where nothing is wrong, no name stands twice
-pub no_name_twice : (known : Known) → fault_of known ≡ None
-    → (repeats bytes_eq (λ user. user.name) known.users ≡ false) × (repeats bytes_eq (λ group. group.name) known.groups ≡ false)
-unfolding first_of_tests
-no_name_twice known faultless =
-    let none = none_wrong (is_too_many known) (has_bad_name known) (repeats_name known) (repeats_id known) (has_unknown_group known) faultless in
-    let both = or_parts (repeats bytes_eq (λ (user : KnownUser). user.name) known.users || repeats bytes_eq (λ (group : KnownGroup). group.name) known.groups)
-    (list_any (λ (user : KnownUser). repeats bytes_eq (λ (name : List ℕ). name) user.groups) known.users) none.0 in
-    or_parts (repeats bytes_eq (λ (user : KnownUser). user.name) known.users) (repeats bytes_eq (λ (group : KnownGroup). group.name) known.groups) both.0
 
 -- the user of a uid asks as the requester of that uid
 asks_as : (known : Known) (uid : ℕ) (user : KnownUser) → user_with known uid ≡ Some user → (user.uid == uid) ≡ true → as_requester known user ≡ requester_of known uid

@@ -13,7 +13,9 @@ use std::marker::Model;
 /// A group: a name and a gid.
 #[derive(Debug, Drop)]
 pub struct Group {
+    /// The name by which texts name the group. No two groups of a directory share one.
     pub name: String,
+    /// The group's id. No two groups of a directory share one.
     pub gid: Gid,
 }
 

@@ -19,7 +19,9 @@ use std::marker::Model;
 /// A user: a name, a uid, and the names of the groups that the user is in, the first group first.
 #[derive(Debug, Drop)]
 pub struct User {
+    /// The name by which texts name the user. No two users of a directory share one.
     pub name: String,
+    /// The user's id. No two users of a directory share one.
     pub uid: Uid,
     /// The names of the user's groups, the first group first.
     pub groups: Vec<String>,

@@ -132,7 +132,7 @@ fn fields_in_front(text: &[u8]) -> Option<(AceFields<'_>, &[u8])>
 /// where the flag `g` stands.
 ///
 /// The first faulty piece decides: `Syntax`, before `UnknownName` (also of a name in another domain), before `InheritOnly`;
-/// a 129th piece is `TooMany` before it is read. Want of memory ends it with `Memory`.
+/// a 129th piece is `TooMany` before it is read. `Memory` comes only if memory runs out.
 pub fn read_aces(alloc: Global, text: &[u8], directory: &Directory) -> Result<Acl4, AceFault>
     ensures read { IfOk result (Spells (piece_value directory.now) MAX_ACES text.now) }
     ensures fault { IfErr result (IsTextFault directory.now text.now) }

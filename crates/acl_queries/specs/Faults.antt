@@ -69,8 +69,8 @@ Explains reading (Run Output) = ⊥
 Explains reading (Run Stopped) = ⊥
 Explains reading (Run NoThread) = ⊥
 
-abbrev pub want_of_memory : DecideFault
-want_of_memory = Run Memory
+abbrev pub out_of_memory : DecideFault
+out_of_memory = Run Memory
 
 abbrev pub failed_write : DecideFault
 failed_write = Run Output

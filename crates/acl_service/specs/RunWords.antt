@@ -7,8 +7,6 @@ use Rattle.clap.specs.declared.builder.value_parser.ValueParser.TheVariants.{Uns
 use Rattle.acl_queries.specs.Asked.{flag_in}
 use Rattle.acl_queries.specs.CommandLine.{flag, optional_option, required_option, required_word}
 use Rattle.acl_service.specs.RunTexts.{RunsTexts}
-use Rattle.acl_service.specs.declared.run_command.files.FilesFault.{FilesFault}
-use Rattle.acl_service.specs.declared.run_command.files.FilesFault.TheVariants.{SessionCount, InputTwice, CannotRead, Memory}
 
 -- `--max-errors K`, of 1 to 65535
 abbrev pub limit_option : Rule
@@ -61,13 +59,6 @@ abbrev pub AreTold : (Text → Option (List ℕ)) → Option (List ℕ) → List
 AreTold bytes_of input [] [] = ⊤
 AreTold bytes_of input (name ∷ names) (text ∷ texts) = IsTold (session_told bytes_of input name) text.items × AreTold bytes_of input names texts
 AreTold bytes_of input _ _ = ⊥
-
--- the exit status of a fault
-abbrev pub files_status : FilesFault → ℕ
-files_status SessionCount = 2
-files_status InputTwice = 2
-files_status (CannotRead name) = 1
-files_status Memory = 3
 
 -- what the files print that the words name went out so: all of it, or a front
 pub record RunsWords (bytes_of : Text → Option (List ℕ)) (input : Option (List ℕ)) (rows : List Row) (WentOut : List ℕ → Type 0) : Type 0 where

@@ -109,9 +109,9 @@ impl From<clap::Error> for DecideFault {
 }
 
 impl From<AllocError> for DecideFault {
-    ghost use Rattle.acl_queries.specs.Faults.{want_of_memory};
+    ghost use Rattle.acl_queries.specs.Faults.{out_of_memory};
 
-    ghost from_gives = { λ _ becomes. becomes ≡ want_of_memory };
+    ghost from_gives = { λ _ becomes. becomes ≡ out_of_memory };
 
     fn from(_refused: AllocError) -> DecideFault {
         DecideFault::Run(RunFault::Memory)
@@ -119,9 +119,9 @@ impl From<AllocError> for DecideFault {
 }
 
 impl<T: Drop> From<AllocFailed<T>> for DecideFault {
-    ghost use Rattle.acl_queries.specs.Faults.{want_of_memory};
+    ghost use Rattle.acl_queries.specs.Faults.{out_of_memory};
 
-    ghost from_gives = { λ _ becomes. becomes ≡ want_of_memory };
+    ghost from_gives = { λ _ becomes. becomes ≡ out_of_memory };
 
     fn from(_refused: AllocFailed<T>) -> DecideFault {
         DecideFault::Run(RunFault::Memory)

@@ -1,5 +1,6 @@
 //! The files of a run.
-ghost use Rattle.std.specs.Prelude.{◌≡◌, ◌≤◌, ℕ, All, List, Option, Some, IfOk, IfSome, length, map};
+ghost use Rattle.std.specs.Prelude.{◌≡◌, ◌≤◌, ℕ, All, List, Option, Some, IfOk, IfSome, OnOk, length, map};
+ghost use Rattle.std.specs.Io.KnownBytes.{Appends};
 ghost use Rattle.acl_broker.specs.declared.limits.TheConstants.{SESSIONS};
 ghost use Rattle.acl_lang.specs.declared.limits.TheConstants.{MAX_TEXT_LEN};
 ghost use Rattle.acl_service.specs.RunWords.{AreTold, IsTold, session_told};
@@ -8,8 +9,9 @@ use crate::{CapFault, RunFault, read_capped};
 use acl_broker::SESSIONS;
 use acl_lang::MAX_TEXT_LEN;
 use std::alloc::Global;
-use std::io;
 use std::io::{Read, Write};
+use std::{fmt, io};
+use thiserror::Error;
 
 /// The name of standard input as a session.
 const INPUT: &str = "-";
@@ -26,8 +28,8 @@ pub trait OpenFiles {
         ensures { IfOk result (λ file. Self.File.remaining file ≡ bytes_of self.now name.now) };
 }
 
-/// Why a run's files give no texts.
-#[derive(Clone, Copy, Debug, PartialEq, Eq)]
+/// Why a run's files give no texts. It is shown by the words that follow `aclctl: ` on the fault line.
+#[derive(Clone, Copy, Debug, PartialEq, Eq, Error)]
 pub(super) enum FilesFault<'a> {
     /// There are more sessions than there may be; or none, which the parser of command lines doesn't let through.
     SessionCount,
@@ -38,10 +40,25 @@ pub(super) enum FilesFault<'a> {
     Memory,
 }
 
-impl<'a> FilesFault<'a> {
-    ghost use Rattle.std.specs.Prelude.{◌≡◌};
-    ghost use Rattle.acl_service.specs.RunWords.{files_status};
+impl<'a> fmt::Display for FilesFault<'a> {
+    ghost use Rattle.acl_service.specs.FilesFaults.{files_fault_words};
 
+    ghost output = { λ fault. Some (files_fault_words fault) };
+
+    fn fmt<W: fmt::Write>(&self, f: &mut fmt::Formatter<W>) -> fmt::Result {
+        match self {
+            FilesFault::SessionCount => f.write_str("at most 64 sessions"),
+            FilesFault::InputTwice => f.write_str("- is given twice"),
+            FilesFault::CannotRead(name) => write!(f, "cannot read {name}"),
+            FilesFault::Memory => write!(f, "run: {}", RunFault::Memory),
+        }
+    }
+}
+
+impl<'a> FilesFault<'a> {
+    ghost use Rattle.acl_service.specs.FilesFaults.{files_fault_line, files_status};
+
+    /// The exit status.
     fn status(self) -> u8
         ensures { result ≡ files_status self.entry }
     {
@@ -52,13 +69,10 @@ impl<'a> FilesFault<'a> {
         }
     }
 
-    fn write_line<E: Write>(self, err: &mut E) -> io::Result<()> {
-        match self {
-            FilesFault::SessionCount => err.write_all(b"aclctl: at most 64 sessions\n"),
-            FilesFault::InputTwice => err.write_all(b"aclctl: - is given twice\n"),
-            FilesFault::CannotRead(name) => writeln!(err, "aclctl: cannot read {name}"),
-            FilesFault::Memory => writeln!(err, "aclctl: run: {}", RunFault::Memory),
-        }
+    fn write_line<E: Write>(self, err: &mut E) -> io::Result<()>
+        ensures { OnOk result (Appends (E.contents err.old) (E.contents err.new) (files_fault_line self.entry)) }
+    {
+        writeln!(err, "aclctl: {self}")
     }
 
     /// Writes the line of the fault, if that can be done, and returns the exit status.

@@ -51,7 +51,7 @@ fn faulty(alloc: Global) -> Option<Option<SetupFault>> {
 }
 
 #[test]
-fn a_fault_is_told_before_want_of_memory(rt: HostRuntime) -> Result<(), Fail> {
+fn a_fault_is_told_before_memory(rt: HostRuntime) -> Result<(), Fail> {
     let alloc = rt.alloc();
     let mut refusals = Refusals::new();
     let found = refusals.again(|| faulty(alloc));

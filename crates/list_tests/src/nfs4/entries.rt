@@ -1,7 +1,7 @@
 //! Tests of NFSv4 entries, and of lists that are made of them.
 use acl_examples::acl4;
 use acl_names::Gid;
-use acl_nfs4::{Ace, AceFault, AceType, Acl4, Flags, Mask, Who, mask_of};
+use acl_nfs4::{Ace, AceFault, AceType, Acl4, Flags, Mask, Who, mask_of, rest_of};
 use acl_posix::Perms;
 use bitflags::Flags as FlagSet;
 use std::alloc::Global;
@@ -72,5 +72,18 @@ fn masks_of_permissions(rt: HostRuntime) {
         (Perms::EXECUTE, Mask::EXECUTE),
     ] {
         assert_eq!(rt; mask_of(perms), wanted);
+    }
+}
+
+#[test]
+fn masks_of_what_permissions_lack(rt: HostRuntime) {
+    for (perms, wanted) in [
+        (Perms::READ, mask_of(Perms::WRITE.union(Perms::EXECUTE))),
+        (Perms::WRITE, mask_of(Perms::READ.union(Perms::EXECUTE))),
+        (Perms::EXECUTE, mask_of(Perms::READ.union(Perms::WRITE))),
+        (Perms::all(), Mask::empty()),
+        (Perms::empty(), mask_of(Perms::all())),
+    ] {
+        assert_eq!(rt; rest_of(perms), wanted);
     }
 }
