@@ -5,6 +5,7 @@ pub mod Setup
 pub mod Shown
 pub mod Opened
 pub mod SetupFaults
+pub mod FilesFaults
 pub mod Sessions
 pub mod Cursor
 pub mod Told
