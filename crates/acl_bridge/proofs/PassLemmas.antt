@@ -46,7 +46,7 @@ unfolding has
 is_idle-effect kind Here who mask = by_flags_of_who (λ flags. is_idle (with_flags (flags_of Here) (record { kind = kind; flags = flags; who = who; mask = mask })) ≡ false) refl refl who
 is_idle-effect kind Below who mask = by_flags_of_who (λ flags. is_idle (with_flags (flags_of Below) (record { kind = kind; flags = flags; who = who; mask = mask })) ≡ false) refl refl who
 
--- an entry is left out where its mask is empty, and else stands
+-- an entry is left out if its mask is empty, and else stands
 pub plain-empty : (kind : AceType) (who : Who) (mask : ℕ) → (mask == 0) ≡ true → plain kind who mask ≡ []
 unfolding unless_empty
 plain-empty kind who mask empty = ap (λ (b : Bool). cond b [] (bare kind who mask ∷ [])) empty
@@ -136,7 +136,7 @@ All-flat_map P Q f each [] all = All-nil Q
 All-flat_map P Q f each (x ∷ xs) all =
     All-append Q (f x) (flat_map f xs) (each x (All-head P x xs all)) (All-flat_map P Q f each xs (All-tail P x xs all))
 
--- where each who that entries stand for has a property, and an entry for one who has it has another, each entry made has that
+-- if each who that entries stand for has a property, and an entry for one who has it has another, each entry made has that
 module _ (P : Who → Type 0) (Q : Nfsace4 → Type 0) (each : (kind : AceType) (who : Who) (mask : ℕ) → P who → Q (bare kind who mask)) where
   All-plain : (kind : AceType) (who : Who) (mask : ℕ) → P who → All Q (plain kind who mask)
   unfolding unless_empty

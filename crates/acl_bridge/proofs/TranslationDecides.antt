@@ -27,7 +27,7 @@ use Rattle.acl_bridge.proofs.FilterLemmas.{length-filter, filter_twice, filter_t
 
 -- ---- a valid list has one entry at most for the owner, and for a user
 
--- where all entries of a class to which the translation's apply have one tag, there is one at most
+-- if all entries of a class to which the translation's apply have one tag, there is one at most
 pub few : (acl : List EntryValue) → IsValid acl → (applies : Who → Bool) (class : Class) (of : Tag)
     → ((tag : Tag) → is_in class tag ≡ true → applies (who_of tag) ≡ true → same_tag tag of ≡ true) → FewFor acl applies class
 few acl valid applies class of only =
@@ -179,7 +179,7 @@ translation_decides_alike acl valid = record {
   to_execute = agree_on acl valid 5 refl refl;
 }
 
--- a valid list's translation grants permissions together where the list grants each by itself
+-- a valid list's translation grants permissions together if the list grants each by itself
 pub translation_grants_each : TranslationGrantsEach
 unfolding has
 translation_grants_each acl valid owner group requester perms small = (alone, together)

@@ -21,7 +21,7 @@ abbrev said_by : {X : Type 0} → (X → Bool) → List X → Option Bool
 said_by h [] = None
 said_by h (x ∷ xs) = Some (list_any h (x ∷ xs))
 
--- where all that allow stand before all that deny, one that allows decides
+-- if all that allow stand before all that deny, one that allows decides
 all_said : {X : Type 0} (h : X → Bool) (xs : List X)
     → or_else (cond (list_any h xs) (Some true) None) (cond (list_any (λ x. not (h x)) xs) (Some false) None) ≡ said_by h xs
 all_said h [] = refl
@@ -88,7 +88,7 @@ module _ (acl : List EntryValue) (applies : Who → Bool) (bit : ℕ) (of_mode :
   verdict-first part entry entries here after is rest =
       verdict-append applies bit (made_by part acl entry) (flat_map (made_by part acl) entries) ∙ ap₂ or_else is rest
 
-  -- where at most one entry is for the requester, it decides
+  -- if at most one entry is for the requester, it decides
   settled : (entries : List EntryValue) → length (filter is_for entries) ≤ 1
       → verdict applies bit (flat_map (made_by Settled acl) entries) ≡ said_by has_permission (filter is_for entries)
   settled [] few = refl
@@ -111,7 +111,7 @@ module _ (acl : List EntryValue) (applies : Who → Bool) (bit : ℕ) (of_mode :
   or_else-cond answer true b = refl
   or_else-cond answer false b = refl
 
-  -- where all entries of a class give one answer or none, it is given where one of them gives it
+  -- if all entries of a class give one answer or none, it is given if one of them gives it
   joined : (part : Part) (answer : Bool) (says : EntryValue → Bool)
       → ((entry : EntryValue) → verdict applies bit (made_by part acl entry) ≡ cond (is_for entry && says entry) (Some answer) None)
       → (entries : List EntryValue)
@@ -124,7 +124,7 @@ module _ (acl : List EntryValue) (applies : Who → Bool) (bit : ℕ) (of_mode :
       go [] = refl
       go (entry ∷ entries) = verdict-first part entry entries _ _ (each entry) (go entries) ∙ or_else-cond answer _ _
 
-  -- one class after another: those that follow are asked where the class has no entry for the requester
+  -- one class after another: those that follow are asked if the class has no entry for the requester
   next_class : (v rest : Option Bool) (matching : List EntryValue) (others : List (List EntryValue))
       → v ≡ said_by has_permission matching → unwrap_or rest false ≡ list_any has_permission (first_nonempty others)
       → unwrap_or (or_else v rest) false ≡ list_any has_permission (first_nonempty (matching ∷ others))
@@ -145,7 +145,7 @@ module _ (acl : List EntryValue) (applies : Who → Bool) (bit : ℕ) (of_mode :
       ≡ or_else (verdict applies bit (made_by_pass pass acl)) (verdict applies bit (flat_map (λ p. made_by_pass p acl) more))
   one_pass pass more = verdict-append applies bit (made_by_pass pass acl) (flat_map (λ p. made_by_pass p acl) more)
 
-  -- the translation allows a bit where a deciding entry has its permission
+  -- the translation allows a bit if a deciding entry has its permission
   pub allows-translation : FewFor acl applies Owner → FewFor acl applies Users
       → allows applies bit (translation acl) ≡ list_any has_permission (deciding applies acl)
   allows-translation few_owners few_users =

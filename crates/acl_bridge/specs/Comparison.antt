@@ -1,4 +1,4 @@
--- What a POSIX list decides, bit by bit, so that it can be compared with a list of either kind.
+-- What a POSIX list decides, bit by bit, so that it can be compared with a list of either style.
 use Rattle.std.specs.Prelude.{◌≡◌, ◌≢◌, ◌≤◌, ◌⊎◌, ◌==◌, ℕ, zero, suc, ◌+◌, ◌^◌, Bool, false, not, Some, List, [], ◌∷◌, length, if◌then◌else◌}
 use Rattle.std.specs.List.{All, list_any}
 use Rattle.acl_names.specs.Asker.{identity_of}

@@ -18,7 +18,7 @@ use Rattle.acl_nfs4.specs.Who.{matches}
 use Rattle.acl_nfs4.specs.declared.inheritance.Kind.TheVariants.{File, Dir}
 use Rattle.acl_bridge.specs.Translation.{translation, default_translation, with_flags, handed_on}
 
--- for every owner, group and requester the one grants the permissions where the other does
+-- for every owner, group and requester the one grants the permissions if the other does
 abbrev pub AgreeOn : List EntryValue → List Nfsace4 → ℕ → Type 0
 AgreeOn acl aces perms =
     (owner group : ℕ) (requester : Identity)
@@ -55,7 +55,7 @@ TranslationDecidesAlike = (acl : List EntryValue) → IsValid acl → DecideAlik
 abbrev pub TranslationGrantsAsMuch : Type 0
 TranslationGrantsAsMuch = (acl : List EntryValue) → IsValid acl → GrantsAsMuch acl (translation acl)
 
--- The translation grants a set of permissions exactly where the list grants each of them by itself.
+-- The translation grants a set of permissions exactly if the list grants each of them by itself.
 abbrev pub TranslationGrantsEach : Type 0
 TranslationGrantsEach =
     (acl : List EntryValue) → IsValid acl → (owner group : ℕ) (requester : Identity) (perms : ℕ) → IsPermissions perms

@@ -35,7 +35,7 @@ fn translated(alloc: Global, acl: &Acl) -> Result<Acl4, AllocError>
 }
 
 /// What a POSIX list and an NFSv4 list decide differently for a file of this owner and this group, of the bits that stand for
-/// permissions: none exactly where each of them is decided for every requester as its permission alone is; else someone in
+/// permissions: none exactly if each of them is decided for every requester as its permission alone is; else someone in
 /// at most two groups, with what only the one and what only the other grants. It fails only if memory runs out.
 pub fn difference_from_posix(
     alloc: Global,
@@ -52,7 +52,7 @@ pub fn difference_from_posix(
 }
 
 /// What two POSIX lists decide differently for a file of this owner and this group, of the permissions one by one: none
-/// exactly where each is granted to the same requesters, of whatever uid and groups; else someone in at most two groups, with
+/// exactly if each is granted to the same requesters, of whatever uid and groups; else someone in at most two groups, with
 /// what only the one and what only the other grants. One bit stands for each permission: READ_DATA, WRITE_DATA and EXECUTE. It
 /// fails only if memory runs out.
 pub fn posix_difference(

@@ -98,7 +98,7 @@ pub(crate) fn who_of(tag: Tag) -> Who
     }
 }
 
-/// An entry's permissions as far as the mask, where there is one, leaves them.
+/// An entry's permissions as far as the mask, if there is one, leaves them.
 fn effective_perms(entry: &Entry, mask: Option<Perms>) -> Perms
     ensures { bits_of result
         ≡ (if is_under_mask entry.now.tag then masked (option_map bits_of mask) entry.now.perms else entry.now.perms) }
@@ -112,7 +112,7 @@ fn effective_perms(entry: &Entry, mask: Option<Perms>) -> Perms
     }
 }
 
-/// Puts an entry behind the others. The list may have one more, so that it fails only if memory runs out.
+/// Puts an entry after the others. The list may have one more, so that it fails only if memory runs out.
 fn push(aces: &mut Acl4, ace: Ace) -> Result<(), AllocError>
     requires room { length aces.old < MAX_ACES }
     requires effective { is_idle ace ≡ false }
@@ -126,7 +126,7 @@ fn push(aces: &mut Acl4, ace: Ace) -> Result<(), AllocError>
     }
 }
 
-/// Puts an entry of these parts behind the others, unless its mask is empty.
+/// Puts an entry of these parts after the others, unless its mask is empty.
 fn push_made(
     aces: &mut Acl4,
     kind: AceType,

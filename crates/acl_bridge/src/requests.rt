@@ -140,7 +140,7 @@ fn unlike_of(
     unlike_for(alloc, first, second, asked, &Who::Everyone)
 }
 
-/// To whom two POSIX lists grant a whole request differently, for a file of this owner and this group: none exactly where they
+/// To whom two POSIX lists grant a whole request differently, for a file of this owner and this group: none exactly if they
 /// grant it to the same requesters, of whatever uid and groups; else someone in at most two groups. It asks the asker of each
 /// pair of entries, at most 65 times 65. It fails only if memory runs out.
 pub fn request_difference(

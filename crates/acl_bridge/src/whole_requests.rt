@@ -87,7 +87,7 @@ fn first_difference(
 }
 
 /// What two POSIX lists decide differently for a file of this owner and this group, of the requests of more than one
-/// permission: none exactly where each is granted as a whole to the same requesters, of whatever uid and groups; else someone
+/// permission: none exactly if each is granted as a whole to the same requesters, of whatever uid and groups; else someone
 /// in at most two groups, who loses or gains the first that isn't, in the order rw, rx, wx, rwx. Lists that decide each single
 /// permission alike may differ so, since one entry has to grant the whole of a request. One bit stands for each permission:
 /// READ_DATA, WRITE_DATA and EXECUTE. It fails only if memory runs out.

@@ -80,7 +80,7 @@ impl<I: Drop, R: Drop> End<I, R> {
         }
     }
 
-    /// Lets both sides know all that lies in the rings. The session is closed where its end is.
+    /// Lets both sides know all that lies in the rings. The session is closed if its end is.
     pub(crate) fn see_beside(&mut self, taker: &mut TakerSide<I, R>)
         requires { IsPaired (side_of self.old) taker.old }
         ensures { EndSeen self.old taker.old self.new taker.new }

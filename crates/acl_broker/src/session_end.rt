@@ -30,7 +30,7 @@ impl<I: Drop, R: Drop> SessionEnd<I, R> {
         self.session
     }
 
-    /// Submits an item, behind those submitted before. `Err` is "full" and gives it back; it comes only where no slot is
+    /// Submits an item, after those submitted before. `Err` is "full" and gives it back; it comes only if no slot is
     /// known to be free, and another try may succeed once the taker has taken.
     pub fn submit(&mut self, item: I) -> Result<(), I>
         ensures same { IsSameEnd (Open self.old) (Open self.new) }
@@ -44,7 +44,7 @@ impl<I: Drop, R: Drop> SessionEnd<I, R> {
         self.side.submit(item)
     }
 
-    /// The next answer, in the order of the journal. `None` where none is seen, which says nothing of later.
+    /// The next answer, in the order of the journal. `None` if none is seen, which says nothing of later.
     pub fn poll(&mut self) -> Option<R>
         ensures same { IsSameEnd (Open self.old) (Open self.new) }
         ensures pairs { StaysEndOf (Open self.old) (Open self.new) }
@@ -57,7 +57,7 @@ impl<I: Drop, R: Drop> SessionEnd<I, R> {
     }
 
     /// Ends the session: nothing can be submitted by the end that comes back, and answers can still be polled. `Err` gives
-    /// the end back as it was, where no slot is known to be free for the end mark.
+    /// the end back as it was, if no slot is known to be free for the end mark.
     pub fn close(self) -> Result<ClosedEnd<I, R>, SessionEnd<I, R>>
         ensures end { MatchResult result
             (λ closed. IsUnmovedEnd (Open self) (Closed closed))

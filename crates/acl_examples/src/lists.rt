@@ -1,4 +1,4 @@
-//! Lists that texts spell, with the names of the examples; none where memory is refused or a text is.
+//! Lists that texts spell, with the names of the examples; none if memory is refused or a text is.
 use crate::office::directory;
 use acl_nfs4::{Acl4, read_aces};
 use acl_posix::{Acl, read_entries};

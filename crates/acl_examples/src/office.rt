@@ -1,4 +1,4 @@
-//! The users and groups of the worked examples; none where memory is refused.
+//! The users and groups of the worked examples; none if memory is refused.
 use acl_names::{Directory, Gid, Group, Uid, User};
 use std::alloc::Global;
 

@@ -88,11 +88,11 @@ set_list known path kind (byte ∷ bytes) =
     else (if bytes_eq kind (codes "default") then set_default known path (byte ∷ bytes)
     else (if bytes_eq kind (codes "nfs4") then set_nfs4 known path (byte ∷ bytes) else Err Syntax))
 
--- `set P KIND TEXT`, where TEXT is what stands behind the word KIND and its blanks
+-- `set P KIND TEXT`, where TEXT is what stands after the word KIND and its blanks
 abbrev pub set : Known → List ℕ → Asked Request
 set known fields = set_list known (first_word fields) (first_word (after_word fields)) (after_word (after_word fields))
 
--- by the command's word, and what stands behind it and its blanks
+-- by the command's word, and what stands after it and its blanks
 unfoldable pub command : Known → List ℕ → List ℕ → Asked Request
 command known word fields =
     if bytes_eq word (codes "get") then get (words fields)

@@ -67,7 +67,7 @@ perms_of text = or_fault BadPerms (option_map (λ bits. record { 0 = bits }) (pe
 abbrev pub mask_of : List ℕ → Asked Mask
 mask_of text = or_fault BadPerms (option_map (λ bits. record { 0 = bits }) (letters_of mask_table text))
 
--- TEXT, where it is an access control list of the posix style
+-- TEXT, if it is an access control list of the posix style
 
 abbrev pub entry_fault : entries.PieceFault → LineFault
 entry_fault entry.Syntax = BadAcl
@@ -92,7 +92,7 @@ acl_of known text = entries_of known text >>= accepted
 abbrev pub default_of : Known → List ℕ → Asked (Option (List EntryValue))
 default_of known text = if bytes_eq text (codes "none") then Ok None else acl_of known text >>= (λ acl. Ok (Some acl))
 
--- TEXT, where it is an access control list of the nfs4 style
+-- TEXT, if it is an access control list of the nfs4 style
 
 abbrev pub ace_fault : aces.PieceFault → LineFault
 ace_fault ace.Syntax = BadAcl

@@ -63,7 +63,7 @@ abbrev pub style_text : NodeAcl → List ℕ
 style_text (Posix access default) = codes "posix"
 style_text (Nfs4 acl) = codes "nfs4"
 
--- a default list, where there is one, with `default:` before each line
+-- a default list, if there is one, with `default:` before each line
 abbrev pub below_text : Known → Option (List EntryValue) → List ℕ
 below_text known None = []
 below_text known (Some default) = default_text known (perms_of Mask default) default

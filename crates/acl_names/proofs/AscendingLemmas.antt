@@ -23,7 +23,7 @@ find-first p (x ∷ xs) (suc at) inside here before =
     ap (λ b. cond b (Some x) (find p xs)) (before zero x (omega arith))
     ∙ find-first p xs at (omega arith) here (λ k d earlier. before (suc k) d (omega arith))
 
--- nothing is found where nothing passes
+-- nothing is found if nothing passes
 pub find-none : {X : Type 0} (p : X → Bool) (xs : List X) → ((k : ℕ) (d : X) → k < length xs → p (get_or xs k d) ≡ false) → find p xs ≡ None
 find-none p [] none = refl
 find-none p (x ∷ xs) none =
@@ -150,7 +150,7 @@ module _ {X K : Type 0} (R : K → K → Ordering) (total : IsTotalOrder R) (key
         list_any_none (λ x. nat_lt 1 (count_by (λ y. same (key y) (key x)) xs)) xs (λ k d inside.
         le-ltb 1 _ (rw (count-same xs (key (get_or xs k d))) (ascending_once xs ascends (key (get_or xs k d)))))
 
-    -- where no key stands twice, whoever has the key is found
+    -- if no key stands twice, whoever has the key is found
     pub find-distinct : (xs : List X) (q : K) → repeats same key xs ≡ false → (at : ℕ) → at < length xs → HoldsAt (λ x. same (key x) q ≡ true) xs at
         → find (λ x. same (key x) q) xs ≡ slice_get xs at
     find-distinct xs q once at inside here =
@@ -169,7 +169,7 @@ module _ {X K : Type 0} (R : K → K → Ordering) (total : IsTotalOrder R) (key
           | inr other ↦ other
         ])
 
-    -- where no key stands twice, what is found by a key does not depend on the order
+    -- if no key stands twice, what is found by a key does not depend on the order
     pub find-permutation : (xs ys : List X) (q : K) → IsPermutation xs ys → repeats same key ys ≡ false
         → find (λ x. same (key x) q) xs ≡ find (λ x. same (key x) q) ys
     find-permutation xs ys q moved once =
@@ -190,7 +190,7 @@ module _ {X K : Type 0} (R : K → K → Ordering) (total : IsTotalOrder R) (key
     find-searched xs q ascends at inside here =
         find-distinct xs q (repeats-ascending xs ascends) at inside (λ d. is_same _ _ ∙ ap is_eq (here d))
 
-    -- and where it finds nothing, nobody has the key
+    -- and if it finds nothing, nobody has the key
     pub find-absent : (xs : List X) (q : K) → IsAscending R key xs → (at : ℕ) → IsBinarySearchResult (λ x. R (key x) q) xs (Err at)
         → find (λ x. same (key x) q) xs ≡ None
     find-absent xs q ascends at searched =

@@ -23,7 +23,7 @@ use Rattle.acl_names.proofs.Indexes.{place_found, none_found}
 use Rattle.acl_names.proofs.Keys.{same_id, same_name}
 use Rattle.acl_names.proofs.MapLemmas.{filter_map-agree}
 
--- the tests in their order, of which the last is asked only where no name stands twice
+-- the tests in their order, of which the last is asked only if no name stands twice
 first_of_tests : Bool → Bool → Bool → Bool → Bool → Option SetupFault
 first_of_tests a b c d e =
     cond a (Some TooMany) (cond b (Some BadName) (cond c (Some RepeatedName) (cond d (Some RepeatedId) (cond e (Some UnknownGroup) None))))
@@ -101,7 +101,7 @@ module _ (domain : List ℕ) (users sorted_users : List KnownUser) (groups sorte
         repeats-permutation nat_cmp nat_cmp_total (λ (group : KnownGroup). group.gid) nat_eq same_id groups sorted_groups moved_groups,
       ) refl
 
-  -- where no name stands twice, names are found alike
+  -- if no name stands twice, names are found alike
   same_user_named : repeats bytes_eq (λ (user : KnownUser). user.name) sorted_users ≡ false → (name : List ℕ) → user_named known name ≡ user_named parts name
   same_user_named once name =
       sym (find-permutation (slice_cmp nat_cmp) nat_list_cmp_total (λ (user : KnownUser). user.name) bytes_eq same_name users sorted_users name moved_users once)
@@ -110,7 +110,7 @@ module _ (domain : List ℕ) (users sorted_users : List KnownUser) (groups sorte
   same_group_named once name =
       sym (find-permutation (slice_cmp nat_cmp) nat_list_cmp_total (λ (group : KnownGroup). group.name) bytes_eq same_name groups sorted_groups name moved_groups once)
 
-  -- and where no id stands twice, ids are
+  -- and if no id stands twice, ids are
   same_user_with : repeats nat_eq (λ (user : KnownUser). user.uid) sorted_users ≡ false → (uid : ℕ) → user_with known uid ≡ user_with parts uid
   same_user_with once uid =
       sym (find-permutation nat_cmp nat_cmp_total (λ (user : KnownUser). user.uid) nat_eq same_id users sorted_users uid moved_users once)
@@ -138,7 +138,7 @@ module _ (domain : List ℕ) (users sorted_users : List KnownUser) (groups sorte
       rw (same_too_many, same_bad_name, same_repeated_name, same_repeated_id) refl in
       same ∙ last_test (is_too_many known) (has_bad_name known) (repeats_name known) (repeats_id known) (has_unknown_group parts) (has_unknown_group known) same_unknown_group
 
-  -- where nothing is wrong, every look-up answers alike
+  -- if nothing is wrong, every look-up answers alike
   pub answers_alike : fault_of known ≡ None → AnswersAs known parts
   unfolding first_of_tests
   answers_alike faultless =
@@ -238,7 +238,7 @@ user_shaped known faultless = found_shaped (λ (user : KnownUser). user.name) kn
 pub group_shaped : (known : Known) → fault_of known ≡ None → (name : List ℕ) (group : KnownGroup) → group_named known name ≡ Some group → has_name_shape name ≡ true
 group_shaped known faultless = found_shaped (λ (group : KnownGroup). group.name) known.groups (names_shaped known faultless).1
 
--- where nothing is wrong, names can be told apart
+-- if nothing is wrong, names can be told apart
 pub tells_names_apart : (known : Known) → fault_of known ≡ None → TellsNamesApart known
 unfolding first_of_tests
 tells_names_apart known faultless =
@@ -285,7 +285,7 @@ ready_found known user_places group_places requesters is uid place found =
           ∙ ap (option_map (as_requester known)) (ap (slice_get known.users) here ∙ sym at.found) ∙ found_asks known uid,
     )
 
--- and where none is found, no user has the uid
+-- and if none is found, no user has the uid
 pub none_ready : (known : Known) (user_places group_places : List (ℕ × ℕ)) (requesters : List Identity) → IsDirectory known user_places group_places requesters
     → (uid : ℕ) → None ≡ option_map (λ entry. entry.1) (find (λ entry. entry.0 == uid) user_places)
     → option_map (λ _. requester_of known uid) (user_with known uid) ≡ None

@@ -87,7 +87,7 @@ pub found_name_is_short : (id_of : List ℕ → Option ℕ) (name_of : ℕ → O
 found_name_is_short id_of name_of id back None is = tt
 found_name_is_short id_of name_of id back (Some name) is = name_is_short name.now (back id name.now (sym is)).0
 
--- digits write their value, where there are 1 to 10 and it is an id
+-- digits write their value, if there are 1 to 10 and it is an id
 pub decimal_is : (text : List ℕ) → list_all is_ascii_digit text ≡ true → 1 ≤ length text → length text ≤ MAX_DIGITS → digits_value 10 text ≤ MAX_ID
     → decimal_value text ≡ Some (digits_value 10 text)
 decimal_is text digits some few small =

@@ -45,7 +45,7 @@ module _ {X : Type 0} (id_of : X → ℕ) where
       ∙ ap (λ m. cond (id_of x == id) 1 0 + m) (count-entries id (n + 1) xs)
       ∙ sym (count_by-cons (λ member. id_of member == id) x xs)
 
-  -- an id stands twice among the entries where two members have it
+  -- an id stands twice among the entries if two members have it
   repeats-entries : (n : ℕ) (members : List X) → repeats nat_eq entry_id (entries_from n members) ≡ repeats nat_eq id_of members
   repeats-entries n members =
       list_any-agree (λ entry. nat_lt 1 (count_by (λ other. entry_id other == entry_id entry) (entries_from n members)))
@@ -64,7 +64,7 @@ module _ {X : Type 0} (id_of : X → ℕ) where
         | false ↦ place-entries id (n + 1) xs
       ]
 
-  -- the entries in the order of their ids are an index, where no two members have one id
+  -- the entries in the order of their ids are an index, if no two members have one id
   pub index_from_sorted : (members : List X) (index : List (ℕ × ℕ)) → repeats nat_eq id_of members ≡ false
       → IsPermutation (ids_with_places id_of members) index → IsSortedByKey entry_id nat_cmp index → IsIndexOf id_of members index
   index_from_sorted members index distinct moved sorted =
@@ -111,7 +111,7 @@ pub place_found : {X : Type 0} (id_of : X → ℕ) (members : List X) (index : L
     → Some place ≡ option_map (λ entry. entry.1) (find (λ entry. entry.0 == id) index) → IsPlaceOf (λ member. id_of member == id) 0 members place
 place_found id_of members index is id place found = place_of (λ member. id_of member == id) 0 members place (sym (is.places id) ∙ sym found)
 
--- and where it has none, no member has the id
+-- and if it has none, no member has the id
 pub none_found : {X : Type 0} (id_of : X → ℕ) (members : List X) (index : List (ℕ × ℕ)) → IsIndexOf id_of members index → (id : ℕ)
     → None ≡ option_map (λ entry. entry.1) (find (λ entry. entry.0 == id) index) → find (λ member. id_of member == id) members ≡ None
 none_found id_of members index is id none = no_place (λ member. id_of member == id) 0 members (sym (is.places id) ∙ sym none)

@@ -48,7 +48,7 @@ row_set row bits one set =
     let same : bit_and bits row.bit ≡ bit_at bits one.0 * 2 ^ one.0 = ap (bit_and bits) one.1 ∙ and_pow bits one.0 in
     one_bit (bit_at bits one.0) (2 ^ one.0) (bit_and bits row.bit) (bit_at-lt bits one.0) same set ∙ sym one.1
 
--- one more row, where what is set of the others is known
+-- one more row, if what is set of the others is known
 one_row_more : (row : Letter) (rows : List Letter) (bits i : ℕ) → HasOneBit row → bit_at (bits_of_rows (rows_set rows bits)) i ≡ min (bit_at bits i) (bit_at (bits_of_rows rows) i)
     → (t : Bool) → (bit_and bits row.bit == 0) ≡ t → bit_at (bits_of_rows (cond (not t) (row ∷ rows_set rows bits) (rows_set rows bits))) i ≡ min (bit_at bits i) (bit_at (bits_of_rows (row ∷ rows)) i)
 one_row_more row rows bits i one others false set =
@@ -99,7 +99,7 @@ absent letter p (row ∷ rows) none =
       | false ↦ others
     ]
 
--- letters that stand nowhere in front are still new behind another letter
+-- letters that stand nowhere in front are still new after another letter
 still_new : (letter : ℕ) (front : List ℕ) (rows : List Letter) → list_any (λ (r : Letter). r.letter == letter) rows ≡ false
     → AllByRecursion (λ (r : Letter). occurrences r.letter front ≡ 0) rows → AllByRecursion (λ (r : Letter). occurrences r.letter (front ++ letter ∷ []) ≡ 0) rows
 still_new letter front [] none new = tt
@@ -110,7 +110,7 @@ still_new letter front (row ∷ rows) none new =
       still_new letter front rows parts.1 new.1,
     )
 
--- how often each row's letter stands in a text: once where the row passes, else not at all
+-- how often each row's letter stands in a text: once if the row passes, else not at all
 abbrev Counts : (Letter → Bool) → List Letter → List ℕ → Type 0
 Counts p rows text = AllByRecursion (λ (r : Letter). occurrences r.letter text ≡ cond (p r) 1 0) rows
 
@@ -196,7 +196,7 @@ counted : (n : ℕ) (t : Bool) → (n == 0) ≡ t → (n ≡ 0 → ⊥) → cond
 counted n true e some = absurd (some ((Decides-eqb n 0).0 e))
 counted n false e some = refl
 
--- where a row comes whose bits are set, the letters so far are fewer than all
+-- if a row comes whose bits are set, the letters so far are fewer than all
 pub letter_to_come : (table : List Letter) (bits i : ℕ) (row : Letter) → i < length table → (bit_and bits (get_or table i row).bit ≡ 0 → ⊥)
     → length (letters_text (take i table) bits) + 1 ≤ length (letters_text table bits)
 letter_to_come table bits i row inside set =

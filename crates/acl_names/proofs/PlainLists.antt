@@ -9,7 +9,7 @@ use Rattle.acl_names.specs.ListText.{Say}
 use Rattle.acl_names.proofs.ListTextLemmas.{Say-push}
 use Rattle.acl_names.proofs.PlainLines.{Lacks, LacksBlanks, plain_lacks_blanks, plain_lacks_newline, plain_lacks_hash, plain_lacks_comma, trim_same, before_no_hash}
 
--- what has been read of a line: pieces, each with a comma behind it
+-- what has been read of a line: pieces, each with a comma after it
 pub record IsLineFront (line : List ℕ) (front : List (List ℕ)) : Type 0 where
   pub blanks : LacksBlanks line
   pub newlines : Lacks newline line

@@ -8,6 +8,6 @@ use Rattle.std.specs.declared.cmp.Ordering.TheVariants.{Less}
 abbrev pub repeats : {X K : Type 0} → (K → K → Bool) → (X → K) → List X → Bool
 repeats same key members = list_any (λ one. nat_lt 1 (count_by (λ other. same (key other) (key one)) members)) members
 
--- each member's key is below those of the members behind it
+-- each member's key is below those of the members after it
 abbrev pub IsAscending : {X K : Type 0} → (K → K → Ordering) → (X → K) → List X → Type 0
 IsAscending cmp key members = AllPairs (λ one later. cmp (key one) (key later) ≡ Less) members

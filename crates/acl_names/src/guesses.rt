@@ -54,7 +54,7 @@ pub(crate) fn find_by_hash<'a, T: Named>(
     find_by_bytes(members, name)
 }
 
-/// The same where the guess for the hash is right.
+/// The same if the guess for the hash is right.
 fn guessed<'a, T: Named>(members: &'a [T], guesses: &[u16], hash: u64, name: &[u8]) -> Option<&'a T>
     requires { IsAscending (slice_cmp nat_cmp) T.name_of members.now }
     ensures { IfSome result (λ member. find (λ other. bytes_eq (T.name_of other) name.now) members.now ≡ Some member.now) }

@@ -23,7 +23,7 @@ pub const MAX_ID: u32 = 4_294_967_294;
 /// The most digits of an id.
 pub const MAX_DIGITS: usize = 10;
 
-/// The uid that systems give to nobody: where someone is wanted whom no list names, the search begins here.
+/// The uid that systems give to nobody: if someone is wanted whom no list names, the search begins here.
 pub const NOBODY: u32 = 65534;
 
 /// The limits as numbers. There is nothing to run here: a proof cites the contract.

@@ -1,4 +1,4 @@
--- What keeps an entry an entry: no bit without a name, and the group flag exactly where it names a group.
+-- What keeps an entry an entry: no bit without a name, and the group flag exactly if it names a group.
 use Rattle.std.proofs.Common.{◌≡◌, ℕ, ◌^◌, Bool, true, false, not, ◌&&◌, ◌||◌, refl, sym, ap, subst, ◌∙◌, inl, inr, ◌⊎◌}
 use Rattle.std.proofs.lemmas.Bool.{and_parts, or_cases}
 use Rattle.acl_names.specs.Bits.{has, without, ◌∩◌, ◌∪◌}

@@ -41,7 +41,7 @@ module _ (applies : Who → Bool) (whole : List Nfsace4) (bits : ℕ) where
       → AreFound applies whole bits (ace ∷ rest) allowed undecided → AreFound applies whole bits rest allowed (without undecided ace.mask)
   AreFound-deny ace rest allowed undecided concerned deny so_far bit = so_far bit ∙ found-deny applies ace rest allowed undecided bit concerned deny
 
-  -- where no bit is open, all are found, and so they are at the end of the list
+  -- if no bit is open, all are found, and so they are at the end of the list
   pub AreFound-none : (rest : List Nfsace4) (allowed undecided : ℕ) → undecided ≡ 0 → AreFound applies whole bits rest allowed undecided
       → AreAllowed applies whole bits allowed
   AreFound-none rest allowed undecided none so_far bit =
@@ -101,12 +101,12 @@ pub match_then : {X : Type 0} (r : Option X) (A B : Type 0) (Q : X → Type 0) �
 match_then None A B Q is then = then is
 match_then (Some x) A B Q is then = is
 
--- there is none exactly where none was to be found
+-- there is none exactly if none was to be found
 pub none_exactly : {X : Type 0} (r : Option X) (A B : Type 0) (Q : X → Type 0) → MatchOption r A Q → (A → B) → ((x : X) → Q x → B → ⊥) → (r ≡ None) ↔ B
 none_exactly None A B Q is then contrary = (λ e. then is, λ b. refl)
 none_exactly (Some x) A B Q is then contrary = (λ e. absurd cc, λ b. absurd (contrary x is b))
 
--- where there is a difference, not all is decided alike
+-- if there is a difference, not all is decided alike
 pub difference_tells : (before after : Decider) (bits : ℕ) (difference : Difference)
     → IsDifference before after bits difference → DecideAlike before after bits → ⊥
 difference_tells before after bits difference is alike =

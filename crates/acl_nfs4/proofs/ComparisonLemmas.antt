@@ -16,7 +16,7 @@ use Rattle.acl_nfs4.proofs.EvaluationLoop.{allows-cons}
 
 -- ---- fewer entries apply, but the first that speaks still does
 
--- whom the first entry that speaks of the bit is about; everyone, where none speaks
+-- whom the first entry that speaks of the bit is about; everyone, if none speaks
 abbrev pub speaker : (Who → Bool) → ℕ → List Nfsace4 → Who
 speaker applies bit aces = unwrap_or (option_map (λ (ace : Nfsace4). ace.who) (find (speaks applies bit) aces)) Everyone
 
@@ -107,7 +107,7 @@ eqb-refl : (n : ℕ) → (n == n) ≡ true
 eqb-refl n = eq-eqb n n refl
 
 module _ (owner group : ℕ) (requester : Identity) where
-  -- the groups that one needs for an entry to apply are the requester's, where it applies to the requester
+  -- the groups that one needs for an entry to apply are the requester's, if it applies to the requester
   needed_is_own : (who : Who) (gid : ℕ) → matches owner group requester who ≡ true
       → list_any (λ own. own == gid) (option_to_list (needed_gid group who)) ≡ true → is_in_group requester gid ≡ true
   needed_is_own Owner gid is any = absurd (true≢false (sym any))

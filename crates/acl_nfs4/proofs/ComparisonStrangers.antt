@@ -23,7 +23,7 @@ module _ {X : Type 0} where
       go rest true = omega arith
       go rest false = omega arith
 
-  -- without those that pass there is one fewer, where one passes
+  -- without those that pass there is one fewer, if one passes
   one_fewer : (t : X → Bool) (xs : List X) → list_any t xs ≡ true → length (filter (λ x. not (t x)) xs) + 1 ≤ length xs
   one_fewer t [] any = absurd (true≢false (sym any))
   one_fewer t (x ∷ xs) any = go (one_fewer t xs) (fewer (λ y. not (t y)) xs) (t x) any
@@ -49,7 +49,7 @@ module _ {X : Type 0} where
       go None is = absurd (true≢false (sym is))
       go (Some m) is = differs m is (m == n) refl
 
-  -- where each of n numbers that differ is that of an element, there are at least n elements
+  -- if each of n numbers that differ is that of an element, there are at least n elements
   pub enough : (f : X → Option ℕ) (numbers : ℕ → ℕ) (n : ℕ) (xs : List X)
       → ((j k : ℕ) → j < k → k < n → numbers j ≢ numbers k)
       → ((k : ℕ) → k < n → list_any (λ x. is_at (numbers k) (f x)) xs ≡ true) → n ≤ length xs

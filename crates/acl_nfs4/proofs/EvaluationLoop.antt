@@ -123,7 +123,7 @@ module _ (applies : Who → Bool) where
         λ g. so_far.1 (subst (λ xs. Grants applies xs before) (sym split) (step.1 g)),
       )
 
-  -- where the entry denies, the whole is not granted
+  -- if the entry denies, the whole is not granted
   pub denied-here : (whole : Type 0) (aces : List Nfsace4) (i : ℕ) (ace : Nfsace4) (before : ℕ) → i < length aces → ace ≡ get_or aces i ace
       → (Grants applies (ace ∷ drop (i + 1) aces) before → ⊥)
       → whole ↔ Grants applies (drop i aces) before
@@ -136,7 +136,7 @@ module _ (applies : Who → Bool) where
 
 -- ---- what is allowed, bit by bit
 
--- a bit is allowed where it was found to be, or is open and allowed by the rest
+-- a bit is allowed if it was found to be, or is open and allowed by the rest
 abbrev pub found : Bool → Bool → Bool → Bool
 found allowed undecided rest = allowed || (undecided && rest)
 
@@ -197,7 +197,7 @@ module _ (applies : Who → Bool) (whole : List Nfsace4) where
       → IsFound applies whole (ace ∷ rest) allowed undecided → IsFound applies whole rest allowed (without undecided ace.mask)
   IsFound-deny ace rest allowed undecided concerned deny so_far bit of_mode = so_far bit of_mode ∙ found-deny applies ace rest allowed undecided bit concerned deny
 
-  -- where no bit is open, all are found, and so they are at the end of the list
+  -- if no bit is open, all are found, and so they are at the end of the list
   pub IsFound-none : (rest : List Nfsace4) (allowed undecided : ℕ) → undecided ≡ 0 → IsFound applies whole rest allowed undecided
       → (bit : ℕ) → has mode_bits bit ≡ true → has allowed bit ≡ allows applies bit whole
   IsFound-none rest allowed undecided none so_far bit of_mode =

@@ -33,7 +33,7 @@ has-filter p (row ∷ rows) k set = has-rows row rows k ∙ go (has-filter p row
         ap (λ t. t || has (bits_of_rows rows) k) here ∙ inside later
     go inside false false here set = ap (λ t. t || has (bits_of_rows rows) k) here ∙ inside set
 
--- rows that pass the second test have no bit that those lack which pass the first, where the second is the stronger
+-- rows that pass the second test have no bit that those lack which pass the first, if the second is the stronger
 has-stronger : (p q : Letter → Bool) → ((row : Letter) → q row ≡ true → p row ≡ true) → (rows : List Letter) (k : ℕ)
     → has (bits_of_rows (filter q rows)) k ≡ true → has (bits_of_rows (filter p rows)) k ≡ true
 has-stronger p q stronger [] k set = set

@@ -70,7 +70,7 @@ denies-none who ace allows = ap (λ b. decides ace && (b && same_who ace.who who
     and_false true = refl
     and_false false = refl
 
--- where no entry denies a who anything, nothing is denied
+-- if no entry denies a who anything, nothing is denied
 pub denied-none : (who : Who) (aces : List Nfsace4) → list_any (denies_by_name who) aces ≡ false → denied_to who aces ≡ 0
 denied-none who [] none = refl
 denied-none who (ace ∷ aces) none = go (denied-none who aces) (denies_by_name who ace) refl none

@@ -51,7 +51,7 @@ HasBits-mask_of : (perms : ℕ) → HasBits (mask_of perms) (has perms 2) (has p
 unfolding mask_of mask_from
 HasBits-mask_of perms = HasBits-mask_from (has perms 2) (has perms 1) (has perms 0)
 
--- a mask has a bit of the mode where the permissions have what it stands for
+-- a mask has a bit of the mode if the permissions have what it stands for
 pub has-mask_of : (perms k : ℕ) → has mode_bits k ≡ true → has (mask_of perms) k ≡ has perms (permission_of k)
 has-mask_of perms k =
     let bits = HasBits-mask_of perms in

@@ -23,7 +23,7 @@ use Rattle.acl_nfs4.proofs.EvaluationMode.{shown_to-allows}
 use Rattle.acl_nfs4.proofs.EvaluationLemmas.{or_else, verdict-append, verdict-allow, verdict-deny}
 
 module _ (applies : Who → Bool) (bit : ℕ) where
-  -- where no entry speaks, nothing is said
+  -- if no entry speaks, nothing is said
   verdict-silent : (aces : List Nfsace4) → list_any (speaks applies bit) aces ≡ false → verdict applies bit aces ≡ None
   verdict-silent [] none = refl
   verdict-silent (ace ∷ aces) none = go (speaks applies bit ace) none (verdict-silent aces)
@@ -36,7 +36,7 @@ module _ (applies : Who → Bool) (bit : ℕ) where
   abbrev speaks_for : Nfsace4 → Bool
   speaks_for ace = speaks applies bit ace && is_allow ace.kind
 
-  -- where some entry speaks and none of those allows, the bit is denied
+  -- if some entry speaks and none of those allows, the bit is denied
   verdict-denied : (aces : List Nfsace4) → list_any (speaks applies bit) aces ≡ true → list_any speaks_for aces ≡ false → verdict applies bit aces ≡ Some false
   verdict-denied [] some none = absurd (true≢false (sym some))
   verdict-denied (ace ∷ aces) some none = go (speaks applies bit ace) some none (is_allow ace.kind) refl (verdict-denied aces)

@@ -24,7 +24,7 @@ same_who-sym who other = go (same_who who other) refl (same_who other who) refl
     go false ea true eb =
         absurd (true≢false (sym (ap (λ w. same_who who w) (same_who-true other who eb) ∙ same_who-refl who) ∙ ea))
 
--- one more who is added where it is not there
+-- one more who is added if it is not there
 pub distinct-push : (whos : List Who) (who : Who) → distinct (whos ++ who ∷ []) ≡ cond (member who whos) (distinct whos) (distinct whos ++ who ∷ [])
 distinct-push [] who = refl
 distinct-push (first ∷ whos) who =
@@ -98,7 +98,7 @@ named_in-more xs (y ∷ ys) =
     added false before = ([], sym (append-nil (named_in xs)))
 
 module _ (f : Who → List Nfsace4) (aces : List Nfsace4) (i : ℕ) (ace : Nfsace4) (inside : i < length aces) (here : ace ≡ get_or aces i ace) where
-  -- what is made for whom the entries name, where an entry names someone new
+  -- what is made for whom the entries name, if an entry names someone new
   pub made-new : names_someone ace ≡ true → list_any (names ace.who) (take i aces) ≡ false
       → flat_map f (named_in (take (i + 1) aces)) ≡ flat_map f (named_in (take i aces)) ++ f ace.who
   made-new someone new =
@@ -108,7 +108,7 @@ module _ (f : Who → List Nfsace4) (aces : List Nfsace4) (i : ℕ) (ace : Nfsac
       ∙ flat_map-append f (named_in (take i aces)) (ace.who ∷ [])
       ∙ ap (λ xs. flat_map f (named_in (take i aces)) ++ xs) (append-nil (f ace.who))
 
-  -- where it names someone who was named before
+  -- if it names someone who was named before
   pub made-again : list_any (names ace.who) (take i aces) ≡ true
       → flat_map f (named_in (take (i + 1) aces)) ≡ flat_map f (named_in (take i aces))
   made-again before =
@@ -121,14 +121,14 @@ module _ (f : Who → List Nfsace4) (aces : List Nfsace4) (i : ℕ) (ace : Nfsac
       same true = refl
       same false = refl
 
-  -- and where it names nobody
+  -- and if it names nobody
   pub made-none : names_someone ace ≡ false → flat_map f (named_in (take (i + 1) aces)) ≡ flat_map f (named_in (take i aces))
   made-none none =
       ap (flat_map f)
       (named_in-next aces i ace inside here
       ∙ ap (λ s. cond s (cond (list_any (names ace.who) (take i aces)) (named_in (take i aces)) (named_in (take i aces) ++ ace.who ∷ [])) (named_in (take i aces))) none)
 
-  -- what is made for someone new stands in the whole, with the rest behind it
+  -- what is made for someone new stands in the whole, with the rest after it
   pub made-ahead : names_someone ace ≡ true → list_any (names ace.who) (take i aces) ≡ false
       → (rest : List Nfsace4) × (flat_map f (named_in (take i aces)) ++ (f ace.who ++ rest) ≡ flat_map f (named_in aces))
   made-ahead someone new =

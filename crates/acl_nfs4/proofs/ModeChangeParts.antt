@@ -94,7 +94,7 @@ kept_of-rest group ace d i =
 
 -- ---- lists that are too long
 
--- what is too long stays too long with more behind it
+-- what is too long stays too long with more after it
 pub too_long-more : (most : ℕ) (front more : List Nfsace4) → IsTooLong most front → IsTooLong most (front ++ more)
 too_long-more most front more long = omega (arith, length-append front more, long)
 

@@ -117,7 +117,7 @@ module _ (aces : List Nfsace4) (mode : Classes) where
       (kept-for_others mode.group mode.group mode.other)
       ∙ append-nil middle)
 
-  -- a test that fails on the entries for the special identifiers passes on the whole where it does on the middle
+  -- a test that fails on the entries for the special identifiers passes on the whole if it does on the middle
   any-with_mode : (test : Nfsace4 → Bool)
       → list_any test (with_mode aces mode)
       ≡ (list_any test (for_owner mode.user) || (list_any test middle || list_any test (for_others mode.group mode.other)))

@@ -61,7 +61,7 @@ idle_fault ace e = go (is_idle ace) e
     go true e = refl
     go false e = cc
 
--- ---- the steps of a piece, each with those behind it
+-- ---- the steps of a piece, each with those after it
 
 abbrev after_mask : Known → AceType → ℕ → WrittenWho → ℕ → Result Nfsace4 PieceFault
 after_mask known kind flags written mask = or_fault UnknownName (resolved_who known (has flags identifier_group) written) >>= (λ who. refuse_idle (ace_of kind flags who mask))
@@ -99,7 +99,7 @@ misshapen_anywhere known other piece =
 
 -- ---- what a piece with another fault is made of
 
--- its shape, behind which the fault lies
+-- its shape, after which the fault lies
 abbrev ShapedBefore : Known → List ℕ → PieceFault → Type 0
 ShapedBefore known piece fault = (shape : Shaped piece) × (after_mask known shape.kind shape.flags shape.written shape.mask ≡ Err fault)
 

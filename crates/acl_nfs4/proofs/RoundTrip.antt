@@ -106,7 +106,7 @@ parts_digits text digits =
 
 -- ---- an entry's flags and mask are those of its parts
 
--- the group flag stands where it is to stand
+-- the group flag stands if it is to stand
 flags_for-same : (who : Who) (flags : ℕ) → has flags identifier_group ≡ is_named_group who → flags_for who flags ≡ flags
 flags_for-same who flags stands = same_bits _ _ (λ k.
     has-or (without flags 64) (flags_of_who who) k

@@ -130,7 +130,7 @@ special_says known is_group word written who e r =
     go false eo false eg true ev e = is_everyone (resolves form.Everyone (cc)) (behind (codes "EVERYONE") ev)
     go false eo false eg false ev e = absurd (cc)
 
--- a name in a domain, which is the directory's where it is resolved
+-- a name in a domain, which is the directory's if it is resolved
 name_at_says : (known : Known) (is_group : Bool) (name domain : List ℕ) (written : WrittenWho) (who : Who)
     → name_at (written_id name) domain ≡ Some written → resolved_who known is_group written ≡ Some who
     → IsWho known is_group (name ++ at_sign ∷ domain) who

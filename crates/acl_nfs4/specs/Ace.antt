@@ -28,13 +28,13 @@ is_audit_or_alarm Audit = true
 is_audit_or_alarm Alarm = true
 is_audit_or_alarm _ = false
 
--- an entry has no bit without a name, and the group flag exactly where it names a group
+-- an entry has no bit without a name, and the group flag exactly if it names a group
 pub record IsAce (ace : Nfsace4) : Type 0 where
   pub known_flags : ace.flags ∩ all_flags ≡ ace.flags
   pub known_mask : ace.mask ∩ all_masks ≡ ace.mask
   pub group_flag : has ace.flags identifier_group ≡ is_named_group ace.who
 
--- the flags, with the group flag where the who is a named group, and without it elsewhere
+-- the flags, with the group flag if the who is a named group, and without it elsewhere
 abbrev pub flags_for : Who → ℕ → ℕ
 flags_for who flags = without flags (2 ^ identifier_group) ∪ flags_of_who who
 

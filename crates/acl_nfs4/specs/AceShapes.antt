@@ -30,7 +30,7 @@ WritesName known text name =
 abbrev pub WritesId : Known → (List ℕ → Option ℕ) → List ℕ → ℕ → Type 0
 WritesId known id_of text id = (decimal_value text ≡ Some id) ⊎ ((name : List ℕ) × WritesName known text name × (id_of name ≡ Some id))
 
--- how each who is written: a name or a decimal is a group's where the flag g stands, and else a user's
+-- how each who is written: a name or a decimal is a group's if the flag g stands, and else a user's
 abbrev pub IsWho : Known → Bool → List ℕ → Who → Type 0
 IsWho known is_group text Owner = text ≡ codes "OWNER@"
 IsWho known is_group text Group = text ≡ codes "GROUP@"

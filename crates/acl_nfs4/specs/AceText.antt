@@ -69,7 +69,7 @@ who_of_parts _ = None
 abbrev pub written_who : List ℕ → Option WrittenWho
 written_who text = who_of_parts (parts at_sign text)
 
--- the user or, where the flag g stands, the group that has what is written
+-- the user or, if the flag g stands, the group that has what is written
 abbrev pub named : Known → Bool → Written → Option Who
 named known true written = option_map (λ gid. who.NamedGroup gid) (resolved (gid_of known) written)
 named known false written = option_map (λ uid. who.User uid) (resolved (uid_of known) written)

@@ -41,7 +41,7 @@ needed_gid group Group = Some group
 needed_gid group (NamedGroup gid) = Some gid
 needed_gid group _ = None
 
--- one to whom both entries apply, if they apply to anybody at once: a stranger, where neither asks for a user
+-- one to whom both entries apply, if they apply to anybody at once: a stranger, if neither asks for a user
 abbrev pub asker_for : ℕ → ℕ → ℕ → Who → Who → Identity
 asker_for owner group stranger who other = record {
   uid = unwrap_or (needed_uid owner who) (unwrap_or (needed_uid owner other) stranger);

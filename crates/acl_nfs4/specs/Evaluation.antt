@@ -8,7 +8,7 @@ use Rattle.acl_posix.specs.Mode.{Classes}
 use Rattle.acl_nfs4.specs.declared.who.Who.{Who}
 use Rattle.acl_nfs4.specs.declared.who.Who.TheVariants.{Owner, Group, Everyone}
 
--- whether the entry speaks of the bit, where its who applies
+-- whether the entry speaks of the bit, if its who applies
 unfoldable pub speaks : (Who → Bool) → ℕ → Nfsace4 → Bool
 speaks applies bit ace = decides ace && (applies ace.who && has ace.mask bit)
 
@@ -20,7 +20,7 @@ verdict applies bit aces = option_map (λ ace. is_allow ace.kind) (find (speaks 
 abbrev pub allows : (Who → Bool) → ℕ → List Nfsace4 → Bool
 allows applies bit aces = unwrap_or (verdict applies bit aces) false
 
--- a mask is granted where each of its bits is
+-- a mask is granted if each of its bits is
 abbrev pub Grants : (Who → Bool) → List Nfsace4 → ℕ → Type 0
 Grants applies aces mask = (bit : ℕ) → IsTrue (has mask bit) → IsTrue (allows applies bit aces)
 

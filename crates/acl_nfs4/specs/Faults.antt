@@ -4,7 +4,7 @@ use Rattle.acl_names.specs.Directory.{Known, fault_of}
 use Rattle.acl_nfs4.specs.Ace.{Nfsace4, is_idle}
 use Rattle.acl_nfs4.specs.AceShapes.{WritesAce}
 
--- the piece writes an entry where there are these users and groups, whether or not it has an effect
+-- the piece writes an entry if there are these users and groups, whether or not it has an effect
 abbrev pub IsWritten : Known → List ℕ → Type 0
 IsWritten known piece = (ace : Nfsace4) × WritesAce known piece ace
 

@@ -7,7 +7,7 @@ use Rattle.acl_nfs4.specs.Ace.{Nfsace4}
 use Rattle.acl_nfs4.specs.declared.inheritance.Kind.{Kind}
 use Rattle.acl_nfs4.specs.declared.inheritance.Kind.TheVariants.{File, Dir}
 
--- the inheritance flags of the entry below, where it is inherited, by whether the parent's entry
+-- the inheritance flags of the entry below, if it is inherited, by whether the parent's entry
 -- is for files, is for directories, and stops there
 abbrev pub flags_below : Kind → Bool → Bool → Bool → Option ℕ
 flags_below File true for_directories stops = Some 0

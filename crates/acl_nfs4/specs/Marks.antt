@@ -9,6 +9,6 @@ use Rattle.acl_nfs4.specs.declared.who.Who.{Who}
 abbrev pub mark_of : Who → ℕ
 mark_of who = id_of who % MARKS
 
--- where a who has no mark, no entry passes the test of this who
+-- if a who has no mark, no entry passes the test of this who
 abbrev pub IsMarked : (Who → Nfsace4 → Bool) → List Bool → List Nfsace4 → Type 0
 IsMarked test marks aces = (who : Who) → slice_index_or marks (mark_of who) true ≡ false → list_any (test who) aces ≡ false

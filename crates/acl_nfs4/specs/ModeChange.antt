@@ -66,7 +66,7 @@ denied_to who aces = union (map (λ ace. ace.mask) (filter (denies_by_name who) 
 abbrev pub denial_of : ℕ → List Nfsace4 → Who → List Nfsace4
 denial_of group aces who = plain Deny who (without (rest_of group) (denied_to who aces))
 
--- the entries in front, for the owner, and behind, for the group and everyone
+-- the entries that stand first, for the owner, and last, for the group and everyone
 abbrev pub for_owner : ℕ → List Nfsace4
 for_owner user = plain Allow Owner (mask_of user) ++ plain Deny Owner (rest_of user)
 

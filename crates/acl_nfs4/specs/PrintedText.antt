@@ -18,7 +18,7 @@ type_text Deny = codes "D"
 type_text Audit = codes "U"
 type_text Alarm = codes "L"
 
--- `name@domain` where there is a name, else the decimal
+-- `name@domain` if there is a name, else the decimal
 abbrev pub named_text : Option (List ℕ) → List ℕ → ℕ → List ℕ
 named_text (Some name) domain id = name ++ at_sign ∷ domain
 named_text None domain id = decimal id

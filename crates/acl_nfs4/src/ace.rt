@@ -44,7 +44,7 @@ impl AceType {
 }
 
 /// An entry of an access control list (RFC 8881, section 6.2.1). It has no bit without a name, and the flag
-/// `IDENTIFIER_GROUP` exactly where it names a group.
+/// `IDENTIFIER_GROUP` exactly if it names a group.
 #[derive(Clone, Copy, Debug, PartialEq, Eq)]
 pub struct Ace {
     kind: AceType,
@@ -92,7 +92,7 @@ impl Ace {
     ghost use Rattle.acl_nfs4.specs.Mask.{all_masks};
     ghost use Rattle.acl_nfs4.specs.Who.{flags_of_who};
 
-    /// The entry of these parts. It sets `IDENTIFIER_GROUP` where `who` is a named group and clears it elsewhere, and leaves
+    /// The entry of these parts. It sets `IDENTIFIER_GROUP` if `who` is a named group and clears it elsewhere, and leaves
     /// out bits without a name.
     pub fn new(kind: AceType, flags: Flags, who: Who, mask: Mask) -> Ace
         ensures { result ≡ ace_of kind (flag_bits flags) who (mask_bits mask) }
@@ -113,7 +113,7 @@ impl Ace {
         self.kind
     }
 
-    /// The flags, with `IDENTIFIER_GROUP` exactly where the entry names a group.
+    /// The flags, with `IDENTIFIER_GROUP` exactly if the entry names a group.
     pub fn flags(&self) -> Flags
         ensures value { flag_bits result ≡ self.now.flags }
         ensures ace { IsAce self.now }

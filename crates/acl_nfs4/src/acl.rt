@@ -73,7 +73,7 @@ impl Acl4 {
         Acl4 { aces }
     }
 
-    /// Puts the entry behind the others. It is refused with `TooMany` where there are 128, then with `InheritOnly`, then
+    /// Puts the entry after the others. It is refused with `TooMany` if there are 128, then with `InheritOnly`, then
     /// with `Memory`; the list is as before then.
     pub fn push(&mut self, ace: Ace) -> Result<(), AceFault>
         ensures ok { OnOk result (self.new ≡ self.old ++ ace ∷ []) }

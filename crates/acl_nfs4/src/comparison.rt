@@ -83,7 +83,7 @@ impl Who {
     }
 }
 
-/// One to whom entries about both apply, if they apply to anybody at once: the stranger, where neither asks for a user.
+/// One to whom entries about both apply, if they apply to anybody at once: the stranger, if neither asks for a user.
 pub fn asker_for(owner: Uid, group: Gid, stranger: Uid, who: &Who, other: &Who) -> Asker
     ensures { identity_of result ≡ asker_for owner group stranger who.now other.now }
 {
@@ -239,7 +239,7 @@ fn difference_of(first: &[Ace], second: &[Ace], question: &Question) -> Option<D
 
 impl Acl4 {
     /// What this list and another decide differently of these bits, for a file of this owner and this group: none exactly
-    /// where they decide alike for every requester, of whatever uid and groups; else someone in at most two groups, with what
+    /// if they decide alike for every requester, of whatever uid and groups; else someone in at most two groups, with what
     /// only this list and what only the other allows. It asks for the asker of each pair of entries, at most 129 times 129,
     /// and takes no memory.
     pub fn difference(&self, other: &Acl4, owner: Uid, group: Gid, bits: Mask) -> Option<Difference>

@@ -53,7 +53,7 @@ impl<const N: usize> Draft<N> {
         let _ = &self.aces;
     }
 
-    /// Puts the entry behind the others. It fails only if memory runs out, and not up to `N` entries.
+    /// Puts the entry after the others. It fails only if memory runs out, and not up to `N` entries.
     pub(crate) fn push_within(&mut self, ace: Ace) -> Result<(), Full>
         requires room { length self.old < MAX_ACES }
         requires effective { is_idle ace ≡ false }
@@ -68,7 +68,7 @@ impl<const N: usize> Draft<N> {
         }
     }
 
-    /// Puts the entry behind the others, unless there is no room.
+    /// Puts the entry after the others, unless there is no room.
     pub(crate) fn push(&mut self, ace: Ace) -> Result<(), Full>
         requires { is_idle ace ≡ false }
         ensures ok { OnOk result (self.new ≡ self.old ++ ace ∷ []) }
@@ -80,7 +80,7 @@ impl<const N: usize> Draft<N> {
         self.push_within(ace)
     }
 
-    /// Puts the entry behind the others, unless its mask is empty.
+    /// Puts the entry after the others, unless its mask is empty.
     #[tactic(auto, unfolding(crate::specs::Ace::unless_empty))]
     pub(crate) fn push_unless_empty(&mut self, ace: Ace) -> Result<(), Full>
         requires { is_idle ace ≡ false }
@@ -93,7 +93,7 @@ impl<const N: usize> Draft<N> {
         self.push(ace)
     }
 
-    /// Puts an entry with no flags of its own behind the others, unless its mask is empty.
+    /// Puts an entry with no flags of its own after the others, unless its mask is empty.
     pub(crate) fn push_plain(&mut self, kind: AceType, who: Who, mask: Mask) -> Result<(), Full>
         requires { mask_bits mask ∩ all_masks ≡ mask_bits mask }
         ensures ok { OnOk result (self.new ≡ self.old ++ plain kind who (mask_bits mask)) }

@@ -19,7 +19,7 @@ pub enum Kind {
     Dir,
 }
 
-/// The inheritance flags of an entry in what is made below, where it is inherited.
+/// The inheritance flags of an entry in what is made below, if it is inherited.
 fn flags_below(kind: Kind, flags: Flags) -> Option<Flags>
     ensures { option_map flag_bits result
         ≡ flags_below kind (has (flag_bits flags) file_inherit) (has (flag_bits flags) directory_inherit)
@@ -44,7 +44,7 @@ impl Ace {
     ghost use Rattle.std.specs.Prelude.{false};
     ghost use Rattle.acl_nfs4.specs.Ace.{is_idle};
 
-    /// What the entry is in what is made below, where it is inherited.
+    /// What the entry is in what is made below, if it is inherited.
     fn inherited(&self, kind: Kind) -> Option<Ace>
         ensures value { result ≡ inherited_entry kind self.now }
         ensures effective { IfSome result (λ ace. is_idle ace ≡ false) }

@@ -20,7 +20,7 @@ bitflag_items! {
         /// To write within a file, or to add a file to a directory.
         const WRITE_DATA = 0x2;
 
-        /// To write behind the end of a file, or to add a directory to a directory.
+        /// To write after the end of a file, or to add a directory to a directory.
         const APPEND_DATA = 0x4;
 
         /// To read named attributes.

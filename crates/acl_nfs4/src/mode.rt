@@ -56,7 +56,7 @@ fn allows_writing(allowed: Mask) -> bool
     allowed.contains(Mask::WRITE_DATA) && allowed.contains(Mask::APPEND_DATA)
 }
 
-/// The permissions that the entries show for a class: to write where both `WRITE_DATA` and `APPEND_DATA` are allowed.
+/// The permissions that the entries show for a class: to write if both `WRITE_DATA` and `APPEND_DATA` are allowed.
 fn shown_to(aces: &[Ace], class: &Who) -> Perms
     ensures { bits_of result ≡ shown_to (of_class class.now) aces.now }
 {

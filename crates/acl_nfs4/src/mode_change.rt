@@ -254,7 +254,7 @@ fn with_mode<const N: usize>(alloc: Global, aces: &[Ace], mode: Mode) -> Result<
     Ok(draft)
 }
 
-/// Why the mode was not set: the list would have too many entries, or else memory ran out. It is made again to know it, where
+/// Why the mode was not set: the list would have too many entries, or else memory ran out. It is made again to know it, if
 /// it needs no memory.
 #[cold]
 #[inline(never)]
@@ -271,12 +271,12 @@ fn why_refused(alloc: Global, aces: &[Ace], mode: Mode) -> Fault4
 impl Acl4 {
     /// Sets the mode and keeps what the administrator wrote (within RFC 8881, section 6.4.1.1).
     ///
-    /// The entries that allow or deny lose the bits of the mode that they may not grant; the owner's stand in front, and the
-    /// group's and everyone's behind. Users and groups that an entry names are granted no more than the mode's group. An entry
+    /// The entries that allow or deny lose the bits of the mode that they may not grant; the owner's stand before them, and the
+    /// group's and everyone's after. Users and groups that an entry names are granted no more than the mode's group. An entry
     /// that is inherited too is split, so that what is inherited stays as it was. Audit and alarm entries and entries that are
     /// only inherited stay. The steps are written out in `docs/PROFILE.md`.
     ///
-    /// It is refused with `TooMany` exactly where the list would have more than 128 entries, and else with `Memory`; the
+    /// It is refused with `TooMany` exactly if the list would have more than 128 entries, and else with `Memory`; the
     /// list is as before then.
     pub fn chmod4(&mut self, alloc: Global, mode: Mode) -> Result<(), Fault4>
         ensures ok { OnOk result (self.new ≡ with_mode self.old mode) }

@@ -43,7 +43,7 @@ impl Acl4 {
     }
 }
 
-/// Asks for room for so many usual lines at once, where `out` lacks it even for the shortest.
+/// Asks for room for so many usual lines at once, if `out` lacks it even for the shortest.
 fn ask_for_lines(count: usize, out: &mut Vec<u8>) -> Result<(), AllocError>
     requires { count ≤ MAX_ACES }
     ensures items { out.new.items ≡ out.old.items }

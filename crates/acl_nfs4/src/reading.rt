@@ -99,7 +99,7 @@ fn value_of_fields(directory: &Directory, fields: AceFields<'_>) -> Result<Ace, 
     refuse_idle(Ace::new(kind, flags, who, mask))
 }
 
-/// The fields that the text begins with, with no blank round them, and what stands behind them.
+/// The fields that the text begins with, with no blank round them, and what stands after them.
 fn fields_in_front(text: &[u8]) -> Option<(AceFields<'_>, &[u8])>
     ensures { IfSome result (λ front. BeginsWithFields text.now (view_fields front.0) front.1.now) }
 {
@@ -129,7 +129,7 @@ fn fields_in_front(text: &[u8]) -> Option<(AceFields<'_>, &[u8])>
 
 /// The list that the text spells: entries `type:flags:who:letters`, which newlines and commas separate; `#` begins a
 /// comment. `who` is `OWNER@`, `GROUP@`, `EVERYONE@`, a decimal, a name, or a name in the directory's domain; it is a group
-/// where the flag `g` stands.
+/// if the flag `g` stands.
 ///
 /// The first faulty piece decides: `Syntax`, before `UnknownName` (also of a name in another domain), before `InheritOnly`;
 /// a 129th piece is `TooMany` before it is read. `Memory` comes only if memory runs out.

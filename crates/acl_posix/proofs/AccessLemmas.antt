@@ -160,7 +160,7 @@ has_tag-perms_of tag (x ∷ xs) =
       | false ↦ has_tag-perms_of tag xs
     ]
 
--- where a tag stands once at most, its entry has the request if what is found has it
+-- if a tag stands once at most, its entry has the request if what is found has it
 pub tag_has-perms_of : (tag : Tag) (acl : List EntryValue) (request : ℕ) → count_of tag acl ≤ 1
     → tag_has tag acl request ≡ option_map_or (λ perms. has_all perms request) (perms_of tag acl) false
 tag_has-perms_of tag [] request once = refl

@@ -13,7 +13,7 @@ use Rattle.acl_posix.specs.Validity.{count_of, names_someone, repeats_tag, fault
 use Rattle.acl_posix.specs.Canonical.{tag_cmp, tag_of}
 use Rattle.acl_posix.proofs.CanonicalLemmas.{same_tag-tag_cmp, tag_cmp_total}
 
--- none is counted where none passes
+-- none is counted if none passes
 pub none_counted : {X : Type 0} (p : X → Bool) (xs : List X) → not (list_any p xs) ≡ (count_by p xs == 0)
 none_counted p xs = ap not (list_any-count_by p xs) ∙ at_zero (count_by p xs)
   where

@@ -1,4 +1,4 @@
--- An entry that is inserted into sorted entries behind all that are shown before it leaves them sorted.
+-- An entry that is inserted into sorted entries after all that are shown before it leaves them sorted.
 use Rattle.std.proofs.Common.{◌≡◌, ◌∙◌, ℕ, zero, suc, ◌<◌, ◌≤◌, true, false, List, [], ◌∷◌, ◌++◌, length, get_or, Ordering, refl, sym, inr, arith}
 use Rattle.std.specs.declared.cmp.Ordering.TheVariants.{Less, Equal, Greater}
 use Rattle.std.specs.List.{insert}
@@ -44,7 +44,7 @@ insert-sorted entry (first ∷ more) (suc place) inside sorted front back =
     sorted-cons first (insert more place entry)
     (NotBefore-insert first entry more place (sorted-first first more sorted) (not_before first entry (front zero first (omega arith)))) later
 
--- a sorted copy of entries, into which another is inserted in its place, is one of the entries with that one behind them
+-- a sorted copy of entries, into which another is inserted in its place, is one of the entries with that one after them
 pub copy_with : (entry : EntryValue) (entries copy : List EntryValue) (place : ℕ) → IsPermutation entries copy → IsSorted copy → place ≤ length copy
     → IsPartitionPoint (λ other. precedes other entry ≡ true) (λ other. precedes other entry ≡ false) copy place
     → IsSortedCopy (entries ++ entry ∷ []) (insert copy place entry)

@@ -18,7 +18,7 @@ not_before a b short_a short_b above = grind (arith, common_steps)
 not_below : (x y : ℕ) → is_lt (nat_cmp y x) ≡ false → x ≤ y
 not_below x y above = grind (arith, common_steps)
 
--- where the keys are sorted, the entries that they name are
+-- if the keys are sorted, the entries that they name are
 pub sorted_by_keys : (entries : List EntryValue) (keys moved : List ℕ) → AreKeys entries (length entries) keys → IsPermutation keys moved → IsSorted nat_cmp moved
     → IsPermutation entries (map (entry_at entries) moved) × IsSortedByKey tag_of tag_cmp (map (entry_at entries) moved)
 sorted_by_keys entries keys moved are same sorted = (

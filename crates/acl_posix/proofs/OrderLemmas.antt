@@ -18,7 +18,7 @@ use Rattle.acl_posix.proofs.ValidityLemmas.{IsValid-permutation}
 use Rattle.acl_posix.specs.CheckSteps.{has_tag, tag_has, has_group, group_has, mask_allows}
 use Rattle.acl_posix.proofs.AccessLemmas.{has_tag-valid, grants-owner, grants-user, grants-group, grants-other}
 
--- an only element that passes, and a default where there is none
+-- an only element that passes, and a default if there is none
 only_one : {X : Type 0} (p : X → Bool) (f : X → Bool) (xs : List X) → count_by p xs ≤ 1
     → option_map_or f (find p xs) true ≡ (not (list_any p xs) || list_any (λ x. p x && f x) xs)
 only_one p f [] one = refl

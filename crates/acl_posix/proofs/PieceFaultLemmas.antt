@@ -54,7 +54,7 @@ tag_misshapen known other word.Other None e = cc
 tag_misshapen known other word.Other (Some []) e = cc
 tag_misshapen known other word.Other (Some (b ∷ bs)) e = e
 
--- the steps of a piece, each with those behind it
+-- the steps of a piece, each with those after it
 abbrev after_perms : Known → Fields → TagWord → ℕ → Result EntryValue PieceFault
 after_perms known fields w perms = tag_of known w fields.qualifier >>= (λ t. Ok (record { tag = t; perms = perms }))
 

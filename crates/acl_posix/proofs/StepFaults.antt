@@ -2,7 +2,7 @@
 use Rattle.std.proofs.Common.{◌≡◌, ◌≢◌, Option, Some, None, Result, Ok, Err, refl, ap}
 use Rattle.acl_names.specs.Steps.{◌>>=◌, or_fault}
 
--- two readings with the same first step have a fault both, where it is one of the first step or of both the rests
+-- two readings with the same first step have a fault both, if it is one of the first step or of both the rests
 pub same_fault : {A B F : Type 0} (fault : F) (r : Result A F) (f g : A → Result B F) → ((x : A) → f x ≡ Err fault → g x ≡ Err fault)
     → (r >>= f) ≡ Err fault → (r >>= g) ≡ Err fault
 same_fault fault (Ok x) f g same e = same x e

@@ -39,7 +39,7 @@ is_under_mask GroupObj = true
 is_under_mask (Group _) = true
 is_under_mask _ = false
 
--- what a mask, where there is one, leaves of the permissions
+-- what a mask, if there is one, leaves of the permissions
 abbrev pub masked : Option ℕ → ℕ → ℕ
 masked None perms = perms
 masked (Some mask) perms = perms ∩ mask

@@ -1,4 +1,4 @@
--- Private steps, which no public clause cites: the answer of each step of the access check, where it applies.
+-- Private steps, which no public clause cites: the answer of each step of the access check, if it applies.
 use Rattle.std.specs.Prelude.{ℕ, Bool, true, ◌&&◌, List, Option, Some, None, if◌then◌else◌}
 use Rattle.std.specs.List.{list_any}
 use Rattle.std.specs.Option.{option_map_or}
@@ -23,7 +23,7 @@ has_group requester group acl = list_any (λ entry. is_for_group_of requester gr
 abbrev pub group_has : Identity → ℕ → List EntryValue → ℕ → Bool
 group_has requester group acl request = list_any (λ entry. is_for_group_of requester group entry.tag && has_all entry.perms request) acl
 
--- whether the mask, where there is one, has the whole of the request
+-- whether the mask, if there is one, has the whole of the request
 abbrev pub mask_allows : List EntryValue → ℕ → Bool
 mask_allows acl request = option_map_or (λ mask. has_all mask request) (perms_of Mask acl) true
 

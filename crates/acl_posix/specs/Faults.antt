@@ -4,7 +4,7 @@ use Rattle.acl_names.specs.Directory.{Known, fault_of}
 use Rattle.acl_posix.specs.Entry.{EntryValue}
 use Rattle.acl_posix.specs.Shapes.{HasShape}
 
--- the piece is an entry where there are these users and groups
+-- the piece is an entry if there are these users and groups
 abbrev pub IsEntry : Known → List ℕ → Type 0
 IsEntry known piece = (entry : EntryValue) × HasShape known piece entry
 

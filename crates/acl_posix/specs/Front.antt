@@ -15,7 +15,7 @@ pub record BeginsWithWord (text : List ℕ) (word : TagWord) (rest : List ℕ) :
   pub field : IsField written
   pub says : tag_word written ≡ Some word
 
--- the text behind the word begins with a qualifier and a colon, and they say the tag
+-- the text after the word begins with a qualifier and a colon, and they say the tag
 pub record BeginsWithTag (known : Known) (text : List ℕ) (word : TagWord) (tag : Tag) (rest : List ℕ) : Type 0 where
   pub qualifier : List ℕ
   pub cut : text ≡ qualifier ++ colon ∷ rest

@@ -28,11 +28,11 @@ number_of mode = 64 * mode.user + 8 * mode.group + mode.other
 abbrev pub classes_of : ℕ → Classes
 classes_of number = record { user = number / 64; group = number / 8 % 8; other = number % 8 }
 
--- the permissions of the entry with the tag; none where there is no such entry
+-- the permissions of the entry with the tag; none if there is no such entry
 abbrev pub perms_at : Tag → List EntryValue → ℕ
 perms_at tag acl = unwrap_or (perms_of tag acl) 0
 
--- the entry that stands for the group in a mode: the mask where there is one, else that of the file's group
+-- the entry that stands for the group in a mode: the mask if there is one, else that of the file's group
 abbrev pub group_class_tag : List EntryValue → Tag
 group_class_tag acl = if is_some (perms_of Mask acl) then Mask else GroupObj
 
@@ -40,7 +40,7 @@ group_class_tag acl = if is_some (perms_of Mask acl) then Mask else GroupObj
 abbrev pub mode_of : List EntryValue → Classes
 mode_of acl = record { user = perms_at UserObj acl; group = perms_at (group_class_tag acl) acl; other = perms_at Other acl }
 
--- what a mode says of the entry with the tag, where it says anything
+-- what a mode says of the entry with the tag, if it says anything
 abbrev pub mode_perms : Tag → Classes → Tag → Option ℕ
 mode_perms group_class mode UserObj = Some mode.user
 mode_perms group_class mode Other = Some mode.other

@@ -37,12 +37,12 @@ entry_text known entry = join_with_byte colon (word_text entry.tag ∷ qualifier
 abbrev pub long_text : Known → List EntryValue → List ℕ
 long_text known = flat_map (λ entry. entry_text known entry ++ newline ∷ [])
 
--- a tab, `#effective:` and three characters, where permissions are left by a mask that removes some
+-- a tab, `#effective:` and three characters, if permissions are left by a mask that removes some
 abbrev pub mark_of : Option ℕ → List ℕ
 mark_of None = []
 mark_of (Some left) = tab ∷ codes "#effective:" ++ perms_text left
 
--- the mark of an entry, where the mask removes something from it
+-- the mark of an entry, if the mask removes something from it
 abbrev pub effective_mark : Option ℕ → EntryValue → List ℕ
 effective_mark None entry = []
 effective_mark (Some mask) entry = if is_under_mask entry.tag && not (has_all mask entry.perms) then mark_of (Some (entry.perms ∩ mask)) else []

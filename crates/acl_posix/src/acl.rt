@@ -50,8 +50,8 @@ impl Acl {
     ghost use Rattle.acl_posix.specs.InOrder.{in_order};
     ghost use Rattle.acl_posix.specs.Perms.{bits_of, IsPermissions};
 
-    /// The access control list of these entries, where they are one (1003.1e draft 17, section 23): one entry each for the
-    /// owner, the file's group and the others, at most one mask, no user and no group twice, and a mask where a user or a
+    /// The access control list of these entries, if they are one (1003.1e draft 17, section 23): one entry each for the
+    /// owner, the file's group and the others, at most one mask, no user and no group twice, and a mask if a user or a
     /// group is named. Else it is refused for the first of: an entry is missing, an entry stands twice, there is no mask. The
     /// entries are dropped on a refusal. It takes over their storage, and takes no memory. The list is the entries in canonical
     /// order.
@@ -87,7 +87,7 @@ impl Acl {
         self.sorted.as_slice()
     }
 
-    /// The permissions of the MASK, which limits what users, the file's group and groups may do; `None` where there is none.
+    /// The permissions of the MASK, which limits what users, the file's group and groups may do; `None` if there is none.
     pub fn mask(&self) -> Option<Perms>
         ensures value { option_map bits_of result ≡ perms_of Tag.Mask self.now }
         ensures permissions { IfSome result (λ perms. IsPermissions (bits_of perms)) }

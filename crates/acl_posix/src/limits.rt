@@ -11,7 +11,7 @@ pub(crate) const INLINE_ENTRIES: usize = 8;
 /// The most bytes of a printed line: a word and a colon, a name, a colon and permissions, a mark, and a newline.
 pub const MAX_LINE: usize = 58;
 
-/// The most bytes of a printed line behind `default:`, these counted in.
+/// The most bytes of a printed line after `default:`, these counted in.
 pub const MAX_DEFAULT_LINE: usize = 66;
 
 /// The limits as numbers. There is nothing to run here: a proof cites the contract.

@@ -108,7 +108,7 @@ pub fn read_perms(text: &[u8]) -> Option<Perms>
     }
 }
 
-/// The permissions whose printed text the text begins with, and what stands behind it.
+/// The permissions whose printed text the text begins with, and what stands after it.
 pub(crate) fn read_perms_front(text: &[u8]) -> Option<(Perms, &[u8])>
     ensures begins { IfSome result (λ front. BeginsWithPerms text.now (bits_of front.0) front.1.now) }
     ensures permissions { IfSome result (λ front. IsPermissions (bits_of front.0)) }

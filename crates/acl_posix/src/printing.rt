@@ -85,7 +85,7 @@ fn print_lines(
     Ok(())
 }
 
-/// Appends the lines, where `out` has room for them. The text is in the hand meanwhile, so that where it ends isn't written
+/// Appends the lines, if `out` has room for them. The text is in the hand meanwhile, so that where it ends isn't written
 /// to memory byte by byte.
 fn put_lines(entries: &[Entry], mask: Option<Perms>, directory: &Directory, out: &mut Vec<u8>)
     requires within { length entries.now ≤ MAX_ENTRIES }
@@ -101,7 +101,7 @@ fn put_lines(entries: &[Entry], mask: Option<Perms>, directory: &Directory, out:
     *out = text;
 }
 
-/// Appends the lines with `default:` before each, where `out` has room for them.
+/// Appends the lines with `default:` before each, if `out` has room for them.
 fn put_default_lines(
     entries: &[Entry],
     mask: Option<Perms>,
@@ -169,7 +169,7 @@ fn put_tag(tag: Tag, directory: &Directory, out: &mut Vec<u8>)
     }
 }
 
-/// Appends a colon, the permissions, the mark where the mask removes some, and a newline.
+/// Appends a colon, the permissions, the mark if the mask removes some, and a newline.
 #[inline(always)]
 fn put_perms(entry: &Entry, mask: Option<Perms>, out: &mut Vec<u8>)
     requires { vec_len out.old + 20 ≤ vec_capacity out.old }
@@ -190,7 +190,7 @@ fn put_perms(entry: &Entry, mask: Option<Perms>, out: &mut Vec<u8>)
     }
 }
 
-/// What the mask leaves of the entry's permissions, where it removes something.
+/// What the mask leaves of the entry's permissions, if it removes something.
 fn left_by_mask(entry: &Entry, mask: Option<Perms>) -> Option<Perms>
     ensures { effective_mark (option_map bits_of mask) entry.now ≡ mark_of (option_map bits_of result) }
 {

@@ -194,7 +194,7 @@ fn read_group(directory: &Directory, text: &[u8]) -> Result<Tag, PieceFault>
     Ok(Tag::Group(gid))
 }
 
-/// The word that the text begins with, and what stands behind its colon.
+/// The word that the text begins with, and what stands after its colon.
 fn read_word_front(text: &[u8]) -> Option<(TagWord, &[u8])>
     ensures { IfSome result (λ front. BeginsWithWord text.now front.0 front.1.now) }
 {
@@ -225,7 +225,7 @@ fn read_word_front(text: &[u8]) -> Option<(TagWord, &[u8])>
     None
 }
 
-/// What stands behind these bytes, where the text begins with them.
+/// What stands after these bytes, if the text begins with them.
 #[inline(always)]
 fn behind<'t>(front: &[u8], text: &'t [u8]) -> Option<&'t [u8]>
     ensures { IfSome result (λ rest. text.now ≡ front.now ++ rest.now) }
@@ -236,7 +236,7 @@ fn behind<'t>(front: &[u8], text: &'t [u8]) -> Option<&'t [u8]>
     }
 }
 
-/// The tag that the word and a qualifier say: none, a decimal, or a name; and what stands behind its colon.
+/// The tag that the word and a qualifier say: none, a decimal, or a name; and what stands after its colon.
 fn read_tag_front<'t>(
     directory: &Directory,
     word: TagWord,
@@ -254,7 +254,7 @@ fn read_tag_front<'t>(
     Some((tag, rest))
 }
 
-/// The tag that the word and a name say, and what stands behind its colon.
+/// The tag that the word and a name say, and what stands after its colon.
 fn read_name_front<'t>(
     directory: &Directory,
     word: TagWord,

@@ -112,7 +112,7 @@ module _ (words : List Text) where
       let spelt = acl_of-ok text.0 acl text.2 in
       (text.0, spelt.0, given BadAcl _ _ text.1, spelt.1, spelt.2, spelt.3)
 
-  -- a flag is set exactly where it is given
+  -- a flag is set exactly if it is given
   flag_of-given : (value : Option Text) → (flag_of value ≡ true) ↔ (value ≡ Some (codes "true"))
   flag_of-given None = (λ set. cc, λ given. cc)
   flag_of-given (Some text) =

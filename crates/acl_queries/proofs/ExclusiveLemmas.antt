@@ -31,7 +31,7 @@ module _ (before after : Decider) (bits : ℕ) (alike : DecideAlike before after
       ∙ ap (λ lost. lost || has (mask_bits difference.gained) bit) (is.lost bit ∙ not_one_alone (has bits bit) (before asker bit) (after asker bit) (alike asker bit))
       ∙ is.gained bit ∙ not_one_alone (has bits bit) (after asker bit) (before asker bit) (λ asked. sym (alike asker bit asked)))
 
--- no request differs where each is granted alike
+-- no request differs if each is granted alike
 no_first_difference : (first second : List EntryValue) (owner group : ℕ) (requests : List ℕ) (difference : Difference)
     → AllByRecursion (GrantAlikeToAll first second owner group) requests → ¬ IsFirstDifference first second owner group requests difference
 no_first_difference first second owner group [] difference alike never = never

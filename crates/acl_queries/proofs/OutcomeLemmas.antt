@@ -39,7 +39,7 @@ EndsAs-refused words fault old new status is silent is_status ended =
     let refused = outcome_of-refused words fault is (λ e. ended (is_status ∙ e)) in
     subst (λ outcome. EndsAs outcome old new status) (sym refused) (record { status_is = is_status; output = Appends-nothing old new kept })
 
--- where nothing went out, a front of any text did
+-- if nothing went out, a front of any text did
 pub front_of_none : (old new : Option (List ℕ)) (text : List ℕ) → Keeps old new → AppendsFront old new text
 front_of_none old new text kept = (0, Appends-nothing old new kept)
 

@@ -27,7 +27,7 @@ front_of_longer old new text more (count, went) =
     let is : take (length front) (text ++ more) ≡ front = ap (take (length front)) (sym whole) ∙ take-append_seam front (drop count text ++ more) in
     (length front, subst (Appends old new) (sym is) went)
 
--- a text went out whole, and behind it a front of the next
+-- a text went out whole, and after it a front of the next
 pub front_behind : (before between after : Option (List ℕ)) (text more : List ℕ) → Appends before between text → AppendsFront between after more
     → AppendsFront before after (text ++ more)
 front_behind before between after text more whole (count, went) =
@@ -39,7 +39,7 @@ front_so_far old new so_far rest all is went =
     subst (AppendsFront old new) is (front_of_longer old new so_far rest (length so_far, subst (Appends old new) (sym (take-length so_far)) went))
 
 module _ (before between after : Option (List ℕ)) (so_far text rest all : List ℕ) (is : so_far ++ (text ++ rest) ≡ all) (whole : Appends before between so_far) where
-  -- and so is what went out, and a front of the next text behind it
+  -- and so is what went out, and a front of the next text after it
   pub front_among : AppendsFront between after text → AppendsFront before after all
   front_among front = subst (AppendsFront before after) is (front_behind before between after so_far (text ++ rest) whole (front_of_longer between after text rest front))
 

@@ -42,7 +42,7 @@ abbrev pub GiveAcl : List Text → List EntryValue → Type 0
 GiveAcl words acl = (text : Text) × (entries : List EntryValue) × Give words (codes "text") text × Spells (entry_of nobody) MAX_ENTRIES text entries
     × IsValid entries × (in_order entries ≡ acl)
 
--- the words set the flag exactly where this is true; the parser gives it a value then, `true`
+-- the words set the flag exactly if this is true; the parser gives it a value then, `true`
 abbrev pub GiveFlag : List Text → Text → Bool → Type 0
 GiveFlag words name given = (given ≡ true) ↔ Give words name (codes "true")
 

@@ -78,6 +78,6 @@ asked_in rows = do
     nfs4 = flag_in (codes "nfs4") rows;
   })
 
--- what the words ask, where the parser finds no fault in them
+-- what the words ask, if the parser finds no fault in them
 abbrev pub asked_by : List Text → Result Asked FieldFault
 asked_by words = asked_in (matches_of decide_line words)

@@ -12,7 +12,7 @@ use Rattle.acl_queries.specs.declared.decide_command.fault.DecideFault.TheVarian
 use Rattle.acl_queries.specs.declared.decide_command.fault.FieldFault.{FieldFault}
 use Rattle.acl_queries.specs.declared.fault.RunFault.TheVariants.{Memory, NoThread, Output, Stopped}
 
--- the words are refused for this: where the parser takes them, for the first field that doesn't read
+-- the words are refused for this: if the parser takes them, for the first field that doesn't read
 abbrev pub IsCompareFaultOf : List Text → DecideFault → Type 0
 IsCompareFaultOf words (Field fault) = TakesCompareWords words × (compared_by words ≡ Err fault)
 IsCompareFaultOf words (Usage error) = ¬ TakesCompareWords words

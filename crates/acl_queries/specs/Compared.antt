@@ -66,6 +66,6 @@ compared_in rows = do
   second ← list_in (codes "other-style") (codes "other-text") rows
   Ok (record { owner = owner; group = group; first = first; second = second })
 
--- what the words compare, where the parser finds no fault in them
+-- what the words compare, if the parser finds no fault in them
 abbrev pub compared_by : List Text → Result Compared FieldFault
 compared_by words = compared_in (matches_of compare_line words)

@@ -12,13 +12,13 @@ use Rattle.acl_queries.specs.Compared.{Compared}
 use Rattle.acl_queries.specs.declared.compare_command.list.AnyAcl.{AnyAcl}
 use Rattle.acl_queries.specs.declared.compare_command.list.AnyAcl.TheVariants.{Posix, Nfs4}
 
--- what a list of either kind decides, bit by bit
+-- what a list of either style decides, bit by bit
 abbrev pub decider_of : ℕ → ℕ → AnyAcl → Decider
 decider_of owner group (Posix entries) = granted_by entries owner group
 decider_of owner group (Nfs4 aces) = decided_by aces owner group
 
 -- over which bits lists are compared: all of them between NFSv4 lists, one for each permission between POSIX lists, and those
--- of a file mode where the kinds differ
+-- of a file mode if the styles differ
 abbrev pub bits_between : AnyAcl → AnyAcl → ℕ
 bits_between (Nfs4 first) (Nfs4 second) = all_masks
 bits_between (Posix first) (Posix second) = permission_bits
@@ -43,21 +43,21 @@ RequestsDiffer owner group _ _ difference = ⊥
 abbrev pub AreAlike : Compared → Type 0
 AreAlike compared = BitsAlike compared × RequestsAlike compared.owner compared.group compared.first compared.second
 
--- someone loses or gains this: bits, or where all of these are decided alike a whole request
+-- someone loses or gains this: bits, or if all of these are decided alike a whole request
 abbrev pub Differ : Compared → Difference → Type 0
 Differ compared difference =
     IsDifference (decider_of compared.owner compared.group compared.first) (decider_of compared.owner compared.group compared.second)
     (bits_between compared.first compared.second) difference
     ⊎ (BitsAlike compared × RequestsDiffer compared.owner compared.group compared.first compared.second difference)
 
--- the groups of who asks, between commas (44), each once; - where there is none
+-- the groups of who asks, between commas (44), each once; - if there is none
 abbrev pub gids_text : Option ℕ → Option ℕ → List ℕ
 gids_text None None = codes "-"
 gids_text (Some gid) None = decimal gid
 gids_text None (Some gid) = decimal gid
 gids_text (Some gid) (Some other) = if gid == other then decimal gid else decimal gid ++ comma ∷ decimal other
 
--- the letters of the bits; - where there is none
+-- the letters of the bits; - if there is none
 abbrev pub bits_text : ℕ → List ℕ
 bits_text bits = if bits == 0 then codes "-" else letters_text mask_table bits
 
@@ -76,7 +76,7 @@ abbrev pub told_text : Option Difference → List ℕ
 told_text None = alike_text
 told_text (Some difference) = difference_text difference
 
--- The text answers: it says that the lists are alike, and they are; or it tells of a difference, and it is one. Which one, where
+-- The text answers: it says that the lists are alike, and they are; or it tells of a difference, and it is one. Which one, if
 -- there are several, isn't fixed.
 abbrev pub Answers : Compared → List ℕ → Type 0
 Answers compared text =

@@ -34,7 +34,7 @@ field_fault_words InheritOnly = codes "inherit-only"
 abbrev pub field_fault_line : FieldFault → List ℕ
 field_fault_line fault = codes "aclctl: " ++ field_fault_words fault ++ newline ∷ []
 
--- the line of a fault, where it isn't the parser's
+-- the line of a fault, if it isn't the parser's
 abbrev pub fault_line : DecideFault → Option (List ℕ)
 fault_line (Field fault) = Some (field_fault_line fault)
 fault_line (Usage error) = None
@@ -95,7 +95,7 @@ fault_of_invalid invalid.Repeated = Field InvalidAcl
 fault_of_invalid invalid.NoMask = Field InvalidAcl
 fault_of_invalid invalid.Memory = Run Memory
 
--- the words are refused for this: where the parser takes them, for the first field that doesn't read
+-- the words are refused for this: if the parser takes them, for the first field that doesn't read
 abbrev pub IsFaultOf : List Text → DecideFault → Type 0
 IsFaultOf words (Field fault) = TakesWords words × (asked_by words ≡ Err fault)
 IsFaultOf words (Usage error) = ¬ TakesWords words

@@ -34,7 +34,7 @@ answer_line granted = if granted then codes "granted" ++ newline ∷ [] else cod
 abbrev pub translation_text : List EntryValue → List ℕ
 translation_text acl = aces_text nobody (translation acl)
 
--- the line, and behind it the translation where it is asked for
+-- the line, and after it the translation if it is asked for
 abbrev pub answer_text : Asked → List ℕ
 answer_text asked = answer_line (is_granted asked) ++ (if asked.nfs4 then translation_text asked.acl else [])
 

@@ -41,18 +41,18 @@ fn answer<S: AsStr, W: Write>(alloc: Global, words: &[S], out: &mut W) -> Result
     Ok(())
 }
 
-/// Tells whether anybody at all gains or loses access where one access control list takes the place of another. The words are
+/// Tells whether anybody at all gains or loses access if one access control list takes the place of another. The words are
 /// those of the command, its name first: `compare --owner N --group N STYLE TEXT STYLE TEXT`, where a STYLE is `posix` or `nfs4`.
-/// The answer goes to `out`: `alike`, where both lists decide alike for every requester, of whatever uid and groups; else
+/// The answer goes to `out`: `alike`, if both lists decide alike for every requester, of whatever uid and groups; else
 /// `differ`, and who is decided about differently, what is lost and what is gained, each on a line of its own. Who is told,
-/// where there are several, isn't fixed; it is someone in at most two groups. All of it is made first and then written at once.
+/// if there are several, isn't fixed; it is someone in at most two groups. All of it is made first and then written at once.
 /// What is wrong with the words goes to `err`, and so does help; a fault while writing there changes nothing.
 ///
-/// Between NFSv4 lists all bits of a mask are compared, and where a POSIX list stands on either side those of a file mode, each
+/// Between NFSv4 lists all bits of a mask are compared, and if a POSIX list stands on either side those of a file mode, each
 /// by itself. Between POSIX lists the permissions are compared, first each by itself and then the requests of several.
 ///
-/// It returns the exit status: 0 with the answer, 1 where a field doesn't read, 2 where the parser of command lines refuses
-/// the words, and 3 where memory runs out or the answer can't be written.
+/// It returns the exit status: 0 with the answer, 1 if a field doesn't read, 2 if the parser of command lines refuses
+/// the words, and 3 if memory runs out or the answer can't be written.
 pub fn compare<S: AsStr, W: Write, E: Write>(
     alloc: Global,
     words: &[S],

@@ -23,7 +23,7 @@ use std::convert::AsStr;
 use std::io::Write;
 use translation::print_translation;
 
-/// The text that answers: the line, and behind it the translation where it is asked for.
+/// The text that answers: the line, and after it the translation if it is asked for.
 fn text_for(alloc: Global, question: &Question) -> Result<Vec<u8>, AllocError>
     ensures { IfOk result (λ text. text.items ≡ answer_text question.now) }
 {
@@ -61,12 +61,12 @@ fn answer<S: AsStr, W: Write>(alloc: Global, words: &[S], out: &mut W) -> Result
 
 /// Tells whether an access control list grants a request. The words are those of the command, its name first: `decide
 /// [--nfs4] --owner N --group N --uid N [--gids N,N..] --perms P TEXT`. The answer, `granted` or `denied` and a newline, goes
-/// to `out`, and with `--nfs4` so do, behind it, the entries of the NFSv4 list that decides alike, one a line. All of it is
+/// to `out`, and with `--nfs4` so do, after it, the entries of the NFSv4 list that decides alike, one a line. All of it is
 /// made first and then written at once. What is wrong with the words goes to `err`, and so does help; a fault while writing
 /// there changes nothing.
 ///
-/// It returns the exit status: 0 with the answer, 1 where a field doesn't read, 2 where the parser of command lines refuses
-/// the words, and 3 where memory runs out or the answer can't be written.
+/// It returns the exit status: 0 with the answer, 1 if a field doesn't read, 2 if the parser of command lines refuses
+/// the words, and 3 if memory runs out or the answer can't be written.
 pub fn decide<S: AsStr, W: Write, E: Write>(
     alloc: Global,
     words: &[S],

@@ -124,7 +124,7 @@ module _ {I R : Type 0} (is_error : R → Bool) where
         };
       }
 
-  -- the limits of all sessions, where one of them changes
+  -- the limits of all sessions, if one of them changes
   pub limits_by : (limit : Option ℕ) (limits limits' : ErrorLimits) (session : ℕ) (sides sides' : List (TakerSide I R)) → SameExceptAt session sides sides'
       → ((allowed left : ℕ) (side : TakerSide I R) → session < length sides → length limits.left.items ≡ length sides
       → (length limits'.left.items ≡ length limits.left.items)

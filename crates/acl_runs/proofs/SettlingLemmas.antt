@@ -61,7 +61,7 @@ module _ {State I R : Type 0} (next : State → I → State) (reply : State → 
       more_if (entry.session == session) (reply state entry.item) entry.item (answers_to next reply session (next state entry.item) journal) (items_from session journal) (length-answers_to session (next state entry.item) journal)
 
 module _ {R : Type 0} (is_error : R → Bool) where
-  -- answers that use up the errors are all, where the last of all is the last error allowed
+  -- answers that use up the errors are all, if the last of all is the last error allowed
   all_polled : (allowed : ℕ) (polled answers : List R) → IsPrefix polled answers → allowed ≤ errors_in is_error polled → EndsAtError is_error allowed answers → polled ≡ answers
   all_polled allowed polled answers front uses ends = elim (with_last front.0) [
     | inl none ↦ sym (append-nil polled) ∙ ap (λ more. polled ++ more) (sym none) ∙ front.1

@@ -12,7 +12,7 @@ module _ {I R : Type 0} where
   abbrev pub made : TakerSide I R → List R
   made side = given side ++ outbox side
 
--- whether the last of these replies is an error, where there is one
+-- whether the last of these replies is an error, if there is one
 abbrev pub LastFails : {R : Type 0} → (R → Bool) → Bool → List R → Type 0
 LastFails {R} is_error fails replies = (before : List R) (last : R) → replies ≡ before ++ last ∷ [] → fails ≡ is_error last
 
@@ -22,14 +22,14 @@ module _ {I R : Type 0} (is_error : R → Bool) where
     pub live : side.cancelled ≡ false → (0 < left) × (left + errors_in is_error (made side) ≡ allowed)
     pub over : side.cancelled ≡ true → EndsAtError is_error allowed (made side)
 
-  -- so it is with each session, where errors are limited
+  -- so it is with each session, if errors are limited
   abbrev pub AreLimited : Option ℕ → ErrorLimits → List (TakerSide I R) → Type 0
   AreLimited None limits sides = Unit {0}
   AreLimited (Some allowed) limits sides =
       (length limits.left.items ≡ length sides)
       × ((session left : ℕ) (side : TakerSide I R) → session < length sides → IsLimited allowed (slice_index_or limits.left.items session left) (slice_index_or sides session side))
 
--- so many errors are left to each of so many sessions, where they are limited
+-- so many errors are left to each of so many sessions, if they are limited
 abbrev pub StartsWith : Option ℕ → ℕ → ErrorLimits → Type 0
 StartsWith None sessions limits = Unit {0}
 StartsWith (Some allowed) sessions limits = limits.left.items ≡ replicate sessions allowed

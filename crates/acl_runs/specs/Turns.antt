@@ -43,7 +43,7 @@ module _ {C State I R : Type 0} (rest : C → List I) (next : State → I → St
     pub answered : (opening : State) → Answered next reply text opening old → Answered next reply text opening new
     pub none : more ≡ false → AllByRecursion (λ list. list ≡ []) (rests rest old)
 
-  -- so many rounds, or fewer where nothing was left
+  -- so many rounds, or fewer if nothing was left
   pub record AllRounds (n : ℕ) (old new : Run C State I R) : Type 0 where
     pub count : length new.sessions.items ≡ length old.sessions.items
     pub journal : new.journal.items ≡ old.journal.items ++ rounds n (rests rest old)

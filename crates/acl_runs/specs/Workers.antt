@@ -8,7 +8,7 @@ use Rattle.acl_broker.specs.declared.session_end.SessionEnd.{SessionEnd}
 use Rattle.acl_runs.specs.ErrorLimit.{left_after, UsesUp}
 use Rattle.acl_runs.specs.declared.printed.Printed.{Printed}
 
--- one error fewer is left, where they are limited
+-- one error fewer is left, if they are limited
 abbrev pub one_less : Option ℕ → Option ℕ
 one_less None = None
 one_less (Some left) = Some (left - 1)
@@ -49,13 +49,13 @@ module _ {R K : Type 0} (text : R → List ℕ) (is_error : R → Bool) (keep : 
       pub sent : sent_by new ++ rest ≡ sent_by old ++ wanted
       pub prints : (limit : Option ℕ) → HasPrinted limit (polled_by old) was → HasPrinted limit (polled_by new) is
 
-    -- the session has submitted all that it wanted, which is so many; or some of it, where no more errors are allowed
+    -- the session has submitted all that it wanted, which is so many; or some of it, if no more errors are allowed
     pub record Submits (old : End I R) (was : Printed K) (wanted : List I) (count : ℕ) (new : End I R) (is : Printed K) : Type 0 where
       pub stays : StaysEndOf old new
       pub sent : ((sent_by new ≡ sent_by old ++ wanted) × (count ≡ length wanted)) ⊎ (IsPrefix (sent_by new) (sent_by old ++ wanted) × IsOver is)
       pub prints : (limit : Option ℕ) → HasPrinted limit (polled_by old) was → HasPrinted limit (polled_by new) is
 
-    -- a session that is served: its end, closed, has submitted all that was wanted and polled as many answers, or some of it where these answers use up the errors allowed; this is what is kept of the answers that it polled, and this is their text
+    -- a session that is served: its end, closed, has submitted all that was wanted and polled as many answers, or some of it if these answers use up the errors allowed; this is what is kept of the answers that it polled, and this is their text
     pub record IsServed (limit : Option ℕ) (wanted : List I) (end : End I R) (kept : List K) (output : List ℕ) : Type 0 where
       pub closed : is_closed end ≡ true
       pub sent : ((sent_by end ≡ wanted) × (length (polled_by end) ≡ length wanted)) ⊎ (IsPrefix (sent_by end) wanted × UsesUp is_error limit (polled_by end))

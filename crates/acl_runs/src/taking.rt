@@ -68,7 +68,7 @@ where
     })
 }
 
-/// Takes and delivers once for a session. False where nothing was taken or delivered.
+/// Takes and delivers once for a session. False if nothing was taken or delivered.
 fn take_turn<P: Replies<Reply = S::Reply>, S: Service>(
     taker: &mut Taker<S>,
     limits: &mut ErrorLimits,

@@ -35,7 +35,7 @@ pub(super) type Worker<'a, C, P> = PromisedHandle<
     Serves<'a, C, P>,
 >;
 
-/// Starts a worker for each session. Where one cannot be started, the others are told to stop.
+/// Starts a worker for each session. If one cannot be started, the others are told to stop.
 pub(super) fn start_workers<'s, E, R, G, P, C>(
     scope: &Scope<'s, E>,
     setting: &Setting<'s, R, G, P>,

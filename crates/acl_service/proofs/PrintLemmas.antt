@@ -10,7 +10,7 @@ use Rattle.acl_service.specs.RunText.{sessions_text}
 abbrev pub all_items : List (Vec ℕ Global) → List (List ℕ)
 all_items outputs = map (λ output. output.items) outputs
 
--- a title, and what stands behind it
+-- a title, and what stands after it
 titled : (title number body more : List ℕ) → (title ++ (number ++ newline ∷ (body ++ []))) ++ more ≡ (title ++ number ++ newline ∷ []) ++ body ++ more
 titled title number body more = simp (append_assoc, append-nil)
 

@@ -55,7 +55,7 @@ explains served limit texts run is =
       result = ap (λ state. state.tree) is.state ∙ served_tree served journal;
     }
 
--- the same, of the report, where the run is of sessions that want the texts' requests
+-- the same, of the report, if the run is of sessions that want the texts' requests
 pub explained : (served : Served) (limit : Option ℕ) (texts : List (Vec ℕ Global)) (wanted : List (List Numbered)) (run : RunReport Served Answer Numbered Answer) (report : Report)
     → wanted ≡ requests_of_each served.directory.now texts → report ≡ told run
     → IsReport next_served reply_served (answer_text served.directory.now) is_error (λ answer. answer) served limit wanted run

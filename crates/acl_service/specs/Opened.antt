@@ -16,7 +16,7 @@ pub record Opened : Type 0 where
   pub known : Known
   pub tree : NodesUnderUmask
 
--- the users and groups, where nothing is wrong with them
+-- the users and groups, if nothing is wrong with them
 abbrev pub unless : Known → Option SetupFault → Result Known SetupError
 unless known None = Ok known
 unless known (Some fault) = Err (Parts fault)

@@ -17,7 +17,7 @@ pub record IsOfOne (known : Known) (tree : NodesUnderUmask) (texts : List (Vec �
   pub no_limit : limit ≡ None
   pub is : printed ≡ session_text known tree text.items
 
--- the outputs of sessions that a report explains, and where it is asked for its journal
+-- the outputs of sessions that a report explains, and if it is asked for its journal
 pub record IsOfReport (known : Known) (tree : NodesUnderUmask) (texts : List (Vec ℕ Global)) (with_journal : Bool) (limit : Option ℕ) (printed : List ℕ) : Type 0 where
   pub report : Report
   pub explains : ExplainsSessions known tree limit texts report

@@ -46,7 +46,7 @@ IsLimit (Some text) (Some errors) = errors ≡ digits_value 10 (without_leading_
 abbrev pub HasLimit : List Row → Option ℕ → Type 0
 HasLimit rows limit = IsLimit (first_of (codes "max-errors") rows) limit
 
--- the bytes are those that are told, where any are
+-- the bytes are those that are told, if any are
 abbrev pub IsTold : Option (List ℕ) → List ℕ → Type 0
 IsTold told bytes = IfSome told (λ those. bytes ≡ those)
 

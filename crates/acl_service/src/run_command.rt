@@ -32,7 +32,7 @@ use texts::{Options, print_texts};
 use usage::report_usage;
 
 /// Runs sessions with these texts over the directory and the tree that the setup opens, and writes what they print to `out`.
-/// Of one session that is its output. Of more, each output stands behind a line `session K`, from 0 in the order of the
+/// Of one session that is its output. Of more, each output stands after a line `session K`, from 0 in the order of the
 /// texts. With `journal` there follow the line `journal` and, for each command in the order in which they took effect, a
 /// line `K N`: its session and its line's number. With `max_errors` of K, a session ends at its K-th answer that is an error.
 /// A single session of which neither is asked runs without threads.
@@ -40,8 +40,8 @@ use usage::report_usage;
 /// Nothing is written before the run has ended. What is wrong goes to `err` in one line; a fault while writing there changes
 /// nothing.
 ///
-/// It returns the exit status: 0 with the outputs; 1 where the setup is refused; 2 for more than 64 texts, before the setup
-/// is read; and 3 where memory runs out, the gate stops the run, a thread can't be started or `out` can't be written. At 1 and 2
+/// It returns the exit status: 0 with the outputs; 1 if the setup is refused; 2 for more than 64 texts, before the setup
+/// is read; and 3 if memory runs out, the gate stops the run, a thread can't be started or `out` can't be written. At 1 and 2
 /// nothing was written, and at 3 nothing or a front of what the run prints.
 ///
 /// There is at least one text, each text has at most 1,048,576 bytes, and an error limit is at least 1.
@@ -64,7 +64,7 @@ pub fn run_texts<R: Threads + Wait + Clock + Sync, G: Gate, W: Write, E: Write>(
     ensures refused_setup { result ≡ 1 → RefusesSetup setup.now }
     ensures too_many { (result ≡ 2) ↔ (SESSIONS < length texts.now) }
 
-    // Nothing is written where the run is refused.
+    // Nothing is written if the run is refused.
     ensures silent { 1 ≤ result → result ≤ 2 → Keeps (W.contents out.old) (W.contents out.new) }
 
     // If the run lacks something, or a write fails, nothing went out or a front of what the texts print.
@@ -87,9 +87,9 @@ pub fn run_texts<R: Threads + Wait + Clock + Sync, G: Gate, W: Write, E: Write>(
 /// `run_texts`, and what they print goes to `out`. What is wrong goes to `err`, and so does help; a fault while writing there
 /// changes nothing.
 ///
-/// It returns the exit status: 0 with the outputs; 1 where a file can't be opened or read or is too long, or the setup is
-/// refused; 2 where the parser of command lines refuses the words, or there are more than 64 sessions or two of them `-`,
-/// before any file is opened; and 3 where memory runs out, a thread can't be started or `out` can't be written. At 1 and 2 nothing
+/// It returns the exit status: 0 with the outputs; 1 if a file can't be opened or read or is too long, or the setup is
+/// refused; 2 if the parser of command lines refuses the words, or there are more than 64 sessions or two of them `-`,
+/// before any file is opened; and 3 if memory runs out, a thread can't be started or `out` can't be written. At 1 and 2 nothing
 /// was written, and at 3 nothing or a front of what the run prints.
 pub fn run<R, F, S, I, W, E>(
     rt: &R,
@@ -112,7 +112,7 @@ where
     ensures printed { result ≡ 0 → RunsWords (F.bytes_of files.now) (I.remaining input.old) (run_rows (map S.text words.now))
         (Appends (W.contents out.old) (W.contents out.new)) }
 
-    // Nothing is written where the words, a file or the setup are refused.
+    // Nothing is written if the words, a file or the setup are refused.
     ensures silent { 1 ≤ result → result ≤ 2 → Keeps (W.contents out.old) (W.contents out.new) }
 
     // If the run lacks something, or a write fails, nothing went out or a front of what the files print.

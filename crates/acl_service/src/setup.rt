@@ -17,10 +17,10 @@ use std::alloc::Global;
 /// `style`, and any number of tables `user`, with `name`, `uid` and `groups`, and `group`, with `name` and `gid`. Other keys
 /// play no part. A mode has three octal digits, and a style is `posix` or `nfs4`.
 ///
-/// The bytes are refused as `NotToml` where they are no such document; then as `BadField` where a key is absent or has a
+/// The bytes are refused as `NotToml` if they are no such document; then as `BadField` if a key is absent or has a
 /// value of another type or out of its range; then as `Parts` for the first thing that is wrong with the users and groups,
-/// as `Directory::from_parts` tells it; and then as `BadField` where the root's owner is no user or its group no group.
-/// `Memory` comes where memory runs out.
+/// as `Directory::from_parts` tells it; and then as `BadField` if the root's owner is no user or its group no group.
+/// `Memory` comes if memory runs out.
 pub fn read_setup(alloc: Global, bytes: &[u8]) -> Result<(Directory, Tree), SetupError>
     ensures opened { IfOk result (λ opened. Opens bytes.now opened.0 opened.1) }
     ensures refused { IfErr result (IsRefusedSetup bytes.now) }

@@ -30,7 +30,7 @@ module _ (directory : Known) (P : NodesUnderUmask → Type 0) (keeps : (tree : N
   all_keep tree [] holds = holds
   all_keep tree (request ∷ requests) holds = all_keep (next directory tree request) requests (keeps tree request holds)
 
-  -- and where a new tree has it, so does each tree that commands make
+  -- and if a new tree has it, so does each tree that commands make
   made_has : (tree : NodesUnderUmask) (made : IsMadeByCommands directory tree) → P (root_alone made.owner made.group made.mode made.style made.umask) → P tree
   made_has tree made new = subst P (sym made.made) (all_keep _ made.requests new)
 

@@ -14,7 +14,7 @@ use acl_posix::{Acl, Mode, Perms};
 use bitflags::Flags;
 use std::alloc::{AllocError, Global};
 
-/// Which of the two kinds of access control list a node has.
+/// Which of the two styles of access control list a node has.
 #[derive(Clone, Copy, Debug, PartialEq, Eq)]
 pub enum Style {
     /// POSIX lists: one for access, and on a directory perhaps a default one.

@@ -41,7 +41,7 @@ command_of name =
 abbrev pub version_text : List ℕ
 version_text = codes "aclctl 0.1.0" ++ newline ∷ []
 
--- sessions ended so: with their outputs, or with nothing written where they were refused
+-- sessions ended so: with their outputs, or with nothing written if they were refused
 pub record EndsAsRun (files : Files) (input : Option (List ℕ)) (words : List (List ℕ)) (old new : Option (List ℕ)) (status : ℕ) : Type 0 where
   pub printed : status ≡ 0 → RunsWords files input (run_rows words) (Appends old new)
   pub silent : 1 ≤ status → status ≤ 2 → Keeps old new

@@ -12,7 +12,7 @@ use std::io::Read;
 /// How many bytes the words on standard input may take.
 const MAX_BYTES: usize = 65_536;
 
-/// The words given, or where there are none those that the reader has, one a line.
+/// The words given, or if there are none those that the reader has, one a line.
 pub fn command_words<R: Read>(
     alloc: Global,
     given: Vec<String>,

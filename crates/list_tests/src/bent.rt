@@ -1,4 +1,4 @@
-//! Texts to cut off and to bend, which the readers of both kinds read.
+//! Texts to cut off and to bend, which the readers of both styles read.
 use std::alloc::Global;
 
 /// A text of POSIX entries, with blanks, a comment, and words in full and short.
@@ -8,7 +8,7 @@ pub const ENTRIES: &str = "user : : rwx , g::r-x\nmask:rwx # all\nother:r";
 pub const ACES: &str =
     "A::OWNER@:rwatTcC,A::bob@example.org:rwa,A:g:ops@example.org:r,A::EVERYONE@:r";
 
-/// How a text of the other kind is bent.
+/// How a text of the other style is bent.
 pub const BENDS: [Option<u8>; 7] = [
     None,
     Some(0),

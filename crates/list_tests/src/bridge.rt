@@ -1,4 +1,4 @@
-//! Tests of what stands between both kinds of list.
+//! Tests of what stands between both styles of list.
 mod comparison;
 mod examples;
 mod refused_growths;

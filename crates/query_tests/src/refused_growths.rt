@@ -34,7 +34,7 @@ const COMPARED: [&str; 9] = [
     "u::-,g::r,g:50:w,m::rw,o::-",
 ];
 
-/// A POSIX list, and its translation behind an entry that lets one user more read.
+/// A POSIX list, and its translation after an entry that lets one user more read.
 const COMPARED_WITH_NFS4: [&str; 9] = [
     "compare",
     "--owner",

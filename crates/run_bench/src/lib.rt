@@ -5,7 +5,7 @@ use acl_lang::MAX_TEXT_LEN;
 use acl_service::{read_setup, run_one};
 use std::alloc::Global;
 
-/// Writes what the sessions print, each behind the one before, and answers how long that is.
+/// Writes what the sessions print, each after the one before, and answers how long that is.
 fn run_in_turn(
     alloc: Global,
     setup: &[u8],
@@ -29,7 +29,7 @@ fn run_in_turn(
     room.checked_sub(out.len())
 }
 
-/// Opens the setup and runs the sessions of the texts, which stand one behind the other and have these lengths, on its tree:
+/// Opens the setup and runs the sessions of the texts, which stand one after the other and have these lengths, on its tree:
 /// all of the first, then all of the second, and so on. What they print goes to `printed`; the answer is how long that is,
 /// and 0 where the setup or a length is refused, or memory or room runs out.
 #[unsafe(no_mangle)]

@@ -30,7 +30,7 @@ enum Ending {
     Other,
 }
 
-/// Long lists of both kinds, and answers that show them.
+/// Long lists of both styles, and answers that show them.
 const SESSION: &str =
     "create dir /d alice 755\nset /d default u::rwx,u:1:r,u:2:r,u:3:r,u:4:r,u:5:r,u:6:r,g::r,m::r,o::-\ncreate file /d/f carol 640\nget /d/f\ntranslate /d/f\nset /d/f nfs4 A::1:r,A::2:r,A::3:r,A::4:r,A::5:r,A::6:r,A::7:r,A::8:r,A::9:r,A::10:r,A::11:r,A::12:r,A::13:r,A::14:r,A::15:r,A::16:r,A::17:r\ncheck /d/f bob r\nx\n";
 

@@ -83,7 +83,7 @@ const RUNS: [(&str, &[&str], bool, Option<u32>, &str); 4] = [
     ),
 ];
 
-/// What stands behind the examples' setup, and what is said of it.
+/// What stands after the examples' setup, and what is said of it.
 const SETUPS: [(&str, &str); 6] = [
     ("[[", "aclctl: setup: not toml\n"),
     ("[[user]]\nname = \"dave\"\n", "aclctl: setup: bad field\n"),
@@ -175,7 +175,7 @@ fn stopped_by_the_gate(rt: HostRuntime) {
     assert_eq!(rt; ended, Some(true));
 }
 
-/// Whether a run over the setup of the examples, with more behind it, ends with this line.
+/// Whether a run over the setup of the examples, with more after it, ends with this line.
 fn refuses_more<R: Threads + Wait + Clock + Sync>(
     rt: &R,
     alloc: Global,

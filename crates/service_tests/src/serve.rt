@@ -197,7 +197,7 @@ fn sixty_four_sessions(rt: HostRuntime) -> Result<(), Fail> {
     Ok(())
 }
 
-/// More requests than a ring has slots lie behind the last error that is allowed.
+/// More requests than a ring has slots lie after the last error that is allowed.
 #[test]
 fn a_long_session_ends_at_its_limit(rt: HostRuntime) -> Result<(), Fail> {
     let text = repeated(rt.alloc(), "x\n", 1000).ok_or("a text")?;

@@ -19,7 +19,7 @@ const TWICE: &str = "[[user]]\nname = \"b\"\nuid = 4294967294\ngroups = []\n";
 
 const WRONG: &str = "[[user]]\nname = \"b\"\nuid = 4294967295\ngroups = []\n";
 
-/// Setups: the name of each, its parts, one behind the other, and what is said of it.
+/// Setups: the name of each, its parts, one after the other, and what is said of it.
 const SETUPS: [(&str, &[&str], Option<SetupError>); 18] = [
     ("the least", &[HEAD, ROOT], None),
     // Users and groups that are no directory.

@@ -18,7 +18,7 @@ impl Acl {
     /// Whether the requester may do all of what is requested with a file of this owner and this group: the access check of
     /// 1003.1e draft 17, section 23. The owner's entry decides for the owner, else the user's own entry, else the entries
     /// for the file's group and for groups by their ids of which the requester is in some: one of them must have all of the
-    /// request. Else the others' entry decides. Where there is a mask, the entries for users, the file's group and groups give no
+    /// request. Else the others' entry decides. If there is a mask, the entries for users, the file's group and groups give no
     /// more than the mask has. It takes no memory.
     pub fn grants(&self, owner: Uid, group: Gid, requester: &Requester, request: Perms) -> bool
         ensures value { result ≡ grants self.now owner group requester.now (bits_of request) }
@@ -71,7 +71,7 @@ impl Acl {
         }
     }
 
-    /// Whether the entry of the user and the mask have all of the request, where there is such an entry.
+    /// Whether the entry of the user and the mask have all of the request, if there is such an entry.
     fn user_answer(&self, uid: Uid, request: Perms) -> Option<bool>
         ensures valid { IsValid self.now }
         ensures value { result ≡ user_answer self.now uid (bits_of request) }
@@ -82,7 +82,7 @@ impl Acl {
         }
     }
 
-    /// Whether the entry with the tag has all of the request, where there is such an entry.
+    /// Whether the entry with the tag has all of the request, if there is such an entry.
     fn tag_answer(&self, tag: Tag, request: Perms) -> Option<bool>
         ensures valid { IsValid self.now }
         ensures value { result ≡ tag_answer tag self.now (bits_of request) }
@@ -93,7 +93,7 @@ impl Acl {
         }
     }
 
-    /// Whether an entry for a group of the requester, and the mask, have all of the request, where there is such an entry.
+    /// Whether an entry for a group of the requester, and the mask, have all of the request, if there is such an entry.
     fn group_answer(&self, requester: &Requester, group: Gid, request: Perms) -> Option<bool>
         ensures valid { IsValid self.now }
         ensures value { result ≡ group_answer self.now group requester.now (bits_of request) }
@@ -104,7 +104,7 @@ impl Acl {
         }
     }
 
-    /// Whether the mask, where there is one, has all of the request.
+    /// Whether the mask, if there is one, has all of the request.
     fn mask_allows(&self, request: Perms) -> bool
         ensures { result ≡ mask_allows self.now (bits_of request) }
     {
@@ -115,7 +115,7 @@ impl Acl {
     }
 }
 
-/// Whether one of the entries for a group of the requester has all of the request, where there are such entries. It looks at
+/// Whether one of the entries for a group of the requester has all of the request, if there are such entries. It looks at
 /// each entry once, and no further than the first that has it.
 fn groups_answer(
     entries: &[Entry],

@@ -11,7 +11,7 @@ use bitflags::Flags;
 use smallvec::SmallVec;
 use std::alloc::{AllocError, Global};
 
-/// What the mode says of the entry with the tag, where it says anything.
+/// What the mode says of the entry with the tag, if it says anything.
 fn mode_perms(group_class: &Tag, mode: Mode, tag: Tag) -> Option<Perms>
     ensures value { option_map bits_of result ≡ mode_perms group_class.now mode tag }
     ensures permissions { IfSome result (λ perms. IsPermissions (bits_of perms)) }
@@ -73,7 +73,7 @@ fn meet_all(entries: &mut [Entry], group_class: &Tag, mode: Mode)
 
 impl Acl {
     /// The mode of a file with this access control list (1003.1e draft 17, section 23): what the owner's entry, the mask, or
-    /// where there is none the file's group's entry, and the others' entry say.
+    /// if there is none the file's group's entry, and the others' entry say.
     pub fn mode(&self) -> Mode
         ensures { result ≡ mode_of self.now }
     {
@@ -165,7 +165,7 @@ impl Acl {
         }
     }
 
-    /// The permissions of the entry with the tag; none where there is no such entry.
+    /// The permissions of the entry with the tag; none if there is no such entry.
     fn perms_at(&self, tag: Tag) -> Perms
         ensures value { bits_of result ≡ perms_at tag self.now }
         ensures permissions { IsPermissions (bits_of result) }

@@ -100,7 +100,7 @@ fn between_nfs4_lists(first: &Acl4, second: &Acl4, owner: Uid, group: Gid) -> Op
 }
 
 impl Comparison {
-    /// What the lists decide differently, for whom; none where they decide alike for everyone.
+    /// What the lists decide differently, for whom; none if they decide alike for everyone.
     pub(super) fn difference(&self, alloc: Global) -> Result<Option<Difference>, AllocError>
         ensures { IfOk result (λ found. MatchOption found (AreAlike (compared self.now)) (Differ (compared self.now))) }
     {

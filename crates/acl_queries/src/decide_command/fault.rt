@@ -23,7 +23,7 @@ pub(crate) enum FieldFault {
     UnknownName,
     /// The entries are no access control list.
     InvalidAcl,
-    /// No kind of list has this name.
+    /// No style of list has this name.
     BadStyle,
     /// An entry has an effect neither where it stands nor below.
     InheritOnly,

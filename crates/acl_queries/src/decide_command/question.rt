@@ -68,7 +68,7 @@ pub(crate) fn gid_field(matches: &ArgMatches<'_>, name: &str) -> Result<Gid, Fie
     read_gid(text_field(matches, name).ok_or(FieldFault::BadId)?)
 }
 
-/// The groups of who asks; none where the words don't tell.
+/// The groups of who asks; none if the words don't tell.
 fn gids_field(alloc: Global, matches: &ArgMatches<'_>) -> Result<Vec<Gid>, DecideFault>
     ensures read { IfOk result (λ gids. gids_in (rows_of (found_of matches.now)) ≡ Ok gids.items) }
     ensures refused { IfErr result (Explains (gids_in (rows_of (found_of matches.now)))) }

@@ -7,7 +7,7 @@ use crate::{Replies, Requests};
 use acl_broker::{JournalEntry, Service};
 use std::alloc::AllocError;
 
-/// Answers the next request of a session. `None` where it has none.
+/// Answers the next request of a session. `None` if it has none.
 fn answer_next<P: Replies<Reply = S::Reply>, S: Service, C: Requests<Request = S::Request>>(
     replies: &P,
     service: &mut S,
@@ -28,7 +28,7 @@ where
     Ok(Some(request))
 }
 
-/// The turn of a session. False where it had no request left.
+/// The turn of a session. False if it had no request left.
 fn take_turn<P: Replies<Reply = S::Reply>, S: Service, C: Requests<Request = S::Request>>(
     replies: &P,
     run: &mut Run<C, S, S::Request, S::Reply>,
@@ -49,7 +49,7 @@ where
     Ok(true)
 }
 
-/// The turn of each session. False where none had a request left.
+/// The turn of each session. False if none had a request left.
 fn take_turns<P: Replies<Reply = S::Reply>, S: Service, C: Requests<Request = S::Request>>(
     replies: &P,
     run: &mut Run<C, S, S::Request, S::Reply>,

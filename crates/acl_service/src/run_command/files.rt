@@ -20,7 +20,7 @@ const INPUT: &str = "-";
 pub trait OpenFiles {
     type File: Read + Drop;
 
-    /// The bytes of the file of a name, where they are known.
+    /// The bytes of the file of a name, if they are known.
     ghost bytes_of: { Self → List ℕ → Option (List ℕ) };
 
     /// Opens the file of this name to be read.
@@ -122,7 +122,7 @@ fn read_file<'a, F: OpenFiles>(
     }
 }
 
-/// The bytes of standard input, where a session has its name.
+/// The bytes of standard input, if a session has its name.
 fn read_input<'a, I: Read>(
     alloc: Global,
     names: &[&'a str],

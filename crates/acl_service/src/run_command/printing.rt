@@ -29,7 +29,7 @@ fn push_entry(entry: &JournalEntry<Numbered>, text: &mut Vec<u8>) -> Result<(), 
     Ok(())
 }
 
-/// The line `journal`, and behind it a line for each entry: its session and the number of its request's line.
+/// The line `journal`, and after it a line for each entry: its session and the number of its request's line.
 pub(super) fn print_journal(
     alloc: Global,
     journal: &[JournalEntry<Numbered>],
@@ -44,7 +44,7 @@ pub(super) fn print_journal(
     Ok(text)
 }
 
-/// Writes texts, one behind the other. If a write fails, a front of them all went out.
+/// Writes texts, one after the other. If a write fails, a front of them all went out.
 fn write_texts<W: Write>(texts: &[&[u8]], out: &mut W) -> io::Result<()>
     ensures written { OnOk result (Appends (W.contents out.old) (W.contents out.new) (flat_map (λ text. text.now) texts.now)) }
     ensures front { AppendsFront (W.contents out.old) (W.contents out.new) (flat_map (λ text. text.now) texts.now) }
@@ -55,7 +55,7 @@ fn write_texts<W: Write>(texts: &[&[u8]], out: &mut W) -> io::Result<()>
     Ok(())
 }
 
-/// Writes the output of each session behind a line that tells which it is.
+/// Writes the output of each session after a line that tells which it is.
 fn write_sessions<W: Write>(outputs: &[Vec<u8>], out: &mut W) -> io::Result<()>
     ensures written { OnOk result (Appends (W.contents out.old) (W.contents out.new) (sessions_text 0 (map (λ output. output.items) outputs.now))) }
     ensures front { AppendsFront (W.contents out.old) (W.contents out.new) (sessions_text 0 (map (λ output. output.items) outputs.now)) }

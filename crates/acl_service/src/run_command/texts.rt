@@ -33,7 +33,7 @@ pub(super) struct Options {
     pub max_errors: Option<u32>,
 }
 
-/// Writes the outputs of a run, and behind them its journal where that is asked for. All that takes memory comes first.
+/// Writes the outputs of a run, and after them its journal if that is asked for. All that takes memory comes first.
 fn print_report<W: Write>(
     alloc: Global,
     report: &RunReport<Served<'_>, PrintedAnswer>,

@@ -117,7 +117,7 @@ fn read_items<T: FromValue>(alloc: Global, values: &[Value]) -> Result<Vec<T>, S
     Ok(items)
 }
 
-/// The items at a key, of which there are none where it is absent.
+/// The items at a key, of which there are none if it is absent.
 #[tactic(auto, unfolding(crate::specs::SetupTable::items_at))]
 pub(super) fn items_at<T: FromValue>(
     alloc: Global,

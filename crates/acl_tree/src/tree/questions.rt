@@ -22,7 +22,7 @@ fn granted(may: bool) -> Reply
     if may { Reply::Granted } else { Reply::Denied }
 }
 
-/// The user with the stranger's uid as one who asks. The stranger, who is in no group, asks where no user has the uid.
+/// The user with the stranger's uid as one who asks. The stranger, who is in no group, asks if no user has the uid.
 fn asking<'a>(directory: &'a Directory, stranger: &'a Requester) -> &'a Requester
     requires { stranger.now.gids ≡ [] }
     ensures { result.now ≡ requester_of directory.now stranger.now.uid }

@@ -21,7 +21,7 @@ fn tag_of(place: u32) -> Option<Tag> {
     }
 }
 
-/// Whether the entry of this place is put behind the others, at the second attempt if the first is refused.
+/// Whether the entry of this place is put after the others, at the second attempt if the first is refused.
 fn is_pushed(entries: &mut Entries, place: u32, refusals: &mut Refusals) -> Option<bool> {
     let entry = Entry {
         tag: tag_of(place)?,

@@ -38,7 +38,7 @@ fn read_longest(alloc: Global) -> Option<Acl4> {
 }
 
 /// Whether the longest list, read, has the entries of that which was made; is refused a mode; has them still then; and
-/// whether one entry more is refused behind those that were made.
+/// whether one entry more is refused after those that were made.
 fn is_as_long_as_may_be(alloc: Global, bits: u16) -> Option<[bool; 4]> {
     let mode = Mode::from_bits(bits)?;
     let mut list = longest(alloc)?;
@@ -56,7 +56,7 @@ fn as_many_entries_as_there_may_be(rt: HostRuntime) {
     assert_eq!(rt; found, Some([true; 4]));
 }
 
-/// Why the longest text is refused with this behind it.
+/// Why the longest text is refused with this after it.
 fn fault_behind(alloc: Global, more: &str) -> Option<AceFault> {
     let mut text = text_of(alloc, 128)?;
     text.push_str(more).ok()?;

@@ -50,7 +50,7 @@ fn reader(number: u32) -> Option<Ace> {
     Some(Ace::new(AceType::Allow, Flags::empty(), who, Mask::READ_DATA))
 }
 
-/// Whether the entry with this number is put behind so many, at the second attempt if the first is refused, and a refused
+/// Whether the entry with this number is put after so many, at the second attempt if the first is refused, and a refused
 /// attempt leaves the list as it was.
 fn is_pushed_again(list: &mut Acl4, number: u32, refusals: &mut Refusals) -> Option<bool> {
     let entry = reader(number)?;
@@ -110,7 +110,7 @@ fn read_aces_under_a_refused_growth(rt: HostRuntime) -> Result<(), Fail> {
     Ok(())
 }
 
-/// Whether the long list is printed behind this, at the second attempt if the first is refused, and a refused attempt leaves
+/// Whether the long list is printed after this, at the second attempt if the first is refused, and a refused attempt leaves
 /// the text as it was.
 fn is_printed_again(
     alloc: Global,
@@ -133,7 +133,7 @@ fn begun(alloc: Global) -> Option<Vec<u8>> {
     Some(out)
 }
 
-/// Whether the long list is printed behind that, how many bytes there are then, and whether they begin as they should.
+/// Whether the long list is printed after that, how many bytes there are then, and whether they begin as they should.
 fn printed_behind(alloc: Global, refusals: &mut Refusals) -> Option<(bool, usize, bool)> {
     let mut out = refusals.again(|| begun(alloc))?;
     let printed = is_printed_again(alloc, &mut out, b">", refusals)?;

@@ -59,7 +59,7 @@ fn may_read(alloc: Global, list: &Acl, uid: u32) -> Option<bool> {
     Some(list.grants(alice, staff, &requester, Perms::READ))
 }
 
-/// Whether that list lets the last of its users read, the first, and the one behind them.
+/// Whether that list lets the last of its users read, the first, and the one after them.
 fn may_of_sixty(alloc: Global) -> Option<[Option<bool>; 3]> {
     let list = list_of_sixty_users(alloc)?;
     Some([

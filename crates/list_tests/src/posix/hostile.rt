@@ -48,7 +48,7 @@ fn cut_and_bent_texts(rt: HostRuntime) {
     }
 }
 
-/// A text of the other kind has no entry, unless nothing of it is left.
+/// A text of the other style has no entry, unless nothing of it is left.
 #[test]
 fn texts_of_the_other_kind(rt: HostRuntime) {
     for byte in BENDS {

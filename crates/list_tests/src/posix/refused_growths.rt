@@ -43,7 +43,7 @@ fn are_readers(entries: &[Entry], count: u32) -> bool {
     place == count
 }
 
-/// Whether the entry of this place is put behind so many, at the second attempt if the first is refused, and a refused
+/// Whether the entry of this place is put after so many, at the second attempt if the first is refused, and a refused
 /// attempt leaves the entries as they were.
 fn is_pushed_again(entries: &mut Entries, place: u32, refusals: &mut Refusals) -> Option<bool> {
     let entry = reader(place)?;

@@ -58,7 +58,7 @@ fn longest(alloc: Global) -> Option<String> {
     Some(text)
 }
 
-/// How many entries are read of it, and why it is refused with this behind it.
+/// How many entries are read of it, and why it is refused with this after it.
 fn read_longest(alloc: Global, more: &str) -> Option<(usize, Option<TextFault>)> {
     let mut text = longest(alloc)?;
     let count = acl(alloc, text.as_str())?.entries().len();

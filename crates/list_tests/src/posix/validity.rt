@@ -60,7 +60,7 @@ fn entries_up_to(alloc: Global, count: u32) -> Option<Entries> {
     Some(entries)
 }
 
-/// Why a mask is refused behind so many entries, if it is, and how many there are then.
+/// Why a mask is refused after so many entries, if it is, and how many there are then.
 fn mask_behind(alloc: Global, count: u32) -> Option<(Option<TextFault>, usize)> {
     let mut entries = entries_up_to(alloc, count)?;
     let mask = Entry {

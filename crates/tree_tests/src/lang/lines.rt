@@ -113,7 +113,7 @@ const LINES: [(u8, &[&str]); 11] = [
     (9, &["set /a nfs4 A:i:OWNER@:r"]),
 ];
 
-/// What stands first, the piece that stands so many times behind it, how long the line is, and its code.
+/// What stands first, the piece that stands so many times after it, how long the line is, and its code.
 const LONG: [(&str, &str, usize, usize, u8); 4] = [
     ("set /a nfs4 ", "A::0:t", 128, 907, 0),
     ("set /a nfs4 ", "A::0:t", 129, 914, 8),
@@ -131,7 +131,7 @@ fn first_other<'a>(alloc: Global, lines: &[&'a str], code: u8) -> Option<&'a str
     None
 }
 
-/// `count` times the piece, with a comma before each but the first, behind the front.
+/// `count` times the piece, with a comma before each but the first, after the front.
 fn list_line(alloc: Global, front: &str, piece: &str, count: usize) -> Option<Vec<u8>> {
     let mut line = Vec::new(alloc);
     line.extend_from_slice(front.as_bytes()).ok()?;

@@ -12,7 +12,7 @@ const PARENTS: [(&str, &str); 4] = [
 
 const NO_PATHS: [&str; 9] = ["", "a", "//", "/a/", "/a//b", "/.", "/a/..", "/a b", "/é"];
 
-/// What stands first, what stands so many times behind it, what stands last, and whether all of it is a path.
+/// What stands first, what stands so many times after it, what stands last, and whether all of it is a path.
 const LONG: [(&str, &str, usize, &str, bool); 4] = [
     ("/", "a", 64, "", true),
     ("/", "a", 65, "", false),

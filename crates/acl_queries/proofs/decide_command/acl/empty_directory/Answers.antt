@@ -4,7 +4,7 @@ use Rattle.acl_names.specs.Directory.{AnswersAs, Known, KnownGroup, KnownUser}
 use Rattle.acl_queries.specs.AclText.{nobody}
 use Rattle.acl_queries.proofs.decide_command.acl.empty_directory.Goals as goal
 
--- where no uid has a name there is no user, and where no gid has one there is no group
+-- if no uid has a name there is no user, and if no gid has one there is no group
 no_users : (users : List KnownUser) → ((uid : ℕ) → option_map (λ user. user.name) (find (λ user. user.uid == uid) users) ≡ None) → users ≡ []
 no_users [] none = refl
 no_users (user ∷ users) none =
