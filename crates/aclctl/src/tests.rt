@@ -291,45 +291,28 @@ fn words_on_standard_input_take_65_536_bytes(rt: HostRuntime) -> Result<(), Fail
     Ok(())
 }
 
+/// Runs the words where no input can be read and no output can be written.
+fn run_broken<R: Threads + Wait + Clock + Sync, E: Write>(
+    rt: &R,
+    alloc: Global,
+    words: &[&str],
+    err: &mut E,
+) -> u8 {
+    run_command(rt, alloc, &EMPTY, words, &mut Broken, &mut Broken, err)
+}
+
 #[test]
 fn failed_writes(rt: HostRuntime) {
     let mut err = Vec::new(rt.alloc());
-    assert_eq!(rt;
-        run_command(
-            &rt,
-            rt.alloc(),
-            &EMPTY,
-            ASKED.as_slice(),
-            &mut Broken,
-            &mut Broken,
-            &mut err
-        ),
-        3
-    );
+    assert_eq!(rt; run_broken(&rt, rt.alloc(), ASKED.as_slice(), &mut err), 3);
     assert_eq!(rt; err.as_slice(), b"aclctl: run: output\n".as_slice());
     // A fault while writing to standard error changes no status.
     assert_eq!(rt;
-        run_command(
-            &rt,
-            rt.alloc(),
-            &EMPTY,
-            ["help"].as_slice(),
-            &mut Broken,
-            &mut Broken,
-            &mut Broken
-        ),
+        run_broken(&rt, rt.alloc(), ["help"].as_slice(), &mut Broken),
         2
     );
     assert_eq!(rt;
-        run_command(
-            &rt,
-            rt.alloc(),
-            &EMPTY,
-            ["--help"].as_slice(),
-            &mut Broken,
-            &mut Broken,
-            &mut err
-        ),
+        run_broken(&rt, rt.alloc(), ["--help"].as_slice(), &mut err),
         3
     );
     let lines = b"aclctl: run: output\naclctl: run: output\n";
@@ -367,38 +350,37 @@ fn sessions_of_files_and_of_standard_input(rt: HostRuntime) -> Result<(), Fail> 
     Ok(())
 }
 
+/// Words whose files are refused, with the status and the line.
+const REFUSED_FILES: [(&[&str], u8, &str); 5] = [
+    (
+        &["run", "--setup", "none", "one"],
+        1,
+        "aclctl: cannot read none\n",
+    ),
+    (
+        &["run", "--setup", "s", "one", "two"],
+        1,
+        "aclctl: cannot read two\n",
+    ),
+    (&["run", "--setup", "s", "-"], 1, "aclctl: cannot read -\n"),
+    (
+        &["run", "--setup", "s", "-", "-"],
+        2,
+        "aclctl: - is given twice\n",
+    ),
+    (
+        &["run", "--setup", "one", "one"],
+        1,
+        "aclctl: setup: not toml\n",
+    ),
+];
+
 #[test]
 fn files_that_are_refused(rt: HostRuntime) -> Result<(), Fail> {
     let shelf = Shelf {
         files: &[("s", SETUP), ("one", "get /\n")],
     };
-    for (words, status, line) in [
-        (
-            ["run", "--setup", "none", "one"].as_slice(),
-            1,
-            "aclctl: cannot read none\n",
-        ),
-        (
-            ["run", "--setup", "s", "one", "two"].as_slice(),
-            1,
-            "aclctl: cannot read two\n",
-        ),
-        (
-            ["run", "--setup", "s", "-"].as_slice(),
-            1,
-            "aclctl: cannot read -\n",
-        ),
-        (
-            ["run", "--setup", "s", "-", "-"].as_slice(),
-            2,
-            "aclctl: - is given twice\n",
-        ),
-        (
-            ["run", "--setup", "one", "one"].as_slice(),
-            1,
-            "aclctl: setup: not toml\n",
-        ),
-    ] {
+    for (words, status, line) in REFUSED_FILES {
         let mut out = Vec::new(rt.alloc());
         let mut err = Vec::new(rt.alloc());
         let ended = run_command(
