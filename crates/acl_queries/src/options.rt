@@ -1,5 +1,5 @@
 //! Options of the program's commands, and what the parser of command lines finds for them.
-ghost use Rattle.std.specs.Prelude.{◌≡◌, false, option_map};
+ghost use Rattle.std.specs.Prelude.{◌≡◌, codes, false, option_map};
 ghost use Rattle.clap.specs.Words.{first_of, found_of, rows_of, rule_of};
 ghost use Rattle.acl_queries.specs.Asked.{flag_in};
 ghost use Rattle.acl_queries.specs.CommandLine.{flag, optional_option, required_option, required_word};
@@ -13,6 +13,24 @@ pub fn required_option<'a>(alloc: Global, name: &'a str, value: &'a str, help: &
     ensures local { result.global ≡ false }
 {
     optional_option(alloc, name, value, help).required(true)
+}
+
+/// The option `--owner`: whose the file is.
+pub(crate) fn owner_option<'a>(alloc: Global) -> Arg<'a>
+    ensures rule { rule_of result ≡ required_option (codes "owner") }
+    ensures local { result.global ≡ false }
+{
+    let help = "The uid, in decimal, of the file's owner";
+    required_option(alloc, "owner", "N", help)
+}
+
+/// The option `--group`: the file's group.
+pub(crate) fn group_option<'a>(alloc: Global) -> Arg<'a>
+    ensures rule { rule_of result ≡ required_option (codes "group") }
+    ensures local { result.global ≡ false }
+{
+    let help = "The gid, in decimal, of the file's group";
+    required_option(alloc, "group", "N", help)
 }
 
 /// An option that may be left out, with what help calls its value.

@@ -3,7 +3,7 @@ ghost use Rattle.std.specs.Prelude.{◌≡◌, IfErr, IfOk, OnOk, map};
 ghost use Rattle.clap.specs.Words.{app_of, found_of, kind_of, matches_of, rows_of};
 ghost use Rattle.acl_queries.specs.CompareLine.{TakesCompareWords, compare_line};
 
-use crate::options::{required_option, required_word};
+use crate::options::{group_option, owner_option, required_word};
 use clap::error::ErrorKind;
 use clap::{ArgMatches, Command, Error};
 use std::alloc::{AllocError, Global};
@@ -25,18 +25,8 @@ fn command<'a>(alloc: Global) -> Result<Command<'a>, AllocError>
             "Tells whether anybody gains or loses access between two access control lists: `alike`, or who does and what.",
         )
         .after_help(EXAMPLE)
-        .arg(required_option(
-            alloc,
-            "owner",
-            "N",
-            "The uid, in decimal, of the file's owner",
-        ))?
-        .arg(required_option(
-            alloc,
-            "group",
-            "N",
-            "The gid, in decimal, of the file's group",
-        ))?
+        .arg(owner_option(alloc))?
+        .arg(group_option(alloc))?
         .arg(required_word(
             alloc,
             "style",

@@ -3,7 +3,9 @@ ghost use Rattle.std.specs.Prelude.{◌≡◌, IfErr, IfOk, OnOk, map};
 ghost use Rattle.clap.specs.Words.{app_of, found_of, kind_of, matches_of, rows_of};
 ghost use Rattle.acl_queries.specs.CommandLine.{TakesWords, decide_line};
 
-use crate::options::{flag, optional_option, required_option, required_word};
+use crate::options::{
+    flag, group_option, optional_option, owner_option, required_option, required_word,
+};
 use clap::error::ErrorKind;
 use clap::{ArgMatches, Command, Error};
 use std::alloc::{AllocError, Global};
@@ -28,18 +30,8 @@ fn command<'a>(alloc: Global) -> Result<Command<'a>, AllocError>
             "nfs4",
             "Prints the translation too: the NFSv4 entries that decide alike, one a line",
         ))?
-        .arg(required_option(
-            alloc,
-            "owner",
-            "N",
-            "The uid, in decimal, of the file's owner",
-        ))?
-        .arg(required_option(
-            alloc,
-            "group",
-            "N",
-            "The gid, in decimal, of the file's group",
-        ))?
+        .arg(owner_option(alloc))?
+        .arg(group_option(alloc))?
         .arg(required_option(alloc, "uid", "N", "The uid of who asks"))?
         .arg(optional_option(
             alloc,
