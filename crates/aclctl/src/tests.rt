@@ -93,38 +93,53 @@ fn owned(alloc: Global, words: &[&str]) -> Result<Vec<String>, AllocError> {
     Ok(all)
 }
 
+/// How the program ended: its status, and what went to the output and to standard error.
+#[derive(Drop)]
+struct Ended {
+    status: u8,
+    out: Vec<u8>,
+    err: Vec<u8>,
+}
+
+/// Runs the words that the program was given, or else those of its standard input.
+fn run_given<R: Threads + Wait + Clock + Sync, I: Read>(
+    rt: &R,
+    alloc: Global,
+    given: Vec<String>,
+    input: &mut I,
+) -> Ended {
+    let mut out = Vec::new(alloc);
+    let mut err = Vec::new(alloc);
+    let status = run(rt, alloc, &EMPTY, given, input, &mut out, &mut err);
+    Ended { status, out, err }
+}
+
+/// Runs the command of these words over these files.
+fn run_over<R: Threads + Wait + Clock + Sync, I: Read>(
+    rt: &R,
+    alloc: Global,
+    files: &Shelf<'_>,
+    words: &[&str],
+    input: &mut I,
+) -> Ended {
+    let mut out = Vec::new(alloc);
+    let mut err = Vec::new(alloc);
+    let status = run_command(rt, alloc, files, words, input, &mut out, &mut err);
+    Ended { status, out, err }
+}
+
 #[test]
 fn words_are_those_given_or_those_of_the_reader(rt: HostRuntime) -> Result<(), Fail> {
     let given = owned(rt.alloc(), ASKED.as_slice())?;
-    let mut out = Vec::new(rt.alloc());
-    let mut err = Vec::new(rt.alloc());
-    assert_eq!(rt;
-        run(
-            &rt,
-            rt.alloc(),
-            &EMPTY,
-            given,
-            &mut Broken,
-            &mut out,
-            &mut err
-        ),
-        0
-    );
     let mut lines = ASKED_LINES.as_bytes();
-    assert_eq!(rt;
-        run(
-            &rt,
-            rt.alloc(),
-            &EMPTY,
-            Vec::new(rt.alloc()),
-            &mut lines,
-            &mut out,
-            &mut err
-        ),
-        0
-    );
-    assert_eq!(rt; out.as_slice(), b"granted\ngranted\n".as_slice());
-    assert!(rt; err.is_empty());
+    for ended in [
+        run_given(&rt, rt.alloc(), given, &mut Broken),
+        run_given(&rt, rt.alloc(), Vec::new(rt.alloc()), &mut lines),
+    ] {
+        assert_eq!(rt; ended.status, 0);
+        assert_eq!(rt; ended.out.as_slice(), b"granted\n".as_slice());
+        assert!(rt; ended.err.is_empty());
+    }
     Ok(())
 }
 
@@ -153,22 +168,10 @@ fn compares_two_lists(rt: HostRuntime) {
         ),
     ] {
         let words = compared(first, second);
-        let mut out = Vec::new(rt.alloc());
-        let mut err = Vec::new(rt.alloc());
-        assert_eq!(rt;
-            run_command(
-                &rt,
-                rt.alloc(),
-                &EMPTY,
-                words.as_slice(),
-                &mut Broken,
-                &mut out,
-                &mut err
-            ),
-            0
-        );
-        assert_eq!(rt; out.as_slice(), text.as_bytes());
-        assert!(rt; err.is_empty());
+        let ended = run_over(&rt, rt.alloc(), &EMPTY, words.as_slice(), &mut Broken);
+        assert_eq!(rt; ended.status, 0);
+        assert_eq!(rt; ended.out.as_slice(), text.as_bytes());
+        assert!(rt; ended.err.is_empty());
     }
 }
 
@@ -181,23 +184,11 @@ fn first_word_names_no_command(rt: HostRuntime) -> Result<(), Fail> {
         (["decide\r"].as_slice(), "\"decide\\r\" names no command\n"),
     ] {
         let given = owned(rt.alloc(), words)?;
-        let mut out = Vec::new(rt.alloc());
-        let mut err = Vec::new(rt.alloc());
-        assert_eq!(rt;
-            run(
-                &rt,
-                rt.alloc(),
-                &EMPTY,
-                given,
-                &mut Broken,
-                &mut out,
-                &mut err
-            ),
-            2
-        );
+        let ended = run_given(&rt, rt.alloc(), given, &mut Broken);
+        assert_eq!(rt; ended.status, 2);
         let text = format!(in rt.alloc(); "aclctl: no command\n{line}\nusage: aclctl COMMAND")?;
-        assert!(rt; err.starts_with(text.as_bytes()));
-        assert!(rt; out.is_empty());
+        assert!(rt; ended.err.starts_with(text.as_bytes()));
+        assert!(rt; ended.out.is_empty());
     }
     Ok(())
 }
@@ -208,86 +199,60 @@ fn help_and_version(rt: HostRuntime) {
         ("--help", "usage: aclctl COMMAND"),
         ("--version", "aclctl 0.1.0\n"),
     ] {
-        let mut out = Vec::new(rt.alloc());
-        let mut err = Vec::new(rt.alloc());
-        assert_eq!(rt;
-            run_command(
-                &rt,
-                rt.alloc(),
-                &EMPTY,
-                [word].as_slice(),
-                &mut Broken,
-                &mut out,
-                &mut err
-            ),
-            0
-        );
-        assert!(rt; out.starts_with(start.as_bytes()));
-        assert!(rt; err.is_empty());
+        let ended = run_over(&rt, rt.alloc(), &EMPTY, [word].as_slice(), &mut Broken);
+        assert_eq!(rt; ended.status, 0);
+        assert!(rt; ended.out.starts_with(start.as_bytes()));
+        assert!(rt; ended.err.is_empty());
     }
 }
 
-/// What the program says of bytes on standard input that are no words.
-fn refusal<R: Threads + Wait + Clock + Sync, I: Read>(
+/// Runs the words of standard input.
+fn run_input<R: Threads + Wait + Clock + Sync, I: Read>(
     rt: &R,
     alloc: Global,
-    reader: &mut I,
-    out: &mut Vec<u8>,
-    err: &mut Vec<u8>,
-) -> u8 {
-    run(rt, alloc, &EMPTY, Vec::new(alloc), reader, out, err)
+    input: &mut I,
+) -> Ended {
+    run_given(rt, alloc, Vec::new(alloc), input)
 }
 
 #[test]
 fn standard_input_is_refused(rt: HostRuntime) {
-    let mut out = Vec::new(rt.alloc());
-    let mut err = Vec::new(rt.alloc());
-    assert_eq!(rt;
-        refusal(&rt, rt.alloc(), &mut io::repeat(b'x'), &mut out, &mut err),
-        2
-    );
-    assert_eq!(rt;
-        refusal(
-            &rt,
-            rt.alloc(),
-            &mut b"decide\n\xff".as_slice(),
-            &mut out,
-            &mut err
+    for (ended, status, line) in [
+        (
+            run_input(&rt, rt.alloc(), &mut io::repeat(b'x')),
+            2,
+            "aclctl: too many words\n",
         ),
-        2
-    );
-    assert_eq!(rt;
-        refusal(&rt, rt.alloc(), &mut Broken, &mut out, &mut err),
-        1
-    );
-    let lines = b"aclctl: too many words\naclctl: bad words\naclctl: cannot read -\n";
-    assert_eq!(rt; err.as_slice(), lines.as_slice());
-    assert!(rt; out.is_empty());
+        (
+            run_input(&rt, rt.alloc(), &mut b"decide\n\xff".as_slice()),
+            2,
+            "aclctl: bad words\n",
+        ),
+        (
+            run_input(&rt, rt.alloc(), &mut Broken),
+            1,
+            "aclctl: cannot read -\n",
+        ),
+    ] {
+        assert_eq!(rt; ended.status, status);
+        assert_eq!(rt; ended.err.as_slice(), line.as_bytes());
+        assert!(rt; ended.out.is_empty());
+    }
 }
 
 #[test]
 fn words_on_standard_input_take_65_536_bytes(rt: HostRuntime) -> Result<(), Fail> {
+    // No input at all has no word.
     for (count, line) in [
+        (0, b"aclctl: no command\n".as_slice()),
         (65_536, b"aclctl: no command\n".as_slice()),
         (65_537, b"aclctl: too many words\n".as_slice()),
     ] {
         let text = vec![in rt.alloc(); b'x'; count]?;
-        let mut out = Vec::new(rt.alloc());
-        let mut err = Vec::new(rt.alloc());
-        assert_eq!(rt;
-            refusal(&rt, rt.alloc(), &mut text.as_slice(), &mut out, &mut err),
-            2
-        );
-        assert!(rt; err.starts_with(line));
+        let ended = run_input(&rt, rt.alloc(), &mut text.as_slice());
+        assert_eq!(rt; ended.status, 2);
+        assert!(rt; ended.err.starts_with(line));
     }
-    // No input at all has no word.
-    let mut out = Vec::new(rt.alloc());
-    let mut err = Vec::new(rt.alloc());
-    assert_eq!(rt;
-        refusal(&rt, rt.alloc(), &mut b"".as_slice(), &mut out, &mut err),
-        2
-    );
-    assert!(rt; err.starts_with(b"aclctl: no command\n".as_slice()));
     Ok(())
 }
 
@@ -327,26 +292,14 @@ fn sessions_of_files_and_of_standard_input(rt: HostRuntime) -> Result<(), Fail> 
     let shelf = Shelf {
         files: &[("s", SETUP), ("one", "get /\n")],
     };
-    let mut out = Vec::new(rt.alloc());
-    let mut err = Vec::new(rt.alloc());
     let words = ["run", "--setup", "s", "one", "-"].as_slice();
     let mut input = b"check / al w\n".as_slice();
-    assert_eq!(rt;
-        run_command(
-            &rt,
-            rt.alloc(),
-            &shelf,
-            words,
-            &mut input,
-            &mut out,
-            &mut err
-        ),
-        0
-    );
+    let ended = run_over(&rt, rt.alloc(), &shelf, words, &mut input);
     let wanted =
         "session 0\n1 get / dir al staff 755 posix\nuser::rwx\ngroup::r-x\nother::r-x\nsession 1\n1 granted\n";
-    assert_eq!(rt; out.as_slice(), wanted.as_bytes());
-    assert!(rt; err.is_empty());
+    assert_eq!(rt; ended.status, 0);
+    assert_eq!(rt; ended.out.as_slice(), wanted.as_bytes());
+    assert!(rt; ended.err.is_empty());
     Ok(())
 }
 
@@ -381,20 +334,10 @@ fn files_that_are_refused(rt: HostRuntime) -> Result<(), Fail> {
         files: &[("s", SETUP), ("one", "get /\n")],
     };
     for (words, status, line) in REFUSED_FILES {
-        let mut out = Vec::new(rt.alloc());
-        let mut err = Vec::new(rt.alloc());
-        let ended = run_command(
-            &rt,
-            rt.alloc(),
-            &shelf,
-            words,
-            &mut Broken,
-            &mut out,
-            &mut err,
-        );
-        assert_eq!(rt; ended, status);
-        assert!(rt; out.is_empty());
-        assert_eq!(rt; err.as_slice(), line.as_bytes());
+        let ended = run_over(&rt, rt.alloc(), &shelf, words, &mut Broken);
+        assert_eq!(rt; ended.status, status);
+        assert!(rt; ended.out.is_empty());
+        assert_eq!(rt; ended.err.as_slice(), line.as_bytes());
     }
     Ok(())
 }
