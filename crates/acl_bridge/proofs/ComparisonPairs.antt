@@ -4,6 +4,7 @@ use Rattle.std.specs.List.{All, list_any}
 use Rattle.std.proofs.lemmas.Bool.{true≢false, eq-eqb, or_parts}
 use Rattle.std.proofs.lemmas.List.Elements.{All-nil, All-cons, All-map}
 use Rattle.acl_names.specs.Bits.{has}
+use Rattle.acl_names.specs.declared.limits.TheConstants.{NOBODY}
 use Rattle.acl_names.specs.Requester.{Identity}
 use Rattle.acl_names.proofs.AnyLemmas.{list_any-append, list_any-agree}
 use Rattle.acl_names.proofs.BitSets.{has-above}
@@ -84,12 +85,12 @@ asked owner uid acl =
     list_any-agree (λ (entry : EntryValue). is_at uid (needed_uid owner (who_of entry.tag))) (λ (entry : EntryValue). is_of_user owner uid entry.tag)
     (λ entry. sym (asked_uid owner uid entry.tag)) acl
 
-pub asked_few : (owner n : ℕ) (first second : List EntryValue) → n ≤ 129
+pub asked_few : (owner n : ℕ) (first second : List EntryValue) → n ≤ NOBODY
     → ((k : ℕ) → k < n → (asks_for owner (tried k) first || asks_for owner (tried k) second) ≡ true)
     → n ≤ length first + length second
 asked_few owner n first second few each =
     let both : n ≤ length (first ++ second) =
-    enough (λ (entry : EntryValue). needed_uid owner (who_of entry.tag)) tried n (first ++ second) (tried_apart n (omega (arith, few)))
+    enough (λ (entry : EntryValue). needed_uid owner (who_of entry.tag)) tried n (first ++ second) (tried_apart n few)
     (λ k below. list_any-append (λ (entry : EntryValue). is_at (tried k) (needed_uid owner (who_of entry.tag))) first second
     ∙ ap₂ (λ a b. a || b) (asked owner (tried k) first) (asked owner (tried k) second) ∙ each k below) in
     omega (arith, both, length-append first second)

@@ -7,8 +7,11 @@ ghost use Rattle.acl_bridge.specs.Comparison.{GrantAlikeAt, GrantAlikeToAll, IsS
 use crate::passes::who_of;
 use acl_names::{Asker, Gid, NOBODY, Uid};
 use acl_nfs4::{Who, asker_for};
-use acl_posix::{Acl, Entry, Perms, Tag};
+use acl_posix::{Acl, Entry, MAX_ENTRIES, Perms, Tag};
 use std::alloc::{AllocError, Global};
+
+/// How many users are tried as strangers: one more than two lists have entries.
+const STRANGERS: u32 = 2 * MAX_ENTRIES as u32 + 1;
 
 /// To whom two lists grant a request differently.
 #[derive(Clone, Copy, Debug, PartialEq, Eq)]
@@ -64,7 +67,7 @@ fn stranger(first: &[Entry], second: &[Entry], owner: Uid) -> Uid
     ensures first { IsStranger owner first.now result }
     ensures second { IsStranger owner second.now result }
 {
-    for number in 0..129 {
+    for number in 0..STRANGERS {
         if let Some(uid) = Uid::new(NOBODY - number) {
             if !(asks_for(first, owner, uid) || asks_for(second, owner, uid)) {
                 return uid;

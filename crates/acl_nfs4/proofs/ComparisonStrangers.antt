@@ -67,7 +67,7 @@ module _ {X : Type 0} where
 abbrev pub tried : ℕ → ℕ
 tried number = NOBODY - number
 
-pub tried_apart : (n : ℕ) → n ≤ 257 → (j k : ℕ) → j < k → k < n → tried j ≢ tried k
+pub tried_apart : (n : ℕ) → n ≤ NOBODY → (j k : ℕ) → j < k → k < n → tried j ≢ tried k
 tried_apart n few j k before below same = let e : 65534 - j ≡ 65534 - k = same in absurd (omega (arith, few, before, below, e))
 
 -- who asks for a user asks for that user's uid
@@ -84,7 +84,7 @@ asked owner uid aces =
     (λ ace. sym (asked_uid owner uid ace.who)) aces
 
 -- two lists can't ask for more users than they have entries
-pub asked_few : (owner n : ℕ) (first second : List Nfsace4) → n ≤ 257
+pub asked_few : (owner n : ℕ) (first second : List Nfsace4) → n ≤ NOBODY
     → ((k : ℕ) → k < n → (asks_for owner (tried k) first || asks_for owner (tried k) second) ≡ true)
     → n ≤ length first + length second
 asked_few owner n first second few each =

@@ -14,6 +14,9 @@ use crate::{Ace, Acl4, Mask, Who};
 use acl_names::{Asker, Gid, NOBODY, Uid};
 use bitflags::Flags as FlagSet;
 
+/// How many users are tried as strangers: one more than two lists have entries.
+const STRANGERS: u32 = 2 * MAX_ACES as u32 + 1;
+
 /// For whom two lists decide differently, and what.
 #[derive(Clone, Copy, Debug, PartialEq, Eq)]
 pub struct Difference {
@@ -156,7 +159,7 @@ fn stranger(first: &[Ace], second: &[Ace], owner: Uid) -> Uid
     ensures first { IsStranger owner first.now result }
     ensures second { IsStranger owner second.now result }
 {
-    for number in 0..257 {
+    for number in 0..STRANGERS {
         if let Some(uid) = Uid::new(NOBODY - number) {
             if !(asks_for(first, owner, uid) || asks_for(second, owner, uid)) {
                 return uid;

@@ -2,11 +2,12 @@
 ghost use Rattle.std.specs.Prelude.{◌≡◌, ◌≤◌, Option, IfSome, option_map};
 ghost use Rattle.toml.specs.Data.{Data, as_str, get_member};
 ghost use Rattle.toml.specs.View.{items_view, table_view, view};
+ghost use Rattle.acl_names.specs.declared.limits.TheConstants.{MAX_ID};
 ghost use Rattle.acl_service.specs.SetupTable.{Answers, each_item, id_at, id_of, items_at, table_at, text_at, texts_at};
 ghost use Rattle.acl_service.specs.Shown.{texts_shown};
 
 use super::fault::SetupError;
-use acl_names::{Gid, Uid};
+use acl_names::{Gid, MAX_ID, Uid};
 use std::alloc::Global;
 use toml::{Table, Value};
 
@@ -50,9 +51,9 @@ pub(super) fn table_at<'a>(table: &'a Table, key: &str) -> Option<&'a Table>
 /// The number of an id.
 fn read_id(number: i64) -> Option<u32>
     ensures value { result ≡ id_of number }
-    ensures in_range { IfSome result (λ id. id ≤ 4294967294) }
+    ensures in_range { IfSome result (λ id. id ≤ MAX_ID) }
 {
-    if 0 <= number && number <= 4_294_967_294 {
+    if 0 <= number && number <= i64::from(MAX_ID) {
         Some(number as u32)
     } else {
         None
@@ -63,7 +64,7 @@ fn read_id(number: i64) -> Option<u32>
 #[tactic(auto, unfolding(crate::specs::SetupTable::id_at))]
 fn id_at(table: &Table, key: &str) -> Option<u32>
     ensures value { result ≡ id_at key.now (table_view table.now) }
-    ensures in_range { IfSome result (λ id. id ≤ 4294967294) }
+    ensures in_range { IfSome result (λ id. id ≤ MAX_ID) }
 {
     match value_at(table, key) {
         Some(value) => read_id(value.as_integer()?),
