@@ -8,7 +8,7 @@ use Rattle.std.proofs.lemmas.List.Elements.{All-head, All-tail, All-cons, All-ap
 use Rattle.std.proofs.lemmas.List.Splits.{slice_split_at, slice_split_none}
 use Rattle.std.proofs.lemmas.List.Sums.{AllPass-from_list_all}
 use Rattle.std.proofs.lemmas.Slice.Eq.{bytes_eq-Decides}
-use Rattle.acl_names.specs.declared.limits.TheConstants.{MAX_NAME_LEN, MAX_ID}
+use Rattle.acl_names.specs.declared.limits.TheConstants.{MAX_NAME_LEN, MAX_DOMAIN_LEN, MAX_ID}
 use Rattle.acl_names.specs.Bytes.{colon, at_sign}
 use Rattle.acl_names.specs.Bits.{has, without, ◌∩◌}
 use Rattle.acl_names.specs.Directory.{Known, TellsNamesApart, uid_of, gid_of, user_name, group_name}
@@ -70,7 +70,7 @@ name_bytes (c ∷ cs) shaped =
 domain_bytes : (domain : List ℕ) → has_domain_shape domain ≡ true → All (λ byte. stands_in_domain byte ≡ true) domain
 domain_bytes domain shaped =
     AllPass-from_list_all stands_in_domain domain
-    (and_second (nat_le 1 (length domain) && nat_le (length domain) 255) (list_all stands_in_domain domain) shaped)
+    (and_second (nat_le 1 (length domain) && nat_le (length domain) MAX_DOMAIN_LEN) (list_all stands_in_domain domain) shaped)
 
 decimal_bytes : (id : ℕ) → id ≤ MAX_ID → All (λ byte. is_ascii_digit byte ≡ true) (decimal id)
 decimal_bytes id small =
