@@ -5,151 +5,102 @@ use std::alloc::Global;
 /// The fields in order: owner, group, first STYLE and TEXT, second STYLE and TEXT.
 type Fields<'a> = [&'a str; 6];
 
-const LIST: &str = "u::rw,g::r,o::-";
-
 /// Two entries are about the file's group, 50: its own and a named one. By these its members may read and write by turns, but
 /// not at once.
-const DIVIDED: &str = "u::-,g::r,g:50:w,m::rw,o::-";
+const DIVIDED: &str = "posix u::-,g::r,g:50:w,m::rw,o::-";
 
-const JOINED: &str = "u::-,g::rw,o::-";
+const JOINED: &str = "posix u::-,g::rw,o::-";
 
 /// First STYLE and TEXT, second STYLE and TEXT, and what is answered where the owner is 1000 and the group is 50.
-const ANSWERS: [([&str; 4], &str); 15] = [
+const ANSWERS: [(&str, &str, &str); 15] = [
     (
-        [
-            "posix",
-            "u::rw,g::r,o::-",
-            "nfs4",
-            "A::OWNER@:rwa,D::OWNER@:x,A::GROUP@:r,D::GROUP@:wax",
-        ],
+        "posix u::rw,g::r,o::-",
+        "nfs4 A::OWNER@:rwa,D::OWNER@:x,A::GROUP@:r,D::GROUP@:wax",
         "alike\n",
     ),
     // In the other direction.
     (
-        [
-            "nfs4",
-            "A::OWNER@:rwa,D::OWNER@:x,A::GROUP@:r,D::GROUP@:wax",
-            "posix",
-            "u::rw,g::r,o::-",
-        ],
+        "nfs4 A::OWNER@:rwa,D::OWNER@:x,A::GROUP@:r,D::GROUP@:wax",
+        "posix u::rw,g::r,o::-",
         "alike\n",
     ),
     // The mask takes from bob what the other list doesn't give him; the entries stand in any order.
     (
-        [
-            "posix",
-            "m::r,u:1001:rw,u::rw,g::r,o::-",
-            "posix",
-            "u::rw,u:1001:r,g::r,m::rw,o::-",
-        ],
+        "posix m::r,u:1001:rw,u::rw,g::r,o::-",
+        "posix u::rw,u:1001:r,g::r,m::rw,o::-",
         "alike\n",
     ),
     // The owner has the uid 1000.
-    (["nfs4", "A::OWNER@:rc", "nfs4", "A::1000:rc"], "alike\n"),
+    ("nfs4 A::OWNER@:rc", "nfs4 A::1000:rc", "alike\n"),
     // A POSIX list doesn't speak of attributes.
-    (
-        ["posix", "u::r,g::r,o::r", "nfs4", "A::EVERYONE@:rtTcC"],
-        "alike\n",
-    ),
+    ("posix u::r,g::r,o::r", "nfs4 A::EVERYONE@:rtTcC", "alike\n"),
     // No entries grant nothing.
-    (
-        ["nfs4", "", "nfs4", "D::EVERYONE@:rwaxdDtTnNcCoy"],
-        "alike\n",
-    ),
+    ("nfs4 ", "nfs4 D::EVERYONE@:rwaxdDtTnNcCoy", "alike\n"),
     // Only who is in both groups gains.
     (
-        [
-            "posix",
-            "u::-,g::-,o::r",
-            "posix",
-            "u::-,g::-,g:60:r,m::r,o::r",
-        ],
+        "posix u::-,g::-,o::r",
+        "posix u::-,g::-,g:60:r,m::r,o::r",
         "differ\nrequester 65534 50,60\nlost -\ngained r\n",
     ),
     (
-        [
-            "posix",
-            "u::-,g::-,g:60:r,m::r,o::r",
-            "posix",
-            "u::-,g::-,o::r",
-        ],
+        "posix u::-,g::-,g:60:r,m::r,o::r",
+        "posix u::-,g::-,o::r",
         "differ\nrequester 65534 60,50\nlost r\ngained -\n",
     ),
     // The owner loses to write and gains to execute.
     (
-        ["posix", "u::rw,g::r,o::-", "posix", "u::rx,g::r,o::-"],
+        "posix u::rw,g::r,o::-",
+        "posix u::rx,g::r,o::-",
         "differ\nrequester 1000 -\nlost w\ngained x\n",
     ),
     // Between the styles writing is two bits.
     (
-        [
-            "posix",
-            "u::rw,g::r,o::-",
-            "nfs4",
-            "A::OWNER@:r,A::GROUP@:r",
-        ],
+        "posix u::rw,g::r,o::-",
+        "nfs4 A::OWNER@:r,A::GROUP@:r",
         "differ\nrequester 1000 -\nlost wa\ngained -\n",
     ),
     (
-        [
-            "nfs4",
-            "A::OWNER@:r,A::GROUP@:r",
-            "posix",
-            "u::rw,g::r,o::-",
-        ],
+        "nfs4 A::OWNER@:r,A::GROUP@:r",
+        "posix u::rw,g::r,o::-",
         "differ\nrequester 1000 -\nlost -\ngained wa\n",
     ),
     // Between NFSv4 lists all bits count.
     (
-        ["nfs4", "A::EVERYONE@:rdy", "nfs4", "A::EVERYONE@:rtc"],
+        "nfs4 A::EVERYONE@:rdy",
+        "nfs4 A::EVERYONE@:rtc",
         "differ\nrequester 65534 -\nlost dy\ngained tc\n",
     ),
     // Nobody is named, so the next one is asked.
     (
-        ["nfs4", "D::65534:r,A::EVERYONE@:r", "nfs4", "D::65534:r"],
+        "nfs4 D::65534:r,A::EVERYONE@:r",
+        "nfs4 D::65534:r",
         "differ\nrequester 65533 -\nlost r\ngained -\n",
     ),
     (
-        ["posix", JOINED, "posix", DIVIDED],
+        JOINED,
+        DIVIDED,
         "differ\nrequester 65534 50\nlost rw\ngained -\n",
     ),
     (
-        ["posix", DIVIDED, "posix", JOINED],
+        DIVIDED,
+        JOINED,
         "differ\nrequester 65534 50\nlost -\ngained rw\n",
     ),
 ];
 
-/// Fields of which one is faulty, and what is said of it.
-const FAULTS: [(Fields<'static>, &str); 11] = [
-    (["x", "y", "z", "", "", ""], "aclctl: bad-id\n"),
-    (["1", "4294967295", "z", "", "", ""], "aclctl: bad-id\n"),
-    (["1", "2", "POSIX", "x", "", ""], "aclctl: bad-style\n"),
-    (["1", "2", "posix", "x", "z", ""], "aclctl: bad-acl\n"),
-    (
-        ["1", "2", "posix", "u:bob:r", "z", ""],
-        "aclctl: unknown-name\n",
-    ),
-    (
-        ["1", "2", "posix", "u::rw", "z", ""],
-        "aclctl: invalid-acl\n",
-    ),
-    (
-        ["1", "2", "posix", LIST, "nfs5", "x"],
-        "aclctl: bad-style\n",
-    ),
-    (["1", "2", "posix", LIST, "nfs4", "x"], "aclctl: bad-acl\n"),
-    (
-        ["1", "2", "nfs4", "A::bob:r", "z", ""],
-        "aclctl: unknown-name\n",
-    ),
-    (
-        ["1", "2", "nfs4", "A:i:1:r", "z", ""],
-        "aclctl: inherit-only\n",
-    ),
-    (
-        ["1", "2", "nfs4", "A::1:r", "posix", "x"],
-        "aclctl: bad-acl\n",
-    ),
+/// Fields of which one is faulty and those after it may be, with blanks between them, and what is said.
+const FAULTS: [(&str, &str); 11] = [
+    ("x y z z z z", "aclctl: bad-id\n"),
+    ("1 4294967295 z z z z", "aclctl: bad-id\n"),
+    ("1 2 POSIX x z z", "aclctl: bad-style\n"),
+    ("1 2 posix x z z", "aclctl: bad-acl\n"),
+    ("1 2 posix u:bob:r z z", "aclctl: unknown-name\n"),
+    ("1 2 posix u::rw z z", "aclctl: invalid-acl\n"),
+    ("1 2 posix u::rw,g::r,o::- nfs5 x", "aclctl: bad-style\n"),
+    ("1 2 posix u::rw,g::r,o::- nfs4 x", "aclctl: bad-acl\n"),
+    ("1 2 nfs4 A::bob:r z z", "aclctl: unknown-name\n"),
+    ("1 2 nfs4 A:i:1:r z z", "aclctl: inherit-only\n"),
+    ("1 2 nfs4 A::1:r posix x", "aclctl: bad-acl\n"),
 ];
 
 /// STYLE and an entry that stands so many times in TEXT, the second STYLE and TEXT, and how the comparison ends.
@@ -194,28 +145,47 @@ fn ends_with(alloc: Global, fields: &Fields<'_>, status: u8, text: &str, fault: 
         && err.as_slice() == fault.as_bytes()
 }
 
+/// Whether these two lists, each with its STYLE before it, are answered so.
+fn answers(alloc: Global, first: &str, second: &str, text: &str) -> Option<bool> {
+    let mut first = first.split(' ');
+    let mut second = second.split(' ');
+    let fields = [
+        "1000",
+        "50",
+        first.next()?,
+        first.next()?,
+        second.next()?,
+        second.next()?,
+    ];
+    Some(ends_with(alloc, &fields, 0, text, ""))
+}
+
 #[test]
-fn answers(rt: HostRuntime) {
-    for (lists, text) in ANSWERS {
-        let fields = ["1000", "50", lists[0], lists[1], lists[2], lists[3]];
-        assert!(rt;
-            ends_with(rt.alloc(), &fields, 0, text, ""),
-            "{} and {}",
-            lists[1],
-            lists[3]
-        );
+fn answers_of_lists(rt: HostRuntime) {
+    for (first, second, text) in ANSWERS {
+        let ends = answers(rt.alloc(), first, second, text);
+        assert_eq!(rt; ends, Some(true), "{first} and {second}");
     }
+}
+
+/// Whether the fields of a line are refused so.
+fn refuses(alloc: Global, line: &str, fault: &str) -> Option<bool> {
+    let mut fields = line.split(' ');
+    let fields = [
+        fields.next()?,
+        fields.next()?,
+        fields.next()?,
+        fields.next()?,
+        fields.next()?,
+        fields.next()?,
+    ];
+    Some(ends_with(alloc, &fields, 1, "", fault))
 }
 
 #[test]
 fn faults_of_fields(rt: HostRuntime) {
-    for (fields, fault) in FAULTS {
-        assert!(rt;
-            ends_with(rt.alloc(), &fields, 1, "", fault),
-            "{} and {}",
-            fields[3],
-            fields[5]
-        );
+    for (line, fault) in FAULTS {
+        assert_eq!(rt; refuses(rt.alloc(), line, fault), Some(true), "at {line}");
     }
 }
 

@@ -1,84 +1,44 @@
 //! Tests of `decide`.
 use acl_queries::decide;
-use std::alloc::Global;
+use std::alloc::{AllocError, Global};
 use std::io::{self, Write};
+use std::test::Fail;
 
 /// The fields in order: owner, group, uid, gids, perms, TEXT.
 type Fields<'a> = [&'a str; 6];
 
 const ASKED: Fields<'static> = ["1000", "50", "1001", "50,60", "r", "u::rw,g::r,o::-"];
 
-/// Fields of an answer, and the answer.
-const ANSWERS: [(Fields<'static>, &str); 10] = [
-    (ASKED, "granted\n"),
+/// All fields but TEXT with blanks between them, TEXT, and the answer.
+const ANSWERS: [(&str, &str, &str); 9] = [
+    ("1000 50 1001 50,60 r", "u::rw,g::r,o::-", "granted\n"),
     // The group may only read.
-    (
-        ["1000", "50", "1001", "50,60", "w", "u::rw,g::r,o::-"],
-        "denied\n",
-    ),
-    (
-        ["1000", "50", "1000", "50", "rw", "u::rw,g::r,o::-"],
-        "granted\n",
-    ),
-    (
-        ["1000", "50", "1001", "60", "r", "u::rw,g::r,o::-"],
-        "denied\n",
-    ),
+    ("1000 50 1001 50,60 w", "u::rw,g::r,o::-", "denied\n"),
+    ("1000 50 1000 50 rw", "u::rw,g::r,o::-", "granted\n"),
+    ("1000 50 1001 60 r", "u::rw,g::r,o::-", "denied\n"),
     // No bit asked for.
-    (
-        ["1000", "50", "1001", "60", "-", "u::rw,g::r,o::-"],
-        "granted\n",
-    ),
+    ("1000 50 1001 60 -", "u::rw,g::r,o::-", "granted\n"),
     // A group that matches and doesn't grant isn't followed by the others.
     (
-        [
-            "1000",
-            "50",
-            "1001",
-            "60",
-            "r",
-            "u::rw,g::r,g:60:-,m::r,o::r",
-        ],
+        "1000 50 1001 60 r",
+        "u::rw,g::r,g:60:-,m::r,o::r",
         "denied\n",
     ),
     // The entries are in no order.
     (
-        [
-            "1000",
-            "50",
-            "1001",
-            "60",
-            "r",
-            "o::-,m::r,u:1001:r,g::-,u::rw",
-        ],
+        "1000 50 1001 60 r",
+        "o::-,m::r,u:1001:r,g::-,u::rw",
         "granted\n",
     ),
     // Blanks, lines and comments.
     (
-        [
-            "1000",
-            "50",
-            "1001",
-            "60",
-            "r",
-            "user : : rw # all\ngroup::-\n\nother:r",
-        ],
+        "1000 50 1001 60 r",
+        "user : : rw # all\ngroup::-\n\nother:r",
         "granted\n",
     ),
     (
-        [
-            "4294967294",
-            "0000000000",
-            "4294967294",
-            "0",
-            "x",
-            "u::x,g::-,o::-",
-        ],
-        "granted\n",
-    ),
-    // The most gids that there may be.
-    (
-        ["1000", "50", "1001", GIDS_32, "r", "u::rw,g::r,o::-"],
+        "4294967294 0000000000 4294967294 0 x",
+        "u::x,g::-,o::-",
         "granted\n",
     ),
 ];
@@ -146,85 +106,47 @@ const REFUSED: [(usize, &str, &str); 23] = [
     (5, "", "aclctl: invalid-acl\n"),
 ];
 
-/// Each field from the back to the front is faulty too, so that the first of them is told.
-const FIRST_FAULTS: [(Fields<'static>, &str); 4] = [
-    (
-        ["1000", "50", "1001", "50,60", "r", "u::q"],
-        "aclctl: bad-acl\n",
-    ),
-    (
-        ["1000", "50", "1001", "50,60", "q", "u::q"],
-        "aclctl: bad-perms\n",
-    ),
-    (
-        ["1000", "50", "1001", GIDS_33, "q", "u::q"],
-        "aclctl: too-many\n",
-    ),
-    (
-        ["1000", "50", "x", GIDS_33, "q", "u::q"],
-        "aclctl: bad-id\n",
-    ),
+/// Each field from the back to the front is faulty too, so that the first of them is told: its place, what stands there then,
+/// and what is said.
+const FIRST_FAULTS: [(usize, &str, &str); 4] = [
+    (5, "u::q", "aclctl: bad-acl\n"),
+    (4, "q", "aclctl: bad-perms\n"),
+    (3, GIDS_33, "aclctl: too-many\n"),
+    (2, "x", "aclctl: bad-id\n"),
 ];
 
 /// Words that the parser refuses.
-const WRONG: [&[&str]; 7] = [
-    &["decide", "--owner"],
-    &["decide", "--help"],
-    &["decide"],
+const WRONG: [&str; 7] = [
+    "decide --owner",
+    "decide --help",
+    "decide",
     // There is no --perms.
-    &[
-        "decide",
-        "--owner",
-        "1000",
-        "--group",
-        "50",
-        "--uid",
-        "1001",
-        "u::rw,g::r,o::-",
-    ],
+    "decide --owner 1000 --group 50 --uid 1001 u::rw,g::r,o::-",
     // A flag has no value of its own,
-    &[
-        "decide",
-        "--nfs4=true",
-        "--owner",
-        "1000",
-        "--group",
-        "50",
-        "--uid",
-        "1001",
-        "--perms",
-        "r",
-        "u::rw,g::r,o::-",
-    ],
+    "decide --nfs4=true --owner 1000 --group 50 --uid 1001 --perms r u::rw,g::r,o::-",
     // and stands once.
-    &[
-        "decide",
-        "--nfs4",
-        "--nfs4",
-        "--owner",
-        "1000",
-        "--group",
-        "50",
-        "--uid",
-        "1001",
-        "--perms",
-        "r",
-        "u::rw,g::r,o::-",
-    ],
+    "decide --nfs4 --nfs4 --owner 1000 --group 50 --uid 1001 --perms r u::rw,g::r,o::-",
     // A value that begins with - follows a =.
-    &[
-        "decide",
-        "--owner",
-        "1000",
-        "--group",
-        "50",
-        "--uid",
-        "1001",
-        "--perms",
-        "-w-",
-        "u::rw,g::r,o::-",
-    ],
+    "decide --owner 1000 --group 50 --uid 1001 --perms -w- u::rw,g::r,o::-",
 ];
+
+/// The words between the blanks of a line.
+fn words_in<'a>(alloc: Global, line: &'a str) -> Result<Vec<&'a str>, AllocError> {
+    let mut words = Vec::new(alloc);
+    for word in line.split(' ') {
+        words.push(word)?;
+    }
+    Ok(words)
+}
+
+/// Puts this in the place of a field. False if there is no such place.
+fn put<'a>(fields: &mut Fields<'a>, at: usize, field: &'a str) -> bool {
+    let Some(place) = fields.get_mut(at) else {
+        return false;
+    };
+    *place = field;
+    true
+}
 
 fn words_for<'a>(fields: &Fields<'a>) -> [&'a str; 12] {
     [
@@ -242,11 +164,13 @@ fn ends_with(alloc: Global, words: &[&str], status: u8, text: &str, fault: &str)
         && err.as_slice() == fault.as_bytes()
 }
 
-/// Whether the parser refuses the words, and says why.
-fn is_wrong_usage(alloc: Global, words: &[&str]) -> bool {
+/// Whether the parser refuses the words of a line, and says why.
+fn is_wrong_usage(alloc: Global, line: &str) -> Option<bool> {
+    let words = words_in(alloc, line).ok()?;
     let mut out = Vec::new(alloc);
     let mut err = Vec::new(alloc);
-    decide(alloc, words, &mut out, &mut err) == 2 && out.is_empty() && !err.is_empty()
+    let status = decide(alloc, words.as_slice(), &mut out, &mut err);
+    Some(status == 2 && out.is_empty() && !err.is_empty())
 }
 
 /// Fails at each write.
@@ -263,27 +187,41 @@ impl Write for Broken {
     }
 }
 
+/// Whether the fields of a line and TEXT are answered so.
+fn answers(alloc: Global, line: &str, list: &str, text: &str) -> Option<bool> {
+    let mut fields = line.split(' ');
+    let fields = [
+        fields.next()?,
+        fields.next()?,
+        fields.next()?,
+        fields.next()?,
+        fields.next()?,
+        list,
+    ];
+    Some(ends_with(alloc, &words_for(&fields), 0, text, ""))
+}
+
 #[test]
 fn granted_and_denied(rt: HostRuntime) {
-    for (fields, line) in ANSWERS {
-        let words = words_for(&fields);
-        assert!(rt; ends_with(rt.alloc(), &words, 0, line, ""), "at {fields:?}");
+    for (line, list, text) in ANSWERS {
+        let ends = answers(rt.alloc(), line, list, text);
+        assert_eq!(rt; ends, Some(true), "at {line} {list}");
     }
 }
 
 #[test]
-fn without_gids(rt: HostRuntime) {
-    let words = [
-        "decide",
-        "u::rw,g::r,o::-",
-        "--perms=-w-",
-        "--uid",
-        "1001",
-        "--group=50",
-        "--owner",
-        "1000",
-    ];
-    assert!(rt; ends_with(rt.alloc(), &words, 0, "denied\n", ""));
+fn takes_32_gids(rt: HostRuntime) {
+    let mut fields = ASKED;
+    fields[3] = GIDS_32;
+    assert!(rt; ends_with(rt.alloc(), &words_for(&fields), 0, "granted\n", ""));
+}
+
+#[test]
+fn without_gids(rt: HostRuntime) -> Result<(), Fail> {
+    let line = "decide u::rw,g::r,o::- --perms=-w- --uid 1001 --group=50 --owner 1000";
+    let words = words_in(rt.alloc(), line)?;
+    assert!(rt; ends_with(rt.alloc(), words.as_slice(), 0, "denied\n", ""));
+    Ok(())
 }
 
 /// Whether this is answered with the translation.
@@ -305,11 +243,7 @@ fn with_the_translation(rt: HostRuntime) {
 /// Whether the command refuses such a field in its place, and says this.
 fn refuses(alloc: Global, at: usize, field: &str, line: &str) -> bool {
     let mut fields = ASKED;
-    let Some(place) = fields.get_mut(at) else {
-        return false;
-    };
-    *place = field;
-    ends_with(alloc, &words_for(&fields), 1, "", line)
+    put(&mut fields, at, field) && ends_with(alloc, &words_for(&fields), 1, "", line)
 }
 
 #[test]
@@ -321,9 +255,13 @@ fn refuses_fields(rt: HostRuntime) {
 
 #[test]
 fn first_faulty_field_is_told(rt: HostRuntime) {
-    for (fields, line) in FIRST_FAULTS {
-        let words = words_for(&fields);
-        assert!(rt; ends_with(rt.alloc(), &words, 1, "", line), "at {fields:?}");
+    let mut fields = ASKED;
+    for (at, field, line) in FIRST_FAULTS {
+        assert!(rt; put(&mut fields, at, field));
+        assert!(rt;
+            ends_with(rt.alloc(), &words_for(&fields), 1, "", line),
+            "at {at}"
+        );
     }
 }
 
@@ -364,8 +302,8 @@ fn takes_64_entries(rt: HostRuntime) {
 
 #[test]
 fn parser_refuses_words(rt: HostRuntime) {
-    for words in WRONG {
-        assert!(rt; is_wrong_usage(rt.alloc(), words), "at {words:?}");
+    for line in WRONG {
+        assert_eq!(rt; is_wrong_usage(rt.alloc(), line), Some(true), "at {line}");
     }
 }
 
@@ -376,22 +314,11 @@ fn fails(alloc: Global, words: &[&str], status: u8, fault: &str) -> bool {
 }
 
 #[test]
-fn failed_writes(rt: HostRuntime) {
+fn failed_writes(rt: HostRuntime) -> Result<(), Fail> {
     let words = words_for(&ASKED);
     assert!(rt; fails(rt.alloc(), &words, 3, "aclctl: run: output\n"));
-    let translated = [
-        "decide",
-        "u::rw,g::r,o::-",
-        "--owner",
-        "1000",
-        "--group",
-        "50",
-        "--uid",
-        "1001",
-        "--perms",
-        "r",
-        "--nfs4",
-    ];
+    let line = "decide u::rw,g::r,o::- --owner 1000 --group 50 --uid 1001 --perms r --nfs4";
+    let translated = words_in(rt.alloc(), line)?;
     assert_eq!(rt;
         decide(rt.alloc(), translated.as_slice(), &mut Broken, &mut Broken),
         3
@@ -401,4 +328,5 @@ fn failed_writes(rt: HostRuntime) {
         decide(rt.alloc(), ["decide"].as_slice(), &mut Broken, &mut Broken),
         2
     );
+    Ok(())
 }
