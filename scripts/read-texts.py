@@ -1,11 +1,20 @@
 #!/usr/bin/env python3
 """Reads cut and bent texts of access control lists as docs/PROFILE.md says, apart from the code, and prints what each comes to.
 
-The tests of hostile texts in acl_posix and acl_nfs4 hold these tables. A row is for one way to bend a text: cut off at
-each place in turn, or with the byte at each place in turn replaced. A character stands for one place: the number of
-entries that are read, or the fault of the first faulty piece (S syntax, U unknown name, I inherit-only).
+    scripts/read-texts.py [--check]
+
+The tests of hostile texts in crates/tests_lists hold these tables. A row is for one way to bend a
+text: cut off at each place in turn, or with the byte at each place in turn replaced. A character
+stands for one place: the number of entries that are read, or the fault of the first faulty piece
+(S syntax, U unknown name, I inherit-only).
+
+With --check it compares the texts and the rows that the tests hold with its own, prints what
+differs and at last 'N passed, M failed', and ends with status 1 if something differs.
 """
+import ast
 import re
+import sys
+from pathlib import Path
 
 USERS, GROUPS, DOMAIN = {"root", "alice", "bob", "carol"}, {"root", "staff", "ops", "guest"}, "example.org"
 MODE_SET = b"A::OWNER@:rwatTcC,A::bob@example.org:rwa,A:g:ops@example.org:r,A::EVERYONE@:r"
@@ -85,8 +94,69 @@ def row(read, text, byte):
     return "".join(outcome(read, it) for it in bent)
 
 
-for what, read in (("POSIX", entry), ("NFSv4", ace)):
-    for text in (LONG_FORMS, MODE_SET):
-        print(what, repr(text.decode()))
+TESTS = Path(__file__).resolve().parent.parent / "crates/tests_lists/src"
+# The readers of both styles: how a piece is read, the folder of the tests, the text of this
+# style, and that of the other.
+STYLES = {
+    "POSIX": (entry, "posix", LONG_FORMS, MODE_SET),
+    "NFSv4": (ace, "nfs4", MODE_SET, LONG_FORMS),
+}
+
+
+def print_tables():
+    for what, (read, *_) in STYLES.items():
+        for text in (LONG_FORMS, MODE_SET):
+            print(what, repr(text.decode()))
+            for byte in BYTES:
+                print("   ", "cut " if byte is None else f"{byte:#04x}", row(read, text, byte))
+
+
+def byte_named(text):
+    """The byte that the tests write as None, Some(0) or Some(b':')."""
+    found = re.fullmatch(r"Some\((.*)\)", text)
+    value = ast.literal_eval(found[1]) if found else None
+    return value[0] if isinstance(value, bytes) else value
+
+
+def rows_held(code):
+    """The rows that a file of tests holds, by their bytes."""
+    rows = re.findall(r'\(\s*(None|Some\([^)]*\)),\s*"([^"]*)",?\s*\)', code)
+    return {byte_named(byte): row for byte, row in rows}
+
+
+def bytes_that_leave_nothing(code):
+    """The bytes with which a file of tests says that nothing is left of a text of the other
+    style, whose first place is 0 then."""
+    said = re.search(r"let nothing_left = (.*);", code)[1]
+    named = {byte_named(it) for it in re.findall(r"Some\([^)]*\)", said)}
+    return named | ({None} if "is_none" in said else set())
+
+
+def comparisons():
+    """What the tests hold, and what it should be, each with the words for it."""
+    code = (TESTS / "bent.rt").read_text()
+    for name, text in (("ENTRIES", LONG_FORMS), ("ACES", MODE_SET)):
+        held = re.search(rf'const {name}: &str =\s*("[^"]*");', code)[1]
+        yield f"the text {name}", ast.literal_eval(held), text.decode()
+    for what, (read, folder, own, other) in STYLES.items():
+        code = (TESTS / folder / "hostile.rt").read_text()
+        yield f"the bytes of {what}", sorted(map(str, rows_held(code))), sorted(map(str, BYTES))
         for byte in BYTES:
-            print("   ", "cut " if byte is None else f"{byte:#04x}", row(read, text, byte))
+            yield f"the row of {what} for {byte}", rows_held(code).get(byte), row(read, own, byte)
+            first = "0" if byte in bytes_that_leave_nothing(code) else "S"
+            held = first + "S" * (len(other) - 1)
+            yield f"the other style's row of {what} for {byte}", held, row(read, other, byte)
+
+
+def check():
+    passed = failed = 0
+    for what, held, wanted in comparisons():
+        passed, failed = passed + (held == wanted), failed + (held != wanted)
+        if held != wanted:
+            print(f"FAILED {what}: the tests hold {held!r}, and it is {wanted!r}")
+    print(f"{passed} passed, {failed} failed")
+    return 1 if failed else 0
+
+
+if __name__ == "__main__":
+    sys.exit(check() if sys.argv[1:] == ["--check"] else print_tables())

@@ -5,7 +5,7 @@
 #include <string.h>
 #include <time.h>
 
-/* The static library lang_bench. */
+/* The static library bench_lang. */
 uint64_t lang_times_read(const char *text, size_t length, uint32_t rounds);
 uint64_t lang_times_gathered(const char *text, size_t length, uint32_t rounds);
 uint64_t lang_times_rendered(const char *text, size_t length, uint32_t rounds);

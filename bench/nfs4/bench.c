@@ -7,7 +7,7 @@
 #include <time.h>
 #include "../allocations.h"
 
-/* The static library acl_bench. */
+/* The static library bench_lists. */
 uint64_t aces_times_read(const char *text, size_t length, uint32_t rounds);
 uint64_t aces_times_printed(const char *text, size_t length, uint32_t rounds);
 uint64_t aces_times_checked(const char *text, size_t length, uint32_t first_uid, uint32_t uids, const uint32_t *gids,

@@ -7,8 +7,8 @@ if ! echo '#include <sys/acl.h>' | ${CC:-cc} -E - > /dev/null 2>&1; then
     echo "run.sh: no <sys/acl.h>: install Debian's libacl1-dev (apt-get install libacl1-dev)" >&2
     exit 1
 fi
-(cd crates/acl_bench && rt lib)
+(cd crates/bench_lists && rt lib)
 kit=$(dirname "$(dirname "$(readlink -f "$(command -v rt)")")")
 wrap=-Wl,--wrap=malloc,--wrap=calloc,--wrap=realloc
-${CC:-cc} -O2 $wrap -o crates/acl_bench/out/bench bench/posix/bench.c crates/acl_bench/out/libacl_bench.a "$kit/c/liblibc_c.a" -lacl
-exec crates/acl_bench/out/bench "$@"
+${CC:-cc} -O2 $wrap -o crates/bench_lists/out/bench bench/posix/bench.c crates/bench_lists/out/libbench_lists.a "$kit/c/liblibc_c.a" -lacl
+exec crates/bench_lists/out/bench "$@"

@@ -13,7 +13,7 @@
 #include <time.h>
 #include <unistd.h>
 
-/* The static library run_bench. */
+/* The static library bench_run. */
 size_t run_prints(const uint8_t *setup, size_t setup_length, const char *texts, size_t texts_length, const size_t *lengths,
                   size_t count, char *printed, size_t room);
 size_t libacl_prints(const char *text, size_t length, char *printed, size_t room);
@@ -306,12 +306,19 @@ static void time_libacl(const struct files *posix)
            theirs.processor[0] / ours.processor[0]);
 }
 
-/* Many sessions: one after the other, each by a run of the program, and all by one run, on all processors and on one. */
+/* What one took over what the other took in the same turn. */
+static struct took over(struct took ours, struct took theirs)
+{
+    return (struct took){ours.wall / theirs.wall, ours.processor / theirs.processor, 0};
+}
+
+/* Many sessions: one after the other, each by a run of the program, and all by one run, on all processors and on one. A ratio is
+   that of two runs in the same turn. */
 static void time_many(const char *what, const struct files *sessions)
 {
     char name[128];
     struct held held = hold(sessions);
-    struct turns alone = {0}, each = {0}, all = {0}, one = {0};
+    struct turns alone = {0}, each = {0}, all = {0}, one = {0}, all_over_each = {0}, one_over_each = {0};
     for (int i = 0; i < TURNS; i++) {
         IN_PROCESS(&alone, by_run_one(&held));
         struct took sum = {0};
@@ -321,14 +328,16 @@ static void time_many(const char *what, const struct files *sessions)
             struct took took = run_program(&single, 0, 0, "/dev/null");
             sum.wall += took.wall, sum.processor += took.processor;
         }
-        add_turn(&each, sum);
-        add_turn(&all, run_program(sessions, 0, 0, "/dev/null"));
-        add_turn(&one, run_program(sessions, 0, 1, "/dev/null"));
+        struct took on_all = run_program(sessions, 0, 0, "/dev/null"), on_one = run_program(sessions, 0, 1, "/dev/null");
+        add_turn(&each, sum), add_turn(&all, on_all), add_turn(&one, on_one);
+        add_turn(&all_over_each, over(on_all, sum)), add_turn(&one_over_each, over(on_one, sum));
     }
     sprintf(name, "%s, run_one one after the other", what), row(name, &alone, held.length);
     sprintf(name, "%s, a run of the program for each, one after the other", what), row(name, &each, held.length);
     sprintf(name, "%s, one run of the program", what), row(name, &all, held.length);
     sprintf(name, "%s, one run of the program on one processor", what), row(name, &one, held.length);
+    sprintf(name, "%s, one run's time over a run for each", what), row(name, &all_over_each, 0);
+    sprintf(name, "%s, the same on one processor", what), row(name, &one_over_each, 0);
 }
 
 static void time_start(const struct files *small)
@@ -338,6 +347,77 @@ static void time_start(const struct files *small)
     row("a session of ten lines, the program from start to end", &turns, 0);
 }
 
+/* A kind of command: what it is called, whether it is about nodes of the NFSv4 style, and its line about a file. */
+struct command { const char *what; int is_nfs4; const char *line; };
+
+static const struct command commands[] = {
+    {"create", 0, "create file /made%u alice 640\n"},
+    {"set, a POSIX list of five entries", 0, "set /file%u access u::rw,u:3001:rw,g::r,m::rw,o::-\n"},
+    {"the same, written in full", 0, "set /file%u access user::rw-,user:3001:rw-,group::r--,mask::rw-,other::---\n"},
+    {"set, an NFSv4 list of five entries", 1, "set /file%u nfs4 A::OWNER@:rwatTcCy,A::3001:rwx,D:g:70001:wa,A:g:60:rx,A::EVERYONE@:rt\n"},
+    {"get, of the POSIX list", 0, "get /file%u\n"},
+    {"get, of the NFSv4 list", 1, "get /file%u\n"},
+    {"chmod, of the POSIX list", 0, "chmod /file%u 640\n"},
+    {"chmod, of the NFSv4 list", 1, "chmod /file%u 640\n"},
+    {"check, by the POSIX list", 0, "check /file%u bob r\n"},
+    {"check4, by the NFSv4 list", 1, "check4 /file%u bob rx\n"},
+    {"translate", 0, "translate /file%u\n"},
+    {"a line that is no command", 0, "x\n"},
+};
+
+/* How many files are asked about, one after the other; and how many commands are counted. */
+enum { FILES = 64, COMMANDS = 3968 };
+
+/* Files with lists of five entries, and then so many times the command. */
+static struct files write_commands(const struct command *command, int times)
+{
+    static char text[MOST];
+    char *end = text;
+    struct files made = {.count = 1};
+    for (unsigned file = 0; file < FILES; file++) {
+        end += sprintf(end, "create file /file%u alice 640\n", file);
+        end += sprintf(end, commands[command->is_nfs4 ? 3 : 1].line, file);
+    }
+    for (int nth = 0; nth < times; nth++) end += sprintf(end, command->line, command == commands ? nth : nth % FILES);
+    snprintf(made.names[0], sizeof made.names[0], "%s/commands", folder);
+    write_file(made.names[0], text, end - text);
+    return made;
+}
+
+/* How many instructions the program takes for one session, by callgrind. */
+static double instructions(const struct files *session)
+{
+    char command[1024], line[256];
+    double collected = 0;
+    snprintf(command, sizeof command, "valgrind --tool=callgrind --callgrind-out-file=/dev/null '%s' run --setup '%s' '%s' 2>&1 >/dev/null",
+             program, setup_file, session->names[0]);
+    FILE *told = popen(command, "r");
+    while (told && fgets(line, sizeof line, told)) {
+        char *at = strstr(line, "Collected : ");
+        if (at) collected = strtod(at + strlen("Collected : "), NULL);
+    }
+    if (!told || pclose(told) || !collected) fail("callgrind failed");
+    return collected;
+}
+
+/* Instructions for each kind of command: what many of them take beyond none of them; and for a session of 1 MiB. */
+static void count_instructions(const struct files *mixed)
+{
+    if (system("valgrind --version > /dev/null 2>&1")) {
+        printf("\nno valgrind: instructions aren't counted\n");
+        return;
+    }
+    printf("\n| command | instructions |\n|---|---|\n");
+    for (size_t i = 0; i < sizeof commands / sizeof *commands; i++) {
+        struct files none = write_commands(&commands[i], 0);
+        double before = instructions(&none);
+        struct files some = write_commands(&commands[i], COMMANDS);
+        printf("| %s | %.0f |\n", commands[i].what, (instructions(&some) - before) / COMMANDS);
+        fflush(stdout);
+    }
+    printf("| 1 MiB of mixed commands, all in all | %.0f |\n", instructions(mixed));
+}
+
 int main(int count, char **words)
 {
     if (count < 3) fail("the words are the program and a folder");
@@ -345,6 +425,10 @@ int main(int count, char **words)
     snprintf(setup_file, sizeof setup_file, "%s/setup.toml", folder);
     write_file(setup_file, setup, sizeof setup - 1);
     struct files mixed = make_files("mixed", 1, 3900, MIXED, 0), posix = make_files("posix", 1, 3900, POSIX, 0);
+    if (count > 3 && words[3][0] == 'i') {
+        count_instructions(&mixed);
+        return 0;
+    }
     if (count > 3) {
         /* For a profile: one of the works alone, over and over. */
         struct held held = hold(words[3][0] == 'm' ? &mixed : &posix);
@@ -376,5 +460,6 @@ int main(int count, char **words)
     peak_row("64 sessions of 1 MiB of mixed commands", &wide, 0);
     peak_row("64 sessions of 524,288 lines `x`", &faults, 0);
     peak_row("64 sessions of 524,288 lines `x` with --journal", &faults, 1);
+    count_instructions(&mixed);
     return 0;
 }

@@ -8,9 +8,9 @@ if ! echo '#include <sys/acl.h>' | ${CC:-cc} -E - > /dev/null 2>&1; then
     exit 1
 fi
 scripts/aclctl decide --owner 0 --group 0 --uid 0 --perms r u::r,g::-,o::- > /dev/null
-(cd crates/run_bench && rt lib)
+(cd crates/bench_run && rt lib)
 kit=$(dirname "$(dirname "$(readlink -f "$(command -v rt)")")")
-${CC:-cc} -O2 -o crates/run_bench/out/bench bench/run/bench.c bench/run/libacl.c crates/run_bench/out/librun_bench.a "$kit/c/liblibc_c.a" -lacl
+${CC:-cc} -O2 -o crates/bench_run/out/bench bench/run/bench.c bench/run/libacl.c crates/bench_run/out/libbench_run.a "$kit/c/liblibc_c.a" -lacl
 folder=$(mktemp -d)
 trap 'rm -rf "$folder"' EXIT
-crates/run_bench/out/bench "$PWD/crates/aclctl/out/aclctl" "$folder" "$@"
+crates/bench_run/out/bench "$PWD/crates/aclctl/out/aclctl" "$folder" "$@"

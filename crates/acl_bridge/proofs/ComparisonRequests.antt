@@ -10,9 +10,9 @@ use Rattle.acl_posix.specs.Entry.{EntryValue, same_tag, entries_of, perms_of, is
 use Rattle.acl_posix.specs.Validity.{IsValid, count_of}
 use Rattle.acl_posix.specs.declared.entry.Tag.{Tag}
 use Rattle.acl_posix.specs.declared.entry.Tag.TheVariants.{UserObj, User, GroupObj, Group, Mask, Other}
-use Rattle.acl_nfs4.specs.Comparison.{decided_by}
+use Rattle.acl_nfs4.specs.Comparison.{decided_at, decided_by}
 use Rattle.acl_nfs4.proofs.ComparisonLemmas.{two_groups_suffice}
-use Rattle.acl_bridge.specs.Comparison.{TwoGroupsSuffice}
+use Rattle.acl_bridge.specs.Comparison.{GrantAlike, TwoGroupsSuffice, grants_at}
 use Rattle.acl_bridge.specs.Translation.{translation}
 use Rattle.acl_bridge.proofs.TranslationDecides.{bit_granted}
 use Rattle.acl_bridge.proofs.FilterLemmas.{length-filter}
@@ -176,15 +176,14 @@ read_as acl valid owner group request requester =
 
 pub two_groups_suffice_posix : TwoGroupsSuffice
 unfolding has
-two_groups_suffice_posix first second valid_first valid_second owner group request alike requester =
-    sym (read_as first valid_first owner group request requester)
-    ∙ two_groups_suffice (translation (as_reading request first)) (translation (as_reading request second)) owner group 1
+two_groups_suffice_posix first second valid_first valid_second owners other_owners request alike requester =
+    sym (read_as first valid_first owners.owner owners.group request requester)
+    ∙ two_groups_suffice (translation (as_reading request first)) (translation (as_reading request second)) owners other_owners 1
     (λ few at_most bit asked. at_bit bit asked few (alike few at_most)) requester 0 refl
-    ∙ read_as second valid_second owner group request requester
+    ∙ read_as second valid_second other_owners.owner other_owners.group request requester
   where
-    at_bit : (bit : ℕ) → has 1 bit ≡ true → (few : Identity)
-        → grants first owner group few request ≡ grants second owner group few request
-        → decided_by (translation (as_reading request first)) owner group few bit ≡ decided_by (translation (as_reading request second)) owner group few bit
+    at_bit : (bit : ℕ) → has 1 bit ≡ true → (few : Identity) → GrantAlike (grants_at first owners) (grants_at second other_owners) request few
+        → decided_at (translation (as_reading request first)) owners few bit ≡ decided_at (translation (as_reading request second)) other_owners few bit
     at_bit zero asked few same =
-        read_as first valid_first owner group request few ∙ same ∙ sym (read_as second valid_second owner group request few)
+        read_as first valid_first owners.owner owners.group request few ∙ same ∙ sym (read_as second valid_second other_owners.owner other_owners.group request few)
     at_bit (suc bit) asked few same = absurd (true≢false (sym asked ∙ has-above 1 1 (suc bit) (omega arith) (omega arith)))

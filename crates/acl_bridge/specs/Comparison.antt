@@ -1,5 +1,6 @@
 -- What a POSIX list decides, bit by bit, so that it can be compared with a list of either style.
-use Rattle.std.specs.Prelude.{◌≡◌, ◌≢◌, ◌≤◌, ◌⊎◌, ◌==◌, ℕ, zero, suc, ◌+◌, ◌^◌, Bool, false, not, Some, List, [], ◌∷◌, length, if◌then◌else◌}
+use Rattle.std.specs.Prelude.{◌≡◌, ◌≢◌, ◌≤◌, ◌⊎◌, ◌==◌, ℕ, zero, suc, ◌+◌, ◌^◌, Bool, false, not}
+use Rattle.std.specs.Prelude.{Some, List, [], ◌∷◌, length, if◌then◌else◌}
 use Rattle.std.specs.List.{All, list_any}
 use Rattle.acl_names.specs.Asker.{identity_of}
 use Rattle.acl_names.specs.Bits.{◌∩◌}
@@ -11,8 +12,10 @@ use Rattle.acl_posix.specs.declared.entry.Tag.{Tag}
 use Rattle.acl_posix.specs.declared.entry.Tag.TheVariants.{UserObj, User}
 use Rattle.acl_nfs4.specs.Ace.{Nfsace4}
 use Rattle.acl_nfs4.specs.Comparison.{Decider, DecideAlike, asker_for, decided_by, needed_uid}
-use Rattle.acl_nfs4.specs.Mask.{mask_bits, mask_of, mode_bits, read_data, write_data, execute, read_permission, write_permission, execute_permission}
+use Rattle.acl_nfs4.specs.Mask.{mask_bits, mask_of, mode_bits, read_data, write_data, execute}
+use Rattle.acl_nfs4.specs.Mask.{read_permission, write_permission, execute_permission}
 use Rattle.acl_nfs4.specs.declared.comparison.Difference.{Difference}
+use Rattle.acl_nfs4.specs.declared.owners.Owners.{Owners}
 use Rattle.acl_nfs4.specs.declared.who.Who.{Who}
 use Rattle.acl_nfs4.specs.declared.who.Who.TheVariants.{Everyone}
 use Rattle.acl_bridge.specs.Translation.{who_of}
@@ -25,9 +28,22 @@ permission_of (suc zero) = write_permission
 permission_of (suc (suc zero)) = write_permission
 permission_of _ = execute_permission
 
--- what a list decides about a file of this owner and this group: a bit as the permission alone that it stands for
+-- what a list decides about a file of this owner and this group: a bit as the permission alone that
+-- it stands for
 abbrev pub granted_by : List EntryValue → ℕ → ℕ → Decider
 granted_by acl owner group requester bit = grants acl owner group requester (2 ^ permission_of bit)
+
+-- the same of these owners
+abbrev pub granted_at : List EntryValue → Owners → Decider
+granted_at acl owners = granted_by acl owners.owner owners.group
+
+-- whether a request, of however many permissions, is granted as a whole
+abbrev pub Granter : Type 0
+Granter = Identity → ℕ → Bool
+
+-- what a list grants for a file of these owners
+abbrev pub grants_at : List EntryValue → Owners → Granter
+grants_at acl owners = grants acl owners.owner owners.group
 
 -- the bits by which permissions are told, one for each
 abbrev pub permission_bits : ℕ
@@ -35,16 +51,27 @@ permission_bits = 2 ^ read_data + 2 ^ write_data + 2 ^ execute
 
 -- each bit of a file mode is decided as the list decides its permission
 abbrev pub DecidesEachBit : List EntryValue → List Nfsace4 → Type 0
-DecidesEachBit acl aces = (owner group : ℕ) → DecideAlike (granted_by acl owner group) (decided_by aces owner group) mode_bits
+DecidesEachBit acl aces = (owner group : ℕ) → DecideAlike (granted_by acl owner group)
+    (decided_by aces owner group) mode_bits
 
--- Lists that grant a request, of however many permissions, alike to everyone who is in at most two groups grant it alike to
--- everyone.
+-- both grant the request alike to the requester
+abbrev pub GrantAlike : Granter → Granter → ℕ → Identity → Type 0
+GrantAlike before after request requester = before requester request ≡ after requester request
+
+-- and to everyone
+abbrev pub GrantAlikeToAll : Granter → Granter → ℕ → Type 0
+GrantAlikeToAll before after request = (requester : Identity)
+    → GrantAlike before after request requester
+
+-- Lists that grant a request, of however many permissions, alike to everyone who is in at most two
+-- groups grant it alike to everyone, each for a file of its own owners.
 abbrev pub TwoGroupsSuffice : Type 0
 TwoGroupsSuffice =
-    (first second : List EntryValue) → IsValid first → IsValid second → (owner group request : ℕ)
+    (first second : List EntryValue) → IsValid first → IsValid second
+    → (owners other_owners : Owners) (request : ℕ)
     → ((requester : Identity) → length requester.gids ≤ 2
-    → grants first owner group requester request ≡ grants second owner group requester request)
-    → (requester : Identity) → grants first owner group requester request ≡ grants second owner group requester request
+    → GrantAlike (grants_at first owners) (grants_at second other_owners) request requester)
+    → GrantAlikeToAll (grants_at first owners) (grants_at second other_owners) request
 
 -- it holds of each who that entries stand for, and of everyone
 abbrev pub OfEachTag : List EntryValue → (Who → Type 0) → Type 0
@@ -63,34 +90,31 @@ asks_for owner uid acl = list_any (λ entry. is_of_user owner uid entry.tag) acl
 abbrev pub IsStranger : ℕ → List EntryValue → ℕ → Type 0
 IsStranger owner acl uid = All (λ entry. needed_uid owner (who_of entry.tag) ≢ Some uid) acl
 
--- both lists grant the request alike to the requester
-abbrev pub GrantAlike : List EntryValue → List EntryValue → ℕ → ℕ → ℕ → Identity → Type 0
-GrantAlike first second owner group request requester = grants first owner group requester request ≡ grants second owner group requester request
+-- both lists grant the request alike to the asker of these two
+abbrev pub GrantAlikeAt : List EntryValue → List EntryValue → Owners → Owners → ℕ → ℕ → Who → Who
+    → Type 0
+GrantAlikeAt first second owners other_owners request stranger who other =
+    GrantAlike (grants_at first owners) (grants_at second other_owners) request
+    (asker_for owners other_owners stranger who other)
 
--- and to everyone
-abbrev pub GrantAlikeToAll : List EntryValue → List EntryValue → ℕ → ℕ → ℕ → Type 0
-GrantAlikeToAll first second owner group request = (requester : Identity) → GrantAlike first second owner group request requester
-
--- and to the asker of these two
-abbrev pub GrantAlikeAt : List EntryValue → List EntryValue → ℕ → ℕ → ℕ → ℕ → Who → Who → Type 0
-GrantAlikeAt first second owner group request stranger who other =
-    GrantAlike first second owner group request (asker_for owner group stranger who other)
-
--- Lists that grant a request, of however many permissions, alike to the asker of each pair of entries grant it alike to
--- everyone.
+-- Lists that grant a request, of however many permissions, alike to the asker of each pair of
+-- entries grant it alike to everyone, each for a file of its own owners.
 abbrev pub PairsSuffice : Type 0
 PairsSuffice =
-    (first second : List EntryValue) → IsValid first → IsValid second → (owner group request stranger : ℕ)
-    → IsStranger owner first stranger → IsStranger owner second stranger
-    → OfEachTag first (λ who. OfEachTag second (λ other. GrantAlikeAt first second owner group request stranger who other))
-    → GrantAlikeToAll first second owner group request
+    (first second : List EntryValue) → IsValid first → IsValid second
+    → (owners other_owners : Owners) (request stranger : ℕ)
+    → IsStranger owners.owner first stranger → IsStranger other_owners.owner second stranger
+    → OfEachTag first (λ who. OfEachTag second
+    (λ other. GrantAlikeAt first second owners other_owners request stranger who other))
+    → GrantAlikeToAll (grants_at first owners) (grants_at second other_owners) request
 
--- one list grants the request to the asker, and the other doesn't
-pub record IsUnlike (first second : List EntryValue) (owner group request : ℕ) (unlike : Unlike) : Type 0 where
-  pub before : grants first owner group (identity_of unlike.asker) request ≡ unlike.before
-  pub after : grants second owner group (identity_of unlike.asker) request ≡ not unlike.before
+-- one grants the asker the request, and the other doesn't
+pub record IsUnlike (first second : Granter) (request : ℕ) (unlike : Unlike) : Type 0 where
+  pub before : first (identity_of unlike.asker) request ≡ unlike.before
+  pub after : second (identity_of unlike.asker) request ≡ not unlike.before
 
--- the requests of more than one permission, in the order in which they are compared: rw, rx, wx, rwx
+-- the requests of more than one permission, in the order in which they are compared: rw, rx, wx,
+-- rwx
 abbrev pub whole_requests : List ℕ
 whole_requests = 6 ∷ 5 ∷ 3 ∷ 7 ∷ []
 
@@ -98,15 +122,19 @@ whole_requests = 6 ∷ 5 ∷ 3 ∷ 7 ∷ []
 abbrev pub told_by : ℕ → ℕ
 told_by request = mask_of request ∩ permission_bits
 
--- one list grants the asker the request and the other doesn't: it is lost as a whole, or gained
-pub record IsWholeDifference (first second : List EntryValue) (owner group request : ℕ) (difference : Difference) : Type 0 where
-  pub apart : grants first owner group (identity_of difference.asker) request ≢ grants second owner group (identity_of difference.asker) request
-  pub lost : mask_bits difference.lost ≡ (if grants first owner group (identity_of difference.asker) request then told_by request else 0)
-  pub gained : mask_bits difference.gained ≡ (if grants second owner group (identity_of difference.asker) request then told_by request else 0)
+-- the asker is granted the request before or after, and not both: it is lost as a whole, or gained
+pub record IsWholeDifference (before after : Granter) (request : ℕ) (difference : Difference) : Type
+    0 where
+  pub apart : before (identity_of difference.asker) request
+      ≢ after (identity_of difference.asker) request
+  pub lost : mask_bits difference.lost ≡ (if before (identity_of difference.asker) request
+      then told_by request else 0)
+  pub gained : mask_bits difference.gained ≡ (if after (identity_of difference.asker) request
+      then told_by request else 0)
 
 -- the difference is in the first of the requests that isn't granted alike to everyone
-abbrev pub IsFirstDifference : List EntryValue → List EntryValue → ℕ → ℕ → List ℕ → Difference → Type 0
-IsFirstDifference first second owner group [] difference = ⊥
-IsFirstDifference first second owner group (request ∷ more) difference =
-    IsWholeDifference first second owner group request difference
-    ⊎ (GrantAlikeToAll first second owner group request × IsFirstDifference first second owner group more difference)
+abbrev pub IsFirstDifference : Granter → Granter → List ℕ → Difference → Type 0
+IsFirstDifference before after [] difference = ⊥
+IsFirstDifference before after (request ∷ more) difference =
+    IsWholeDifference before after request difference
+    ⊎ (GrantAlikeToAll before after request × IsFirstDifference before after more difference)

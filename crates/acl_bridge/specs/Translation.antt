@@ -1,5 +1,7 @@
--- A POSIX access control list (1003.1e draft 17, section 23) as an NFSv4 one (RFC 8881, section 6.2).
-use Rattle.std.specs.Prelude.{ℕ, Bool, true, false, ◌+◌, ◌^◌, List, [], ◌∷◌, ◌++◌, map, flat_map, filter}
+-- A POSIX access control list (1003.1e draft 17, section 23) as an NFSv4 one (RFC 8881, section
+-- 6.2).
+use Rattle.std.specs.Prelude.{ℕ, Bool, true, false, ◌+◌, ◌^◌, List, [], ◌∷◌, ◌++◌, map, flat_map}
+use Rattle.std.specs.Prelude.{filter}
 use Rattle.acl_names.specs.Bits.{◌∪◌}
 use Rattle.acl_posix.specs.Access.{effective_perms}
 use Rattle.acl_posix.specs.Entry.{EntryValue}
@@ -37,7 +39,8 @@ is_in _ _ = false
 abbrev pub in_class : Class → List EntryValue → List EntryValue
 in_class class acl = filter (λ entry. is_in class entry.tag) acl
 
--- what is made for one who has these permissions: what they allow, the rest, which is denied, or the one and then the other
+-- what is made for one who has these permissions: what they allow, the rest, which is denied, or
+-- the one and then the other
 abbrev pub made_for : Part → Who → ℕ → List Nfsace4
 made_for Allowed who perms = plain Allow who (mask_of perms)
 made_for Denied who perms = plain Deny who (rest_of perms)
@@ -51,10 +54,11 @@ made_by part acl entry = made_for part (who_of entry.tag) (effective_perms acl e
 abbrev pub made_by_pass : Class × Part → List EntryValue → List Nfsace4
 made_by_pass (class, part) acl = flat_map (made_by part acl) (in_class class acl)
 
--- The owner and each user are settled one by one. Entries for groups join, so that none of them denies before all of them
--- have allowed.
+-- The owner and each user are settled one by one. Entries for groups join, so that none of them
+-- denies before all of them have allowed.
 abbrev pub passes : List (Class × Part)
-passes = (Owner, Settled) ∷ (Users, Settled) ∷ (Groups, Allowed) ∷ (Groups, Denied) ∷ (Others, Allowed) ∷ []
+passes = (Owner, Settled) ∷ (Users, Settled) ∷ (Groups, Allowed) ∷ (Groups, Denied)
+    ∷ (Others, Allowed) ∷ []
 
 abbrev pub translation : List EntryValue → List Nfsace4
 translation acl = flat_map (λ pass. made_by_pass pass acl) passes

@@ -22,7 +22,8 @@ use Rattle.acl_bridge.specs.Translation.{translation, default_translation, with_
 abbrev pub AgreeOn : List EntryValue → List Nfsace4 → ℕ → Type 0
 AgreeOn acl aces perms =
     (owner group : ℕ) (requester : Identity)
-    → IsTrue (grants acl owner group requester perms) ↔ Grants (matches owner group requester) aces (mask_of perms)
+    → IsTrue (grants acl owner group requester perms)
+    ↔ Grants (matches owner group requester) aces (mask_of perms)
 
 -- they decide alike of each single permission
 pub record DecideAlike (acl : List EntryValue) (aces : List Nfsace4) : Type 0 where
@@ -34,7 +35,8 @@ pub record DecideAlike (acl : List EntryValue) (aces : List Nfsace4) : Type 0 wh
 abbrev pub GrantsAsMuch : List EntryValue → List Nfsace4 → Type 0
 GrantsAsMuch acl aces =
     (owner group : ℕ) (requester : Identity) (perms : ℕ)
-    → IsTrue (grants acl owner group requester perms) → Grants (matches owner group requester) aces (mask_of perms)
+    → IsTrue (grants acl owner group requester perms)
+    → Grants (matches owner group requester) aces (mask_of perms)
 
 -- what the owner, the file's group under the mask, and the others have
 abbrev pub translated_mode : List EntryValue → Classes
@@ -44,7 +46,8 @@ translated_mode acl = record {
   other = perms_at Other acl;
 }
 
--- how many entries a translation can have: two of each entry, but none of the mask and one of the others'
+-- how many entries a translation can have: two of each entry, but none of the mask and one of the
+-- others'
 abbrev pub most_translated : ℕ
 most_translated = 2 * MAX_ENTRIES - 3
 
@@ -58,21 +61,27 @@ TranslationGrantsAsMuch = (acl : List EntryValue) → IsValid acl → GrantsAsMu
 -- The translation grants a set of permissions exactly if the list grants each of them by itself.
 abbrev pub TranslationGrantsEach : Type 0
 TranslationGrantsEach =
-    (acl : List EntryValue) → IsValid acl → (owner group : ℕ) (requester : Identity) (perms : ℕ) → IsPermissions perms
+    (acl : List EntryValue) → IsValid acl → (owner group : ℕ) (requester : Identity) (perms : ℕ)
+    → IsPermissions perms
     → Grants (matches owner group requester) (translation acl) (mask_of perms)
-    ↔ ((place : ℕ) → IsTrue (has perms place) → IsTrue (grants acl owner group requester (2 ^ place)))
+    ↔ ((place : ℕ) → IsTrue (has perms place)
+    → IsTrue (grants acl owner group requester (2 ^ place)))
 
 abbrev pub TranslationShowsTheClasses : Type 0
 TranslationShowsTheClasses =
-    (acl : List EntryValue) → IsValid acl → HavePermissions acl → mode_of (translation acl) ≡ translated_mode acl
+    (acl : List EntryValue) → IsValid acl → HavePermissions acl
+    → mode_of (translation acl) ≡ translated_mode acl
 
 abbrev pub TranslationIsShort : Type 0
-TranslationIsShort = (acl : List EntryValue) → IsAcl acl → length (translation acl) ≤ most_translated
+TranslationIsShort = (acl : List EntryValue) → IsAcl acl
+    → length (translation acl) ≤ most_translated
 
 -- what is inherited from the translation of a default list
 abbrev pub FileInheritsTheTranslation : Type 0
-FileInheritsTheTranslation = (acl : List EntryValue) → inherited_list File (default_translation acl) ≡ translation acl
+FileInheritsTheTranslation = (acl : List EntryValue)
+    → inherited_list File (default_translation acl) ≡ translation acl
 
 abbrev pub DirectoryHandsItOn : Type 0
 DirectoryHandsItOn =
-    (acl : List EntryValue) → inherited_list Dir (default_translation acl) ≡ map (with_flags handed_on) (translation acl)
+    (acl : List EntryValue) → inherited_list Dir (default_translation acl)
+    ≡ map (with_flags handed_on) (translation acl)

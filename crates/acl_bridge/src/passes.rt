@@ -1,5 +1,6 @@
 //! The passes over a list that make its translation.
-ghost use Rattle.std.specs.Prelude.{◌≡◌, ◌<◌, ◌≤◌, false, [], ◌∷◌, ◌++◌, length, option_map, if◌then◌else◌, IsOk, OnOk};
+ghost use Rattle.std.specs.Prelude.{◌≡◌, ◌<◌, ◌≤◌, false, [], ◌∷◌, ◌++◌, length, option_map};
+ghost use Rattle.std.specs.Prelude.{if◌then◌else◌, IsOk, OnOk};
 ghost use Rattle.acl_names.specs.Bits.{◌∩◌};
 ghost use Rattle.acl_posix.specs.Access.{is_under_mask, masked};
 ghost use Rattle.acl_posix.specs.Perms.{bits_of};
@@ -45,7 +46,8 @@ pub(crate) enum Effect {
     Below,
 }
 
-/// The passes in their order. Entries for groups join: none of them denies before all of them have allowed.
+/// The passes in their order. Entries for groups join: none of them denies before all of them have
+/// allowed.
 pub(crate) const PASSES: [(Class, Part); 5] = [
     (Class::Owner, Part::Settled),
     (Class::Users, Part::Settled),
@@ -101,7 +103,8 @@ pub(crate) fn who_of(tag: Tag) -> Who
 /// An entry's permissions as far as the mask, if there is one, leaves them.
 fn effective_perms(entry: &Entry, mask: Option<Perms>) -> Perms
     ensures { bits_of result
-        ≡ (if is_under_mask entry.now.tag then masked (option_map bits_of mask) entry.now.perms else entry.now.perms) }
+        ≡ (if is_under_mask entry.now.tag then masked (option_map bits_of mask) entry.now.perms
+        else entry.now.perms) }
 {
     if !entry.tag.is_under_mask() {
         return entry.perms;
@@ -112,7 +115,8 @@ fn effective_perms(entry: &Entry, mask: Option<Perms>) -> Perms
     }
 }
 
-/// Puts an entry after the others. The list may have one more, so that it fails only if memory runs out.
+/// Puts an entry after the others. The list may have one more, so that it fails only if memory runs
+/// out.
 fn push(aces: &mut Acl4, ace: Ace) -> Result<(), AllocError>
     requires room { length aces.old < MAX_ACES }
     requires effective { is_idle ace ≡ false }
@@ -135,9 +139,12 @@ fn push_made(
     effect: Effect,
 ) -> Result<(), AllocError>
     requires known { mask_bits mask ∩ all_masks ≡ mask_bits mask }
-    requires room { length (aces.old ++ with_effect effect (plain kind who (mask_bits mask))) ≤ MAX_ACES }
-    ensures ok { OnOk result (aces.new ≡ aces.old ++ with_effect effect (plain kind who (mask_bits mask))) }
-    ensures short { length (aces.old ++ with_effect effect (plain kind who (mask_bits mask))) ≤ 16 → IsOk result }
+    requires room { length (aces.old ++ with_effect effect (plain kind who (mask_bits mask)))
+        ≤ MAX_ACES }
+    ensures ok { OnOk result (aces.new ≡ aces.old
+        ++ with_effect effect (plain kind who (mask_bits mask))) }
+    ensures short { length (aces.old ++ with_effect effect (plain kind who (mask_bits mask))) ≤ 16
+        → IsOk result }
 {
     if mask.is_empty() {
         return Ok(());
@@ -147,18 +154,24 @@ fn push_made(
 
 /// Appends what these permissions allow.
 fn append_allowed(aces: &mut Acl4, who: Who, perms: Perms, effect: Effect) -> Result<(), AllocError>
-    requires room { length (aces.old ++ with_effect effect (made_for Part.Allowed who (bits_of perms))) ≤ MAX_ACES }
-    ensures ok { OnOk result (aces.new ≡ aces.old ++ with_effect effect (made_for Part.Allowed who (bits_of perms))) }
-    ensures short { length (aces.old ++ with_effect effect (made_for Part.Allowed who (bits_of perms))) ≤ 16 → IsOk result }
+    requires room { length (aces.old ++ with_effect effect
+        (made_for Part.Allowed who (bits_of perms))) ≤ MAX_ACES }
+    ensures ok { OnOk result (aces.new ≡ aces.old
+        ++ with_effect effect (made_for Part.Allowed who (bits_of perms))) }
+    ensures short { length (aces.old ++ with_effect effect
+        (made_for Part.Allowed who (bits_of perms))) ≤ 16 → IsOk result }
 {
     push_made(aces, AceType::Allow, who, mask_of(perms), effect)
 }
 
 /// Appends the rest, which is denied.
 fn append_denied(aces: &mut Acl4, who: Who, perms: Perms, effect: Effect) -> Result<(), AllocError>
-    requires room { length (aces.old ++ with_effect effect (made_for Part.Denied who (bits_of perms))) ≤ MAX_ACES }
-    ensures ok { OnOk result (aces.new ≡ aces.old ++ with_effect effect (made_for Part.Denied who (bits_of perms))) }
-    ensures short { length (aces.old ++ with_effect effect (made_for Part.Denied who (bits_of perms))) ≤ 16 → IsOk result }
+    requires room { length (aces.old ++ with_effect effect
+        (made_for Part.Denied who (bits_of perms))) ≤ MAX_ACES }
+    ensures ok { OnOk result (aces.new ≡ aces.old
+        ++ with_effect effect (made_for Part.Denied who (bits_of perms))) }
+    ensures short { length (aces.old ++ with_effect effect
+        (made_for Part.Denied who (bits_of perms))) ≤ 16 → IsOk result }
 {
     push_made(aces, AceType::Deny, who, rest_of(perms), effect)
 }
@@ -171,9 +184,12 @@ fn append_made(
     perms: Perms,
     effect: Effect,
 ) -> Result<(), AllocError>
-    requires room { length (aces.old ++ with_effect effect (made_for part who (bits_of perms))) ≤ MAX_ACES }
-    ensures ok { OnOk result (aces.new ≡ aces.old ++ with_effect effect (made_for part who (bits_of perms))) }
-    ensures short { length (aces.old ++ with_effect effect (made_for part who (bits_of perms))) ≤ 16 → IsOk result }
+    requires room { length (aces.old ++ with_effect effect (made_for part who (bits_of perms)))
+        ≤ MAX_ACES }
+    ensures ok { OnOk result (aces.new ≡ aces.old
+        ++ with_effect effect (made_for part who (bits_of perms))) }
+    ensures short { length (aces.old ++ with_effect effect (made_for part who (bits_of perms))) ≤ 16
+        → IsOk result }
 {
     match part {
         Part::Allowed => append_allowed(aces, who, perms, effect),
@@ -196,7 +212,8 @@ pub(crate) fn append_pass(
 ) -> Result<(), AllocError>
     requires room { length (aces.old ++ with_effect effect (made_by_pass pass acl.now)) ≤ MAX_ACES }
     ensures ok { OnOk result (aces.new ≡ aces.old ++ with_effect effect (made_by_pass pass acl.now)) }
-    ensures short { length (aces.old ++ with_effect effect (made_by_pass pass acl.now)) ≤ 16 → IsOk result }
+    ensures short { length (aces.old ++ with_effect effect (made_by_pass pass acl.now)) ≤ 16
+        → IsOk result }
 {
     let (class, part) = pass;
     let mask = acl.mask();

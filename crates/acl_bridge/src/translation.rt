@@ -4,15 +4,18 @@ ghost use Rattle.acl_posix.specs.Canonical.{IsAcl};
 ghost use Rattle.acl_nfs4.specs.Evaluation.{mode_of};
 ghost use Rattle.acl_nfs4.specs.Inheritance.{inherited_list};
 ghost use Rattle.acl_bridge.specs.Effects.{with_effect};
-ghost use Rattle.acl_bridge.specs.Translation.{translation, default_translation, with_flags, handed_on};
-ghost use Rattle.acl_bridge.specs.TranslationLaws.{DecideAlike, GrantsAsMuch, translated_mode, most_translated};
+ghost use Rattle.acl_bridge.specs.Translation.{translation, default_translation, with_flags};
+ghost use Rattle.acl_bridge.specs.Translation.{handed_on};
+ghost use Rattle.acl_bridge.specs.TranslationLaws.{DecideAlike, GrantsAsMuch, translated_mode};
+ghost use Rattle.acl_bridge.specs.TranslationLaws.{most_translated};
 
 use crate::passes::{Effect, PASSES, append_pass};
 use acl_nfs4::{Acl4, Kind, MAX_ACES};
 use acl_posix::{Acl, MAX_ENTRIES};
 use std::alloc::{AllocError, Global};
 
-// A translation always fits: there are at most two entries for each of the list's, none for its mask, and one for the others.
+// A translation always fits: there are at most two entries for each of the list's, none for its
+// mask, and one for the others.
 const _: () = prove!(2 * MAX_ENTRIES - 3 <= MAX_ACES);
 
 /// The list's translation, to take effect here or below.
@@ -30,10 +33,11 @@ fn translation_for(alloc: Global, acl: &Acl, effect: Effect) -> Result<Acl4, All
     Ok(aces)
 }
 
-/// The list as an NFSv4 list: for every owner, group and requester both decide alike of each single permission to read,
-/// write or execute, where to write is `WRITE_DATA` with `APPEND_DATA`. Each entry allows what it has under the mask and
-/// denies the rest, with flags none but the group's own: the owner's, the users' by id, the file's group's with the groups'
-/// by id, which deny only once all of them have allowed, and the others', which only allow. Empty entries are left out. It
+/// The list as an NFSv4 list: for every owner, group and requester both decide alike of each single
+/// permission to read, write or execute, where to write is `WRITE_DATA` with `APPEND_DATA`. Each
+/// entry allows what it has under the mask and denies the rest, with flags none but the group's
+/// own: the owner's, the users' by id, the file's group's with the groups' by id, which deny only
+/// once all of them have allowed, and the others', which only allow. Empty entries are left out. It
 /// fails only if memory runs out.
 pub fn translate(alloc: Global, acl: &Acl) -> Result<Acl4, AllocError>
     ensures list { IfOk result (λ aces. aces ≡ translation acl.now) }
@@ -46,14 +50,15 @@ pub fn translate(alloc: Global, acl: &Acl) -> Result<Acl4, AllocError>
     translation_for(alloc, acl, Effect::Here)
 }
 
-/// A default list as an NFSv4 list: its translation, with `FILE_INHERIT`, `DIRECTORY_INHERIT` and `INHERIT_ONLY` on each
-/// entry. It takes no effect on the directory itself; what is made there inherits the translation. It fails only if
-/// memory runs out.
+/// A default list as an NFSv4 list: its translation, with `FILE_INHERIT`, `DIRECTORY_INHERIT` and
+/// `INHERIT_ONLY` on each entry. It takes no effect on the directory itself; what is made there
+/// inherits the translation. It fails only if memory runs out.
 pub fn translate_default(alloc: Global, acl: &Acl) -> Result<Acl4, AllocError>
     ensures list { IfOk result (λ aces. aces ≡ default_translation acl.now) }
     ensures short { length acl.now ≤ 8 → IsOk result }
     ensures file { IfOk result (λ aces. inherited_list Kind.File aces ≡ translation acl.now) }
-    ensures directory { IfOk result (λ aces. inherited_list Kind.Dir aces ≡ map (with_flags handed_on) (translation acl.now)) }
+    ensures directory { IfOk result (λ aces. inherited_list Kind.Dir aces
+        ≡ map (with_flags handed_on) (translation acl.now)) }
     ensures length { IfOk result (λ aces. length aces ≤ most_translated) }
 {
     translation_for(alloc, acl, Effect::Below)

@@ -4,12 +4,13 @@ ghost use Rattle.std.specs.List.{AllByRecursion};
 ghost use Rattle.acl_names.specs.Bits.{◌∩◌};
 ghost use Rattle.acl_nfs4.specs.Mask.{mask_bits};
 ghost use Rattle.acl_posix.specs.Perms.{bits_of};
-ghost use Rattle.acl_bridge.specs.Comparison.{GrantAlikeToAll, IsFirstDifference, IsWholeDifference, told_by, whole_requests};
+ghost use Rattle.acl_bridge.specs.Comparison.{GrantAlikeToAll, IsFirstDifference};
+ghost use Rattle.acl_bridge.specs.Comparison.{IsWholeDifference, grants_at, told_by};
+ghost use Rattle.acl_bridge.specs.Comparison.{whole_requests};
 
 use crate::comparison::permission_bits;
 use crate::requests::request_difference;
-use acl_names::{Gid, Uid};
-use acl_nfs4::{Difference, Mask, mask_of};
+use acl_nfs4::{Difference, Mask, Owners, mask_of};
 use acl_posix::{Acl, Perms};
 use bitflags::Flags;
 use std::alloc::{AllocError, Global};
@@ -37,16 +38,19 @@ fn told_by(request: Perms) -> Mask
 fn difference_in(
     alloc: Global,
     first: &Acl,
+    owners: &Owners,
     second: &Acl,
-    owner: Uid,
-    group: Gid,
+    other_owners: &Owners,
     request: Perms,
 ) -> Result<Option<Difference>, AllocError>
     ensures { IfOk result (λ found. MatchOption found
-        (GrantAlikeToAll first.now second.now owner group (bits_of request))
-        (IsWholeDifference first.now second.now owner group (bits_of request))) }
+        (GrantAlikeToAll (grants_at first.now owners.now) (grants_at second.now other_owners.now)
+        (bits_of request))
+        (IsWholeDifference (grants_at first.now owners.now) (grants_at second.now other_owners.now)
+        (bits_of request))) }
 {
-    let Some(unlike) = request_difference(alloc, first, second, owner, group, request)? else {
+    let Some(unlike) = request_difference(alloc, first, owners, second, other_owners, request)?
+    else {
         return Ok(None);
     };
     let told = told_by(request);
@@ -65,43 +69,56 @@ fn difference_in(
     }))
 }
 
-/// To whom the lists grant the first of the requests differently that they don't grant alike to everyone.
+/// To whom the lists grant the first of the requests differently that they don't grant alike to
+/// everyone.
 fn first_difference(
     alloc: Global,
     first: &Acl,
+    owners: &Owners,
     second: &Acl,
-    owner: Uid,
-    group: Gid,
+    other_owners: &Owners,
     requests: &[Perms],
 ) -> Result<Option<Difference>, AllocError>
     ensures { IfOk result (λ found. MatchOption found
-        (AllByRecursion (GrantAlikeToAll first.now second.now owner group) (map bits_of requests.now))
-        (IsFirstDifference first.now second.now owner group (map bits_of requests.now))) }
+        (AllByRecursion (GrantAlikeToAll (grants_at first.now owners.now)
+        (grants_at second.now other_owners.now)) (map bits_of requests.now))
+        (IsFirstDifference (grants_at first.now owners.now) (grants_at second.now other_owners.now)
+        (map bits_of requests.now))) }
 {
     for request in requests {
-        if let Some(difference) = difference_in(alloc, first, second, owner, group, *request)? {
+        if let Some(difference) = difference_in(
+            alloc,
+            first,
+            owners,
+            second,
+            other_owners,
+            *request,
+        )? {
             return Ok(Some(difference));
         }
     }
     Ok(None)
 }
 
-/// What two POSIX lists decide differently for a file of this owner and this group, of the requests of more than one
-/// permission: none exactly if each is granted as a whole to the same requesters, of whatever uid and groups; else someone
-/// in at most two groups, who loses or gains the first that isn't, in the order rw, rx, wx, rwx. Lists that decide each single
-/// permission alike may differ so, since one entry has to grant the whole of a request. One bit stands for each permission:
+/// What two POSIX lists decide differently, each for a file of its own owners, of the requests of
+/// more than one permission: none exactly if each is granted as a whole to the same requesters, of
+/// whatever uid and groups; else someone in at most two groups, who loses or gains the first that
+/// isn't, in the order rw, rx, wx, rwx. Lists that decide each single permission alike may differ
+/// so, since one entry has to grant the whole of a request. One bit stands for each permission:
 /// READ_DATA, WRITE_DATA and EXECUTE. It fails only if memory runs out.
 pub fn whole_request_difference(
     alloc: Global,
     first: &Acl,
+    owners: &Owners,
     second: &Acl,
-    owner: Uid,
-    group: Gid,
+    other_owners: &Owners,
 ) -> Result<Option<Difference>, AllocError>
     ensures { IfOk result (λ found. MatchOption found
-        (AllByRecursion (GrantAlikeToAll first.now second.now owner group) whole_requests)
-        (IsFirstDifference first.now second.now owner group whole_requests)) }
+        (AllByRecursion (GrantAlikeToAll (grants_at first.now owners.now)
+        (grants_at second.now other_owners.now)) whole_requests)
+        (IsFirstDifference (grants_at first.now owners.now) (grants_at second.now other_owners.now)
+        whole_requests)) }
 {
     let requests = whole_requests();
-    first_difference(alloc, first, second, owner, group, &requests)
+    first_difference(alloc, first, owners, second, other_owners, &requests)
 }

@@ -2,7 +2,7 @@
 use Rattle.std.proofs.Common.{ap, sym, ◌∙◌, get_or, ◌≡◌, true, List, ◌++◌, refl}
 use Rattle.std.proofs.lemmas.Bool.{both_ways}
 use Rattle.rtrb.specs.Ring as ring
-use Rattle.acl_broker.specs.Entries.{items_of, has_end_mark}
+use Rattle.acl_broker.specs.Messages.{items_of, has_end_mark}
 use Rattle.acl_broker.specs.Ends.{Each, EndsByClose, EndSeen, AreSeen, AreEndsOf, side_of, is_closed}
 use Rattle.acl_broker.specs.declared.end.End.{End}
 use Rattle.acl_broker.specs.declared.end.End.TheVariants.{Open, Closed}

@@ -15,7 +15,7 @@ use Rattle.acl_broker.specs.declared.taker_side.TakerSide.{TakerSide}
 use Rattle.acl_broker.proofs.LaneLists.{Lies, lies_at, lane_below, lane_read, lanes_after_side, lanes-set, lanes-set_side, length-lanes}
 use Rattle.acl_broker.proofs.StepsStand.{Lane, unknown_session}
 
-module _ {State I R : Type 0} {service : Ghosts State I R} (broker : Broker State I R service) (session : ℕ) where
+module _ {State I R K : Type 0} {service : Ghosts State I R K} (broker : Broker State I R K service) (session : ℕ) where
   abbrev ends : List (End I R)
   ends = broker.ends.items
 

@@ -15,10 +15,12 @@ impl<I: Drop, R: Drop> End<I, R> {
     ghost use Rattle.std.specs.Prelude.{◌≡◌, ◌++◌, [], true, OnOk, OnErr, IfNone, option_to_list};
     ghost use Rattle.acl_broker.specs.Lanes.{IsPaired, submitted, handed, submit_answer};
     ghost use Rattle.acl_broker.specs.Ends.{IsSamePair, EndSeen, lane_of, side_of, is_closed};
-    ghost use Rattle.acl_broker.specs.TakerSides.{known_waiting, known_in_ring, received_items, IsUnmoved, AnswerMoves};
+    ghost use Rattle.acl_broker.specs.TakerSides.{known_waiting, known_in_ring, received_items};
+    ghost use Rattle.acl_broker.specs.TakerSides.{IsUnmoved, AnswerMoves};
     ghost use Rattle.acl_broker.specs.SessionSides as session_side;
 
-    /// Accepts an item, unless the session is closed or cancelled, or as many items wait as a lane holds.
+    /// Accepts an item, unless the session is closed or cancelled, or as many items wait as a lane
+    /// holds.
     pub(crate) fn submit_beside(
         &mut self,
         taker: &mut TakerSide<I, R>,
@@ -27,8 +29,10 @@ impl<I: Drop, R: Drop> End<I, R> {
         requires paired { IsPaired (side_of self.old) taker.old }
         requires closed { is_closed self.old ≡ true → taker.old.closed ≡ true }
         ensures same { IsSamePair self.old taker.old self.new taker.new }
-        ensures answer { result ≡ submit_answer taker.old.closed taker.old.cancelled (lane_of self.old taker.old).waiting item }
-        ensures ok { OnOk result (lane_of self.new taker.new ≡ submitted (lane_of self.old taker.old) item) }
+        ensures answer { result ≡ submit_answer taker.old.closed taker.old.cancelled
+            (lane_of self.old taker.old).waiting item }
+        ensures ok { OnOk result (lane_of self.new taker.new
+            ≡ submitted (lane_of self.old taker.old) item) }
         ensures refused { OnErr result (lane_of self.new taker.new ≡ lane_of self.old taker.old) }
         ensures unmoved { IsUnmoved taker.old taker.new }
     {
@@ -54,8 +58,10 @@ impl<I: Drop, R: Drop> End<I, R> {
     pub(crate) fn answer_beside(&mut self, taker: &mut TakerSide<I, R>) -> Option<R>
         requires { IsPaired (side_of self.old) taker.old }
         ensures same { IsSamePair self.old taker.old self.new taker.new }
-        ensures given { (lane_of self.old taker.old).owed ≡ option_to_list result ++ (lane_of self.new taker.new).owed }
-        ensures kept { lane_of self.new taker.new ≡ handed (lane_of self.old taker.old) result (lane_of self.new taker.new).owed }
+        ensures given { (lane_of self.old taker.old).owed ≡ option_to_list result
+            ++ (lane_of self.new taker.new).owed }
+        ensures kept { lane_of self.new taker.new
+            ≡ handed (lane_of self.old taker.old) result (lane_of self.new taker.new).owed }
         ensures none { IfNone result ((lane_of self.old taker.old).owed ≡ []) }
         ensures moves { AnswerMoves result taker.old taker.new }
     {
@@ -71,7 +77,8 @@ impl<I: Drop, R: Drop> End<I, R> {
         ensures same { IsSamePair self.old taker.old self.new taker.new }
         ensures state { lane_of self.new taker.new ≡ lane_of self.old taker.old }
         ensures seen { known_waiting taker.new ≡ (lane_of self.old taker.old).waiting }
-        ensures order { received_items taker.new ++ known_in_ring taker.new ≡ session_side.sent (side_of self.new) }
+        ensures order { received_items taker.new ++ known_in_ring taker.new
+            ≡ session_side.sent (side_of self.new) }
         ensures unmoved { IsUnmoved taker.old taker.new }
     {
         match self {

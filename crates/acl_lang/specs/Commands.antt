@@ -1,12 +1,16 @@
--- The commands, each with its fields from left to right: the first that doesn't read is the fault. Other words are no command.
+-- The commands, each with its fields from left to right: the first that doesn't read is the fault.
+-- Other words are no command.
 use Rattle.std.specs.Prelude.{ℕ, List, [], ◌∷◌, Ok, Err, codes, if◌then◌else◌, bytes_eq}
 use Rattle.acl_names.specs.Directory.{Known}
 use Rattle.acl_names.specs.Pieces.{first_word, after_word}
 use Rattle.acl_names.specs.Steps.{◌>>=◌}
 use Rattle.acl_tree.specs.declared.faults.LineFault.TheVariants.{Syntax}
 use Rattle.acl_tree.specs.declared.request.Request.{Request}
-use Rattle.acl_tree.specs.declared.request.Request.TheVariants.{Get, SetAccess, SetDefault, SetNfs4, Chmod, Create, Check, Check4, Translate}
-use Rattle.acl_lang.specs.Fields.{acl_of, aces_of, default_of, kind_of, mask_of, mode_of, path_of, perms_of, user_of}
+use Rattle.acl_tree.specs.declared.request.Request.TheVariants.{Get, SetAccess, SetDefault, SetNfs4}
+use Rattle.acl_tree.specs.declared.request.Request.TheVariants.{Chmod, Create, Check, Check4}
+use Rattle.acl_tree.specs.declared.request.Request.TheVariants.{Translate}
+use Rattle.acl_lang.specs.Fields.{acl_of, aces_of, default_of, kind_of, mask_of, mode_of, path_of}
+use Rattle.acl_lang.specs.Fields.{perms_of, user_of}
 use Rattle.acl_lang.specs.Refusals.{Asked}
 use Rattle.acl_lang.specs.Words.{words}
 
@@ -90,7 +94,8 @@ set_list known path kind (byte ∷ bytes) =
 
 -- `set P KIND TEXT`, where TEXT is what stands after the word KIND and its blanks
 abbrev pub set : Known → List ℕ → Asked Request
-set known fields = set_list known (first_word fields) (first_word (after_word fields)) (after_word (after_word fields))
+set known fields = set_list known (first_word fields) (first_word (after_word fields))
+    (after_word (after_word fields))
 
 -- by the command's word, and what stands after it and its blanks
 unfoldable pub command : Known → List ℕ → List ℕ → Asked Request

@@ -20,8 +20,10 @@ request_of (Err fault) = Bad fault
 -- a line without its blanks: an empty one, and one that begins with '#', give nothing
 abbrev pub line_of_trimmed : Known → List ℕ → Line
 line_of_trimmed known [] = Nothing
-line_of_trimmed known (byte ∷ bytes) = if byte == hash then Nothing else Command (request_of (asked_by known (byte ∷ bytes)))
+line_of_trimmed known (byte ∷ bytes) = if byte == hash then Nothing
+    else Command (request_of (asked_by known (byte ∷ bytes)))
 
 -- what a line gives; one that is too long is a fault before all else
 abbrev pub line_of : Known → List ℕ → Line
-line_of known bytes = if nat_lt MAX_LINE_LEN (length bytes) then Command (Bad LineTooLong) else line_of_trimmed known (trim bytes)
+line_of known bytes = if nat_lt MAX_LINE_LEN (length bytes) then Command (Bad LineTooLong)
+    else line_of_trimmed known (trim bytes)

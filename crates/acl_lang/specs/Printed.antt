@@ -17,7 +17,8 @@ use Rattle.acl_tree.specs.declared.node_acl.NodeAcl.TheVariants.{Posix, Nfs4}
 use Rattle.acl_tree.specs.declared.faults.LineFault.{LineFault}
 use Rattle.acl_tree.specs.declared.faults.LineFault.TheVariants as line
 use Rattle.acl_tree.specs.declared.reply.Reply.{Reply}
-use Rattle.acl_tree.specs.declared.reply.Reply.TheVariants.{Done, Node, Granted, Denied, Translated, TranslatedBoth, Refused, Fault}
+use Rattle.acl_tree.specs.declared.reply.Reply.TheVariants.{Done, Node, Granted, Denied, Translated}
+use Rattle.acl_tree.specs.declared.reply.Reply.TheVariants.{TranslatedBoth, Refused, Fault}
 use Rattle.acl_tree.specs.declared.faults.TreeFault.{TreeFault}
 use Rattle.acl_tree.specs.declared.faults.TreeFault.TheVariants as tree
 use Rattle.acl_tree.specs.declared.reply.View.{View}
@@ -79,12 +80,14 @@ acl_text known (Nfs4 acl) = aces_text known acl
 
 -- `OWNER GROUP`, each a name or a decimal
 abbrev pub owners_text : Known → ℕ → ℕ → List ℕ
-owners_text known owner group = id_text (user_name known) owner ++ space ∷ id_text (group_name known) group
+owners_text known owner group = id_text (user_name known) owner
+    ++ space ∷ id_text (group_name known) group
 
 -- `get PATH KIND OWNER GROUP MODE STYLE`
 abbrev pub head_text : Known → View → List ℕ
 head_text known view = join_with_byte space
-    (codes "get" ∷ view.path ∷ kind_text view.kind ∷ owners_text known view.owner view.group ∷ mode_text view.mode ∷ style_text view.acl ∷ [])
+    (codes "get" ∷ view.path ∷ kind_text view.kind ∷ owners_text known view.owner view.group
+    ∷ mode_text view.mode ∷ style_text view.acl ∷ [])
 
 -- and then the list
 abbrev pub view_text : Known → View → List ℕ
@@ -96,7 +99,8 @@ reply_text known Granted = codes "granted" ++ newline ∷ []
 reply_text known Denied = codes "denied" ++ newline ∷ []
 reply_text known (Node view) = view_text known view
 reply_text known (Translated acl) = codes "translated" ++ newline ∷ aces_text known acl
-reply_text known (TranslatedBoth access inherit) = codes "translated" ++ newline ∷ (aces_text known access ++ aces_text known inherit)
+reply_text known (TranslatedBoth access inherit) =
+    codes "translated" ++ newline ∷ (aces_text known access ++ aces_text known inherit)
 reply_text known (Refused fault) = error_text (tree_fault_number fault) (tree_fault_word fault)
 reply_text known (Fault fault) = error_text (line_fault_number fault) (line_fault_word fault)
 

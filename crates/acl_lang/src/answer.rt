@@ -1,27 +1,36 @@
 //! Answers, and how they are printed.
 
-ghost use Rattle.std.specs.Prelude.{◌≡◌, ◌++◌, ◌∷◌, [], ◌+◌, ◌<◌, ◌≤◌, length, take, codes, OnOk, OnErr};
+ghost use Rattle.std.specs.Prelude.{◌≡◌, ◌++◌, ◌∷◌, [], ◌+◌, ◌<◌, ◌≤◌, length, take, codes, OnOk};
+ghost use Rattle.std.specs.Prelude.{OnErr};
 ghost use Rattle.acl_posix.specs.Perms.{bits_of};
 ghost use Rattle.acl_names.specs.Bytes.{space};
-ghost use Rattle.acl_lang.specs.Printed.{acl_text, answer_text, below_text, error_text, head_text, kind_text, line_fault_word, mode_text, owners_text, reply_text, style_text, tree_fault_word, view_text};
+ghost use Rattle.acl_tree.specs.Nodes.{view_of};
+ghost use Rattle.acl_tree.specs.declared.reply.Reply.TheVariants.{Node as ReplyNode};
+ghost use Rattle.acl_lang.specs.Printed.{acl_text, answer_text, below_text, error_text, head_text};
+ghost use Rattle.acl_lang.specs.Printed.{kind_text, line_fault_word, mode_text, owners_text};
+ghost use Rattle.acl_lang.specs.Printed.{reply_text, style_text, tree_fault_word, view_text};
 
+use crate::shown::Shown;
 use acl_names::{Directory, Gid, MAX_DOMAIN_LEN, Uid, push_id};
 use acl_nfs4::{Acl4, Kind, MAX_ACES};
 use acl_posix::{Acl, MAX_ENTRIES, Mode};
-use acl_tree::{LineFault, MAX_PATH_LEN, NodeAcl, Reply, TreeFault, View};
+use acl_tree::{LineFault, MAX_PATH_LEN, Node, NodeAcl, Path, Reply, TreeFault, View};
 use bitflags::Flags;
 use std::alloc::AllocError;
 
 /// The most bytes of an answer of one line: the number of the line, and a fault's code and word.
 const MAX_SHORT_ANSWER: usize = 40;
 
-/// The most bytes of the line of a view beside its path: the number of the line, words, two names, and a mode.
+/// The most bytes of the line of a view beside its path: the number of the line, words, two names,
+/// and a mode.
 const MAX_HEAD: usize = 100;
 
-/// The most bytes of an entry's line: `default:`, a word, a name, permissions and a mark, with what stands between them.
+/// The most bytes of an entry's line: `default:`, a word, a name, permissions and a mark, with what
+/// stands between them.
 const MAX_ENTRY_LINE: usize = 66;
 
-/// The most bytes of an ACE's line beside the domain: a type, flags, a name and letters, with what stands between them.
+/// The most bytes of an ACE's line beside the domain: a type, flags, a name and letters, with what
+/// stands between them.
 const MAX_ACE_LINE: usize = 60;
 
 /// A reply with the number of the line that it answers.
@@ -33,10 +42,12 @@ pub struct Answer {
     pub reply: Reply,
 }
 
-/// Appends the answer: the number of its line, and the reply, on one line or, with lists, on several. It asks for all the
-/// room at once, so that `out` grows once at the most. When memory runs out, `out` is as it was.
+/// Appends the answer: the number of its line, and the reply, on one line or, with lists, on
+/// several. It asks for all the room at once, so that `out` grows once at the most. When memory
+/// runs out, `out` is as it was.
 pub fn render(answer: &Answer, directory: &Directory, out: &mut Vec<u8>) -> Result<(), AllocError>
-    ensures text { OnOk result (out.new.items ≡ out.old.items ++ answer_text directory.now answer.now) }
+    ensures text { OnOk result (out.new.items
+        ≡ out.old.items ++ answer_text directory.now answer.now) }
     ensures unchanged { OnErr result (out.new.items ≡ out.old.items) }
 {
     let old_len = out.len();
@@ -47,8 +58,55 @@ pub fn render(answer: &Answer, directory: &Directory, out: &mut Vec<u8>) -> Resu
     printed
 }
 
+/// Appends the answer that shows a node at a path, as `render` does of the node's view. No view is
+/// made: nothing is copied but the text. When memory runs out, `out` is as it was.
+pub fn render_node(
+    line: u32,
+    path: &Path,
+    node: &Node,
+    directory: &Directory,
+    out: &mut Vec<u8>,
+) -> Result<(), AllocError>
+    ensures text { OnOk result (out.new.items
+        ≡ out.old.items ++ answer_text directory.now
+        (record { line = line; reply = ReplyNode (view_of path.now node.now) })) }
+    ensures unchanged { OnErr result (out.new.items ≡ out.old.items) }
+{
+    let old_len = out.len();
+    let printed = push_shown_answer(line, &Shown::of_node(path, node), directory, out);
+    if printed.is_err() {
+        out.truncate(old_len);
+    }
+    printed
+}
+
+/// Appends the number of a line, and what is shown of a node.
+fn push_shown_answer(
+    line: u32,
+    shown: &Shown<'_>,
+    directory: &Directory,
+    out: &mut Vec<u8>,
+) -> Result<(), AllocError>
+    ensures text { OnOk result (out.new.items
+        ≡ out.old.items ++ answer_text directory.now
+        (record { line = line; reply = ReplyNode shown.now })) }
+    ensures kept { take (length out.old.items) out.new.items ≡ out.old.items }
+{
+    out.reserve(room_for_shown(shown, directory))?;
+    push_id(None, line, out)?;
+    out.extend_from_slice(b" ")?;
+    push_view(shown, directory, out)
+}
+
+/// How many bytes the answer that shows this may have at the most.
+fn room_for_shown(shown: &Shown<'_>, directory: &Directory) -> usize {
+    let path_len = shown.path.as_bytes().len().min(MAX_PATH_LEN);
+    MAX_HEAD + path_len + room_for_acl(shown.acl, directory)
+}
+
 fn push_answer(answer: &Answer, directory: &Directory, out: &mut Vec<u8>) -> Result<(), AllocError>
-    ensures text { OnOk result (out.new.items ≡ out.old.items ++ answer_text directory.now answer.now) }
+    ensures text { OnOk result (out.new.items
+        ≡ out.old.items ++ answer_text directory.now answer.now) }
     ensures kept { take (length out.old.items) out.new.items ≡ out.old.items }
 {
     out.reserve(room_for(&answer.reply, directory))?;
@@ -60,10 +118,7 @@ fn push_answer(answer: &Answer, directory: &Directory, out: &mut Vec<u8>) -> Res
 /// How many bytes the answer may have at the most.
 fn room_for(reply: &Reply, directory: &Directory) -> usize {
     match reply {
-        Reply::Node(view) => {
-            let path_len = view.path.as_bytes().len().min(MAX_PATH_LEN);
-            MAX_HEAD + path_len + room_for_acl(&view.acl, directory)
-        }
+        Reply::Node(view) => room_for_shown(&Shown::of_view(view), directory),
         Reply::Translated(acl) => MAX_SHORT_ANSWER + room_for_aces(acl, directory),
         Reply::TranslatedBoth { access, inherit } => {
             MAX_SHORT_ANSWER + room_for_aces(access, directory) + room_for_aces(inherit, directory)
@@ -105,7 +160,7 @@ fn push_reply(reply: &Reply, directory: &Directory, out: &mut Vec<u8>) -> Result
         Reply::Done => out.extend_from_slice(b"ok\n"),
         Reply::Granted => out.extend_from_slice(b"granted\n"),
         Reply::Denied => out.extend_from_slice(b"denied\n"),
-        Reply::Node(view) => push_view(view, directory, out),
+        Reply::Node(view) => push_view(&Shown::of_view(view), directory, out),
         Reply::Translated(acl) => {
             out.extend_from_slice(b"translated\n")?;
             acl.print_aces(directory, out)
@@ -164,46 +219,49 @@ fn line_fault_word(fault: LineFault) -> &'static [u8]
     }
 }
 
-fn push_view(view: &View, directory: &Directory, out: &mut Vec<u8>) -> Result<(), AllocError>
-    ensures text { OnOk result (out.new.items ≡ out.old.items ++ view_text directory.now view.now) }
+fn push_view(shown: &Shown<'_>, directory: &Directory, out: &mut Vec<u8>) -> Result<(), AllocError>
+    ensures text { OnOk result (out.new.items ≡ out.old.items ++ view_text directory.now shown.now) }
     ensures kept { take (length out.old.items) out.new.items ≡ out.old.items }
 {
-    push_head(view, directory, out)?;
+    push_head(shown, directory, out)?;
     out.extend_from_slice(b"\n")?;
-    push_acl(&view.acl, directory, out)
+    push_acl(shown.acl, directory, out)
 }
 
 /// Appends `get PATH KIND OWNER GROUP MODE STYLE`.
-fn push_head(view: &View, directory: &Directory, out: &mut Vec<u8>) -> Result<(), AllocError>
-    ensures text { OnOk result (out.new.items ≡ out.old.items ++ head_text directory.now view.now) }
+fn push_head(shown: &Shown<'_>, directory: &Directory, out: &mut Vec<u8>) -> Result<(), AllocError>
+    ensures text { OnOk result (out.new.items ≡ out.old.items ++ head_text directory.now shown.now) }
     ensures kept { take (length out.old.items) out.new.items ≡ out.old.items }
 {
-    push_what(view, out)?;
-    push_owners(view.owner, view.group, directory, out)?;
-    push_how(view, out)
+    push_what(shown, out)?;
+    push_owners(shown.owner, shown.group, directory, out)?;
+    push_how(shown, out)
 }
 
 /// Appends `get PATH KIND` and a blank.
-fn push_what(view: &View, out: &mut Vec<u8>) -> Result<(), AllocError>
-    ensures text { OnOk result (out.new.items ≡ out.old.items ++ (codes "get " ++ (view.now.path ++ space ∷ (kind_text view.now.kind ++ space ∷ [])))) }
+fn push_what(shown: &Shown<'_>, out: &mut Vec<u8>) -> Result<(), AllocError>
+    ensures text { OnOk result (out.new.items
+        ≡ out.old.items ++ (codes "get " ++ (shown.now.path
+        ++ space ∷ (kind_text shown.now.kind ++ space ∷ [])))) }
     ensures kept { take (length out.old.items) out.new.items ≡ out.old.items }
 {
     out.extend_from_slice(b"get ")?;
-    out.extend_from_slice(view.path.as_bytes())?;
+    out.extend_from_slice(shown.path.as_bytes())?;
     out.extend_from_slice(b" ")?;
-    out.extend_from_slice(kind_text(view.kind))?;
+    out.extend_from_slice(kind_text(shown.kind))?;
     out.extend_from_slice(b" ")
 }
 
 /// Appends a blank and `MODE STYLE`.
-fn push_how(view: &View, out: &mut Vec<u8>) -> Result<(), AllocError>
-    ensures text { OnOk result (out.new.items ≡ out.old.items ++ (space ∷ mode_text view.now.mode ++ space ∷ style_text view.now.acl)) }
+fn push_how(shown: &Shown<'_>, out: &mut Vec<u8>) -> Result<(), AllocError>
+    ensures text { OnOk result (out.new.items
+        ≡ out.old.items ++ (space ∷ mode_text shown.now.mode ++ space ∷ style_text shown.now.acl)) }
     ensures kept { take (length out.old.items) out.new.items ≡ out.old.items }
 {
     out.extend_from_slice(b" ")?;
-    out.extend_from_slice(&mode_text(view.mode))?;
+    out.extend_from_slice(&mode_text(shown.mode))?;
     out.extend_from_slice(b" ")?;
-    out.extend_from_slice(style_text(&view.acl))
+    out.extend_from_slice(style_text(shown.acl))
 }
 
 /// Appends `OWNER GROUP`.
@@ -213,7 +271,8 @@ fn push_owners(
     directory: &Directory,
     out: &mut Vec<u8>,
 ) -> Result<(), AllocError>
-    ensures text { OnOk result (out.new.items ≡ out.old.items ++ owners_text directory.now owner group) }
+    ensures text { OnOk result (out.new.items
+        ≡ out.old.items ++ owners_text directory.now owner group) }
     ensures kept { take (length out.old.items) out.new.items ≡ out.old.items }
 {
     push_id(directory.user_name(owner), owner.value(), out)?;
@@ -268,7 +327,8 @@ fn push_default(
     directory: &Directory,
     out: &mut Vec<u8>,
 ) -> Result<(), AllocError>
-    ensures text { OnOk result (out.new.items ≡ out.old.items ++ below_text directory.now default.now) }
+    ensures text { OnOk result (out.new.items
+        ≡ out.old.items ++ below_text directory.now default.now) }
     ensures kept { take (length out.old.items) out.new.items ≡ out.old.items }
 {
     match default {

@@ -2,7 +2,9 @@
 
 ghost use Rattle.std.specs.Prelude.{◌≡◌, ◌&&◌, nat_le, option_map, IfSome};
 ghost use Rattle.acl_posix.specs.Perms.{IsPermissions, bits_of};
-ghost use Rattle.acl_lang.specs.Fields.{acl_of, accepted, aces_of, classes, default_of, entries_of, kind_of, mask_of, mode_of, octal, path_of, perms_of, user_of};
+ghost use Rattle.acl_lang.specs.Fields.{acl_of, accepted, aces_of, classes, default_of, entries_of};
+ghost use Rattle.acl_lang.specs.Fields.{kind_of, mask_of, mode_of, octal, path_of, perms_of};
+ghost use Rattle.acl_lang.specs.Fields.{user_of};
 ghost use Rattle.acl_lang.specs.Refusals.{Reads};
 
 use crate::refusal::Refusal;

@@ -6,7 +6,8 @@ use Rattle.std.specs.declared.cmp.Ordering.TheVariants.{Less}
 
 -- some member's key stands more than once; `same` tells whether two keys are the same
 abbrev pub repeats : {X K : Type 0} → (K → K → Bool) → (X → K) → List X → Bool
-repeats same key members = list_any (λ one. nat_lt 1 (count_by (λ other. same (key other) (key one)) members)) members
+repeats same key members = list_any (λ one. nat_lt 1
+    (count_by (λ other. same (key other) (key one)) members)) members
 
 -- each member's key is below those of the members after it
 abbrev pub IsAscending : {X K : Type 0} → (K → K → Ordering) → (X → K) → List X → Type 0

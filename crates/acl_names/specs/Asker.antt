@@ -5,4 +5,7 @@ use Rattle.acl_names.specs.declared.asker.Asker.{Asker}
 
 -- the requester that an asker is
 abbrev pub identity_of : Asker → Identity
-identity_of asker = record { uid = asker.uid; gids = option_to_list asker.gid ++ option_to_list asker.other_gid }
+identity_of asker = record {
+  uid = asker.uid;
+  gids = option_to_list asker.gid ++ option_to_list asker.other_gid;
+}

@@ -1,5 +1,7 @@
 -- The users and groups that there are, what is asked of them, and which lists make a directory.
-use Rattle.std.specs.Prelude.{◌≡◌, ℕ, Bool, true, ◌==◌, ◌||◌, not, nat_lt, nat_eq, List, [], ◌∷◌, length, Option, Some, None, is_none, map, option_map, if◌then◌else◌, bytes_eq}
+use Rattle.std.specs.Prelude.{◌≡◌, ℕ, Bool, true, ◌==◌, ◌||◌, not, nat_lt, nat_eq, List, [], ◌∷◌}
+use Rattle.std.specs.Prelude.{length, Option, Some, None, is_none, map, option_map, if◌then◌else◌}
+use Rattle.std.specs.Prelude.{bytes_eq}
 use Rattle.std.specs.List.{find, filter_map, list_any}
 use Rattle.std.specs.Option.{option_and_then, option_map_or}
 use Rattle.std.specs.Cmp.Lexicographic.{slice_cmp}
@@ -9,7 +11,9 @@ use Rattle.acl_names.specs.Named.{IsIndexOf}
 use Rattle.acl_names.specs.Ids.{ReadBack, has_name_shape, has_domain_shape}
 use Rattle.acl_names.specs.Requester.{Identity}
 use Rattle.acl_names.specs.declared.directory.SetupFault.{SetupFault}
-use Rattle.acl_names.specs.declared.directory.SetupFault.TheVariants.{BadName, RepeatedName, RepeatedId, UnknownGroup, TooMany, Memory}
+use Rattle.acl_names.specs.declared.directory.SetupFault.TheVariants.{BadName, RepeatedName}
+use Rattle.acl_names.specs.declared.directory.SetupFault.TheVariants.{RepeatedId, UnknownGroup}
+use Rattle.acl_names.specs.declared.directory.SetupFault.TheVariants.{TooMany, Memory}
 use Rattle.acl_names.specs.declared.limits.TheConstants.{MAX_USERS, MAX_GROUPS, MAX_GROUPS_OF_USER}
 
 -- a user, with the names of the groups that the user is in, the first group first
@@ -72,7 +76,10 @@ as_requester known user = record { uid = user.uid; gids = filter_map (gid_of kno
 
 -- the user with this uid as one who asks
 abbrev pub requester_of : Known → ℕ → Identity
-requester_of known uid = record { uid = uid; gids = filter_map (gid_of known) (groups_of known uid) }
+requester_of known uid = record {
+  uid = uid;
+  gids = filter_map (gid_of known) (groups_of known uid);
+}
 
 -- What is wrong with the lists, in the order in which it is told.
 
@@ -92,11 +99,13 @@ repeats_name known = repeats bytes_eq (λ user. user.name) known.users
     || list_any (λ user. repeats bytes_eq (λ name. name) user.groups) known.users
 
 abbrev pub repeats_id : Known → Bool
-repeats_id known = repeats nat_eq (λ user. user.uid) known.users || repeats nat_eq (λ group. group.gid) known.groups
+repeats_id known = repeats nat_eq (λ user. user.uid) known.users
+    || repeats nat_eq (λ group. group.gid) known.groups
 
 -- a user is in a group that there isn't
 abbrev pub has_unknown_group : Known → Bool
-has_unknown_group known = list_any (λ user. list_any (λ name. is_none (group_named known name)) user.groups) known.users
+has_unknown_group known = list_any (λ user. list_any (λ name. is_none (group_named known name))
+    user.groups) known.users
 
 -- the first thing that is wrong
 abbrev pub fault_of : Known → Option SetupFault
@@ -107,12 +116,14 @@ fault_of known =
     else (if repeats_id known then Some RepeatedId
     else (if has_unknown_group known then Some UnknownGroup else None))))
 
--- the lists are refused for the first thing that is wrong with them, and as out of memory only if nothing is
+-- the lists are refused for the first thing that is wrong with them, and as out of memory only if
+-- nothing is
 abbrev pub IsRefusedFor : Known → SetupFault → Type 0
 IsRefusedFor known Memory = fault_of known ≡ None
 IsRefusedFor known fault = fault_of known ≡ Some fault
 
--- Each name that is printed for an id reads as that id, and the domain in which it stands has its shape.
+-- Each name that is printed for an id reads as that id, and the domain in which it stands has its
+-- shape.
 pub record TellsNamesApart (known : Known) : Type 0 where
   pub domain : has_domain_shape known.domain ≡ true
   pub users : ReadBack (uid_of known) (user_name known)
@@ -128,9 +139,10 @@ pub record AnswersAs (known parts : Known) : Type 0 where
   pub first_groups : (uid : ℕ) → first_group known uid ≡ first_group parts uid
   pub requesters : (uid : ℕ) → requester_of known uid ≡ requester_of parts uid
 
--- what every directory is: nothing is wrong with it, its members ascend by their names, their places are found by their ids,
--- and each user is ready made as one who asks
-pub record IsDirectory (known : Known) (user_places group_places : List (ℕ × ℕ)) (requesters : List Identity) : Type 0 where
+-- what every directory is: nothing is wrong with it, its members ascend by their names, their
+-- places are found by their ids, and each user is ready made as one who asks
+pub record IsDirectory (known : Known) (user_places group_places : List (ℕ × ℕ))
+    (requesters : List Identity) : Type 0 where
   pub faultless : fault_of known ≡ None
   pub users : IsAscending (slice_cmp nat_cmp) (λ user. user.name) known.users
   pub groups : IsAscending (slice_cmp nat_cmp) (λ group. group.name) known.groups

@@ -1,5 +1,7 @@
 -- Texts that are sets of letters.
-use Rattle.std.specs.Prelude.{◌≡◌, ◌^◌, false, ℕ, Bool, ◌==◌, ◌&&◌, not, nat_le, List, [], ◌∷◌, Option, Some, None, count_by, map, filter, bit_and, bit_or, fold, if◌then◌else◌}
+use Rattle.std.specs.Prelude.{◌≡◌, ◌^◌, false, ℕ, Bool, ◌==◌, ◌&&◌, not, nat_le, List, [], ◌∷◌}
+use Rattle.std.specs.Prelude.{Option, Some, None, count_by, map, filter, bit_and, bit_or, fold}
+use Rattle.std.specs.Prelude.{if◌then◌else◌}
 use Rattle.std.specs.List.{AllByRecursion, list_all, list_any}
 use Rattle.acl_names.specs.declared.letters.Letter.{Letter}
 
@@ -21,7 +23,8 @@ is_letter_of table byte = list_any (λ row. row.letter == byte) table
 
 -- letters of the table alone, in any order, each at most once, or none
 abbrev pub is_letters_text : List Letter → List ℕ → Bool
-is_letters_text table text = list_all (is_letter_of table) text && not (list_any (λ row. repeats row.letter text) table)
+is_letters_text table text = list_all (is_letter_of table) text
+    && not (list_any (λ row. repeats row.letter text) table)
 
 -- the bits of these rows together
 abbrev pub bits_of_rows : List Letter → ℕ
@@ -33,7 +36,8 @@ rows_in table text = filter (λ row. occurs row.letter text) table
 
 -- the bits whose letters stand in the text
 unfoldable pub letters_of : List Letter → List ℕ → Option ℕ
-letters_of table text = if is_letters_text table text then Some (bits_of_rows (rows_in table text)) else None
+letters_of table text = if is_letters_text table text then Some (bits_of_rows (rows_in table text))
+    else None
 
 -- the rows whose bits are set
 abbrev pub rows_set : List Letter → ℕ → List Letter
@@ -50,7 +54,8 @@ HasOneBit row = (place : ℕ) × (row.bit ≡ 2 ^ place)
 -- no two rows have one letter
 abbrev pub LettersDiffer : List Letter → Type 0
 LettersDiffer [] = Unit {0}
-LettersDiffer (row ∷ rows) = (list_any (λ r. r.letter == row.letter) rows ≡ false) × LettersDiffer rows
+LettersDiffer (row ∷ rows) = (list_any (λ r. r.letter == row.letter) rows ≡ false)
+    × LettersDiffer rows
 
 -- a table of letters: each row has one bit, and a letter of its own
 pub record IsTable (table : List Letter) : Type 0 where

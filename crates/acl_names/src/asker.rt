@@ -7,7 +7,8 @@ ghost use Rattle.acl_names.specs.Requester.{is_in_group};
 use crate::{Gid, Requester, Uid};
 use std::alloc::{AllocError, Global};
 
-/// Who asks for access and is in at most two groups. It takes no memory, so that many can be tried in turn.
+/// Who asks for access and is in at most two groups. It takes no memory, so that many can be tried
+/// in turn.
 #[derive(Clone, Copy, Debug, PartialEq, Eq)]
 pub struct Asker {
     /// The user who asks.
@@ -36,8 +37,8 @@ impl Asker {
         is_gid(self.gid, gid) || is_gid(self.other_gid, gid)
     }
 
-    /// The same user with the same groups, to be asked about wherever a requester is wanted. It fails only if memory runs
-    /// out.
+    /// The same user with the same groups, to be asked about wherever a requester is wanted. It
+    /// fails only if memory runs out.
     pub fn requester(&self, alloc: Global) -> Result<Requester, AllocError>
         ensures { IfOk result (λ requester. requester ≡ identity_of self.now) }
     {

@@ -45,7 +45,8 @@ impl Named for Group {
 /// The gid of the group with this name, of groups in the order of their names.
 pub(crate) fn gid_named(groups: &[Group], name: &str) -> Option<Gid>
     requires { IsAscending (slice_cmp nat_cmp) (λ group. group.name) groups.now }
-    ensures { result ≡ option_map (λ group. group.gid) (find (λ group. bytes_eq group.name name.now) groups.now) }
+    ensures { result ≡ option_map (λ group. group.gid)
+        (find (λ group. bytes_eq group.name name.now) groups.now) }
 {
     match find_by_name(groups, name) {
         Some(group) => Some(group.gid),

@@ -1,5 +1,5 @@
-//! Guesses where the member of a name stands, by a hash of the name. A guess that is wrong costs a search and no more, so
-//! nothing is proved of hashes.
+//! Guesses where the member of a name stands, by a hash of the name. A guess that is wrong costs a
+//! search and no more, so nothing is proved of hashes.
 
 ghost use Rattle.std.specs.Prelude.{◌≡◌, ◌==◌, false, ◌++◌, ◌∷◌, Some, find, length, IfSome, IsOk};
 ghost use Rattle.std.specs.Cmp.Lexicographic.{slice_cmp};
@@ -13,14 +13,15 @@ use crate::limits::MAX_NAME_LEN;
 use crate::named::{Named, find_by_bytes};
 use std::alloc::{AllocError, Global};
 
-/// So many guesses there are for each member: of many names one in 17 then loses its guess to another.
+/// So many guesses there are for each member: of many names one in 17 then loses its guess to
+/// another.
 const GUESSES_PER_MEMBER: usize = 8;
 
 /// An odd number near the golden ratio of 2^64, by which the bits of a hash are spread.
 const SPREAD: u64 = 0x9E37_79B9_7F4A_7C15;
 
-/// The place of some member for each hash of a name; of two members that share one, that of the later. Of no members there is
-/// none, which takes no memory.
+/// The place of some member for each hash of a name; of two members that share one, that of the
+/// later. Of no members there is none, which takes no memory.
 pub(crate) fn guesses_of<T: Named>(alloc: Global, members: &[T]) -> Result<Vec<u16>, AllocError>
     ensures { length members.now ≡ 0 → IsOk result }
 {
@@ -57,7 +58,8 @@ pub(crate) fn find_by_hash<'a, T: Named>(
 /// The same if the guess for the hash is right.
 fn guessed<'a, T: Named>(members: &'a [T], guesses: &[u16], hash: u64, name: &[u8]) -> Option<&'a T>
     requires { IsAscending (slice_cmp nat_cmp) T.name_of members.now }
-    ensures { IfSome result (λ member. find (λ other. bytes_eq (T.name_of other) name.now) members.now ≡ Some member.now) }
+    ensures { IfSome result (λ member. find (λ other. bytes_eq (T.name_of other) name.now)
+        members.now ≡ Some member.now) }
 {
     let guess = guesses.get(guess_at(hash, guesses.len()))?;
     let place = usize::from(*guess);
@@ -72,8 +74,9 @@ fn guessed<'a, T: Named>(members: &'a [T], guesses: &[u16], hash: u64, name: &[u
     }
 }
 
-/// What stands before the first separator, its hash for `uid_by_hash` and `gid_by_hash`, and what stands after the separator.
-/// `None` if there is no separator within the first `MAX_NAME_LEN` + 1 bytes.
+/// What stands before the first separator, its hash for `uid_by_hash` and `gid_by_hash`, and what
+/// stands after the separator. `None` if there is no separator within the first `MAX_NAME_LEN` + 1
+/// bytes.
 pub fn split_name(separator: u8, text: &[u8]) -> Option<(&[u8], u64, &[u8])>
     ensures parts { IfSome result (λ found. text.now ≡ found.0.now ++ separator ∷ found.2.now) }
     ensures first { IfSome result (λ found. list_any (λ x. x == separator) found.0.now ≡ false) }

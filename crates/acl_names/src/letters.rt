@@ -1,8 +1,10 @@
 //! Texts that are sets of letters, by a table of letters and bits.
 
-ghost use Rattle.std.specs.Prelude.{◌≡◌, ◌≤◌, ◌<◌, ◌+◌, ◌==◌, ◌++◌, ◌∷◌, [], not, filter, take, length, bit_and, vec_len, vec_capacity, OnOk, OnErr};
+ghost use Rattle.std.specs.Prelude.{◌≡◌, ◌≤◌, ◌<◌, ◌+◌, ◌==◌, ◌++◌, ◌∷◌, [], not, filter, take};
+ghost use Rattle.std.specs.Prelude.{length, bit_and, vec_len, vec_capacity, OnOk, OnErr};
 ghost use Rattle.std.specs.List.{list_any};
-ghost use Rattle.acl_names.specs.Letters.{occurs, repeats, is_letter_of, letters_of, letters_text, bits_of_rows, IsTable, HasBitsOf};
+ghost use Rattle.acl_names.specs.Letters.{occurs, repeats, is_letter_of, letters_of, letters_text};
+ghost use Rattle.acl_names.specs.Letters.{bits_of_rows, IsTable, HasBitsOf};
 
 use std::alloc::AllocError;
 
@@ -15,7 +17,8 @@ pub struct Letter {
     pub bit: u32,
 }
 
-/// The bits whose letters make up the text: letters of the table alone, in any order, each at most once, or none.
+/// The bits whose letters make up the text: letters of the table alone, in any order, each at most
+/// once, or none.
 pub fn read_letters(table: &[Letter], text: &[u8]) -> Option<u32>
     ensures { result ≡ letters_of table.now text.now }
 {
@@ -57,8 +60,8 @@ fn bits_of_letter(table: &[Letter], letter: u8) -> u32
     bits
 }
 
-/// Appends the letters of the bits that are set, in the order of the table. If memory runs out, the letters that found room
-/// stand in `out`; that happens only if `out` has no room for all of them.
+/// Appends the letters of the bits that are set, in the order of the table. If memory runs out, the
+/// letters that found room stand in `out`; that happens only if `out` has no room for all of them.
 #[tactic(auto, using(crate::proofs::LettersAgain::letters_again))]
 pub fn push_letters(table: &[Letter], bits: u32, out: &mut Vec<u8>) -> Result<(), AllocError>
     ensures text { OnOk result (out.new.items ≡ out.old.items ++ letters_text table.now bits) }
@@ -66,7 +69,8 @@ pub fn push_letters(table: &[Letter], bits: u32, out: &mut Vec<u8>) -> Result<()
     ensures read_again { IsTable table.now → HasBitsOf table.now bits
         → letters_of table.now (letters_text table.now bits) ≡ Some bits }
     ensures kept { take (length out.old.items) out.new.items ≡ out.old.items }
-    ensures room { OnErr result (vec_capacity out.old < vec_len out.old + length (letters_text table.now bits)) }
+    ensures room { OnErr result (vec_capacity out.old
+        < vec_len out.old + length (letters_text table.now bits)) }
     ensures capacity { vec_capacity out.old ≤ vec_capacity out.new }
 {
     for row in table {

@@ -1,6 +1,9 @@
 //! How much a directory may hold, and how long its names may be.
 ghost use Rattle.std.specs.Prelude.{◌≡◌};
-ghost use Rattle.acl_names.specs.declared.limits.TheConstants.{MAX_USERS, MAX_GROUPS, MAX_GROUPS_OF_USER, MAX_NAME_LEN, MAX_DOMAIN_LEN, MAX_ID, MAX_DIGITS, NOBODY};
+ghost use Rattle.acl_names.specs.declared.limits.TheConstants.{MAX_USERS, MAX_GROUPS};
+ghost use Rattle.acl_names.specs.declared.limits.TheConstants.{MAX_GROUPS_OF_USER, MAX_NAME_LEN};
+ghost use Rattle.acl_names.specs.declared.limits.TheConstants.{MAX_DOMAIN_LEN, MAX_ID, MAX_DIGITS};
+ghost use Rattle.acl_names.specs.declared.limits.TheConstants.{NOBODY};
 
 /// The most users of a directory.
 pub const MAX_USERS: usize = 1024;
@@ -23,7 +26,8 @@ pub const MAX_ID: u32 = 4_294_967_294;
 /// The most digits of an id.
 pub const MAX_DIGITS: usize = 10;
 
-/// The uid that systems give to nobody: if someone is wanted whom no list names, the search begins here.
+/// The uid that systems give to nobody: if someone is wanted whom no list names, the search begins
+/// here.
 pub const NOBODY: u32 = 65534;
 
 /// The limits as numbers. There is nothing to run here: a proof cites the contract.

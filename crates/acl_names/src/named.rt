@@ -1,6 +1,7 @@
 //! Lists of what has a name and an id, in which both are found by binary search.
 
-ghost use Rattle.std.specs.Prelude.{◌≡◌, ◌==◌, ℕ, false, not, nat_eq, List, find, map, length, option_map, IfOk, IsOk, IsTrue};
+ghost use Rattle.std.specs.Prelude.{◌≡◌, ◌==◌, ℕ, false, not, nat_eq, List, find, map, length};
+ghost use Rattle.std.specs.Prelude.{option_map, IfOk, IsOk, IsTrue};
 ghost use Rattle.std.specs.List.{list_any};
 ghost use Rattle.std.specs.List.Sorted.{IsPermutation};
 ghost use Rattle.std.specs.Cmp.Lexicographic.{slice_cmp};
@@ -36,19 +37,22 @@ pub(crate) struct Keys {
     pub ids: bool,
 }
 
-/// Puts the members in the order of their names, and tells which of their keys tell them apart. It takes no memory.
+/// Puts the members in the order of their names, and tells which of their keys tell them apart. It
+/// takes no memory.
 pub(crate) fn sort<T: Named>(members: &mut Vec<T>) -> Keys
     ensures permutation { IsPermutation members.old.items members.new.items }
     ensures names { result.names ≡ not (repeats bytes_eq T.name_of members.new.items) }
     ensures ids { result.ids ≡ not (repeats nat_eq T.id_of members.new.items) }
-    ensures ascending { IsTrue result.names → IsAscending (slice_cmp nat_cmp) T.name_of members.new.items }
+    ensures ascending { IsTrue result.names → IsAscending (slice_cmp nat_cmp) T.name_of
+        members.new.items }
 {
     let ids = sort_by_id(members);
     let names = sort_by_name(members);
     Keys { names, ids }
 }
 
-/// Puts the members in the order of their names, and tells whether no two have one name. It takes no memory.
+/// Puts the members in the order of their names, and tells whether no two have one name. It takes
+/// no memory.
 fn sort_by_name<T: Named>(members: &mut Vec<T>) -> bool
     ensures permutation { IsPermutation members.old.items members.new.items }
     ensures distinct { result ≡ not (repeats bytes_eq T.name_of members.old.items) }
@@ -60,7 +64,8 @@ fn sort_by_name<T: Named>(members: &mut Vec<T>) -> bool
         .is_sorted_by(|one, later| one.name() < later.name())
 }
 
-/// Puts the members in the order of their ids, and tells whether no two have one id. It takes no memory.
+/// Puts the members in the order of their ids, and tells whether no two have one id. It takes no
+/// memory.
 fn sort_by_id<T: Named>(members: &mut Vec<T>) -> bool
     ensures permutation { IsPermutation members.old.items members.new.items }
     ensures distinct { result ≡ not (repeats nat_eq T.id_of members.old.items) }
@@ -100,7 +105,8 @@ fn ids_with_places<T: Named>(alloc: Global, members: &[T]) -> Result<Vec<(u32, u
 /// The member of this name, of members in the order of their names.
 pub(crate) fn find_by_name<'a, T: Named>(members: &'a [T], name: &str) -> Option<&'a T>
     requires { IsAscending (slice_cmp nat_cmp) T.name_of members.now }
-    ensures { option_copied result ≡ find (λ member. bytes_eq (T.name_of member) name.now) members.now }
+    ensures { option_copied result ≡ find (λ member. bytes_eq (T.name_of member) name.now)
+        members.now }
 {
     find_by_bytes(members, name.as_bytes())
 }
@@ -108,7 +114,8 @@ pub(crate) fn find_by_name<'a, T: Named>(members: &'a [T], name: &str) -> Option
 /// The same of a name that may be no text.
 pub(crate) fn find_by_bytes<'a, T: Named>(members: &'a [T], name: &[u8]) -> Option<&'a T>
     requires { IsAscending (slice_cmp nat_cmp) T.name_of members.now }
-    ensures { option_copied result ≡ find (λ member. bytes_eq (T.name_of member) name.now) members.now }
+    ensures { option_copied result ≡ find (λ member. bytes_eq (T.name_of member) name.now)
+        members.now }
 {
     match members.binary_search_by(|member| member.name().as_bytes().cmp(name)) {
         Ok(place) => Some(&members[place]),

@@ -1,6 +1,7 @@
 //! Users.
 
-ghost use Rattle.std.specs.Prelude.{◌≡◌, nat_lt, [], length, count_by, find, is_none, option_map, string_bytes, IfOk};
+ghost use Rattle.std.specs.Prelude.{◌≡◌, nat_lt, [], length, count_by, find, is_none, option_map};
+ghost use Rattle.std.specs.Prelude.{string_bytes, IfOk};
 ghost use Rattle.std.specs.Cmp.Lexicographic.{slice_cmp};
 ghost use Rattle.std.specs.List.{filter_map, list_any};
 ghost use Rattle.std.specs.Ordering.{nat_cmp};
@@ -33,7 +34,11 @@ impl Model for User {
 
     ghost Value = { KnownUser };
 
-    ghost view = { λ user. record { name = string_bytes user.name; uid = user.uid; groups = map string_bytes user.groups.items } };
+    ghost view = { λ user. record {
+      name = string_bytes user.name;
+      uid = user.uid;
+      groups = map string_bytes user.groups.items;
+    } };
 }
 
 impl Named for User {
@@ -58,22 +63,26 @@ impl User {
         self.groups.len()
     }
 
-    /// Whether the user is twice in one group. It looks at each pair, of which there are few: a user is in at most 32 groups.
+    /// Whether the user is twice in one group. It looks at each pair, of which there are few: a
+    /// user is in at most 32 groups.
     pub(crate) fn repeats_group(&self) -> bool
         ensures { result ≡ repeats bytes_eq (λ name. name) self.now.groups }
     {
         repeats_text(&self.groups)
     }
 
-    /// Whether the user is in a group that is not among these, which are in the order of their names.
+    /// Whether the user is in a group that is not among these, which are in the order of their
+    /// names.
     pub(crate) fn is_in_unknown_group(&self, groups: &[Group]) -> bool
         requires { IsAscending (slice_cmp nat_cmp) (λ group. group.name) groups.now }
-        ensures { result ≡ list_any (λ name. is_none (find (λ group. bytes_eq group.name name) groups.now)) self.now.groups }
+        ensures { result ≡ list_any (λ name. is_none
+            (find (λ group. bytes_eq group.name name) groups.now)) self.now.groups }
     {
         lacks_group(groups, &self.groups)
     }
 
-    /// The user as one who asks, with the gids of the user's groups among these, which are in the order of their names.
+    /// The user as one who asks, with the gids of the user's groups among these, which are in the
+    /// order of their names.
     pub(crate) fn requester(&self, alloc: Global, groups: &[Group]) -> Result<Requester, AllocError>
         requires { IsAscending (slice_cmp nat_cmp) (λ group. group.name) groups.now }
         ensures { IfOk result (λ requester. requester
@@ -88,7 +97,8 @@ impl User {
 fn gids_of(alloc: Global, groups: &[Group], names: &[String]) -> Result<Vec<Gid>, AllocError>
     requires { IsAscending (slice_cmp nat_cmp) (λ group. group.name) groups.now }
     ensures { IfOk result (λ gids. gids.items ≡ filter_map
-        (λ name. option_map (λ group. group.gid) (find (λ group. bytes_eq group.name (string_bytes name)) groups.now)) names.now) }
+        (λ name. option_map (λ group. group.gid)
+        (find (λ group. bytes_eq group.name (string_bytes name)) groups.now)) names.now) }
 {
     let mut gids = Vec::with_capacity(alloc, names.len())?;
     for name in names {
@@ -114,7 +124,8 @@ fn count_of(texts: &[String], text: &str) -> usize
 fn lacks_group(groups: &[Group], names: &[String]) -> bool
     requires { IsAscending (slice_cmp nat_cmp) (λ group. group.name) groups.now }
     ensures { result
-        ≡ list_any (λ name. is_none (find (λ group. bytes_eq group.name (string_bytes name)) groups.now)) names.now }
+        ≡ list_any (λ name. is_none (find (λ group. bytes_eq group.name (string_bytes name))
+        groups.now)) names.now }
 {
     names
         .iter()

@@ -60,23 +60,32 @@ module _ (applies : Who → Bool) (whole : List Nfsace4) (bits : ℕ) where
 
 -- ---- two lists
 
-module _ (applies : Who → Bool) (first second : List Nfsace4) (bits before after : ℕ)
-    (are_before : AreAllowed applies first bits before) (are_after : AreAllowed applies second bits after) where
+module _ (applies other_applies : Who → Bool) (first second : List Nfsace4) (bits before after : ℕ)
+    (are_before : AreAllowed applies first bits before) (are_after : AreAllowed other_applies second bits after) where
   only_one : (b x y : Bool) → ((b && x) && not (b && y)) ≡ (b && (x && not y))
   only_one true x y = refl
   only_one false x y = refl
 
-  pub are_lost : (bit : ℕ) → has (without before after) bit ≡ (has bits bit && (allows applies bit first && not (allows applies bit second)))
+  pub are_lost : (bit : ℕ) → has (without before after) bit ≡ (has bits bit && (allows applies bit first && not (allows other_applies bit second)))
   are_lost bit =
       has-without before after bit
       ∙ ap₂ (λ x y. x && not y) (are_before bit) (are_after bit)
-      ∙ only_one (has bits bit) (allows applies bit first) (allows applies bit second)
+      ∙ only_one (has bits bit) (allows applies bit first) (allows other_applies bit second)
 
-  pub are_gained : (bit : ℕ) → has (without after before) bit ≡ (has bits bit && (allows applies bit second && not (allows applies bit first)))
+  pub are_gained : (bit : ℕ) → has (without after before) bit ≡ (has bits bit && (allows other_applies bit second && not (allows applies bit first)))
   are_gained bit =
       has-without after before bit
       ∙ ap₂ (λ x y. x && not y) (are_after bit) (are_before bit)
-      ∙ only_one (has bits bit) (allows applies bit second) (allows applies bit first)
+      ∙ only_one (has bits bit) (allows other_applies bit second) (allows applies bit first)
+
+  -- lists that allow the same of them decide each of them alike
+  pub decided_alike : before ≡ after → (bit : ℕ) → has bits bit ≡ true → allows applies bit first ≡ allows other_applies bit second
+  decided_alike same bit asked =
+      sym (ap (λ b. b && allows applies bit first) asked)
+      ∙ sym (are_before bit)
+      ∙ ap (λ m. has m bit) same
+      ∙ are_after bit
+      ∙ ap (λ b. b && allows other_applies bit second) asked
 
 -- sets that differ have something that the other lacks
 pub some_only : (a b : ℕ) → a ≢ b → (without a b ∪ without b a) ≢ 0

@@ -7,9 +7,10 @@ use Rattle.acl_names.specs.Bits.{has}
 use Rattle.acl_names.specs.Requester.{Identity, is_in_group}
 use Rattle.acl_names.proofs.AnyLemmas.{or_true, or_false, list_any-append}
 use Rattle.acl_nfs4.specs.Ace.{Nfsace4, decides, is_allow}
-use Rattle.acl_nfs4.specs.Comparison.{AlikeFor, needed_uid, needed_gid, asker_for, IsStranger, OfEachWho, PairsSuffice, TwoGroupsSuffice}
+use Rattle.acl_nfs4.specs.Comparison.{AlikeFor, decided_at, needed_uid, needed_gid, asker_for, IsStranger, OfEachWho, PairsSuffice, TwoGroupsSuffice}
 use Rattle.acl_nfs4.specs.Evaluation.{speaks, allows}
 use Rattle.acl_nfs4.specs.Who.{matches}
+use Rattle.acl_nfs4.specs.declared.owners.Owners.{Owners}
 use Rattle.acl_nfs4.specs.declared.who.Who.{Who}
 use Rattle.acl_nfs4.specs.declared.who.Who.TheVariants.{Owner, Group, Everyone, User, NamedGroup}
 use Rattle.acl_nfs4.proofs.EvaluationLoop.{allows-cons}
@@ -99,10 +100,6 @@ same_speaker fewer applies bit (ace ∷ rest) narrows still =
 
 -- ---- the asker of two entries
 
--- one who asks with the uid and the groups that the entries need
-abbrev pub asking : ℕ → ℕ → Who → Who → Identity
-asking group uid who other = record { uid = uid; gids = option_to_list (needed_gid group who) ++ option_to_list (needed_gid group other) }
-
 eqb-refl : (n : ℕ) → (n == n) ≡ true
 eqb-refl n = eq-eqb n n refl
 
@@ -117,26 +114,17 @@ module _ (owner group : ℕ) (requester : Identity) where
   needed_is_own (NamedGroup named) gid is any =
       subst (λ g. is_in_group requester g ≡ true) (eqb-true named gid (sym (or_false (named == gid)) ∙ any)) is
 
-  both_own : (who other : Who) (gid : ℕ) → matches owner group requester who ≡ true → matches owner group requester other ≡ true
-      → list_any (λ own. own == gid) (option_to_list (needed_gid group who) ++ option_to_list (needed_gid group other)) ≡ true
-      → is_in_group requester gid ≡ true
-  both_own who other gid is_who is_other any =
-      elim (or_cases _ _ (sym (list_any-append (λ own. own == gid) (option_to_list (needed_gid group who)) (option_to_list (needed_gid group other))) ∙ any)) [
-        | inl mine ↦ needed_is_own who gid is_who mine
-        | inr mine ↦ needed_is_own other gid is_other mine
-      ]
-
-  -- an entry for the asker is one for the requester, unless it is for the asker's uid alone
-  narrower : (uid : ℕ) (who other : Who) → matches owner group requester who ≡ true → matches owner group requester other ≡ true
-      → (entry : Who) → (needed_uid owner entry ≡ Some uid → requester.uid ≡ uid)
-      → matches owner group (asking group uid who other) entry ≡ true → matches owner group requester entry ≡ true
-  narrower uid who other is_who is_other Owner own is =
-      let same = eqb-true uid owner is in eq-eqb requester.uid owner (own (ap Some (sym same)) ∙ same)
-  narrower uid who other is_who is_other (User named) own is =
-      let same = eqb-true uid named is in eq-eqb requester.uid named (own (ap Some (sym same)) ∙ same)
-  narrower uid who other is_who is_other Everyone own is = refl
-  narrower uid who other is_who is_other Group own is = both_own who other group is_who is_other is
-  narrower uid who other is_who is_other (NamedGroup gid) own is = both_own who other gid is_who is_other is
+  -- an entry for an asker in no other groups is one for the requester, unless it is for the asker's uid alone
+  narrower : (asker : Identity) → ((gid : ℕ) → is_in_group asker gid ≡ true → is_in_group requester gid ≡ true)
+      → (entry : Who) → (needed_uid owner entry ≡ Some asker.uid → requester.uid ≡ asker.uid)
+      → matches owner group asker entry ≡ true → matches owner group requester entry ≡ true
+  narrower asker in_own Owner own is =
+      let same = eqb-true asker.uid owner is in eq-eqb requester.uid owner (own (ap Some (sym same)) ∙ same)
+  narrower asker in_own (User named) own is =
+      let same = eqb-true asker.uid named is in eq-eqb requester.uid named (own (ap Some (sym same)) ∙ same)
+  narrower asker in_own Everyone own is = refl
+  narrower asker in_own Group own is = in_own group is
+  narrower asker in_own (NamedGroup gid) own is = in_own gid is
 
   -- whom an entry needs, it has in the requester to whom it applies
   needs_own : (who : Who) (uid : ℕ) → matches owner group requester who ≡ true → needed_uid owner who ≡ Some uid → requester.uid ≡ uid
@@ -146,114 +134,141 @@ module _ (owner group : ℕ) (requester : Identity) where
   needs_own Group uid is e = absurd cc
   needs_own (NamedGroup gid) uid is e = absurd cc
 
--- both entries are for the asker
-module _ (owner group uid : ℕ) where
-  first_applies : (who other : Who) → ((id : ℕ) → needed_uid owner who ≡ Some id → uid ≡ id)
-      → matches owner group (asking group uid who other) who ≡ true
-  first_applies Owner other own = eq-eqb uid owner (own owner refl)
-  first_applies (User named) other own = eq-eqb uid named (own named refl)
-  first_applies Everyone other own = refl
-  first_applies Group other own = ap (λ b. b || list_any (λ own. own == group) (option_to_list (needed_gid group other))) (eqb-refl group)
-  first_applies (NamedGroup gid) other own = ap (λ b. b || list_any (λ own. own == gid) (option_to_list (needed_gid group other))) (eqb-refl gid)
+module _ (owners other_owners : Owners) where
+  -- one who asks with the uid and the groups that the entries need
+  abbrev pub asking : ℕ → Who → Who → Identity
+  asking uid who other = record {
+    uid = uid;
+    gids = option_to_list (needed_gid owners.group who) ++ option_to_list (needed_gid other_owners.group other);
+  }
 
-  in_second : (who : Who) (gid : ℕ) → list_any (λ own. own == gid) (option_to_list (needed_gid group who) ++ gid ∷ []) ≡ true
-  in_second who gid =
-      list_any-append (λ own. own == gid) (option_to_list (needed_gid group who)) (gid ∷ [])
-      ∙ ap (λ b. list_any (λ own. own == gid) (option_to_list (needed_gid group who)) || (b || false)) (eqb-refl gid)
-      ∙ or_true _
+  -- that one is in no group in which a requester isn't to whom both apply
+  both_own : (requester : Identity) (uid : ℕ) (who other : Who)
+      → matches owners.owner owners.group requester who ≡ true → matches other_owners.owner other_owners.group requester other ≡ true
+      → (gid : ℕ) → is_in_group (asking uid who other) gid ≡ true → is_in_group requester gid ≡ true
+  both_own requester uid who other is_who is_other gid any =
+      elim (or_cases _ _ (sym (list_any-append (λ own. own == gid) (option_to_list (needed_gid owners.group who)) (option_to_list (needed_gid other_owners.group other))) ∙ any)) [
+        | inl mine ↦ needed_is_own owners.owner owners.group requester who gid is_who mine
+        | inr mine ↦ needed_is_own other_owners.owner other_owners.group requester other gid is_other mine
+      ]
 
-  second_applies : (who other : Who) → ((id : ℕ) → needed_uid owner other ≡ Some id → uid ≡ id)
-      → matches owner group (asking group uid who other) other ≡ true
-  second_applies who Owner own = eq-eqb uid owner (own owner refl)
-  second_applies who (User named) own = eq-eqb uid named (own named refl)
-  second_applies who Everyone own = refl
-  second_applies who Group own = in_second who group
-  second_applies who (NamedGroup gid) own = in_second who gid
+  -- both entries are for the asker
+  module _ (uid : ℕ) where
+    first_applies : (who other : Who) → ((id : ℕ) → needed_uid owners.owner who ≡ Some id → uid ≡ id)
+        → matches owners.owner owners.group (asking uid who other) who ≡ true
+    first_applies Owner other own = eq-eqb uid owners.owner (own owners.owner refl)
+    first_applies (User named) other own = eq-eqb uid named (own named refl)
+    first_applies Everyone other own = refl
+    first_applies Group other own =
+        ap (λ b. b || list_any (λ own. own == owners.group) (option_to_list (needed_gid other_owners.group other))) (eqb-refl owners.group)
+    first_applies (NamedGroup gid) other own =
+        ap (λ b. b || list_any (λ own. own == gid) (option_to_list (needed_gid other_owners.group other))) (eqb-refl gid)
+
+    in_second : (who : Who) (gid : ℕ) → list_any (λ own. own == gid) (option_to_list (needed_gid owners.group who) ++ gid ∷ []) ≡ true
+    in_second who gid =
+        list_any-append (λ own. own == gid) (option_to_list (needed_gid owners.group who)) (gid ∷ [])
+        ∙ ap (λ b. list_any (λ own. own == gid) (option_to_list (needed_gid owners.group who)) || (b || false)) (eqb-refl gid)
+        ∙ or_true _
+
+    second_applies : (who other : Who) → ((id : ℕ) → needed_uid other_owners.owner other ≡ Some id → uid ≡ id)
+        → matches other_owners.owner other_owners.group (asking uid who other) other ≡ true
+    second_applies who Owner own = eq-eqb uid other_owners.owner (own other_owners.owner refl)
+    second_applies who (User named) own = eq-eqb uid named (own named refl)
+    second_applies who Everyone own = refl
+    second_applies who Group own = in_second who other_owners.group
+    second_applies who (NamedGroup gid) own = in_second who gid
 
 -- ---- the theorems
 
-module _ (first second : List Nfsace4) (owner group : ℕ) (requester : Identity) (bit : ℕ) where
+module _ (first second : List Nfsace4) (owners other_owners : Owners) (requester : Identity) (bit : ℕ) where
   abbrev applies : Who → Bool
-  applies = matches owner group requester
+  applies = matches owners.owner owners.group requester
+
+  abbrev other_applies : Who → Bool
+  other_applies = matches other_owners.owner other_owners.group requester
 
   abbrev pub who : Who
-  who = speaker (matches owner group requester) bit first
+  who = speaker (matches owners.owner owners.group requester) bit first
 
   abbrev pub other : Who
-  other = speaker (matches owner group requester) bit second
+  other = speaker (matches other_owners.owner other_owners.group requester) bit second
 
-  is_who : matches owner group requester who ≡ true
-  is_who = speaker-applies (matches owner group requester) bit first refl
+  is_who : matches owners.owner owners.group requester who ≡ true
+  is_who = speaker-applies (matches owners.owner owners.group requester) bit first refl
 
-  is_other : matches owner group requester other ≡ true
-  is_other = speaker-applies (matches owner group requester) bit second refl
+  is_other : matches other_owners.owner other_owners.group requester other ≡ true
+  is_other = speaker-applies (matches other_owners.owner other_owners.group requester) bit second refl
+
+  in_own : (uid gid : ℕ) → is_in_group (asking owners other_owners uid who other) gid ≡ true → is_in_group requester gid ≡ true
+  in_own uid = both_own owners other_owners requester uid who other is_who is_other
 
   -- an asker with a uid that these entries need, and that the others don't ask for unless it is the requester's, is decided
   -- like the requester
   decided_alike : (uid : ℕ)
-      → ((id : ℕ) → needed_uid owner who ≡ Some id → uid ≡ id) → ((id : ℕ) → needed_uid owner other ≡ Some id → uid ≡ id)
-      → All (λ ace. needed_uid owner ace.who ≡ Some uid → requester.uid ≡ uid) first
-      → All (λ ace. needed_uid owner ace.who ≡ Some uid → requester.uid ≡ uid) second
-      → allows (matches owner group (asking group uid who other)) bit first ≡ allows (matches owner group (asking group uid who other)) bit second
-      → allows (matches owner group requester) bit first ≡ allows (matches owner group requester) bit second
+      → ((id : ℕ) → needed_uid owners.owner who ≡ Some id → uid ≡ id) → ((id : ℕ) → needed_uid other_owners.owner other ≡ Some id → uid ≡ id)
+      → All (λ ace. needed_uid owners.owner ace.who ≡ Some uid → requester.uid ≡ uid) first
+      → All (λ ace. needed_uid other_owners.owner ace.who ≡ Some uid → requester.uid ≡ uid) second
+      → decided_at first owners (asking owners other_owners uid who other) bit ≡ decided_at second other_owners (asking owners other_owners uid who other) bit
+      → decided_at first owners requester bit ≡ decided_at second other_owners requester bit
   decided_alike uid needs_who needs_other own_first own_second alike =
-      sym (same_speaker (matches owner group (asking group uid who other)) applies bit first
-      (λ k d inside. narrower owner group requester uid who other is_who is_other _ (own_first k d inside))
-      (first_applies owner group uid who other needs_who))
+      sym (same_speaker (matches owners.owner owners.group (asking owners other_owners uid who other)) applies bit first
+      (λ k d inside. narrower owners.owner owners.group requester (asking owners other_owners uid who other) (in_own uid) _ (own_first k d inside))
+      (first_applies owners other_owners uid who other needs_who))
       ∙ alike
-      ∙ same_speaker (matches owner group (asking group uid who other)) applies bit second
-      (λ k d inside. narrower owner group requester uid who other is_who is_other _ (own_second k d inside))
-      (second_applies owner group uid who other needs_other)
+      ∙ same_speaker (matches other_owners.owner other_owners.group (asking owners other_owners uid who other)) other_applies bit second
+      (λ k d inside. narrower other_owners.owner other_owners.group requester (asking owners other_owners uid who other) (in_own uid) _ (own_second k d inside))
+      (second_applies owners other_owners uid who other needs_other)
 
   -- ---- the asker's uid
 
   abbrev asked : ℕ → ℕ
-  asked stranger = unwrap_or (needed_uid owner who) (unwrap_or (needed_uid owner other) stranger)
+  asked stranger = unwrap_or (needed_uid owners.owner who) (unwrap_or (needed_uid other_owners.owner other) stranger)
 
-  asked_first : (stranger id : ℕ) → needed_uid owner who ≡ Some id → asked stranger ≡ id
-  asked_first stranger id e = ap (λ o. unwrap_or o (unwrap_or (needed_uid owner other) stranger)) e
+  asked_first : (stranger id : ℕ) → needed_uid owners.owner who ≡ Some id → asked stranger ≡ id
+  asked_first stranger id e = ap (λ o. unwrap_or o (unwrap_or (needed_uid other_owners.owner other) stranger)) e
 
-  asked_second : (stranger id : ℕ) → needed_uid owner other ≡ Some id → asked stranger ≡ id
-  asked_second stranger id e = go (needed_uid owner who) refl
+  asked_second : (stranger id : ℕ) → needed_uid other_owners.owner other ≡ Some id → asked stranger ≡ id
+  asked_second stranger id e = go (needed_uid owners.owner who) refl
     where
-      go : (o : Option ℕ) → needed_uid owner who ≡ o → unwrap_or o (unwrap_or (needed_uid owner other) stranger) ≡ id
+      go : (o : Option ℕ) → needed_uid owners.owner who ≡ o → unwrap_or o (unwrap_or (needed_uid other_owners.owner other) stranger) ≡ id
       go None n = ap (λ o. unwrap_or o stranger) e
-      go (Some uid) n = sym (needs_own owner group requester who uid is_who n) ∙ needs_own owner group requester other id is_other e
+      go (Some uid) n =
+          sym (needs_own owners.owner owners.group requester who uid is_who n) ∙ needs_own other_owners.owner other_owners.group requester other id is_other e
 
   asked_own : (stranger : ℕ) → (requester.uid ≡ asked stranger) ⊎ (asked stranger ≡ stranger)
-  asked_own stranger = go (needed_uid owner who) refl (needed_uid owner other) refl
+  asked_own stranger = go (needed_uid owners.owner who) refl (needed_uid other_owners.owner other) refl
     where
-      go : (a : Option ℕ) → needed_uid owner who ≡ a → (b : Option ℕ) → needed_uid owner other ≡ b
+      go : (a : Option ℕ) → needed_uid owners.owner who ≡ a → (b : Option ℕ) → needed_uid other_owners.owner other ≡ b
           → (requester.uid ≡ unwrap_or a (unwrap_or b stranger)) ⊎ (unwrap_or a (unwrap_or b stranger) ≡ stranger)
-      go (Some uid) a b eb = inl (needs_own owner group requester who uid is_who a)
-      go None a (Some uid) eb = inl (needs_own owner group requester other uid is_other eb)
+      go (Some uid) a b eb = inl (needs_own owners.owner owners.group requester who uid is_who a)
+      go None a (Some uid) eb = inl (needs_own other_owners.owner other_owners.group requester other uid is_other eb)
       go None a None eb = inr refl
 
-  own_among : (stranger : ℕ) (aces : List Nfsace4) → IsStranger owner aces stranger
+  own_among : (owner stranger : ℕ) (aces : List Nfsace4) → IsStranger owner aces stranger
       → All (λ ace. needed_uid owner ace.who ≡ Some (asked stranger) → requester.uid ≡ asked stranger) aces
-  own_among stranger aces unknown k d inside needed =
+  own_among owner stranger aces unknown k d inside needed =
       elim (asked_own stranger) [
         | inl own ↦ own
         | inr strange ↦ absurd (unknown k d inside (needed ∙ ap Some strange))
       ]
 
 pub pairs_suffice : PairsSuffice
-pairs_suffice first second owner group bits stranger unknown_first unknown_second each requester bit in_bits =
-    decided_alike first second owner group requester bit (asked first second owner group requester bit stranger)
-    (asked_first first second owner group requester bit stranger)
-    (asked_second first second owner group requester bit stranger)
-    (own_among first second owner group requester bit stranger first unknown_first)
-    (own_among first second owner group requester bit stranger second unknown_second)
+pairs_suffice first second owners other_owners bits stranger unknown_first unknown_second each requester bit in_bits =
+    decided_alike first second owners other_owners requester bit (asked first second owners other_owners requester bit stranger)
+    (asked_first first second owners other_owners requester bit stranger)
+    (asked_second first second owners other_owners requester bit stranger)
+    (own_among first second owners other_owners requester bit owners.owner stranger first unknown_first)
+    (own_among first second owners other_owners requester bit other_owners.owner stranger second unknown_second)
     (speaker-holds
-    (λ (w : Who). AlikeFor first second owner group bits (asker_for owner group stranger (who first second owner group requester bit) w))
-    (matches owner group requester) bit second
+    (λ (w : Who). AlikeFor first second owners other_owners bits (asker_for owners other_owners stranger (who first second owners other_owners requester bit) w))
+    (matches other_owners.owner other_owners.group requester) bit second
     (speaker-holds
-    (λ (v : Who). OfEachWho second (λ (w : Who). AlikeFor first second owner group bits (asker_for owner group stranger v w)))
-    (matches owner group requester) bit first each)
+    (λ (v : Who). OfEachWho second (λ (w : Who). AlikeFor first second owners other_owners bits (asker_for owners other_owners stranger v w)))
+    (matches owners.owner owners.group requester) bit first each)
     bit in_bits)
 
-few_gids : (group : ℕ) (who other : Who) → length (option_to_list (needed_gid group who) ++ option_to_list (needed_gid group other)) ≤ 2
-few_gids group who other = go (needed_gid group who) (needed_gid group other)
+few_gids : (group other_group : ℕ) (who other : Who) → length (option_to_list (needed_gid group who) ++ option_to_list (needed_gid other_group other)) ≤ 2
+few_gids group other_group who other = go (needed_gid group who) (needed_gid other_group other)
   where
     go : (a b : Option ℕ) → length (option_to_list a ++ option_to_list b) ≤ 2
     go None None = omega arith
@@ -262,12 +277,12 @@ few_gids group who other = go (needed_gid group who) (needed_gid group other)
     go (Some a) (Some b) = omega arith
 
 pub two_groups_suffice : TwoGroupsSuffice
-two_groups_suffice first second owner group bits each requester bit in_bits =
-    let v = who first second owner group requester bit in
-    let w = other first second owner group requester bit in
-    decided_alike first second owner group requester bit requester.uid
-    (λ id. needs_own owner group requester v id (is_who first second owner group requester bit))
-    (λ id. needs_own owner group requester w id (is_other first second owner group requester bit))
+two_groups_suffice first second owners other_owners bits each requester bit in_bits =
+    let v = who first second owners other_owners requester bit in
+    let w = other first second owners other_owners requester bit in
+    decided_alike first second owners other_owners requester bit requester.uid
+    (λ id. needs_own owners.owner owners.group requester v id (is_who first second owners other_owners requester bit))
+    (λ id. needs_own other_owners.owner other_owners.group requester w id (is_other first second owners other_owners requester bit))
     (λ k d inside needed. refl)
     (λ k d inside needed. refl)
-    (each (asking group requester.uid v w) (few_gids group v w) bit in_bits)
+    (each (asking owners other_owners requester.uid v w) (few_gids owners.group other_owners.group v w) bit in_bits)

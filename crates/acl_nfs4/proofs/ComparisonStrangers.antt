@@ -1,10 +1,11 @@
 -- Of more numbers than there are entries, no entry asks for one.
-use Rattle.std.proofs.Common.{◌≡◌, ◌≢◌, ◌≤◌, ◌+◌, ◌-◌, ◌<◌, ◌==◌, ℕ, zero, suc, Bool, true, false, cond, not, ◌&&◌, ◌||◌, refl, sym, ap, ap₂, ◌∙◌, List, [], ◌∷◌, ◌++◌, Option, Some, None, length, length-append, arith}
+use Rattle.std.proofs.Common.{◌≡◌, ◌≢◌, ◌≤◌, ◌+◌, ◌-◌, ◌<◌, ◌==◌, ℕ, zero, suc, Bool, true, false, cond, not, ◌&&◌, ◌||◌, refl, sym, ap, ap₂, ◌∙◌, List, [], ◌∷◌, ◌++◌, Option, Some, None, length, length-append, map, arith}
 use Rattle.std.specs.List.{list_any, filter}
 use Rattle.std.proofs.lemmas.Bool.{true≢false, eqb-true, eq-eqb, or_parts}
+use Rattle.std.proofs.lemmas.List.{length-map}
 use Rattle.std.proofs.lemmas.List.Elements.{All-nil, All-cons}
 use Rattle.acl_names.specs.declared.limits.TheConstants.{NOBODY}
-use Rattle.acl_names.proofs.AnyLemmas.{list_any-append, list_any-agree, list_any-filter, list_any-weaken}
+use Rattle.acl_names.proofs.AnyLemmas.{list_any-append, list_any-agree, list_any-filter, list_any-map, list_any-weaken}
 use Rattle.acl_nfs4.specs.Ace.{Nfsace4}
 use Rattle.acl_nfs4.specs.Comparison.{needed_uid, needs_user, asks_for, IsStranger}
 use Rattle.acl_nfs4.specs.declared.who.Who.{Who}
@@ -83,16 +84,30 @@ asked owner uid aces =
     list_any-agree (λ (ace : Nfsace4). is_at uid (needed_uid owner ace.who)) (λ (ace : Nfsace4). needs_user owner uid ace.who)
     (λ ace. sym (asked_uid owner uid ace.who)) aces
 
+-- the users that entries ask for
+abbrev users_asked : ℕ → List Nfsace4 → List (Option ℕ)
+users_asked owner aces = map (λ ace. needed_uid owner ace.who) aces
+
+among_users : (owner uid : ℕ) (aces : List Nfsace4) → list_any (is_at uid) (users_asked owner aces) ≡ asks_for owner uid aces
+among_users owner uid aces = list_any-map (is_at uid) (λ (ace : Nfsace4). needed_uid owner ace.who) aces ∙ asked owner uid aces
+
 -- two lists can't ask for more users than they have entries
-pub asked_few : (owner n : ℕ) (first second : List Nfsace4) → n ≤ NOBODY
-    → ((k : ℕ) → k < n → (asks_for owner (tried k) first || asks_for owner (tried k) second) ≡ true)
+pub asked_few : (owner other_owner n : ℕ) (first second : List Nfsace4) → n ≤ NOBODY
+    → ((k : ℕ) → k < n → (asks_for owner (tried k) first || asks_for other_owner (tried k) second) ≡ true)
     → n ≤ length first + length second
-asked_few owner n first second few each =
-    let both : n ≤ length (first ++ second) =
-    enough (λ (ace : Nfsace4). needed_uid owner ace.who) tried n (first ++ second) (tried_apart n few)
-    (λ k below. list_any-append (λ (ace : Nfsace4). is_at (tried k) (needed_uid owner ace.who)) first second
-    ∙ ap₂ (λ a b. a || b) (asked owner (tried k) first) (asked owner (tried k) second) ∙ each k below) in
-    omega (arith, both, length-append first second)
+asked_few owner other_owner n first second few each =
+    let users : List (Option ℕ) = users_asked owner first ++ users_asked other_owner second in
+    let both : n ≤ length users =
+    enough (λ (user : Option ℕ). user) tried n users (tried_apart n few)
+    (λ k below. list_any-append (is_at (tried k)) (users_asked owner first) (users_asked other_owner second)
+    ∙ ap₂ (λ a b. a || b) (among_users owner (tried k) first) (among_users other_owner (tried k) second) ∙ each k below) in
+    omega (
+      arith,
+      both,
+      length-append (users_asked owner first) (users_asked other_owner second),
+      length-map first (λ (ace : Nfsace4). needed_uid owner ace.who),
+      length-map second (λ (ace : Nfsace4). needed_uid other_owner ace.who),
+    )
 
 -- one whom no entry asks for is a stranger
 pub is_stranger : (owner uid : ℕ) (aces : List Nfsace4) → asks_for owner uid aces ≡ false → IsStranger owner aces uid

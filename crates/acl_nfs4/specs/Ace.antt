@@ -1,7 +1,9 @@
 -- The entries of an NFSv4 access control list (RFC 8881, section 6.2.1).
-use Rattle.std.specs.Prelude.{◌≡◌, ℕ, ◌^◌, Bool, true, false, not, ◌&&◌, ◌||◌, ◌==◌, if◌then◌else◌, List, [], ◌∷◌}
+use Rattle.std.specs.Prelude.{◌≡◌, ℕ, ◌^◌, Bool, true, false, not, ◌&&◌, ◌||◌, ◌==◌, if◌then◌else◌}
+use Rattle.std.specs.Prelude.{List, [], ◌∷◌}
 use Rattle.acl_names.specs.Bits.{has, without, ◌∩◌, ◌∪◌}
-use Rattle.acl_nfs4.specs.Flags.{all_flags, file_inherit, directory_inherit, identifier_group, inherit_only}
+use Rattle.acl_nfs4.specs.Flags.{all_flags, file_inherit, directory_inherit, identifier_group}
+use Rattle.acl_nfs4.specs.Flags.{inherit_only}
 use Rattle.acl_nfs4.specs.Mask.{all_masks}
 use Rattle.acl_nfs4.specs.Who.{flags_of_who, is_named_group}
 use Rattle.acl_nfs4.specs.declared.ace.AceType.{AceType}
@@ -40,7 +42,12 @@ flags_for who flags = without flags (2 ^ identifier_group) ∪ flags_of_who who
 
 -- the entry of these parts, less the bits without a name
 abbrev pub ace_of : AceType → ℕ → Who → ℕ → Nfsace4
-ace_of kind flags who mask = record { kind = kind; flags = flags_for who (flags ∩ all_flags); who = who; mask = mask ∩ all_masks }
+ace_of kind flags who mask = record {
+  kind = kind;
+  flags = flags_for who (flags ∩ all_flags);
+  who = who;
+  mask = mask ∩ all_masks;
+}
 
 -- whether the entry allows or denies, and not only what is made below
 unfoldable pub decides : Nfsace4 → Bool
@@ -60,4 +67,9 @@ unless_empty ace = if ace.mask == 0 then [] else ace ∷ []
 
 -- an entry of this kind with no flags of its own, unless its mask is empty
 abbrev pub plain : AceType → Who → ℕ → List Nfsace4
-plain kind who mask = unless_empty (record { kind = kind; flags = flags_of_who who; who = who; mask = mask })
+plain kind who mask = unless_empty (record {
+  kind = kind;
+  flags = flags_of_who who;
+  who = who;
+  mask = mask;
+})

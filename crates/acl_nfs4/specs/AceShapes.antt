@@ -24,11 +24,13 @@ IsTypeLetter text Alarm = text ≡ codes "L"
 -- a name, alone or in the directory's domain
 abbrev pub WritesName : Known → List ℕ → List ℕ → Type 0
 WritesName known text name =
-    (has_name_shape name ≡ true) × ((text ≡ name) ⊎ ((text ≡ name ++ at_sign ∷ known.domain) × (has_domain_shape known.domain ≡ true)))
+    (has_name_shape name ≡ true) × ((text ≡ name)
+    ⊎ ((text ≡ name ++ at_sign ∷ known.domain) × (has_domain_shape known.domain ≡ true)))
 
 -- a decimal of this id, or the name of the one who has it
 abbrev pub WritesId : Known → (List ℕ → Option ℕ) → List ℕ → ℕ → Type 0
-WritesId known id_of text id = (decimal_value text ≡ Some id) ⊎ ((name : List ℕ) × WritesName known text name × (id_of name ≡ Some id))
+WritesId known id_of text id = (decimal_value text ≡ Some id)
+    ⊎ ((name : List ℕ) × WritesName known text name × (id_of name ≡ Some id))
 
 -- how each who is written: a name or a decimal is a group's if the flag g stands, and else a user's
 abbrev pub IsWho : Known → Bool → List ℕ → Who → Type 0
@@ -36,7 +38,8 @@ IsWho known is_group text Owner = text ≡ codes "OWNER@"
 IsWho known is_group text Group = text ≡ codes "GROUP@"
 IsWho known is_group text Everyone = text ≡ codes "EVERYONE@"
 IsWho known is_group text (User uid) = (is_group ≡ false) × WritesId known (uid_of known) text uid
-IsWho known is_group text (NamedGroup gid) = (is_group ≡ true) × WritesId known (gid_of known) text gid
+IsWho known is_group text (NamedGroup gid) = (is_group ≡ true)
+    × WritesId known (gid_of known) text gid
 
 -- the piece writes this entry, whether or not it has an effect
 pub record WritesAce (known : Known) (piece : List ℕ) (ace : Nfsace4) : Type 0 where
@@ -50,7 +53,8 @@ pub record WritesAce (known : Known) (piece : List ℕ) (ace : Nfsace4) : Type 0
   -- the flag g is kept with a named group, and left out elsewhere
   pub flags_kept : ace.flags ≡ flags_for ace.who flags
 
--- the piece has the shape of an entry, and this entry is its value: it has an effect where it stands or below
+-- the piece has the shape of an entry, and this entry is its value: it has an effect where it
+-- stands or below
 pub record HasShape (known : Known) (piece : List ℕ) (ace : Nfsace4) : Type 0 where
   pub written : WritesAce known piece ace
   pub has_effect : is_idle ace ≡ false

@@ -1,5 +1,6 @@
 -- How entries are written: `type:flags:who:letters`.
-use Rattle.std.specs.Prelude.{ℕ, List, [], ◌∷◌, Bool, true, false, Option, Some, None, Result, Ok, Err, codes, option_map, if◌then◌else◌, bytes_eq}
+use Rattle.std.specs.Prelude.{ℕ, List, [], ◌∷◌, Bool, true, false, Option, Some, None, Result, Ok}
+use Rattle.std.specs.Prelude.{Err, codes, option_map, if◌then◌else◌, bytes_eq}
 use Rattle.acl_names.specs.Bytes.{colon, at_sign}
 use Rattle.acl_names.specs.Bits.{has}
 use Rattle.acl_names.specs.Directory.{Known, uid_of, gid_of}
@@ -25,7 +26,8 @@ pub record AceFields : Type 0 where
   pub letters : List ℕ
 
 abbrev pub as_fields : List (List ℕ) → Option AceFields
-as_fields (kind ∷ flags ∷ who ∷ letters ∷ []) = Some (record { kind = kind; flags = flags; who = who; letters = letters })
+as_fields (kind ∷ flags ∷ who ∷ letters ∷ []) =
+    Some (record { kind = kind; flags = flags; who = who; letters = letters })
 as_fields _ = None
 
 -- four, which colons separate, each trimmed
@@ -39,7 +41,8 @@ type_of text =
     else (if bytes_eq text (codes "U") then Some Audit
     else (if bytes_eq text (codes "L") then Some Alarm else None)))
 
--- whom a text names: one of the special identifiers, an id, or a name in a domain, whether or not anyone has it
+-- whom a text names: one of the special identifiers, an id, or a name in a domain, whether or not
+-- anyone has it
 pub data WrittenWho : Type 0 where
   Owner : WrittenWho
   Group : WrittenWho
@@ -80,7 +83,8 @@ resolved_who known is_group Owner = Some who.Owner
 resolved_who known is_group Group = Some who.Group
 resolved_who known is_group Everyone = Some who.Everyone
 resolved_who known is_group (Id written) = named known is_group written
-resolved_who known is_group (At name domain) = if bytes_eq domain known.domain then named known is_group (Name name) else None
+resolved_who known is_group (At name domain) = if bytes_eq domain known.domain
+    then named known is_group (Name name) else None
 
 -- the entry, unless it has an effect neither where it stands nor below
 abbrev pub refuse_idle : Nfsace4 → Result Nfsace4 PieceFault

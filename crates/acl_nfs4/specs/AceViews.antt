@@ -7,7 +7,12 @@ use Rattle.acl_nfs4.specs.declared.reading.WrittenWho.TheVariants as written
 
 -- without where the fields lie in memory
 abbrev pub view_fields : AceFields → text.AceFields
-view_fields fields = record { kind = fields.kind.now; flags = fields.flags.now; who = fields.who.now; letters = fields.letters.now }
+view_fields fields = record {
+  kind = fields.kind.now;
+  flags = fields.flags.now;
+  who = fields.who.now;
+  letters = fields.letters.now;
+}
 
 abbrev pub view_who : WrittenWho → text.WrittenWho
 view_who written.Owner = text.Owner

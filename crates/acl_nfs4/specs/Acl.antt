@@ -3,7 +3,8 @@ use Rattle.std.specs.Prelude.{◌≡◌, ◌<◌, ◌≤◌, ℕ, false, List, l
 use Rattle.acl_nfs4.specs.Ace.{Nfsace4, IsAce, is_idle}
 use Rattle.acl_nfs4.specs.declared.limits.TheConstants.{MAX_ACES}
 use Rattle.acl_nfs4.specs.declared.acl.AceFault.{AceFault}
-use Rattle.acl_nfs4.specs.declared.acl.AceFault.TheVariants.{Syntax, UnknownName, TooMany, InheritOnly, Memory}
+use Rattle.acl_nfs4.specs.declared.acl.AceFault.TheVariants.{Syntax, UnknownName, TooMany}
+use Rattle.acl_nfs4.specs.declared.acl.AceFault.TheVariants.{InheritOnly, Memory}
 
 -- each has an effect where it stands or below
 abbrev pub HaveEffect : List Nfsace4 → Type 0
@@ -18,7 +19,8 @@ pub record AreAces (aces : List Nfsace4) : Type 0 where
 abbrev pub IsTooLong : ℕ → List Nfsace4 → Type 0
 IsTooLong most aces = most < length aces
 
--- a list in the making, with so many places in itself: it has the entries of a list, and room for as many as it has places
+-- a list in the making, with so many places in itself: it has the entries of a list, and room for
+-- as many as it has places
 pub record IsDraft (places : ℕ) (aces : List Nfsace4) (room : ℕ) : Type 0 where
   pub are_aces : AreAces aces
   pub has_room : places ≤ room

@@ -1,5 +1,6 @@
 -- Whether two lists decide alike for everyone, and whom one has to ask to know it.
-use Rattle.std.specs.Prelude.{◌≡◌, ◌≢◌, ◌≤◌, ◌==◌, ℕ, Bool, false, not, ◌&&◌, IsTrue, Option, Some, None, option_to_list, unwrap_or, List, ◌++◌, length}
+use Rattle.std.specs.Prelude.{◌≡◌, ◌≢◌, ◌≤◌, ◌==◌, ℕ, Bool, false, not, ◌&&◌, IsTrue, Option, Some}
+use Rattle.std.specs.Prelude.{None, option_to_list, unwrap_or, List, ◌++◌, length}
 use Rattle.std.specs.List.{All, list_any}
 use Rattle.acl_names.specs.Asker.{identity_of}
 use Rattle.acl_names.specs.Bits.{has, ◌∪◌}
@@ -9,6 +10,7 @@ use Rattle.acl_nfs4.specs.Evaluation.{allows}
 use Rattle.acl_nfs4.specs.Mask.{mask_bits}
 use Rattle.acl_nfs4.specs.Who.{matches}
 use Rattle.acl_nfs4.specs.declared.comparison.Difference.{Difference}
+use Rattle.acl_nfs4.specs.declared.owners.Owners.{Owners}
 use Rattle.acl_nfs4.specs.declared.who.Who.{Who}
 use Rattle.acl_nfs4.specs.declared.who.Who.TheVariants.{Owner, Group, Everyone, User, NamedGroup}
 
@@ -18,16 +20,22 @@ Decider = Identity → ℕ → Bool
 
 -- both decide each of these bits alike for every requester, of whatever uid and groups
 abbrev pub DecideAlike : Decider → Decider → ℕ → Type 0
-DecideAlike before after bits = (requester : Identity) (bit : ℕ) → IsTrue (has bits bit) → before requester bit ≡ after requester bit
+DecideAlike before after bits = (requester : Identity) (bit : ℕ) → IsTrue (has bits bit)
+    → before requester bit ≡ after requester bit
 
 -- what a list decides about a file of this owner and this group
 abbrev pub decided_by : List Nfsace4 → ℕ → ℕ → Decider
 decided_by aces owner group requester bit = allows (matches owner group requester) bit aces
 
--- both lists decide each of these bits alike for the requester
-abbrev pub AlikeFor : List Nfsace4 → List Nfsace4 → ℕ → ℕ → ℕ → Identity → Type 0
-AlikeFor first second owner group bits requester =
-    (bit : ℕ) → IsTrue (has bits bit) → decided_by first owner group requester bit ≡ decided_by second owner group requester bit
+-- the same of these owners
+abbrev pub decided_at : List Nfsace4 → Owners → Decider
+decided_at aces owners = decided_by aces owners.owner owners.group
+
+-- both lists, each for a file of its own owners, decide each of these bits alike for the requester
+abbrev pub AlikeFor : List Nfsace4 → List Nfsace4 → Owners → Owners → ℕ → Identity → Type 0
+AlikeFor first second owners other_owners bits requester =
+    (bit : ℕ) → IsTrue (has bits bit) → decided_at first owners requester bit
+    ≡ decided_at second other_owners requester bit
 
 -- the user that one has to be for an entry to apply, if any
 abbrev pub needed_uid : ℕ → Who → Option ℕ
@@ -41,17 +49,21 @@ needed_gid group Group = Some group
 needed_gid group (NamedGroup gid) = Some gid
 needed_gid group _ = None
 
--- one to whom both entries apply, if they apply to anybody at once: a stranger, if neither asks for a user
-abbrev pub asker_for : ℕ → ℕ → ℕ → Who → Who → Identity
-asker_for owner group stranger who other = record {
-  uid = unwrap_or (needed_uid owner who) (unwrap_or (needed_uid owner other) stranger);
-  gids = option_to_list (needed_gid group who) ++ option_to_list (needed_gid group other);
+-- one to whom both entries apply, if they apply to anybody at once: a stranger, if neither asks for
+-- a user
+abbrev pub asker_for : Owners → Owners → ℕ → Who → Who → Identity
+asker_for owners other_owners stranger who other = record {
+  uid = unwrap_or (needed_uid owners.owner who)
+      (unwrap_or (needed_uid other_owners.owner other) stranger);
+  gids = option_to_list (needed_gid owners.group who)
+      ++ option_to_list (needed_gid other_owners.group other);
 }
 
 -- both lists decide alike for that one
-abbrev pub AlikeAt : List Nfsace4 → List Nfsace4 → ℕ → ℕ → ℕ → ℕ → Who → Who → Type 0
-AlikeAt first second owner group bits stranger who other =
-    AlikeFor first second owner group bits (asker_for owner group stranger who other)
+abbrev pub AlikeAt : List Nfsace4 → List Nfsace4 → Owners → Owners → ℕ → ℕ → Who → Who → Type 0
+AlikeAt first second owners other_owners bits stranger who other =
+    AlikeFor first second owners other_owners bits
+    (asker_for owners other_owners stranger who other)
 
 -- whether it asks for this user
 abbrev pub needs_user : ℕ → ℕ → Who → Bool
@@ -71,28 +83,34 @@ IsStranger owner aces uid = All (λ ace. needed_uid owner ace.who ≢ Some uid) 
 abbrev pub OfEachWho : List Nfsace4 → (Who → Type 0) → Type 0
 OfEachWho aces P = All (λ ace. P ace.who) aces × P Everyone
 
--- Lists that decide alike for the asker of each pair of entries decide alike for everyone.
+-- Lists that decide alike for the asker of each pair of entries decide alike for everyone, each for
+-- a file of its own owners.
 abbrev pub PairsSuffice : Type 0
 PairsSuffice =
-    (first second : List Nfsace4) (owner group bits stranger : ℕ)
-    → IsStranger owner first stranger → IsStranger owner second stranger
-    → OfEachWho first (λ who. OfEachWho second (λ other. AlikeAt first second owner group bits stranger who other))
-    → DecideAlike (decided_by first owner group) (decided_by second owner group) bits
+    (first second : List Nfsace4) (owners other_owners : Owners) (bits stranger : ℕ)
+    → IsStranger owners.owner first stranger → IsStranger other_owners.owner second stranger
+    → OfEachWho first (λ who. OfEachWho second
+    (λ other. AlikeAt first second owners other_owners bits stranger who other))
+    → DecideAlike (decided_at first owners) (decided_at second other_owners) bits
 
--- Lists that decide alike for everyone who is in at most two groups decide alike for everyone.
+-- Lists that decide alike for everyone who is in at most two groups decide alike for everyone, each
+-- for a file of its own owners.
 abbrev pub TwoGroupsSuffice : Type 0
 TwoGroupsSuffice =
-    (first second : List Nfsace4) (owner group bits : ℕ)
-    → ((requester : Identity) → length requester.gids ≤ 2 → AlikeFor first second owner group bits requester)
-    → DecideAlike (decided_by first owner group) (decided_by second owner group) bits
+    (first second : List Nfsace4) (owners other_owners : Owners) (bits : ℕ)
+    → ((requester : Identity) → length requester.gids ≤ 2
+    → AlikeFor first second owners other_owners bits requester)
+    → DecideAlike (decided_at first owners) (decided_at second other_owners) bits
 
--- of these bits, the asker loses those that are granted only before and gains those that are granted only after, and there is
--- one
+-- of these bits, the asker loses those that are granted only before and gains those that are
+-- granted only after, and there is one
 pub record IsDifference (before after : Decider) (bits : ℕ) (difference : Difference) : Type 0 where
   pub lost : (bit : ℕ)
       → has (mask_bits difference.lost) bit
-      ≡ (has bits bit && (before (identity_of difference.asker) bit && not (after (identity_of difference.asker) bit)))
+      ≡ (has bits bit && (before (identity_of difference.asker) bit
+      && not (after (identity_of difference.asker) bit)))
   pub gained : (bit : ℕ)
       → has (mask_bits difference.gained) bit
-      ≡ (has bits bit && (after (identity_of difference.asker) bit && not (before (identity_of difference.asker) bit)))
+      ≡ (has bits bit && (after (identity_of difference.asker) bit
+      && not (before (identity_of difference.asker) bit)))
   pub some : mask_bits difference.lost ∪ mask_bits difference.gained ≢ 0

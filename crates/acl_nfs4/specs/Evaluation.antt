@@ -1,8 +1,10 @@
 -- What a list grants (RFC 8881, section 6.2.1), and the mode that it shows (section 6.3.2).
-use Rattle.std.specs.Prelude.{ℕ, ◌^◌, Bool, false, ◌&&◌, ◌||◌, if◌then◌else◌, IsTrue, List, Option, find, option_map, unwrap_or}
+use Rattle.std.specs.Prelude.{ℕ, ◌^◌, Bool, false, ◌&&◌, ◌||◌, if◌then◌else◌, IsTrue, List, Option}
+use Rattle.std.specs.Prelude.{find, option_map, unwrap_or}
 use Rattle.acl_names.specs.Bits.{has, ◌∪◌}
 use Rattle.acl_nfs4.specs.Ace.{Nfsace4, decides, is_allow}
-use Rattle.acl_nfs4.specs.Mask.{read_data, write_data, append_data, execute, read_permission, write_permission, execute_permission}
+use Rattle.acl_nfs4.specs.Mask.{read_data, write_data, append_data, execute, read_permission}
+use Rattle.acl_nfs4.specs.Mask.{write_permission, execute_permission}
 use Rattle.acl_nfs4.specs.Who.{same_who}
 use Rattle.acl_posix.specs.Mode.{Classes}
 use Rattle.acl_nfs4.specs.declared.who.Who.{Who}
@@ -28,10 +30,12 @@ Grants applies aces mask = (bit : ℕ) → IsTrue (has mask bit) → IsTrue (all
 abbrev pub shown_to : (Who → Bool) → List Nfsace4 → ℕ
 shown_to applies aces =
     (if allows applies read_data aces then 2 ^ read_permission else 0)
-    ∪ (if allows applies write_data aces && allows applies append_data aces then 2 ^ write_permission else 0)
+    ∪ (if allows applies write_data aces && allows applies append_data aces
+    then 2 ^ write_permission else 0)
     ∪ (if allows applies execute aces then 2 ^ execute_permission else 0)
 
--- the entries that tell the mode of one of OWNER@, GROUP@ and EVERYONE@: its own, and those of EVERYONE@
+-- the entries that tell the mode of one of OWNER@, GROUP@ and EVERYONE@: its own, and those of
+-- EVERYONE@
 abbrev pub of_class : Who → Who → Bool
 of_class class who = same_who who class || same_who who Everyone
 

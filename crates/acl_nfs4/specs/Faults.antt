@@ -12,9 +12,11 @@ IsWritten known piece = (ace : Nfsace4) × WritesAce known piece ace
 abbrev pub HasNoShape : List ℕ → Type 0
 HasNoShape piece = (known : Known) → ¬ IsWritten known piece
 
--- UnknownName: the piece writes no entry here, and writes one by the users and groups of some faultless directory
+-- UnknownName: the piece writes no entry here, and writes one by the users and groups of some
+-- faultless directory
 abbrev pub HasUnknownName : Known → List ℕ → Type 0
-HasUnknownName known piece = ¬ IsWritten known piece × ((other : Known) × (fault_of other ≡ None) × IsWritten other piece)
+HasUnknownName known piece = ¬ IsWritten known piece
+    × ((other : Known) × (fault_of other ≡ None) × IsWritten other piece)
 
 -- InheritOnly: the piece writes an entry, which has an effect neither where it stands nor below
 abbrev pub HasNoEffect : Known → List ℕ → Type 0

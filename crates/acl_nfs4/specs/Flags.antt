@@ -25,7 +25,8 @@ inherit_only = 3
 
 -- the flags of these places
 abbrev pub inheritance_flags : ℕ
-inheritance_flags = 2 ^ file_inherit + 2 ^ directory_inherit + 2 ^ no_propagate_inherit + 2 ^ inherit_only
+inheritance_flags = 2 ^ file_inherit + 2 ^ directory_inherit + 2 ^ no_propagate_inherit
+    + 2 ^ inherit_only
 
 -- the place of the flag that says that the who is a group
 abbrev pub identifier_group : ℕ

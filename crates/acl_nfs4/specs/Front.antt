@@ -10,4 +10,5 @@ pub record BeginsWithFields (text : List ℕ) (fields : AceFields) (rest : List 
   pub flags : IsField fields.flags
   pub who : IsField fields.who
   pub letters : IsField fields.letters
-  pub cut : text ≡ fields.kind ++ colon ∷ (fields.flags ++ colon ∷ (fields.who ++ colon ∷ (fields.letters ++ rest)))
+  pub cut : text ≡ fields.kind ++ colon ∷ (fields.flags
+      ++ colon ∷ (fields.who ++ colon ∷ (fields.letters ++ rest)))

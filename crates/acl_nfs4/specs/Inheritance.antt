@@ -1,8 +1,10 @@
 -- What a new file or directory inherits (RFC 8881, section 6.4.3).
-use Rattle.std.specs.Prelude.{ℕ, ◌+◌, ◌^◌, ◌==◌, Bool, true, false, not, List, Option, Some, None, option_map, filter_map}
+use Rattle.std.specs.Prelude.{ℕ, ◌+◌, ◌^◌, ◌==◌, Bool, true, false, not, List, Option, Some, None}
+use Rattle.std.specs.Prelude.{option_map, filter_map}
 use Rattle.std.specs.List.{list_any}
 use Rattle.acl_names.specs.Bits.{has, without, ◌∩◌, ◌∪◌}
-use Rattle.acl_nfs4.specs.Flags.{file_inherit, directory_inherit, no_propagate_inherit, inherit_only, inheritance_flags}
+use Rattle.acl_nfs4.specs.Flags.{file_inherit, directory_inherit, no_propagate_inherit}
+use Rattle.acl_nfs4.specs.Flags.{inherit_only, inheritance_flags}
 use Rattle.acl_nfs4.specs.Ace.{Nfsace4}
 use Rattle.acl_nfs4.specs.declared.inheritance.Kind.{Kind}
 use Rattle.acl_nfs4.specs.declared.inheritance.Kind.TheVariants.{File, Dir}
@@ -22,13 +24,15 @@ flags_below Dir true true true = Some 0
 
 -- the entry with these inheritance flags in place of its own
 abbrev pub with_inheritance_flags : Nfsace4 → ℕ → Nfsace4
-with_inheritance_flags ace flags = record ace { flags = without ace.flags inheritance_flags ∪ flags }
+with_inheritance_flags ace flags = record ace
+    { flags = without ace.flags inheritance_flags ∪ flags }
 
 -- what the entry is in what is made below
 abbrev pub inherited_entry : Kind → Nfsace4 → Option Nfsace4
 inherited_entry kind ace =
     option_map (with_inheritance_flags ace)
-    (flags_below kind (has ace.flags file_inherit) (has ace.flags directory_inherit) (has ace.flags no_propagate_inherit))
+    (flags_below kind (has ace.flags file_inherit) (has ace.flags directory_inherit)
+    (has ace.flags no_propagate_inherit))
 
 -- the list of what is made below
 abbrev pub inherited_list : Kind → List Nfsace4 → List Nfsace4

@@ -1,4 +1,5 @@
--- The letters that flags and the bits of a mask have in texts, in the order in which they are printed.
+-- The letters that flags and the bits of a mask have in texts, in the order in which they are
+-- printed.
 use Rattle.std.specs.Prelude.{List, [], ◌∷◌}
 use Rattle.acl_names.specs.declared.letters.Letter.{Letter}
 

@@ -1,4 +1,5 @@
--- Private steps, which no public clause cites: marks of whos, by which a list that has no entry about someone is told.
+-- Private steps, which no public clause cites: marks of whos, by which a list that has no entry
+-- about someone is told.
 use Rattle.std.specs.Prelude.{◌≡◌, ℕ, ◌%◌, Bool, true, false, List, slice_index_or}
 use Rattle.std.specs.List.{list_any}
 use Rattle.acl_nfs4.specs.Ace.{Nfsace4}
@@ -11,4 +12,5 @@ mark_of who = id_of who % MARKS
 
 -- if a who has no mark, no entry passes the test of this who
 abbrev pub IsMarked : (Who → Nfsace4 → Bool) → List Bool → List Nfsace4 → Type 0
-IsMarked test marks aces = (who : Who) → slice_index_or marks (mark_of who) true ≡ false → list_any (test who) aces ≡ false
+IsMarked test marks aces = (who : Who) → slice_index_or marks (mark_of who) true ≡ false
+    → list_any (test who) aces ≡ false

@@ -1,4 +1,5 @@
--- Access masks (RFC 8881, section 6.2.1.3), and what a file mode's permissions stand for among their bits.
+-- Access masks (RFC 8881, section 6.2.1.3), and what a file mode's permissions stand for among
+-- their bits.
 use Rattle.std.specs.Prelude.{ℕ, ◌+◌, ◌^◌, if◌then◌else◌}
 use Rattle.acl_names.specs.Bits.{has, without, ◌∪◌}
 use Rattle.acl_nfs4.specs.declared.mask.Mask.{Mask}

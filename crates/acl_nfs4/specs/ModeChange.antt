@@ -1,7 +1,9 @@
 -- A list with a mode set (within RFC 8881, section 6.4.1.1).
-use Rattle.std.specs.Prelude.{ℕ, ◌^◌, Bool, not, ◌&&◌, if◌then◌else◌, List, [], ◌∷◌, ◌++◌, map, filter, flat_map}
+use Rattle.std.specs.Prelude.{ℕ, ◌^◌, Bool, not, ◌&&◌, if◌then◌else◌, List, [], ◌∷◌, ◌++◌, map}
+use Rattle.std.specs.Prelude.{filter, flat_map}
 use Rattle.acl_names.specs.Bits.{◌∪◌, without, union}
-use Rattle.acl_nfs4.specs.Ace.{decides, is_allow, is_deny, plain, unless_empty, is_inheritable, Nfsace4}
+use Rattle.acl_nfs4.specs.Ace.{decides, is_allow, is_deny, plain, unless_empty, is_inheritable}
+use Rattle.acl_nfs4.specs.Ace.{Nfsace4}
 use Rattle.acl_nfs4.specs.Who.{is_special, same_who}
 use Rattle.acl_nfs4.specs.Mask.{mask_of, rest_of, mode_bits}
 use Rattle.acl_nfs4.specs.Flags.{inherit_only, inheritance_flags}
@@ -14,7 +16,8 @@ use Rattle.acl_nfs4.specs.declared.who.Who.TheVariants.{Owner, Group, Everyone}
 unfoldable pub split : Nfsace4 → List Nfsace4
 split ace =
     if decides ace && is_inheritable ace
-    then record ace { flags = ace.flags ∪ 2 ^ inherit_only } ∷ record ace { flags = without ace.flags inheritance_flags } ∷ []
+    then record ace { flags = ace.flags ∪ 2 ^ inherit_only } ∷ record ace
+    { flags = without ace.flags inheritance_flags } ∷ []
     else ace ∷ []
 
 -- what an entry that decides keeps of its mask: a special identifier's nothing of the mode's bits,
@@ -27,7 +30,8 @@ kept_mask group ace =
 
 -- what is left of an entry beside a mode with this group
 unfoldable pub restricted : ℕ → Nfsace4 → List Nfsace4
-restricted group ace = if decides ace then unless_empty (record ace { mask = kept_mask group ace }) else ace ∷ []
+restricted group ace = if decides ace then unless_empty (record ace { mask = kept_mask group ace })
+    else ace ∷ []
 
 -- what an entry leaves, split and restricted
 abbrev pub kept_of : ℕ → Nfsace4 → List Nfsace4
@@ -71,7 +75,8 @@ abbrev pub for_owner : ℕ → List Nfsace4
 for_owner user = plain Allow Owner (mask_of user) ++ plain Deny Owner (rest_of user)
 
 abbrev pub for_others : ℕ → ℕ → List Nfsace4
-for_others group other = plain Allow Group (mask_of group) ++ plain Deny Group (rest_of group) ++ plain Allow Everyone (mask_of other)
+for_others group other = plain Allow Group (mask_of group) ++ plain Deny Group (rest_of group)
+    ++ plain Allow Everyone (mask_of other)
 
 -- the denials of all whom the list names
 abbrev pub denials : ℕ → List Nfsace4 → List Nfsace4

@@ -33,27 +33,32 @@ names_any applies aces = list_any (λ ace. names_someone ace && applies ace.who)
 -- of the mode's bits the owner is granted those of the mode's user
 abbrev pub GrantsOwner : List Nfsace4 → Classes → Type 0
 GrantsOwner new mode =
-    (owner group : ℕ) (requester : Identity) (bit : ℕ) → IsTrue (has mode_bits bit) → requester.uid ≡ owner
+    (owner group : ℕ) (requester : Identity) (bit : ℕ) → IsTrue (has mode_bits bit)
+    → requester.uid ≡ owner
     → allows (matches owner group requester) bit new ≡ has (mask_of mode.user) bit
 
--- another requester whom no entry names is granted those of the mode's group, if it has the file's group
+-- another requester whom no entry names is granted those of the mode's group, if it has the file's
+-- group
 abbrev pub GrantsGroup : List Nfsace4 → List Nfsace4 → Classes → Type 0
 GrantsGroup old new mode =
-    (owner group : ℕ) (requester : Identity) (bit : ℕ) → IsTrue (has mode_bits bit) → requester.uid ≢ owner
+    (owner group : ℕ) (requester : Identity) (bit : ℕ) → IsTrue (has mode_bits bit)
+    → requester.uid ≢ owner
     → names_any (matches owner group requester) old ≡ false → is_in_group requester group ≡ true
     → allows (matches owner group requester) bit new ≡ has (mask_of mode.group) bit
 
 -- and those of the mode's others, if it has not
 abbrev pub GrantsOthers : List Nfsace4 → List Nfsace4 → Classes → Type 0
 GrantsOthers old new mode =
-    (owner group : ℕ) (requester : Identity) (bit : ℕ) → IsTrue (has mode_bits bit) → requester.uid ≢ owner
+    (owner group : ℕ) (requester : Identity) (bit : ℕ) → IsTrue (has mode_bits bit)
+    → requester.uid ≢ owner
     → names_any (matches owner group requester) old ≡ false → is_in_group requester group ≡ false
     → allows (matches owner group requester) bit new ≡ has (mask_of mode.other) bit
 
 -- one whom an entry names is granted none that the mode's group lacks
 abbrev pub LimitsNamed : List Nfsace4 → List Nfsace4 → Classes → Type 0
 LimitsNamed old new mode =
-    (owner group : ℕ) (requester : Identity) (bit : ℕ) → IsTrue (has mode_bits bit) → requester.uid ≢ owner
+    (owner group : ℕ) (requester : Identity) (bit : ℕ) → IsTrue (has mode_bits bit)
+    → requester.uid ≢ owner
     → names_any (matches owner group requester) old ≡ true → has (mask_of mode.group) bit ≡ false
     → allows (matches owner group requester) bit new ≡ false
 

@@ -37,7 +37,8 @@ front_text ace = type_text ace.kind ++ colon ∷ (letters_text flag_table ace.fl
 -- `type:flags:who:letters`
 abbrev pub ace_text : Known → Nfsace4 → List ℕ
 ace_text known ace =
-    join_with_byte colon (type_text ace.kind ∷ letters_text flag_table ace.flags ∷ who_text known ace.who ∷ letters_text mask_table ace.mask ∷ [])
+    join_with_byte colon (type_text ace.kind ∷ letters_text flag_table ace.flags ∷ who_text known
+    ace.who ∷ letters_text mask_table ace.mask ∷ [])
 
 -- one entry per line
 abbrev pub line_text : Known → Nfsace4 → List ℕ

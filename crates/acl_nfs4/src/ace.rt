@@ -43,8 +43,8 @@ impl AceType {
     }
 }
 
-/// An entry of an access control list (RFC 8881, section 6.2.1). It has no bit without a name, and the flag
-/// `IDENTIFIER_GROUP` exactly if it names a group.
+/// An entry of an access control list (RFC 8881, section 6.2.1). It has no bit without a name, and
+/// the flag `IDENTIFIER_GROUP` exactly if it names a group.
 #[derive(Clone, Copy, Debug, PartialEq, Eq)]
 pub struct Ace {
     kind: AceType,
@@ -78,11 +78,26 @@ impl Model for Ace {
 
     ghost Value = { Nfsace4 };
 
-    ghost view = { λ ace. record { kind = ace.kind; flags = flag_bits ace.flags; who = ace.who; mask = mask_bits ace.mask } };
+    ghost view = { λ ace. record {
+      kind = ace.kind;
+      flags = flag_bits ace.flags;
+      who = ace.who;
+      mask = mask_bits ace.mask;
+    } };
 
-    ghost invariant = { λ ace. IsAce (record { kind = ace.kind; flags = flag_bits ace.flags; who = ace.who; mask = mask_bits ace.mask }) };
+    ghost invariant = { λ ace. IsAce (record {
+      kind = ace.kind;
+      flags = flag_bits ace.flags;
+      who = ace.who;
+      mask = mask_bits ace.mask;
+    }) };
 
-    ghost inverse = { λ value. record { kind = value.kind; flags = record { 0 = value.flags }; who = value.who; mask = record { 0 = value.mask } } };
+    ghost inverse = { λ value. record {
+      kind = value.kind;
+      flags = record { 0 = value.flags };
+      who = value.who;
+      mask = record { 0 = value.mask };
+    } };
 }
 
 impl Ace {
@@ -92,8 +107,8 @@ impl Ace {
     ghost use Rattle.acl_nfs4.specs.Mask.{all_masks};
     ghost use Rattle.acl_nfs4.specs.Who.{flags_of_who};
 
-    /// The entry of these parts. It sets `IDENTIFIER_GROUP` if `who` is a named group and clears it elsewhere, and leaves
-    /// out bits without a name.
+    /// The entry of these parts. It sets `IDENTIFIER_GROUP` if `who` is a named group and clears it
+    /// elsewhere, and leaves out bits without a name.
     pub fn new(kind: AceType, flags: Flags, who: Who, mask: Mask) -> Ace
         ensures { result ≡ ace_of kind (flag_bits flags) who (mask_bits mask) }
     {
@@ -164,7 +179,12 @@ impl Ace {
     /// An entry with no flags but what its who asks for.
     pub(crate) fn plain(kind: AceType, who: Who, mask: Mask) -> Ace
         requires { mask_bits mask ∩ all_masks ≡ mask_bits mask }
-        ensures value { result ≡ record { kind = kind; flags = flags_of_who who; who = who; mask = mask_bits mask } }
+        ensures value { result ≡ record {
+          kind = kind;
+          flags = flags_of_who who;
+          who = who;
+          mask = mask_bits mask;
+        } }
         ensures effective { is_idle result ≡ false }
     {
         let flags = who.flags();
@@ -179,7 +199,8 @@ impl Ace {
     /// The entry with these flags in place of its own.
     pub(crate) fn with_flags(&self, flags: Flags) -> Ace
         requires known { flag_bits flags ∩ all_flags ≡ flag_bits flags }
-        requires group { has (flag_bits flags) identifier_group ≡ has self.now.flags identifier_group }
+        requires group { has (flag_bits flags) identifier_group
+            ≡ has self.now.flags identifier_group }
         ensures { result ≡ record self.now { flags = flag_bits flags } }
     {
         Ace {

@@ -1,5 +1,6 @@
 //! NFSv4 access control lists: their entries in order, at most 128.
-ghost use Rattle.std.specs.Prelude.{◌≡◌, ◌≢◌, ◌<◌, ◌≤◌, IsOk, ◌↔◌, true, [], ◌∷◌, ◌++◌, length, OnOk, OnErr, IfOk, IfErr, Err};
+ghost use Rattle.std.specs.Prelude.{◌≡◌, ◌≢◌, ◌<◌, ◌≤◌, IsOk, IsTrue, ◌↔◌, true, [], ◌∷◌, ◌++◌};
+ghost use Rattle.std.specs.Prelude.{length, OnOk, OnErr, IfOk, IfErr, Err};
 
 use crate::Ace;
 use crate::limits::{INLINE_ACES, MAX_ACES};
@@ -22,8 +23,8 @@ pub enum AceFault {
     Memory,
 }
 
-/// An access control list: entries in the order in which they are evaluated, at most 128. None of them has
-/// `INHERIT_ONLY` without `FILE_INHERIT` or `DIRECTORY_INHERIT`.
+/// An access control list: entries in the order in which they are evaluated, at most 128. None of
+/// them has `INHERIT_ONLY` without `FILE_INHERIT` or `DIRECTORY_INHERIT`.
 #[derive(Debug, Drop)]
 pub struct Acl4 {
     aces: SmallVec<Ace, INLINE_ACES>,
@@ -38,7 +39,8 @@ impl Model for Acl4 {
 
     ghost view = { λ acl. acl.aces.items };
 
-    ghost invariant = { λ acl. AreAces acl.aces.items × (length acl.aces.items ≤ 16 → 16 ≤ acl.aces.capacity) };
+    ghost invariant = { λ acl. AreAces acl.aces.items
+        × (length acl.aces.items ≤ 16 → 16 ≤ acl.aces.capacity) };
 }
 
 impl Acl4 {
@@ -54,7 +56,8 @@ impl Acl4 {
         }
     }
 
-    /// The list with no entries and room for this many, so that it grows once at most. Fails only if memory runs out.
+    /// The list with no entries and room for this many, so that it grows once at most. Fails only
+    /// if memory runs out.
     pub fn with_capacity(alloc: Global, capacity: usize) -> Result<Acl4, AllocError>
         ensures value { IfOk result (λ acl. acl ≡ []) }
         ensures short { capacity ≤ 16 → IsOk result }
@@ -73,12 +76,13 @@ impl Acl4 {
         Acl4 { aces }
     }
 
-    /// Puts the entry after the others. It is refused with `TooMany` if there are 128, then with `InheritOnly`, then
-    /// with `Memory`; the list is as before then.
+    /// Puts the entry after the others. It is refused with `TooMany` if there are 128, then with
+    /// `InheritOnly`, then with `Memory`; the list is as before then.
     pub fn push(&mut self, ace: Ace) -> Result<(), AceFault>
         ensures ok { OnOk result (self.new ≡ self.old ++ ace ∷ []) }
         ensures too_many { (result ≡ Err AceFault.TooMany) ↔ (length self.old ≡ MAX_ACES) }
-        ensures inherit_only { (result ≡ Err AceFault.InheritOnly) ↔ ((length self.old < MAX_ACES) × (is_idle ace ≡ true)) }
+        ensures inherit_only { (result ≡ Err AceFault.InheritOnly)
+            ↔ ((length self.old < MAX_ACES) × (is_idle ace ≡ true)) }
         ensures only { IfErr result IsPushFault }
         ensures err { OnErr result (self.new ≡ self.old) }
         ensures short { length self.old < 16 → result ≢ Err AceFault.Memory }
@@ -103,6 +107,13 @@ impl Acl4 {
         ensures aces { AreAces self.now }
     {
         self.aces.as_slice()
+    }
+
+    /// Whether the other list has the same entries in the same order.
+    pub fn has_same_entries(&self, other: &Acl4) -> bool
+        ensures { IsTrue result ↔ (self.now ≡ other.now) }
+    {
+        self.aces() == other.aces()
     }
 
     /// A list of the same entries. Fails only if memory runs out.

@@ -1,16 +1,15 @@
 //! Whether two lists decide alike for everyone.
-ghost use Rattle.std.specs.Prelude.{◌≡◌, ◌≤◌, ◌↔◌, ◌&&◌, ◌||◌, ℕ, None, IfOk, IfSome, MatchOption, length, ◌==◌, option_to_list};
-ghost use Rattle.std.specs.List.{list_any};
+ghost use Rattle.std.specs.Prelude.{◌≡◌, ◌≤◌, ◌↔◌, None, IfSome, MatchOption, length};
 ghost use Rattle.acl_names.specs.Asker.{identity_of};
-ghost use Rattle.acl_names.specs.Bits.{has};
-ghost use Rattle.acl_nfs4.specs.Ace.{decides};
-ghost use Rattle.acl_nfs4.specs.Comparison.{AlikeAt, DecideAlike, IsDifference, IsStranger, OfEachWho, PairsSuffice, TwoGroupsSuffice, asker_for, asks_for, decided_by, needed_gid, needed_uid, needs_user};
-ghost use Rattle.acl_nfs4.specs.Evaluation.{allows};
+ghost use Rattle.acl_nfs4.specs.Comparison.{AlikeAt, DecideAlike, IsDifference, IsStranger};
+ghost use Rattle.acl_nfs4.specs.Comparison.{OfEachWho, PairsSuffice, TwoGroupsSuffice, asker_for};
+ghost use Rattle.acl_nfs4.specs.Comparison.{asks_for, decided_at, needed_gid, needed_uid};
+ghost use Rattle.acl_nfs4.specs.Comparison.{needs_user};
 ghost use Rattle.acl_nfs4.specs.Mask.{mask_bits};
-ghost use Rattle.acl_nfs4.specs.Who.{matches};
 
+use crate::allowed::allowed_to;
 use crate::limits::MAX_ACES;
-use crate::{Ace, Acl4, Mask, Who};
+use crate::{Ace, Acl4, Mask, Owners, Who};
 use acl_names::{Asker, Gid, NOBODY, Uid};
 use bitflags::Flags as FlagSet;
 
@@ -28,18 +27,20 @@ pub struct Difference {
     pub gained: Mask,
 }
 
-/// What is asked of two lists: about a file of this owner and this group, of these bits, with a user for whom no entry asks.
+/// What is asked of two lists: of these bits, each list for a file of its own owners, with a user
+/// for whom no entry asks.
 #[derive(Clone, Copy)]
 struct Question {
-    owner: Uid,
-    group: Gid,
+    owners: Owners,
+    other_owners: Owners,
     bits: Mask,
     stranger: Uid,
 }
 
-/// Two lists decide alike for everyone if they decide alike for the asker of each pair of entries, one of each list: someone
-/// who is whom both entries name, and in no other group. So they do if they decide alike for everyone who is in at most two
-/// groups. There is nothing to run here: a proof cites the contract.
+/// Two lists, each for a file of its own owners, decide alike for everyone if they decide alike for
+/// the asker of each pair of entries, one of each list: someone who is whom both entries name, and
+/// in no other group. So they do if they decide alike for everyone who is in at most two groups.
+/// There is nothing to run here: a proof cites the contract.
 pub fn comparison_laws()
     ensures pairs { PairsSuffice }
     ensures two_groups { TwoGroupsSuffice }
@@ -86,62 +87,29 @@ impl Who {
     }
 }
 
-/// One to whom entries about both apply, if they apply to anybody at once: the stranger, if neither asks for a user.
-pub fn asker_for(owner: Uid, group: Gid, stranger: Uid, who: &Who, other: &Who) -> Asker
-    ensures { identity_of result ≡ asker_for owner group stranger who.now other.now }
+/// One to whom entries about both apply, if they apply to anybody at once: the stranger, if neither
+/// asks for a user.
+pub fn asker_for(
+    owners: &Owners,
+    other_owners: &Owners,
+    stranger: Uid,
+    who: &Who,
+    other: &Who,
+) -> Asker
+    ensures { identity_of result ≡ asker_for owners.now other_owners.now stranger who.now other.now }
 {
-    let uid = match who.needed_uid(owner) {
+    let uid = match who.needed_uid(owners.owner) {
         Some(uid) => uid,
-        None => match other.needed_uid(owner) {
+        None => match other.needed_uid(other_owners.owner) {
             Some(uid) => uid,
             None => stranger,
         },
     };
     Asker {
         uid,
-        gid: who.needed_gid(group),
-        other_gid: other.needed_gid(group),
+        gid: who.needed_gid(owners.group),
+        other_gid: other.needed_gid(other_owners.group),
     }
-}
-
-/// Whether the asker is one of those whom the who is about.
-fn is_one_of(asker: &Asker, owner: Uid, group: Gid, who: &Who) -> bool
-    ensures { result ≡ matches owner group (identity_of asker.now) who.now }
-{
-    match *who {
-        Who::Owner => asker.uid == owner,
-        Who::Group => asker.is_in_group(group),
-        Who::Everyone => true,
-        Who::User(uid) => asker.uid == uid,
-        Who::NamedGroup(gid) => asker.is_in_group(gid),
-    }
-}
-
-/// Whether the entry decides about the asker.
-fn is_concerned(asker: &Asker, owner: Uid, group: Gid, ace: &Ace) -> bool
-    ensures { result ≡ (decides ace.now && matches owner group (identity_of asker.now) ace.now.who) }
-{
-    ace.decides() && is_one_of(asker, owner, group, &ace.who())
-}
-
-/// Those of the bits that the entries allow the asker. It goes down the list once, until no bit is open.
-fn allowed_to(aces: &[Ace], owner: Uid, group: Gid, asker: &Asker, bits: Mask) -> Mask
-    ensures { (bit : ℕ) → has (mask_bits result) bit ≡ (has (mask_bits bits) bit && allows (matches owner group (identity_of asker.now)) bit aces.now) }
-{
-    let mut allowed = Mask::empty();
-    let mut open = bits;
-    for ace in aces {
-        if open.is_empty() {
-            return allowed;
-        }
-        if is_concerned(asker, owner, group, ace) {
-            if ace.kind().is_allow() {
-                allowed = allowed.union(open.intersection(ace.mask()));
-            }
-            open = open.without(ace.mask());
-        }
-    }
-    allowed
 }
 
 /// Whether one of the entries asks for this user.
@@ -151,17 +119,18 @@ fn asks_for(aces: &[Ace], owner: Uid, uid: Uid) -> bool
     aces.iter().any(|ace| ace.who().needs_user(owner, uid))
 }
 
-/// A user for whom no entry asks. Each of the entries asks for one user at most, so one of as many and one more is free. They
-/// are tried from nobody's number downwards: the low numbers are those of people and of root, and a stranger is none of them.
-fn stranger(first: &[Ace], second: &[Ace], owner: Uid) -> Uid
+/// A user for whom no entry asks. Each of the entries asks for one user at most, so one of as many
+/// and one more is free. They are tried from nobody's number downwards: the low numbers are those
+/// of people and of root, and a stranger is none of them.
+fn stranger(first: &[Ace], second: &[Ace], owner: Uid, other_owner: Uid) -> Uid
     requires first { length first.now ≤ MAX_ACES }
     requires second { length second.now ≤ MAX_ACES }
     ensures first { IsStranger owner first.now result }
-    ensures second { IsStranger owner second.now result }
+    ensures second { IsStranger other_owner second.now result }
 {
     for number in 0..STRANGERS {
         if let Some(uid) = Uid::new(NOBODY - number) {
-            if !(asks_for(first, owner, uid) || asks_for(second, owner, uid)) {
+            if !(asks_for(first, owner, uid) || asks_for(second, other_owner, uid)) {
                 return uid;
             }
         }
@@ -178,21 +147,19 @@ fn difference_at(
     other: &Who,
 ) -> Option<Difference>
     ensures { MatchOption result
-        (AlikeAt first.now second.now question.now.owner question.now.group (mask_bits question.now.bits) question.now.stranger who.now other.now)
-        (IsDifference (decided_by first.now question.now.owner question.now.group) (decided_by second.now question.now.owner question.now.group) (mask_bits question.now.bits)) }
+        (AlikeAt first.now second.now question.now.owners question.now.other_owners
+        (mask_bits question.now.bits) question.now.stranger who.now other.now)
+        (IsDifference (decided_at first.now question.now.owners)
+        (decided_at second.now question.now.other_owners) (mask_bits question.now.bits)) }
 {
-    let asker = asker_for(
-        question.owner,
-        question.group,
-        question.stranger,
-        who,
-        other,
-    );
-    let before = allowed_to(first, question.owner, question.group, &asker, question.bits);
+    let owners = &question.owners;
+    let other_owners = &question.other_owners;
+    let asker = asker_for(owners, other_owners, question.stranger, who, other);
+    let before = allowed_to(first, owners.owner, owners.group, &asker, question.bits);
     let after = allowed_to(
         second,
-        question.owner,
-        question.group,
+        other_owners.owner,
+        other_owners.group,
         &asker,
         question.bits,
     );
@@ -214,8 +181,11 @@ fn difference_for(
     who: &Who,
 ) -> Option<Difference>
     ensures { MatchOption result
-        (OfEachWho second.now (λ other. AlikeAt first.now second.now question.now.owner question.now.group (mask_bits question.now.bits) question.now.stranger who.now other))
-        (IsDifference (decided_by first.now question.now.owner question.now.group) (decided_by second.now question.now.owner question.now.group) (mask_bits question.now.bits)) }
+        (OfEachWho second.now (λ other. AlikeAt first.now second.now question.now.owners
+        question.now.other_owners (mask_bits question.now.bits) question.now.stranger who.now
+        other))
+        (IsDifference (decided_at first.now question.now.owners)
+        (decided_at second.now question.now.other_owners) (mask_bits question.now.bits)) }
 {
     for ace in second {
         if let Some(difference) = difference_at(first, second, question, who, &ace.who()) {
@@ -229,8 +199,10 @@ fn difference_for(
 fn difference_of(first: &[Ace], second: &[Ace], question: &Question) -> Option<Difference>
     ensures { MatchOption result
         (OfEachWho first.now (λ who. OfEachWho second.now (λ other.
-        AlikeAt first.now second.now question.now.owner question.now.group (mask_bits question.now.bits) question.now.stranger who other)))
-        (IsDifference (decided_by first.now question.now.owner question.now.group) (decided_by second.now question.now.owner question.now.group) (mask_bits question.now.bits)) }
+        AlikeAt first.now second.now question.now.owners question.now.other_owners
+        (mask_bits question.now.bits) question.now.stranger who other)))
+        (IsDifference (decided_at first.now question.now.owners)
+        (decided_at second.now question.now.other_owners) (mask_bits question.now.bits)) }
 {
     for ace in first {
         if let Some(difference) = difference_for(first, second, question, &ace.who()) {
@@ -241,21 +213,29 @@ fn difference_of(first: &[Ace], second: &[Ace], question: &Question) -> Option<D
 }
 
 impl Acl4 {
-    /// What this list and another decide differently of these bits, for a file of this owner and this group: none exactly
-    /// if they decide alike for every requester, of whatever uid and groups; else someone in at most two groups, with what
-    /// only this list and what only the other allows. It asks for the asker of each pair of entries, at most 129 times 129,
-    /// and takes no memory.
-    pub fn difference(&self, other: &Acl4, owner: Uid, group: Gid, bits: Mask) -> Option<Difference>
-        ensures none { (result ≡ None) ↔ DecideAlike (decided_by self.now owner group) (decided_by other.now owner group) (mask_bits bits) }
-        ensures some { IfSome result (IsDifference (decided_by self.now owner group) (decided_by other.now owner group) (mask_bits bits)) }
+    /// What this list and another decide differently of these bits, each for a file of its own
+    /// owners: none exactly if they decide alike for every requester, of whatever uid and groups;
+    /// else someone in at most two groups, with what only this list and what only the other allows.
+    /// It asks for the asker of each pair of entries, at most 129 times 129, and takes no memory.
+    pub fn difference(
+        &self,
+        owners: &Owners,
+        other: &Acl4,
+        other_owners: &Owners,
+        bits: Mask,
+    ) -> Option<Difference>
+        ensures none { (result ≡ None) ↔ DecideAlike (decided_at self.now owners.now)
+            (decided_at other.now other_owners.now) (mask_bits bits) }
+        ensures some { IfSome result (IsDifference (decided_at self.now owners.now)
+            (decided_at other.now other_owners.now) (mask_bits bits)) }
     {
         let first = self.aces();
         let second = other.aces();
         let question = Question {
-            owner,
-            group,
+            owners: *owners,
+            other_owners: *other_owners,
             bits,
-            stranger: stranger(first, second, owner),
+            stranger: stranger(first, second, owners.owner, other_owners.owner),
         };
         difference_of(first, second, &question)
     }

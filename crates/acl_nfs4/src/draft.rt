@@ -12,8 +12,9 @@ use std::marker::Model;
 #[derive(Clone, Copy, Debug)]
 pub(crate) struct Full;
 
-/// A list in the making, with room for `N` entries in itself. A `Draft<MAX_ACES>` has all its entries there, 2 KiB, and never
-/// allocates; a `Draft<INLINE_ACES>` has them where the finished list has them, and allocates with the 17th.
+/// A list in the making, with room for `N` entries in itself. A `Draft<MAX_ACES>` has all its
+/// entries there, 2 KiB, and never allocates; a `Draft<INLINE_ACES>` has them where the finished
+/// list has them, and allocates with the 17th.
 #[derive(Drop)]
 pub(crate) struct Draft<const N: usize> {
     aces: SmallVec<Ace, N>,
@@ -46,14 +47,16 @@ impl<const N: usize> Draft<N> {
         }
     }
 
-    /// A list in the making is no longer than a list may be. There is nothing to run here: a proof cites the contract.
+    /// A list in the making is no longer than a list may be. There is nothing to run here: a proof
+    /// cites the contract.
     pub(crate) fn tell_length(&self)
         ensures { length self.now ≤ MAX_ACES }
     {
         let _ = &self.aces;
     }
 
-    /// Puts the entry after the others. It fails only if memory runs out, and not up to `N` entries.
+    /// Puts the entry after the others. It fails only if memory runs out, and not up to `N`
+    /// entries.
     pub(crate) fn push_within(&mut self, ace: Ace) -> Result<(), Full>
         requires room { length self.old < MAX_ACES }
         requires effective { is_idle ace ≡ false }

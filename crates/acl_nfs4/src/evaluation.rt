@@ -5,23 +5,26 @@ ghost use Rattle.acl_nfs4.specs.Who.{matches};
 ghost use Rattle.acl_nfs4.specs.Mask.{mask_bits};
 ghost use Rattle.acl_nfs4.specs.Evaluation.{Grants};
 
-use crate::{Ace, Acl4, Mask};
+use crate::{Ace, Acl4, Mask, Subject};
 use acl_names::{Gid, Requester, Uid};
 use bitflags::Flags as FlagSet;
 
 impl Ace {
-    /// Whether the entry decides about the requester of a file with this owner and this group.
-    fn concerns(&self, owner: Uid, group: Gid, requester: &Requester) -> bool
-        ensures { result ≡ (decides self.now && matches owner group requester.now self.now.who) }
+    /// Whether the entry decides about whoever asks for a file of this owner and this group.
+    pub fn concerns<S: Subject>(&self, owner: Uid, group: Gid, subject: &S) -> bool
+        ensures { result ≡ (decides self.now && matches owner group (S.identity subject.now)
+            self.now.who) }
     {
-        self.decides() && self.who().matches(owner, group, requester)
+        self.decides() && self.who().matches(owner, group, subject)
     }
 }
 
-/// Whether the entries grant all that is requested. It goes down the list once and carries the bits that are still open: an
-/// `ALLOW` closes those of its mask, a `DENY` that holds one of them ends it, and so does an empty rest.
+/// Whether the entries grant all that is requested. It goes down the list once and carries the bits
+/// that are still open: an `ALLOW` closes those of its mask, a `DENY` that holds one of them ends
+/// it, and so does an empty rest.
 fn grants(aces: &[Ace], owner: Uid, group: Gid, requester: &Requester, requested: Mask) -> bool
-    ensures { IsTrue result ↔ Grants (matches owner group requester.now) aces.now (mask_bits requested) }
+    ensures { IsTrue result ↔ Grants (matches owner group requester.now) aces.now
+        (mask_bits requested) }
 {
     let mut open = requested;
     for ace in aces {
@@ -40,11 +43,12 @@ fn grants(aces: &[Ace], owner: Uid, group: Gid, requester: &Requester, requested
 }
 
 impl Acl4 {
-    /// Whether the requester may do all of what is requested with a file of this owner and this group: of each bit the first
-    /// entry that speaks of it to the requester decides, and a bit of which none speaks is denied (RFC 8881, section 6.2.1).
-    /// The empty request is granted.
+    /// Whether the requester may do all of what is requested with a file of this owner and this
+    /// group: of each bit the first entry that speaks of it to the requester decides, and a bit of
+    /// which none speaks is denied (RFC 8881, section 6.2.1). The empty request is granted.
     pub fn grants4(&self, owner: Uid, group: Gid, requester: &Requester, requested: Mask) -> bool
-        ensures { IsTrue result ↔ Grants (matches owner group requester.now) self.now (mask_bits requested) }
+        ensures { IsTrue result ↔ Grants (matches owner group requester.now) self.now
+            (mask_bits requested) }
     {
         grants(self.aces(), owner, group, requester, requested)
     }

@@ -65,7 +65,9 @@ impl FlagSet for Flags {
 }
 
 impl Flags {
-    ghost use Rattle.acl_nfs4.specs.Flags.{flag_bits, all_flags, file_inherit, directory_inherit, no_propagate_inherit, inherit_only, inheritance_flags, identifier_group};
+    ghost use Rattle.acl_nfs4.specs.Flags.{flag_bits, all_flags, file_inherit, directory_inherit};
+    ghost use Rattle.acl_nfs4.specs.Flags.{no_propagate_inherit, inherit_only, inheritance_flags};
+    ghost use Rattle.acl_nfs4.specs.Flags.{identifier_group};
 
     /// What a directory has of an entry that only files take over.
     pub(crate) const PASSED_TO_FILES: Flags = Flags(0x9);

@@ -1,8 +1,10 @@
 //! What a new file or directory inherits (RFC 8881, section 6.4.3).
 ghost use Rattle.std.specs.Prelude.{◌≡◌, ◌≤◌, length, option_map, IfOk, IsOk, IfSome};
 ghost use Rattle.acl_names.specs.Bits.{has};
-ghost use Rattle.acl_nfs4.specs.Flags.{flag_bits, file_inherit, directory_inherit, no_propagate_inherit};
-ghost use Rattle.acl_nfs4.specs.Inheritance.{flags_below, has_inheritance, inherited_entry, inherited_list};
+ghost use Rattle.acl_nfs4.specs.Flags.{flag_bits, file_inherit, directory_inherit};
+ghost use Rattle.acl_nfs4.specs.Flags.{no_propagate_inherit};
+ghost use Rattle.acl_nfs4.specs.Inheritance.{flags_below, has_inheritance, inherited_entry};
+ghost use Rattle.acl_nfs4.specs.Inheritance.{inherited_list};
 
 use crate::draft::Draft;
 use crate::limits::INLINE_ACES;
@@ -22,7 +24,8 @@ pub enum Kind {
 /// The inheritance flags of an entry in what is made below, if it is inherited.
 fn flags_below(kind: Kind, flags: Flags) -> Option<Flags>
     ensures { option_map flag_bits result
-        ≡ flags_below kind (has (flag_bits flags) file_inherit) (has (flag_bits flags) directory_inherit)
+        ≡ flags_below kind (has (flag_bits flags) file_inherit)
+        (has (flag_bits flags) directory_inherit)
         (has (flag_bits flags) no_propagate_inherit) }
 {
     let for_files = flags.has_file_inherit();
@@ -60,9 +63,10 @@ impl Ace {
 }
 
 impl Acl4 {
-    /// The list of a new file or directory in a directory with this list, before a mode is set: each entry that it inherits,
-    /// in order (RFC 8881, section 6.4.3). Files take over entries with `FILE_INHERIT`, and their inheritance flags go;
-    /// directories those with `DIRECTORY_INHERIT`, and those with `FILE_INHERIT` alone only to pass them on. With
+    /// The list of a new file or directory in a directory with this list, before a mode is set:
+    /// each entry that it inherits, in order (RFC 8881, section 6.4.3). Files take over entries
+    /// with `FILE_INHERIT`, and their inheritance flags go; directories those with
+    /// `DIRECTORY_INHERIT`, and those with `FILE_INHERIT` alone only to pass them on. With
     /// `NO_PROPAGATE_INHERIT` nothing is passed on. Fails only if memory runs out.
     pub fn inherited(&self, alloc: Global, kind: Kind) -> Result<Acl4, AllocError>
         ensures value { IfOk result (λ acl. acl ≡ inherited_list kind self.now) }
@@ -77,8 +81,8 @@ impl Acl4 {
         Ok(draft.finished())
     }
 
-    /// Whether any entry has one of the flags `FILE_INHERIT`, `DIRECTORY_INHERIT`, `NO_PROPAGATE_INHERIT` and
-    /// `INHERIT_ONLY`.
+    /// Whether any entry has one of the flags `FILE_INHERIT`, `DIRECTORY_INHERIT`,
+    /// `NO_PROPAGATE_INHERIT` and `INHERIT_ONLY`.
     pub fn has_inheritance(&self) -> bool
         ensures { result ≡ has_inheritance self.now }
     {

@@ -1,4 +1,5 @@
-//! The bit of each letter, by the letter's byte, so that a text takes one look for each of its letters.
+//! The bit of each letter, by the letter's byte, so that a text takes one look for each of its
+//! letters.
 
 ghost use Rattle.std.specs.Prelude.{◌≡◌, ◌<◌, List, slice_index};
 ghost use Rattle.acl_names.specs.Letters.{letters_of};
@@ -39,9 +40,11 @@ fn bit_of_letter(bits: &[u32; 256], letter: u8) -> u32
     bits[usize::from(letter)]
 }
 
-/// The bits whose letters make up the text, with one look for each letter: none stands for a bit that is there already.
+/// The bits whose letters make up the text, with one look for each letter: none stands for a bit
+/// that is there already.
 pub(crate) fn read_bits(bits_of: &[u32; 256], text: &[u8]) -> Option<u32>
-    ensures { (table : List Letter) → GivesBitsOf bits_of.now table → result ≡ letters_of table text.now }
+    ensures { (table : List Letter) → GivesBitsOf bits_of.now table
+        → result ≡ letters_of table text.now }
 {
     let mut bits = 0;
     for letter in text {

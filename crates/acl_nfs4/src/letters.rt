@@ -1,6 +1,7 @@
 //! The letters that flags and the bits of a mask have in texts.
 
-ghost use Rattle.std.specs.Prelude.{◌≡◌, ◌≤◌, ◌<◌, ◌+◌, ◌++◌, length, take, option_map, vec_len, vec_capacity, OnOk, OnErr};
+ghost use Rattle.std.specs.Prelude.{◌≡◌, ◌≤◌, ◌<◌, ◌+◌, ◌++◌, length, take, option_map, vec_len};
+ghost use Rattle.std.specs.Prelude.{vec_capacity, OnOk, OnErr};
 ghost use Rattle.acl_names.specs.Letters.{letters_of, letters_text, IsTable};
 ghost use Rattle.acl_nfs4.specs.Flags.{flag_bits};
 ghost use Rattle.acl_nfs4.specs.Letters.{flag_table, mask_table};
@@ -104,8 +105,8 @@ const MASK_TABLE: [Letter; 14] = [
     },
 ];
 
-/// The mask whose letters make up the text, in any order, each at most once; no letters are the empty mask. The letters are
-/// `rwaxdDtTnNcCoy`.
+/// The mask whose letters make up the text, in any order, each at most once; no letters are the
+/// empty mask. The letters are `rwaxdDtTnNcCoy`.
 pub fn read_letters(text: &[u8]) -> Option<Mask>
     ensures { option_map mask_bits result ≡ letters_of mask_table text.now }
 {
@@ -125,12 +126,14 @@ pub(crate) fn read_flags(text: &[u8]) -> Option<Flags>
     }
 }
 
-/// Appends the letters of the mask's bits, in the order `rwaxdDtTnNcCoy`. If memory runs out, what was there stays; that happens
-/// only if `out` has no room for them.
+/// Appends the letters of the mask's bits, in the order `rwaxdDtTnNcCoy`. If memory runs out, what
+/// was there stays; that happens only if `out` has no room for them.
 pub fn push_mask(mask: Mask, out: &mut Vec<u8>) -> Result<(), AllocError>
-    ensures text { OnOk result (out.new.items ≡ out.old.items ++ letters_text mask_table (mask_bits mask)) }
+    ensures text { OnOk result (out.new.items
+        ≡ out.old.items ++ letters_text mask_table (mask_bits mask)) }
     ensures kept { take (length out.old.items) out.new.items ≡ out.old.items }
-    ensures room { OnErr result (vec_capacity out.old < vec_len out.old + length (letters_text mask_table (mask_bits mask))) }
+    ensures room { OnErr result (vec_capacity out.old
+        < vec_len out.old + length (letters_text mask_table (mask_bits mask))) }
     ensures capacity { vec_capacity out.old ≤ vec_capacity out.new }
 {
     push_letters_of(&MASK_TABLE, mask.bits(), out)
@@ -138,15 +141,18 @@ pub fn push_mask(mask: Mask, out: &mut Vec<u8>) -> Result<(), AllocError>
 
 /// Appends the letters of the flags.
 pub(crate) fn push_flags(flags: Flags, out: &mut Vec<u8>) -> Result<(), AllocError>
-    ensures text { OnOk result (out.new.items ≡ out.old.items ++ letters_text flag_table (flag_bits flags)) }
+    ensures text { OnOk result (out.new.items
+        ≡ out.old.items ++ letters_text flag_table (flag_bits flags)) }
     ensures kept { take (length out.old.items) out.new.items ≡ out.old.items }
-    ensures room { OnErr result (vec_capacity out.old < vec_len out.old + length (letters_text flag_table (flag_bits flags))) }
+    ensures room { OnErr result (vec_capacity out.old
+        < vec_len out.old + length (letters_text flag_table (flag_bits flags))) }
     ensures capacity { vec_capacity out.old ≤ vec_capacity out.new }
 {
     push_letters_of(&FLAG_TABLE, u32::from(flags.bits()), out)
 }
 
-/// Each letter stands for one bit, and no two letters are the same. There is nothing to run here: a proof cites the contract.
+/// Each letter stands for one bit, and no two letters are the same. There is nothing to run here: a
+/// proof cites the contract.
 pub fn letters_are_told_apart()
     ensures flags { IsTable flag_table }
     ensures mask { IsTable mask_table }

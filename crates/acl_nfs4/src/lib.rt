@@ -1,9 +1,11 @@
-//! NFSv4 access control lists, after RFC 8881, sections 6.2 to 6.4: ordered evaluation, the mode of a list, setting a mode
-//! without losing what the administrator wrote, inheritance, and the text form of this project.
+//! NFSv4 access control lists, after RFC 8881, sections 6.2 to 6.4: ordered evaluation, the mode of
+//! a list, setting a mode without losing what the administrator wrote, inheritance, and the text
+//! form of this project.
 #![tactic(auto)]
 
 mod ace;
 mod acl;
+mod allowed;
 mod bits;
 mod comparison;
 mod draft;
@@ -17,8 +19,10 @@ mod marks;
 mod mask;
 mod mode;
 mod mode_change;
+mod owners;
 mod printing;
 mod reading;
+mod subject;
 mod who;
 
 pub use ace::{Ace, AceType};
@@ -30,5 +34,7 @@ pub use letters::{letters_are_told_apart, push_mask, read_letters};
 pub use limits::{MAX_ACES, limits_in_numbers};
 pub use mask::{Mask, mask_of, rest_of};
 pub use mode_change::Fault4;
+pub use owners::Owners;
 pub use reading::{PieceFault, faults_of_pieces, pieces_have_shapes, read_aces};
+pub use subject::Subject;
 pub use who::Who;

@@ -103,7 +103,7 @@ impl Mask {
 
     /// The bits that are not among those removed.
     #[tactic(auto, unfolding(acl_names::specs::Bits::without))]
-    pub(crate) fn without(self, removed: Mask) -> Mask
+    pub fn without(self, removed: Mask) -> Mask
         ensures { mask_bits result ≡ without (mask_bits self) (mask_bits removed) }
     {
         self.symmetric_difference(self.intersection(removed))
@@ -117,8 +117,8 @@ impl Mask {
     }
 }
 
-/// The mask that stands for a file mode's permissions: to write stands for `WRITE_DATA` and `APPEND_DATA` together (RFC
-/// 8881, section 6.3.2).
+/// The mask that stands for a file mode's permissions: to write stands for `WRITE_DATA` and
+/// `APPEND_DATA` together (RFC 8881, section 6.3.2).
 pub fn mask_of(perms: Perms) -> Mask
     ensures { mask_bits result ≡ mask_of (bits_of perms) }
 {

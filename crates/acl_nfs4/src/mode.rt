@@ -29,9 +29,11 @@ impl Ace {
     }
 }
 
-/// The bits of the mode that the entries allow a class. It goes down the list once, until no bit is open.
+/// The bits of the mode that the entries allow a class. It goes down the list once, until no bit is
+/// open.
 fn allowed_to(aces: &[Ace], class: &Who) -> Mask
-    ensures { (bit : ℕ) → IsTrue (has mode_bits bit) → has (mask_bits result) bit ≡ allows (of_class class.now) bit aces.now }
+    ensures { (bit : ℕ) → IsTrue (has mode_bits bit)
+        → has (mask_bits result) bit ≡ allows (of_class class.now) bit aces.now }
 {
     let mut allowed = Mask::empty();
     let mut open = Mask::OF_MODE;
@@ -56,7 +58,8 @@ fn allows_writing(allowed: Mask) -> bool
     allowed.contains(Mask::WRITE_DATA) && allowed.contains(Mask::APPEND_DATA)
 }
 
-/// The permissions that the entries show for a class: to write if both `WRITE_DATA` and `APPEND_DATA` are allowed.
+/// The permissions that the entries show for a class: to write if both `WRITE_DATA` and
+/// `APPEND_DATA` are allowed.
 fn shown_to(aces: &[Ace], class: &Who) -> Perms
     ensures { bits_of result ≡ shown_to (of_class class.now) aces.now }
 {
@@ -68,8 +71,8 @@ fn shown_to(aces: &[Ace], class: &Who) -> Perms
 }
 
 impl Acl4 {
-    /// The mode of a file with this list: for each of `OWNER@`, `GROUP@` and `EVERYONE@` what its own entries and those of
-    /// `EVERYONE@` grant (RFC 8881, section 6.3.2).
+    /// The mode of a file with this list: for each of `OWNER@`, `GROUP@` and `EVERYONE@` what its
+    /// own entries and those of `EVERYONE@` grant (RFC 8881, section 6.3.2).
     pub fn mode4(&self) -> Mode
         ensures { result ≡ mode_of self.now }
     {

@@ -1,5 +1,6 @@
 //! Setting the mode of a list (RFC 8881, section 6.4.1.1).
-ghost use Rattle.std.specs.Prelude.{◌≡◌, ◌<◌, ◌≤◌, ◌↔◌, ◌++◌, false, length, Err, OnOk, OnErr, IfOk, IsOk};
+ghost use Rattle.std.specs.Prelude.{◌≡◌, ◌<◌, ◌≤◌, ◌↔◌, ◌++◌, false, length, Err, OnOk, OnErr};
+ghost use Rattle.std.specs.Prelude.{IfOk, IsOk};
 ghost use Rattle.std.specs.List.{list_any};
 ghost use Rattle.acl_posix.specs.Perms.{bits_of};
 ghost use Rattle.acl_nfs4.specs.Ace.{is_idle};
@@ -7,8 +8,12 @@ ghost use Rattle.acl_nfs4.specs.Acl.{HaveEffect, IsTooLong};
 ghost use Rattle.acl_nfs4.specs.Marks.{IsMarked};
 ghost use Rattle.acl_nfs4.specs.Mask.{mask_bits};
 ghost use Rattle.acl_nfs4.specs.Evaluation.{mode_of};
-ghost use Rattle.acl_nfs4.specs.ModeChange.{kept_mask, kept_of, kept, names_someone, names, denies_by_name, denied_to, denial_of, denials, for_owner, for_others, with_mode};
-ghost use Rattle.acl_nfs4.specs.ModeChangeLaws.{GrantsOwner, GrantsGroup, GrantsOthers, LimitsNamed, KeepsAudits, KeepsInheritOnly, InheritsAlike};
+ghost use Rattle.acl_nfs4.specs.ModeChange.{kept_mask, kept_of, kept, names_someone, names};
+ghost use Rattle.acl_nfs4.specs.ModeChange.{denies_by_name, denied_to, denial_of, denials};
+ghost use Rattle.acl_nfs4.specs.ModeChange.{for_owner, for_others, with_mode};
+ghost use Rattle.acl_nfs4.specs.ModeChangeLaws.{GrantsOwner, GrantsGroup, GrantsOthers};
+ghost use Rattle.acl_nfs4.specs.ModeChangeLaws.{LimitsNamed, KeepsAudits, KeepsInheritOnly};
+ghost use Rattle.acl_nfs4.specs.ModeChangeLaws.{InheritsAlike};
 
 use crate::draft::{Draft, Full};
 use crate::limits::{INLINE_ACES, MAX_ACES};
@@ -67,7 +72,10 @@ impl Ace {
 
     /// The part of the entry that takes effect where it stands.
     fn effective_part(&self, group: Perms) -> Ace
-        ensures value { result ≡ record self.now { flags = without self.now.flags inheritance_flags; mask = kept_mask (bits_of group) self.now } }
+        ensures value { result ≡ record self.now {
+          flags = without self.now.flags inheritance_flags;
+          mask = kept_mask (bits_of group) self.now;
+        } }
         ensures effective { is_idle result ≡ false }
     {
         self.reduced(group)
@@ -96,7 +104,8 @@ impl Ace {
     }
 }
 
-/// In front: what the mode's user has is allowed to the owner, and the rest of the mode's bits denied.
+/// In front: what the mode's user has is allowed to the owner, and the rest of the mode's bits
+/// denied.
 fn push_owner<const N: usize>(draft: &mut Draft<N>, user: Perms) -> Result<(), Full>
     ensures ok { OnOk result (draft.new ≡ draft.old ++ for_owner (bits_of user)) }
     ensures full { OnErr result (IsTooLong N (draft.old ++ for_owner (bits_of user))) }
@@ -108,15 +117,16 @@ fn push_owner<const N: usize>(draft: &mut Draft<N>, user: Perms) -> Result<(), F
 /// Behind: the same for the group, and what the mode's others have is allowed to everyone.
 fn push_others<const N: usize>(draft: &mut Draft<N>, group: Perms, other: Perms) -> Result<(), Full>
     ensures ok { OnOk result (draft.new ≡ draft.old ++ for_others (bits_of group) (bits_of other)) }
-    ensures full { OnErr result (IsTooLong N (draft.old ++ for_others (bits_of group) (bits_of other))) }
+    ensures full { OnErr result (IsTooLong N (draft.old
+        ++ for_others (bits_of group) (bits_of other))) }
 {
     draft.push_plain(AceType::Allow, Who::Group, mask_of(group))?;
     draft.push_plain(AceType::Deny, Who::Group, rest_of(group))?;
     draft.push_plain(AceType::Allow, Who::Everyone, mask_of(other))
 }
 
-/// What an entry leaves: one that doesn't decide stays; one that is inherited too becomes one entry for each; and what takes
-/// effect keeps no bit that the mode takes.
+/// What an entry leaves: one that doesn't decide stays; one that is inherited too becomes one entry
+/// for each; and what takes effect keeps no bit that the mode takes.
 fn push_kept_of<const N: usize>(draft: &mut Draft<N>, ace: &Ace, group: Perms) -> Result<(), Full>
     requires { is_idle ace.now ≡ false }
     ensures ok { OnOk result (draft.new ≡ draft.old ++ kept_of (bits_of group) ace.now) }
@@ -215,8 +225,9 @@ fn push_denial<const N: usize>(
 
 /// A denial for each who that the old entries name, in the order of its first entry.
 ///
-/// For an entry that names someone whose mark stands this looks at the entries before it, and for each who whose mark stands
-/// among the denied at all entries. The list has at most 128 of them; to sort them by who and back would cost a second list.
+/// For an entry that names someone whose mark stands this looks at the entries before it, and for
+/// each who whose mark stands among the denied at all entries. The list has at most 128 of them; to
+/// sort them by who and back would cost a second list.
 fn push_denials<const N: usize>(
     draft: &mut Draft<N>,
     aces: &[Ace],
@@ -254,8 +265,8 @@ fn with_mode<const N: usize>(alloc: Global, aces: &[Ace], mode: Mode) -> Result<
     Ok(draft)
 }
 
-/// Why the mode was not set: the list would have too many entries, or else memory ran out. It is made again to know it, if
-/// it needs no memory.
+/// Why the mode was not set: the list would have too many entries, or else memory ran out. It is
+/// made again to know it, if it needs no memory.
 #[cold]
 #[inline(never)]
 fn why_refused(alloc: Global, aces: &[Ace], mode: Mode) -> Fault4
@@ -271,24 +282,27 @@ fn why_refused(alloc: Global, aces: &[Ace], mode: Mode) -> Fault4
 impl Acl4 {
     /// Sets the mode and keeps what the administrator wrote (within RFC 8881, section 6.4.1.1).
     ///
-    /// The entries that allow or deny lose the bits of the mode that they may not grant; the owner's stand before them, and the
-    /// group's and everyone's after. Users and groups that an entry names are granted no more than the mode's group. An entry
-    /// that is inherited too is split, so that what is inherited stays as it was. Audit and alarm entries and entries that are
-    /// only inherited stay. The steps are written out in `docs/PROFILE.md`.
+    /// The entries that allow or deny lose the bits of the mode that they may not grant; the
+    /// owner's stand before them, and the group's and everyone's after. Users and groups that an
+    /// entry names are granted no more than the mode's group. An entry that is inherited too is
+    /// split, so that what is inherited stays as it was. Audit and alarm entries and entries that
+    /// are only inherited stay. The steps are written out in `docs/PROFILE.md`.
     ///
-    /// It is refused with `TooMany` exactly if the list would have more than 128 entries, and else with `Memory`; the
-    /// list is as before then.
+    /// It is refused with `TooMany` exactly if the list would have more than 128 entries, and else
+    /// with `Memory`; the list is as before then.
     pub fn chmod4(&mut self, alloc: Global, mode: Mode) -> Result<(), Fault4>
         ensures ok { OnOk result (self.new ≡ with_mode self.old mode) }
-        ensures too_many { (result ≡ Err Fault4.TooMany) ↔ (MAX_ACES < length (with_mode self.old mode)) }
+        ensures too_many { (result ≡ Err Fault4.TooMany)
+            ↔ (MAX_ACES < length (with_mode self.old mode)) }
         ensures err { OnErr result (self.new ≡ self.old) }
         ensures short { length (with_mode self.old mode) ≤ 16 → IsOk result }
 
         // The mode shown is the mode set.
         ensures shown { OnOk result (mode_of self.new ≡ mode) }
 
-        // Of the mode's bits the owner is granted the user's, and another requester whom no entry names the group's or the
-        // others'; one whom an entry names is granted none that the group lacks.
+        // Of the mode's bits the owner is granted the user's, and another requester whom no entry
+        // names the group's or the others'; one whom an entry names is granted none that the group
+        // lacks.
         ensures owner_granted { OnOk result (GrantsOwner self.new mode) }
         ensures group_granted { OnOk result (GrantsGroup self.old self.new mode) }
         ensures others_granted { OnOk result (GrantsOthers self.old self.new mode) }

@@ -1,9 +1,11 @@
 //! Printing lists of entries.
 
-ghost use Rattle.std.specs.Prelude.{◌≡◌, ◌≤◌, ◌<◌, ◌+◌, ◌*◌, ◌++◌, length, take, option_map, vec_len, vec_capacity, OnOk, OnErr};
+ghost use Rattle.std.specs.Prelude.{◌≡◌, ◌≤◌, ◌<◌, ◌+◌, ◌*◌, ◌++◌, length, take, option_map};
+ghost use Rattle.std.specs.Prelude.{vec_len, vec_capacity, OnOk, OnErr};
 ghost use Rattle.acl_names.specs.ListText.{Spells};
 ghost use Rattle.acl_nfs4.specs.AceText.{piece_value};
-ghost use Rattle.acl_nfs4.specs.PrintedText.{ace_text, aces_text, front_text, HaveIds, line_text, named_text, type_text, who_text};
+ghost use Rattle.acl_nfs4.specs.PrintedText.{ace_text, aces_text, front_text, HaveIds, line_text};
+ghost use Rattle.acl_nfs4.specs.PrintedText.{named_text, type_text, who_text};
 ghost use Rattle.acl_nfs4.specs.Who.{HasId};
 ghost use Rattle.acl_nfs4.specs.declared.limits.TheConstants.{MAX_ACES};
 ghost use Rattle.acl_nfs4.specs.declared.printing.TheConstants.{SHORTEST_LINE};
@@ -21,15 +23,18 @@ const USUAL_LINE: usize = 32;
 const SHORTEST_LINE: usize = 5;
 
 impl Acl4 {
-    /// Appends the entries in order, one per line: `type:flags:who:letters` and a newline. `who` is the special word,
-    /// `name@domain` if the directory has a name, and else a decimal. If memory runs out, `out` is as it was; that happens only
-    /// if `out` has no room for the text.
+    /// Appends the entries in order, one per line: `type:flags:who:letters` and a newline. `who` is
+    /// the special word, `name@domain` if the directory has a name, and else a decimal. If memory
+    /// runs out, `out` is as it was; that happens only if `out` has no room for the text.
     pub fn print_aces(&self, directory: &Directory, out: &mut Vec<u8>) -> Result<(), AllocError>
-        ensures text { OnOk result (out.new.items ≡ out.old.items ++ aces_text directory.now self.now) }
+        ensures text { OnOk result (out.new.items
+            ≡ out.old.items ++ aces_text directory.now self.now) }
         ensures unchanged { OnErr result (out.new.items ≡ out.old.items) }
-        ensures room { OnErr result (vec_capacity out.old < vec_len out.old + length (aces_text directory.now self.now)) }
+        ensures room { OnErr result (vec_capacity out.old
+            < vec_len out.old + length (aces_text directory.now self.now)) }
         // What is printed is read as these entries.
-        ensures read_again { OnOk result (Spells (piece_value directory.now) MAX_ACES (aces_text directory.now self.now) self.now) }
+        ensures read_again { OnOk result (Spells (piece_value directory.now) MAX_ACES
+            (aces_text directory.now self.now) self.now) }
     {
         directory.tell_names_apart();
         let aces = self.aces();
@@ -61,7 +66,8 @@ fn push_lines(aces: &[Ace], directory: &Directory, out: &mut Vec<u8>) -> Result<
     ensures text { OnOk result (out.new.items ≡ out.old.items ++ aces_text directory.now aces.now) }
     ensures have_ids { OnOk result (HaveIds aces.now) }
     ensures kept { take (length out.old.items) out.new.items ≡ out.old.items }
-    ensures room { OnErr result (vec_capacity out.old < vec_len out.old + length (aces_text directory.now aces.now)) }
+    ensures room { OnErr result (vec_capacity out.old
+        < vec_len out.old + length (aces_text directory.now aces.now)) }
 {
     for ace in aces {
         push_line(ace, directory, out)?;
@@ -73,7 +79,8 @@ fn push_line(ace: &Ace, directory: &Directory, out: &mut Vec<u8>) -> Result<(), 
     ensures text { OnOk result (out.new.items ≡ out.old.items ++ line_text directory.now ace.now) }
     ensures has_id { OnOk result (HasId ace.now.who) }
     ensures kept { take (length out.old.items) out.new.items ≡ out.old.items }
-    ensures room { OnErr result (vec_capacity out.old < vec_len out.old + length (line_text directory.now ace.now)) }
+    ensures room { OnErr result (vec_capacity out.old
+        < vec_len out.old + length (line_text directory.now ace.now)) }
     ensures capacity { vec_capacity out.old ≤ vec_capacity out.new }
 {
     push_ace(ace, directory, out)?;
@@ -85,7 +92,8 @@ fn push_ace(ace: &Ace, directory: &Directory, out: &mut Vec<u8>) -> Result<(), A
     ensures text { OnOk result (out.new.items ≡ out.old.items ++ ace_text directory.now ace.now) }
     ensures has_id { OnOk result (HasId ace.now.who) }
     ensures kept { take (length out.old.items) out.new.items ≡ out.old.items }
-    ensures room { OnErr result (vec_capacity out.old < vec_len out.old + length (ace_text directory.now ace.now)) }
+    ensures room { OnErr result (vec_capacity out.old
+        < vec_len out.old + length (ace_text directory.now ace.now)) }
     ensures capacity { vec_capacity out.old ≤ vec_capacity out.new }
 {
     push_front(ace, out)?;
@@ -98,7 +106,8 @@ fn push_ace(ace: &Ace, directory: &Directory, out: &mut Vec<u8>) -> Result<(), A
 fn push_front(ace: &Ace, out: &mut Vec<u8>) -> Result<(), AllocError>
     ensures text { OnOk result (out.new.items ≡ out.old.items ++ front_text ace.now) }
     ensures kept { take (length out.old.items) out.new.items ≡ out.old.items }
-    ensures room { OnErr result (vec_capacity out.old < vec_len out.old + length (front_text ace.now)) }
+    ensures room { OnErr result (vec_capacity out.old
+        < vec_len out.old + length (front_text ace.now)) }
     ensures capacity { vec_capacity out.old ≤ vec_capacity out.new }
 {
     out.extend_from_slice(type_text(ace.kind()))?;
@@ -123,7 +132,8 @@ fn push_who(who: &Who, directory: &Directory, out: &mut Vec<u8>) -> Result<(), A
     ensures text { OnOk result (out.new.items ≡ out.old.items ++ who_text directory.now who.now) }
     ensures has_id { HasId who.now }
     ensures kept { take (length out.old.items) out.new.items ≡ out.old.items }
-    ensures room { OnErr result (vec_capacity out.old < vec_len out.old + length (who_text directory.now who.now)) }
+    ensures room { OnErr result (vec_capacity out.old
+        < vec_len out.old + length (who_text directory.now who.now)) }
     ensures capacity { vec_capacity out.old ≤ vec_capacity out.new }
 {
     match *who {
@@ -152,10 +162,12 @@ fn push_named(
     id: u32,
     out: &mut Vec<u8>,
 ) -> Result<(), AllocError>
-    ensures text { OnOk result (out.new.items ≡ out.old.items ++ named_text (option_map (λ name. name.now) name.entry) domain.now id) }
+    ensures text { OnOk result (out.new.items
+        ≡ out.old.items ++ named_text (option_map (λ name. name.now) name.entry) domain.now id) }
     ensures kept { take (length out.old.items) out.new.items ≡ out.old.items }
     ensures room { OnErr result (vec_capacity out.old
-        < vec_len out.old + length (named_text (option_map (λ name. name.now) name.entry) domain.now id)) }
+        < vec_len out.old + length (named_text (option_map (λ name. name.now) name.entry) domain.now
+        id)) }
     ensures capacity { vec_capacity out.old ≤ vec_capacity out.new }
 {
     match name {

@@ -2,7 +2,8 @@
 
 ghost use Rattle.acl_nfs4.specs.Front.{BeginsWithFields};
 ghost use Rattle.acl_names.specs.Pieces.{pieces};
-ghost use Rattle.std.specs.Prelude.{IfSome, Some, ◌≡◌, ◌≢◌, ◌≤◌, ◌↔◌, ℕ, List, length, Ok, Err, option_map, IfOk, IfErr, MatchResult};
+ghost use Rattle.std.specs.Prelude.{IfSome, Some, ◌≡◌, ◌≢◌, ◌≤◌, ◌↔◌, ℕ, List, length, Ok, Err};
+ghost use Rattle.std.specs.Prelude.{option_map, IfOk, IfErr, MatchResult};
 ghost use Rattle.acl_names.specs.Directory.{Known};
 ghost use Rattle.acl_names.specs.ListText.{Spells};
 ghost use Rattle.acl_names.specs.Ids.{written_id};
@@ -10,7 +11,8 @@ ghost use Rattle.acl_names.specs.Views.{view_written};
 ghost use Rattle.acl_nfs4.specs.Ace.{Nfsace4};
 ghost use Rattle.acl_nfs4.specs.AceShapes.{HasShape};
 ghost use Rattle.acl_nfs4.specs.Faults.{HasNoEffect, HasNoShape, HasUnknownName};
-ghost use Rattle.acl_nfs4.specs.AceText.{refuse_idle, fields_of, name_at, named, piece_value, resolved_who, special_of, type_of, written_who};
+ghost use Rattle.acl_nfs4.specs.AceText.{refuse_idle, fields_of, name_at, named, piece_value};
+ghost use Rattle.acl_nfs4.specs.AceText.{resolved_who, special_of, type_of, written_who};
 ghost use Rattle.acl_nfs4.specs.AceViews.{view_fields, view_who};
 ghost use Rattle.acl_nfs4.specs.ReadFault.{list_fault, IsTextFault};
 ghost use Rattle.acl_nfs4.specs.declared.acl.AceFault.TheVariants.{Memory};
@@ -41,7 +43,8 @@ struct AceFields<'a> {
     letters: &'a [u8],
 }
 
-/// Whom a text names: a special identifier, an id, or a name in a domain, whether or not anyone has it.
+/// Whom a text names: a special identifier, an id, or a name in a domain, whether or not anyone has
+/// it.
 #[derive(Clone, Copy, Debug)]
 enum WrittenWho<'a> {
     Owner,
@@ -87,7 +90,8 @@ impl<'a> PieceReader for AceReader<'a> {
 #[inline(always)]
 #[tactic(auto, unfolding(crate::specs::AceText::piece_value))]
 fn value_of_fields(directory: &Directory, fields: AceFields<'_>) -> Result<Ace, PieceFault>
-    ensures { (piece : List ℕ) → fields_of piece ≡ Some (view_fields fields.entry) → result ≡ piece_value directory.now piece }
+    ensures { (piece : List ℕ) → fields_of piece ≡ Some (view_fields fields.entry)
+        → result ≡ piece_value directory.now piece }
 {
     let kind = read_type(fields.kind).ok_or(PieceFault::Syntax)?;
     let flags = read_flags(fields.flags).ok_or(PieceFault::Syntax)?;
@@ -127,12 +131,13 @@ fn fields_in_front(text: &[u8]) -> Option<(AceFields<'_>, &[u8])>
     ))
 }
 
-/// The list that the text spells: entries `type:flags:who:letters`, which newlines and commas separate; `#` begins a
-/// comment. `who` is `OWNER@`, `GROUP@`, `EVERYONE@`, a decimal, a name, or a name in the directory's domain; it is a group
-/// if the flag `g` stands.
+/// The list that the text spells: entries `type:flags:who:letters`, which newlines and commas
+/// separate; `#` begins a comment. `who` is `OWNER@`, `GROUP@`, `EVERYONE@`, a decimal, a name, or
+/// a name in the directory's domain; it is a group if the flag `g` stands.
 ///
-/// The first faulty piece decides: `Syntax`, before `UnknownName` (also of a name in another domain), before `InheritOnly`;
-/// a 129th piece is `TooMany` before it is read. `Memory` comes only if memory runs out.
+/// The first faulty piece decides: `Syntax`, before `UnknownName` (also of a name in another
+/// domain), before `InheritOnly`; a 129th piece is `TooMany` before it is read. `Memory` comes only
+/// if memory runs out.
 pub fn read_aces(alloc: Global, text: &[u8], directory: &Directory) -> Result<Acl4, AceFault>
     ensures read { IfOk result (Spells (piece_value directory.now) MAX_ACES text.now) }
     ensures fault { IfErr result (IsTextFault directory.now text.now) }
@@ -298,16 +303,21 @@ fn refuse_idle(ace: Ace) -> Result<Ace, PieceFault>
     }
 }
 
-/// What a piece says is what the shapes say, both ways. There is nothing to run here: a proof cites the contract.
+/// What a piece says is what the shapes say, both ways. There is nothing to run here: a proof cites
+/// the contract.
 pub fn pieces_have_shapes()
-    ensures { (known : Known) (piece : List ℕ) (ace : Nfsace4) → (piece_value known piece ≡ Ok ace) ↔ HasShape known piece ace }
+    ensures { (known : Known) (piece : List ℕ) (ace : Nfsace4) → (piece_value known piece ≡ Ok ace)
+        ↔ HasShape known piece ace }
 {}
 
-/// A piece that says no entry is refused for an unknown name exactly if it writes one where the name is known, for being
-/// inherit-only exactly if it writes one without effect, and else for its shape. There is nothing to run here: a proof cites
-/// the contract.
+/// A piece that says no entry is refused for an unknown name exactly if it writes one where the
+/// name is known, for being inherit-only exactly if it writes one without effect, and else for its
+/// shape. There is nothing to run here: a proof cites the contract.
 pub fn faults_of_pieces()
-    ensures syntax { (known : Known) (piece : List ℕ) → (piece_value known piece ≡ Err PieceFault.Syntax) ↔ HasNoShape piece }
-    ensures unknown_name { (known : Known) (piece : List ℕ) → (piece_value known piece ≡ Err PieceFault.UnknownName) ↔ HasUnknownName known piece }
-    ensures inherit_only { (known : Known) (piece : List ℕ) → (piece_value known piece ≡ Err PieceFault.InheritOnly) ↔ HasNoEffect known piece }
+    ensures syntax { (known : Known) (piece : List ℕ)
+        → (piece_value known piece ≡ Err PieceFault.Syntax) ↔ HasNoShape piece }
+    ensures unknown_name { (known : Known) (piece : List ℕ)
+        → (piece_value known piece ≡ Err PieceFault.UnknownName) ↔ HasUnknownName known piece }
+    ensures inherit_only { (known : Known) (piece : List ℕ)
+        → (piece_value known piece ≡ Err PieceFault.InheritOnly) ↔ HasNoEffect known piece }
 {}

@@ -2,8 +2,8 @@
 ghost use Rattle.std.specs.Prelude.{◌≡◌};
 ghost use Rattle.acl_nfs4.specs.Flags.{flag_bits};
 
-use crate::Flags;
-use acl_names::{Gid, Requester, Uid};
+use crate::{Flags, Subject};
+use acl_names::{Gid, Uid};
 use bitflags::Flags as FlagSet;
 
 /// Whom an entry is about (RFC 8881, section 6.2.1.5).
@@ -24,28 +24,28 @@ pub enum Who {
 impl Who {
     ghost use Rattle.acl_nfs4.specs.Who.{matches, is_special, same_who, flags_of_who};
 
-    /// Whether this is the requester of a file with this owner and this group. Long lists are mostly about users, who are told
-    /// at one look.
-    pub(crate) fn matches(&self, owner: Uid, group: Gid, requester: &Requester) -> bool
-        ensures { result ≡ matches owner group requester.now self.now }
+    /// Whether whoever asks for a file with this owner and this group is meant. Long lists are
+    /// mostly about users, who are told at one look.
+    pub(crate) fn matches<S: Subject>(&self, owner: Uid, group: Gid, subject: &S) -> bool
+        ensures { result ≡ matches owner group (S.identity subject.now) self.now }
     {
         if let Who::User(uid) = *self {
-            return requester.uid() == uid;
+            return subject.uid() == uid;
         }
-        self.matches_any(owner, group, requester)
+        self.matches_any(owner, group, subject)
     }
 
     /// The same of anyone. It stays a call, so that the look at a user is not one arm among others.
     #[inline(never)]
-    fn matches_any(&self, owner: Uid, group: Gid, requester: &Requester) -> bool
-        ensures { result ≡ matches owner group requester.now self.now }
+    fn matches_any<S: Subject>(&self, owner: Uid, group: Gid, subject: &S) -> bool
+        ensures { result ≡ matches owner group (S.identity subject.now) self.now }
     {
         match *self {
-            Who::Owner => requester.uid() == owner,
-            Who::Group => requester.is_in_group(group),
+            Who::Owner => subject.uid() == owner,
+            Who::Group => subject.is_in_group(group),
             Who::Everyone => true,
-            Who::User(uid) => requester.uid() == uid,
-            Who::NamedGroup(gid) => requester.is_in_group(gid),
+            Who::User(uid) => subject.uid() == uid,
+            Who::NamedGroup(gid) => subject.is_in_group(gid),
         }
     }
 

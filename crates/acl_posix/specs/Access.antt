@@ -1,14 +1,17 @@
--- The access check (1003.1e draft 17, section 23). A list stands for the set of its entries: no answer depends on their
--- order.
-use Rattle.std.specs.Prelude.{ℕ, Bool, true, false, ◌==◌, Option, Some, None, List, [], ◌∷◌, if◌then◌else◌}
+-- The access check (1003.1e draft 17, section 23). A list stands for the set of its entries: no
+-- answer depends on their order.
+use Rattle.std.specs.Prelude.{ℕ, Bool, true, false, ◌==◌, Option, Some, None, List, [], ◌∷◌}
+use Rattle.std.specs.Prelude.{if◌then◌else◌}
 use Rattle.std.specs.List.{filter, list_any}
 use Rattle.acl_names.specs.Requester.{Identity, is_in_group}
 use Rattle.acl_posix.specs.declared.entry.Tag.{Tag}
-use Rattle.acl_posix.specs.declared.entry.Tag.TheVariants.{UserObj, User, GroupObj, Group, Mask, Other}
+use Rattle.acl_posix.specs.declared.entry.Tag.TheVariants.{UserObj, User, GroupObj, Group, Mask}
+use Rattle.acl_posix.specs.declared.entry.Tag.TheVariants.{Other}
 use Rattle.acl_posix.specs.Entry.{EntryValue, entries_of, perms_of}
 use Rattle.acl_names.specs.Bits.{◌∩◌, has_all}
 
--- whether it is the entry of a group that the requester is in: of the file's group, or of one by its id
+-- whether it is the entry of a group that the requester is in: of the file's group, or of one by
+-- its id
 abbrev pub is_for_group_of : Identity → ℕ → Tag → Bool
 is_for_group_of requester group GroupObj = is_in_group requester group
 is_for_group_of requester group (Group gid) = is_in_group requester gid
@@ -20,8 +23,9 @@ first_nonempty [] = []
 first_nonempty ([] ∷ rest) = first_nonempty rest
 first_nonempty ((entry ∷ entries) ∷ rest) = entry ∷ entries
 
--- The entries that decide are those for the owner, if that is who asks; else those for the user who asks; else those for
--- the groups of who asks; else those for the others. The first of these that there are decide alone.
+-- The entries that decide are those for the owner, if that is who asks; else those for the user who
+-- asks; else those for the groups of who asks; else those for the others. The first of these that
+-- there are decide alone.
 abbrev pub deciding_set : List EntryValue → ℕ → ℕ → Identity → List EntryValue
 deciding_set acl owner group requester =
     first_nonempty (
@@ -46,9 +50,12 @@ masked (Some mask) perms = perms ∩ mask
 
 -- the effective permissions of an entry: its own, as far as the mask leaves them
 abbrev pub effective_perms : List EntryValue → EntryValue → ℕ
-effective_perms acl entry = if is_under_mask entry.tag then masked (perms_of Mask acl) entry.perms else entry.perms
+effective_perms acl entry = if is_under_mask entry.tag then masked (perms_of Mask acl) entry.perms
+    else entry.perms
 
--- A request is granted if one of the entries that decide has the whole of it in its effective permissions.
+-- A request is granted if one of the entries that decide has the whole of it in its effective
+-- permissions.
 abbrev pub grants : List EntryValue → ℕ → ℕ → Identity → ℕ → Bool
 grants acl owner group requester request =
-    list_any (λ entry. has_all (effective_perms acl entry) request) (deciding_set acl owner group requester)
+    list_any (λ entry. has_all (effective_perms acl entry) request)
+    (deciding_set acl owner group requester)

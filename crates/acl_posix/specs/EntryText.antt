@@ -1,5 +1,6 @@
 -- How entries of POSIX ACLs are written: the long text form of 1003.1e draft 17, section 23.
-use Rattle.std.specs.Prelude.{ℕ, List, [], ◌∷◌, Bool, ◌||◌, Option, Some, None, Result, Ok, Err, codes, if◌then◌else◌}
+use Rattle.std.specs.Prelude.{ℕ, List, [], ◌∷◌, Bool, ◌||◌, Option, Some, None, Result, Ok, Err}
+use Rattle.std.specs.Prelude.{codes, if◌then◌else◌}
 use Rattle.std.specs.Str.{bytes_eq}
 use Rattle.acl_names.specs.Bytes.{colon}
 use Rattle.acl_names.specs.Directory.{Known, uid_of, gid_of}
@@ -9,7 +10,8 @@ use Rattle.acl_names.specs.Steps.{◌>>=◌, or_fault}
 use Rattle.acl_posix.specs.PermsText.{perms_of_text}
 use Rattle.acl_posix.specs.Entry.{EntryValue}
 use Rattle.acl_posix.specs.declared.entry.Tag.{Tag}
-use Rattle.acl_posix.specs.declared.entry.Tag.TheVariants.{UserObj, User, GroupObj, Group, Mask, Other}
+use Rattle.acl_posix.specs.declared.entry.Tag.TheVariants.{UserObj, User, GroupObj, Group, Mask}
+use Rattle.acl_posix.specs.declared.entry.Tag.TheVariants.{Other}
 use Rattle.acl_posix.specs.declared.reading.PieceFault.{PieceFault}
 use Rattle.acl_posix.specs.declared.reading.PieceFault.TheVariants.{Syntax, UnknownName}
 use Rattle.acl_posix.specs.declared.reading.TagWord.{TagWord}
@@ -23,7 +25,8 @@ pub record Fields : Type 0 where
 
 abbrev pub as_fields : List (List ℕ) → Option Fields
 as_fields (tag ∷ perms ∷ []) = Some (record { tag = tag; qualifier = None; perms = perms })
-as_fields (tag ∷ qualifier ∷ perms ∷ []) = Some (record { tag = tag; qualifier = Some qualifier; perms = perms })
+as_fields (tag ∷ qualifier ∷ perms ∷ []) = Some
+    (record { tag = tag; qualifier = Some qualifier; perms = perms })
 as_fields _ = None
 
 -- fields are separated by ':', each trimmed
@@ -52,10 +55,12 @@ qualified tag id_of text = do
 abbrev pub tag_of : Known → TagWord → Option (List ℕ) → Result Tag PieceFault
 tag_of known word.User None = Err Syntax
 tag_of known word.User (Some []) = Ok UserObj
-tag_of known word.User (Some (byte ∷ bytes)) = qualified (λ uid. User uid) (uid_of known) (byte ∷ bytes)
+tag_of known word.User (Some (byte ∷ bytes)) =
+    qualified (λ uid. User uid) (uid_of known) (byte ∷ bytes)
 tag_of known word.Group None = Err Syntax
 tag_of known word.Group (Some []) = Ok GroupObj
-tag_of known word.Group (Some (byte ∷ bytes)) = qualified (λ gid. Group gid) (gid_of known) (byte ∷ bytes)
+tag_of known word.Group (Some (byte ∷ bytes)) =
+    qualified (λ gid. Group gid) (gid_of known) (byte ∷ bytes)
 tag_of known word.Mask None = Ok Mask
 tag_of known word.Mask (Some []) = Ok Mask
 tag_of known word.Mask (Some (byte ∷ bytes)) = Err Syntax

@@ -8,9 +8,11 @@ use Rattle.acl_posix.specs.Shapes.{HasShape}
 abbrev pub IsEntry : Known → List ℕ → Type 0
 IsEntry known piece = (entry : EntryValue) × HasShape known piece entry
 
--- UnknownName: the piece is no entry here, and is one by the users and groups of some faultless directory
+-- UnknownName: the piece is no entry here, and is one by the users and groups of some faultless
+-- directory
 abbrev pub HasUnknownName : Known → List ℕ → Type 0
-HasUnknownName known piece = ¬ IsEntry known piece × ((other : Known) × (fault_of other ≡ None) × IsEntry other piece)
+HasUnknownName known piece = ¬ IsEntry known piece
+    × ((other : Known) × (fault_of other ≡ None) × IsEntry other piece)
 
 -- Syntax: the piece is no entry, whatever users and groups there are
 abbrev pub HasNoShape : List ℕ → Type 0

@@ -1,4 +1,5 @@
--- Private steps, which no public clause cites: an entry with which a text begins, its word, its qualifier and its permissions.
+-- Private steps, which no public clause cites: an entry with which a text begins, its word, its
+-- qualifier and its permissions.
 use Rattle.std.specs.Prelude.{◌≡◌, ℕ, Bool, List, ◌∷◌, ◌++◌, Some, Ok}
 use Rattle.acl_names.specs.Bytes.{colon}
 use Rattle.acl_names.specs.Directory.{Known}
@@ -16,7 +17,8 @@ pub record BeginsWithWord (text : List ℕ) (word : TagWord) (rest : List ℕ) :
   pub says : tag_word written ≡ Some word
 
 -- the text after the word begins with a qualifier and a colon, and they say the tag
-pub record BeginsWithTag (known : Known) (text : List ℕ) (word : TagWord) (tag : Tag) (rest : List ℕ) : Type 0 where
+pub record BeginsWithTag (known : Known) (text : List ℕ) (word : TagWord) (tag : Tag)
+    (rest : List ℕ) : Type 0 where
   pub qualifier : List ℕ
   pub cut : text ≡ qualifier ++ colon ∷ rest
   pub field : IsField qualifier

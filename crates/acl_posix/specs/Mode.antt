@@ -1,5 +1,6 @@
 -- Modes, and what they have to do with access control lists (1003.1e draft 17, section 23).
-use Rattle.std.specs.Prelude.{ℕ, ◌+◌, ◌*◌, ◌/◌, ◌%◌, Option, Some, None, List, [], ◌∷◌, map, is_some, unwrap_or, if◌then◌else◌}
+use Rattle.std.specs.Prelude.{ℕ, ◌+◌, ◌*◌, ◌/◌, ◌%◌, Option, Some, None, List, [], ◌∷◌, map}
+use Rattle.std.specs.Prelude.{is_some, unwrap_or, if◌then◌else◌}
 use Rattle.std.specs.List.{filter, fold}
 use Rattle.acl_posix.specs.declared.entry.Tag.{Tag}
 use Rattle.acl_posix.specs.declared.entry.Tag.TheVariants.{UserObj, GroupObj, Mask, Other}
@@ -32,13 +33,18 @@ classes_of number = record { user = number / 64; group = number / 8 % 8; other =
 abbrev pub perms_at : Tag → List EntryValue → ℕ
 perms_at tag acl = unwrap_or (perms_of tag acl) 0
 
--- the entry that stands for the group in a mode: the mask if there is one, else that of the file's group
+-- the entry that stands for the group in a mode: the mask if there is one, else that of the file's
+-- group
 abbrev pub group_class_tag : List EntryValue → Tag
 group_class_tag acl = if is_some (perms_of Mask acl) then Mask else GroupObj
 
 -- the mode of an access control list
 abbrev pub mode_of : List EntryValue → Classes
-mode_of acl = record { user = perms_at UserObj acl; group = perms_at (group_class_tag acl) acl; other = perms_at Other acl }
+mode_of acl = record {
+  user = perms_at UserObj acl;
+  group = perms_at (group_class_tag acl) acl;
+  other = perms_at Other acl;
+}
 
 -- what a mode says of the entry with the tag, if it says anything
 abbrev pub mode_perms : Tag → Classes → Tag → Option ℕ
@@ -48,10 +54,16 @@ mode_perms group_class mode tag = if same_tag tag group_class then Some mode.gro
 
 -- an entry with what the mode says of it, and one with no more than that
 abbrev pub set_to : Tag → Classes → EntryValue → EntryValue
-set_to group_class mode entry = record { tag = entry.tag; perms = unwrap_or (mode_perms group_class mode entry.tag) entry.perms }
+set_to group_class mode entry = record {
+  tag = entry.tag;
+  perms = unwrap_or (mode_perms group_class mode entry.tag) entry.perms;
+}
 
 abbrev pub met_with : Tag → Classes → EntryValue → EntryValue
-met_with group_class mode entry = record { tag = entry.tag; perms = masked (mode_perms group_class mode entry.tag) entry.perms }
+met_with group_class mode entry = record {
+  tag = entry.tag;
+  perms = masked (mode_perms group_class mode entry.tag) entry.perms;
+}
 
 -- an access control list whose mode is changed
 abbrev pub chmod : List EntryValue → Classes → List EntryValue
@@ -71,4 +83,5 @@ of_mode mode =
 
 -- the union of the permissions that a mask would limit
 abbrev pub calc_mask : List EntryValue → ℕ
-calc_mask acl = fold (λ all entry. all ∪ entry.perms) 0 (filter (λ entry. is_under_mask entry.tag) acl)
+calc_mask acl = fold (λ all entry. all ∪ entry.perms) 0
+    (filter (λ entry. is_under_mask entry.tag) acl)

@@ -1,4 +1,5 @@
--- Sets of permissions. A set is seen as the number with its bits: 4 to read, 2 to write, 1 to execute.
+-- Sets of permissions. A set is seen as the number with its bits: 4 to read, 2 to write, 1 to
+-- execute.
 use Rattle.std.specs.Prelude.{ℕ, ◌<◌}
 use Rattle.acl_posix.specs.declared.perms.Perms.{Perms}
 

@@ -1,5 +1,7 @@
--- How POSIX ACLs are printed: the long text form of 1003.1e draft 17, section 23, and its marks of effective permissions.
-use Rattle.std.specs.Prelude.{ℕ, ◌≤◌, ◌&&◌, not, List, [], ◌∷◌, ◌++◌, Option, Some, None, codes, if◌then◌else◌}
+-- How POSIX ACLs are printed: the long text form of 1003.1e draft 17, section 23, and its marks of
+-- effective permissions.
+use Rattle.std.specs.Prelude.{ℕ, ◌≤◌, ◌&&◌, not, List, [], ◌∷◌, ◌++◌, Option, Some, None, codes}
+use Rattle.std.specs.Prelude.{if◌then◌else◌}
 use Rattle.std.specs.List.{flat_map, join_with_byte, All}
 use Rattle.acl_names.specs.declared.limits.TheConstants.{MAX_ID}
 use Rattle.acl_names.specs.Bytes.{newline, tab, colon}
@@ -10,7 +12,8 @@ use Rattle.acl_posix.specs.Access.{is_under_mask}
 use Rattle.acl_posix.specs.PermsText.{perms_text}
 use Rattle.acl_posix.specs.Entry.{EntryValue}
 use Rattle.acl_posix.specs.declared.entry.Tag.{Tag}
-use Rattle.acl_posix.specs.declared.entry.Tag.TheVariants.{UserObj, User, GroupObj, Group, Mask, Other}
+use Rattle.acl_posix.specs.declared.entry.Tag.TheVariants.{UserObj, User, GroupObj, Group, Mask}
+use Rattle.acl_posix.specs.declared.entry.Tag.TheVariants.{Other}
 
 -- the full word of a tag
 abbrev pub word_text : Tag → List ℕ
@@ -31,7 +34,8 @@ qualifier_text known Other = []
 
 -- `tag:qualifier:perms`
 abbrev pub entry_text : Known → EntryValue → List ℕ
-entry_text known entry = join_with_byte colon (word_text entry.tag ∷ qualifier_text known entry.tag ∷ perms_text entry.perms ∷ [])
+entry_text known entry = join_with_byte colon
+    (word_text entry.tag ∷ qualifier_text known entry.tag ∷ perms_text entry.perms ∷ [])
 
 -- one entry per line
 abbrev pub long_text : Known → List EntryValue → List ℕ
@@ -45,7 +49,8 @@ mark_of (Some left) = tab ∷ codes "#effective:" ++ perms_text left
 -- the mark of an entry, if the mask removes something from it
 abbrev pub effective_mark : Option ℕ → EntryValue → List ℕ
 effective_mark None entry = []
-effective_mark (Some mask) entry = if is_under_mask entry.tag && not (has_all mask entry.perms) then mark_of (Some (entry.perms ∩ mask)) else []
+effective_mark (Some mask) entry = if is_under_mask entry.tag && not (has_all mask entry.perms)
+    then mark_of (Some (entry.perms ∩ mask)) else []
 
 -- a line: the entry, its mark, and a newline
 abbrev pub line_text : Known → Option ℕ → EntryValue → List ℕ

@@ -6,7 +6,8 @@ use Rattle.acl_names.specs.declared.list.ListFault.{ListFault}
 use Rattle.acl_names.specs.declared.list.ListFault.TheVariants as list
 use Rattle.acl_posix.specs.EntryText.{entry_of}
 use Rattle.acl_posix.specs.declared.entries.TextFault.{TextFault}
-use Rattle.acl_posix.specs.declared.entries.TextFault.TheVariants.{Syntax, UnknownName, TooMany, Memory}
+use Rattle.acl_posix.specs.declared.entries.TextFault.TheVariants.{Syntax, UnknownName, TooMany}
+use Rattle.acl_posix.specs.declared.entries.TextFault.TheVariants.{Memory}
 use Rattle.acl_posix.specs.declared.limits.TheConstants.{MAX_ENTRIES}
 use Rattle.acl_posix.specs.declared.reading.PieceFault.{PieceFault}
 use Rattle.acl_posix.specs.declared.reading.PieceFault.TheVariants as piece

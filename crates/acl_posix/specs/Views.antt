@@ -5,4 +5,8 @@ use Rattle.acl_posix.specs.declared.reading.Fields.{Fields}
 
 -- without where the fields lie in memory
 abbrev pub view_fields : Fields → text.Fields
-view_fields fields = record { tag = fields.tag.now; qualifier = option_map (λ bytes. bytes.now) fields.qualifier; perms = fields.perms.now }
+view_fields fields = record {
+  tag = fields.tag.now;
+  qualifier = option_map (λ bytes. bytes.now) fields.qualifier;
+  perms = fields.perms.now;
+}

@@ -1,6 +1,7 @@
 //! Access control lists.
 
-ghost use Rattle.std.specs.Prelude.{List, ◌≡◌, ◌≢◌, ◌↔◌, None, OnOk, IfOk, IfErr, IfSome, option_map};
+ghost use Rattle.std.specs.Prelude.{List, ◌≡◌, ◌≢◌, ◌↔◌, IsTrue, None, OnOk, IfOk, IfErr, IfSome};
+ghost use Rattle.std.specs.Prelude.{option_map};
 ghost use Rattle.std.specs.List.{Contains};
 ghost use Rattle.std.specs.List.Sorted.{IsPermutation};
 
@@ -50,11 +51,12 @@ impl Acl {
     ghost use Rattle.acl_posix.specs.InOrder.{in_order};
     ghost use Rattle.acl_posix.specs.Perms.{bits_of, IsPermissions};
 
-    /// The access control list of these entries, if they are one (1003.1e draft 17, section 23): one entry each for the
-    /// owner, the file's group and the others, at most one mask, no user and no group twice, and a mask if a user or a
-    /// group is named. Else it is refused for the first of: an entry is missing, an entry stands twice, there is no mask. The
-    /// entries are dropped on a refusal. It takes over their storage, and takes no memory. The list is the entries in canonical
-    /// order.
+    /// The access control list of these entries, if they are one (1003.1e draft 17, section 23):
+    /// one entry each for the owner, the file's group and the others, at most one mask, no user and
+    /// no group twice, and a mask if a user or a group is named. Else it is refused for the first
+    /// of: an entry is missing, an entry stands twice, there is no mask. The entries are dropped on
+    /// a refusal. It takes over their storage, and takes no memory. The list is the entries in
+    /// canonical order.
     #[inline(always)]
     pub fn new(entries: Entries) -> Result<Acl, Invalid>
         ensures list { IfOk result (λ acl. acl ≡ in_order entries) }
@@ -74,20 +76,29 @@ impl Acl {
         })
     }
 
-    /// The entries in canonical order: the owner's, the users' by id, the file's group's, the groups' by id, the mask, and
-    /// the others'.
+    /// The entries in canonical order: the owner's, the users' by id, the file's group's, the
+    /// groups' by id, the mask, and the others'.
     pub fn entries(&self) -> &[Entry]
         ensures value { result.now ≡ self.now }
         ensures acl { IsAcl self.now }
 
         // It is known by the set of its entries.
-        ensures one_list { (other : List EntryValue) → IsAcl other → ((entry : EntryValue) → Contains self.now entry ↔ Contains other entry)
+        ensures one_list { (other : List EntryValue) → IsAcl other
+            → ((entry : EntryValue) → Contains self.now entry ↔ Contains other entry)
             → self.now ≡ other }
     {
         self.sorted.as_slice()
     }
 
-    /// The permissions of the MASK, which limits what users, the file's group and groups may do; `None` if there is none.
+    /// Whether the other list has the same entries.
+    pub fn has_same_entries(&self, other: &Acl) -> bool
+        ensures { IsTrue result ↔ (self.now ≡ other.now) }
+    {
+        self.entries() == other.entries()
+    }
+
+    /// The permissions of the MASK, which limits what users, the file's group and groups may do;
+    /// `None` if there is none.
     pub fn mask(&self) -> Option<Perms>
         ensures value { option_map bits_of result ≡ perms_of Tag.Mask self.now }
         ensures permissions { IfSome result (λ perms. IsPermissions (bits_of perms)) }

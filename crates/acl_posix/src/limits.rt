@@ -1,6 +1,7 @@
 //! How many entries a list may have, and how long its lines get.
 ghost use Rattle.std.specs.Prelude.{◌≡◌};
-ghost use Rattle.acl_posix.specs.declared.limits.TheConstants.{MAX_DEFAULT_LINE, MAX_ENTRIES, MAX_LINE};
+ghost use Rattle.acl_posix.specs.declared.limits.TheConstants.{MAX_DEFAULT_LINE, MAX_ENTRIES};
+ghost use Rattle.acl_posix.specs.declared.limits.TheConstants.{MAX_LINE};
 
 /// The most entries of an access control list.
 pub const MAX_ENTRIES: usize = 64;
@@ -8,7 +9,8 @@ pub const MAX_ENTRIES: usize = 64;
 /// How many entries a list has in itself; with more it has them all in memory of their own.
 pub(crate) const INLINE_ENTRIES: usize = 8;
 
-/// The most bytes of a printed line: a word and a colon, a name, a colon and permissions, a mark, and a newline.
+/// The most bytes of a printed line: a word and a colon, a name, a colon and permissions, a mark,
+/// and a newline.
 pub const MAX_LINE: usize = 58;
 
 /// The most bytes of a printed line after `default:`, these counted in.

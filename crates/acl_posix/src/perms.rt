@@ -1,12 +1,14 @@
 //! Sets of permissions.
 
-ghost use Rattle.std.specs.Prelude.{⊤, ◌≡◌, ◌==◌, [], ◌∷◌, IfSome, codes, if◌then◌else◌, option_map};
+ghost use Rattle.std.specs.Prelude.{⊤, ◌≡◌, ◌==◌, [], ◌∷◌, IfSome, codes, if◌then◌else◌};
+ghost use Rattle.std.specs.Prelude.{option_map};
 ghost use Rattle.std.specs.Int.RustNames.{bit_and, bit_or};
 ghost use Rattle.std.specs.List.{list_all};
 ghost use Rattle.acl_names.specs.Bytes.{hyphen};
 ghost use Rattle.acl_posix.specs.Front.{BeginsWithPerms};
 ghost use Rattle.acl_posix.specs.Perms.{bits_of, IsPermissions};
-ghost use Rattle.acl_posix.specs.PermsText.{is_perms_byte, perms_of_text, perms_with, three_letters};
+ghost use Rattle.acl_posix.specs.PermsText.{is_perms_byte, perms_of_text, perms_with};
+ghost use Rattle.acl_posix.specs.PermsText.{three_letters};
 
 use acl_names::{occurs, repeats};
 use bitflags::{Flag, Flags};
@@ -97,7 +99,8 @@ impl BitOr for Perms {
 /// The most characters of permissions.
 const MAX_PERMS_LEN: usize = 3;
 
-/// What 1 to 3 characters out of `r`, `w`, `x` and `-` say, of which no letter stands twice. It says no other permissions.
+/// What 1 to 3 characters out of `r`, `w`, `x` and `-` say, of which no letter stands twice. It
+/// says no other permissions.
 pub fn read_perms(text: &[u8]) -> Option<Perms>
     ensures value { option_map bits_of result ≡ perms_of_text text.now }
     ensures permissions { IfSome result (λ perms. IsPermissions (bits_of perms)) }

@@ -1,6 +1,7 @@
 //! Printing access control lists: the long text form (1003.1e draft 17, section 23).
 
-ghost use Rattle.std.specs.Prelude.{◌≡◌, ◌≤◌, ◌<◌, ◌++◌, ◌∷◌, [], not, length, vec_len, vec_capacity, ◌+◌, ◌*◌, option_map, OnOk, OnErr, None, codes};
+ghost use Rattle.std.specs.Prelude.{◌≡◌, ◌≤◌, ◌<◌, ◌++◌, ◌∷◌, [], not, length, vec_len};
+ghost use Rattle.std.specs.Prelude.{vec_capacity, ◌+◌, ◌*◌, option_map, OnOk, OnErr, None, codes};
 ghost use Rattle.acl_names.specs.Bits.{has_all};
 ghost use Rattle.acl_names.specs.Bytes.{colon, newline};
 ghost use Rattle.acl_names.specs.ListText.{Spells};
@@ -8,7 +9,9 @@ ghost use Rattle.acl_posix.specs.Entry.{HavePermissions, perms_of};
 ghost use Rattle.acl_posix.specs.EntryText.{entry_of};
 ghost use Rattle.acl_posix.specs.Perms.{bits_of};
 ghost use Rattle.acl_posix.specs.PermsText.{perms_text};
-ghost use Rattle.acl_posix.specs.PrintedText.{default_text, effective_mark, effective_text, line_text, long_text, mark_of, qualifier_text, word_text, HasId, HaveIds};
+ghost use Rattle.acl_posix.specs.PrintedText.{default_text, effective_mark, effective_text};
+ghost use Rattle.acl_posix.specs.PrintedText.{line_text, long_text, mark_of, qualifier_text};
+ghost use Rattle.acl_posix.specs.PrintedText.{word_text, HasId, HaveIds};
 
 use crate::limits::{MAX_DEFAULT_LINE, MAX_ENTRIES, MAX_LINE};
 use crate::{Acl, Entry, Perms, Tag};
@@ -18,22 +21,26 @@ use std::alloc::AllocError;
 use std::mem;
 
 impl Acl {
-    /// Appends the entries in canonical order, one per line: `tag:qualifier:perms`, with the full tag word, the name of a
-    /// qualifier if the directory has one, else its decimal, and three characters of permissions. If memory runs out,
-    /// `out` is as it was; that happens only if `out` has no room for `MAX_LINE` bytes an entry.
+    /// Appends the entries in canonical order, one per line: `tag:qualifier:perms`, with the full
+    /// tag word, the name of a qualifier if the directory has one, else its decimal, and three
+    /// characters of permissions. If memory runs out, `out` is as it was; that happens only if
+    /// `out` has no room for `MAX_LINE` bytes an entry.
     pub fn print_long(&self, directory: &Directory, out: &mut Vec<u8>) -> Result<(), AllocError>
-        ensures text { OnOk result (out.new.items ≡ out.old.items ++ long_text directory.now self.now) }
+        ensures text { OnOk result (out.new.items
+            ≡ out.old.items ++ long_text directory.now self.now) }
         ensures unchanged { OnErr result (out.new.items ≡ out.old.items) }
-        ensures room { OnErr result (vec_capacity out.old < vec_len out.old + length self.now * MAX_LINE) }
+        ensures room { OnErr result (vec_capacity out.old
+            < vec_len out.old + length self.now * MAX_LINE) }
         // What is printed is read as these entries.
-        ensures read_again { OnOk result (Spells (entry_of directory.now) MAX_ENTRIES (long_text directory.now self.now) self.now) }
+        ensures read_again { OnOk result (Spells (entry_of directory.now) MAX_ENTRIES
+            (long_text directory.now self.now) self.now) }
     {
         print_lines(self.entries(), None, directory, out)
     }
 
-    /// Appends the same text, but if the mask removes something from an entry, a tab, `#effective:` and three characters
-    /// stand before the newline. If memory runs out, `out` is as it was; that happens only if `out` has no room for `MAX_LINE`
-    /// bytes an entry.
+    /// Appends the same text, but if the mask removes something from an entry, a tab, `#effective:`
+    /// and three characters stand before the newline. If memory runs out, `out` is as it was; that
+    /// happens only if `out` has no room for `MAX_LINE` bytes an entry.
     pub fn print_effective(
         &self,
         directory: &Directory,
@@ -42,21 +49,25 @@ impl Acl {
         ensures text { OnOk result (out.new.items
             ≡ out.old.items ++ effective_text directory.now (perms_of Tag.Mask self.now) self.now) }
         ensures unchanged { OnErr result (out.new.items ≡ out.old.items) }
-        ensures room { OnErr result (vec_capacity out.old < vec_len out.old + length self.now * MAX_LINE) }
+        ensures room { OnErr result (vec_capacity out.old
+            < vec_len out.old + length self.now * MAX_LINE) }
         // What is printed is read as these entries: a mark is a comment.
         ensures read_again { OnOk result
-            (Spells (entry_of directory.now) MAX_ENTRIES (effective_text directory.now (perms_of Tag.Mask self.now) self.now) self.now) }
+            (Spells (entry_of directory.now) MAX_ENTRIES
+            (effective_text directory.now (perms_of Tag.Mask self.now) self.now) self.now) }
     {
         print_lines(self.entries(), self.mask(), directory, out)
     }
 
-    /// Appends the text of `print_effective` with `default:` before each line: how a directory's default list is shown. If
-    /// memory runs out, `out` is as it was; that happens only if `out` has no room for `MAX_DEFAULT_LINE` bytes an entry.
+    /// Appends the text of `print_effective` with `default:` before each line: how a directory's
+    /// default list is shown. If memory runs out, `out` is as it was; that happens only if `out`
+    /// has no room for `MAX_DEFAULT_LINE` bytes an entry.
     pub fn print_default(&self, directory: &Directory, out: &mut Vec<u8>) -> Result<(), AllocError>
         ensures text { OnOk result (out.new.items
             ≡ out.old.items ++ default_text directory.now (perms_of Tag.Mask self.now) self.now) }
         ensures unchanged { OnErr result (out.new.items ≡ out.old.items) }
-        ensures room { OnErr result (vec_capacity out.old < vec_len out.old + length self.now * MAX_DEFAULT_LINE) }
+        ensures room { OnErr result (vec_capacity out.old
+            < vec_len out.old + length self.now * MAX_DEFAULT_LINE) }
     {
         let entries = self.entries();
         out.reserve(entries.len() * MAX_DEFAULT_LINE)?;
@@ -72,12 +83,15 @@ fn print_lines(
     out: &mut Vec<u8>,
 ) -> Result<(), AllocError>
     requires { length entries.now ≤ MAX_ENTRIES }
-    ensures text { OnOk result (out.new.items ≡ out.old.items ++ effective_text directory.now (option_map bits_of mask) entries.now) }
+    ensures text { OnOk result (out.new.items
+        ≡ out.old.items ++ effective_text directory.now (option_map bits_of mask) entries.now) }
     ensures unchanged { OnErr result (out.new.items ≡ out.old.items) }
-    ensures room { OnErr result (vec_capacity out.old < vec_len out.old + length entries.now * MAX_LINE) }
+    ensures room { OnErr result (vec_capacity out.old
+        < vec_len out.old + length entries.now * MAX_LINE) }
     // What is printed is read as these entries: a mark is a comment.
     ensures read_again { OnOk result (HavePermissions entries.now → length entries.now ≤ MAX_ENTRIES
-        → Spells (entry_of directory.now) MAX_ENTRIES (effective_text directory.now (option_map bits_of mask) entries.now) entries.now) }
+        → Spells (entry_of directory.now) MAX_ENTRIES
+        (effective_text directory.now (option_map bits_of mask) entries.now) entries.now) }
 {
     directory.tell_names_apart();
     out.reserve(entries.len() * MAX_LINE)?;
@@ -85,12 +99,13 @@ fn print_lines(
     Ok(())
 }
 
-/// Appends the lines, if `out` has room for them. The text is in the hand meanwhile, so that where it ends isn't written
-/// to memory byte by byte.
+/// Appends the lines, if `out` has room for them. The text is in the hand meanwhile, so that where
+/// it ends isn't written to memory byte by byte.
 fn put_lines(entries: &[Entry], mask: Option<Perms>, directory: &Directory, out: &mut Vec<u8>)
     requires within { length entries.now ≤ MAX_ENTRIES }
     requires room { vec_len out.old + length entries.now * MAX_LINE ≤ vec_capacity out.old }
-    ensures text { out.new.items ≡ out.old.items ++ effective_text directory.now (option_map bits_of mask) entries.now }
+    ensures text { out.new.items ≡ out.old.items
+        ++ effective_text directory.now (option_map bits_of mask) entries.now }
     ensures have_ids { HaveIds entries.now }
 {
     let none = Vec::new(*out.allocator());
@@ -110,7 +125,8 @@ fn put_default_lines(
 )
     requires within { length entries.now ≤ MAX_ENTRIES }
     requires room { vec_len out.old + length entries.now * MAX_DEFAULT_LINE ≤ vec_capacity out.old }
-    ensures text { out.new.items ≡ out.old.items ++ default_text directory.now (option_map bits_of mask) entries.now }
+    ensures text { out.new.items ≡ out.old.items
+        ++ default_text directory.now (option_map bits_of mask) entries.now }
 {
     let none = Vec::new(*out.allocator());
     let mut text = mem::replace(out, none);
@@ -124,7 +140,8 @@ fn put_default_lines(
 fn put_default_line(entry: &Entry, mask: Option<Perms>, directory: &Directory, out: &mut Vec<u8>)
     requires { vec_len out.old + MAX_DEFAULT_LINE ≤ vec_capacity out.old }
     ensures text { out.new.items
-        ≡ out.old.items ++ (codes "default:" ++ line_text directory.now (option_map bits_of mask) entry.now) }
+        ≡ out.old.items ++ (codes "default:" ++ line_text directory.now (option_map bits_of mask)
+        entry.now) }
     ensures len { vec_len out.new ≤ vec_len out.old + MAX_DEFAULT_LINE }
     ensures capacity { vec_capacity out.new ≡ vec_capacity out.old }
 {
@@ -135,7 +152,8 @@ fn put_default_line(entry: &Entry, mask: Option<Perms>, directory: &Directory, o
 #[inline(always)]
 fn put_line(entry: &Entry, mask: Option<Perms>, directory: &Directory, out: &mut Vec<u8>)
     requires { vec_len out.old + MAX_LINE ≤ vec_capacity out.old }
-    ensures text { out.new.items ≡ out.old.items ++ line_text directory.now (option_map bits_of mask) entry.now }
+    ensures text { out.new.items ≡ out.old.items
+        ++ line_text directory.now (option_map bits_of mask) entry.now }
     ensures has_id { HasId entry.now.tag }
     ensures len { vec_len out.new ≤ vec_len out.old + MAX_LINE }
     ensures capacity { vec_capacity out.new ≡ vec_capacity out.old }
@@ -148,7 +166,8 @@ fn put_line(entry: &Entry, mask: Option<Perms>, directory: &Directory, out: &mut
 #[inline(always)]
 fn put_tag(tag: Tag, directory: &Directory, out: &mut Vec<u8>)
     requires { vec_len out.old + 38 ≤ vec_capacity out.old }
-    ensures text { out.new.items ≡ out.old.items ++ (word_text tag ++ colon ∷ qualifier_text directory.now tag) }
+    ensures text { out.new.items ≡ out.old.items
+        ++ (word_text tag ++ colon ∷ qualifier_text directory.now tag) }
     ensures has_id { HasId tag }
     ensures len { vec_len out.new ≤ vec_len out.old + 38 }
     ensures capacity { vec_capacity out.new ≡ vec_capacity out.old }
@@ -174,7 +193,8 @@ fn put_tag(tag: Tag, directory: &Directory, out: &mut Vec<u8>)
 fn put_perms(entry: &Entry, mask: Option<Perms>, out: &mut Vec<u8>)
     requires { vec_len out.old + 20 ≤ vec_capacity out.old }
     ensures text { out.new.items
-        ≡ out.old.items ++ (colon ∷ perms_text entry.now.perms ++ (effective_mark (option_map bits_of mask) entry.now ++ newline ∷ [])) }
+        ≡ out.old.items ++ (colon ∷ perms_text entry.now.perms
+        ++ (effective_mark (option_map bits_of mask) entry.now ++ newline ∷ [])) }
     ensures len { vec_len out.new ≤ vec_len out.old + 20 }
     ensures capacity { vec_capacity out.new ≡ vec_capacity out.old }
 {
@@ -192,7 +212,8 @@ fn put_perms(entry: &Entry, mask: Option<Perms>, out: &mut Vec<u8>)
 
 /// What the mask leaves of the entry's permissions, if it removes something.
 fn left_by_mask(entry: &Entry, mask: Option<Perms>) -> Option<Perms>
-    ensures { effective_mark (option_map bits_of mask) entry.now ≡ mark_of (option_map bits_of result) }
+    ensures { effective_mark (option_map bits_of mask) entry.now
+        ≡ mark_of (option_map bits_of result) }
 {
     let mask = mask?;
     if entry.tag.is_under_mask() && !mask.contains(entry.perms) {

@@ -2,7 +2,8 @@
 
 ghost use Rattle.acl_posix.specs.Front.{BeginsWithTag, BeginsWithWord};
 ghost use Rattle.acl_names.specs.Pieces.{pieces};
-ghost use Rattle.std.specs.Prelude.{IfSome, Some, [], ◌++◌, ◌≡◌, ◌≢◌, ◌≤◌, ◌↔◌, ℕ, List, length, Ok, Err, option_map, IfOk, IfErr, MatchResult};
+ghost use Rattle.std.specs.Prelude.{IfSome, Some, [], ◌++◌, ◌≡◌, ◌≢◌, ◌≤◌, ◌↔◌, ℕ, List, length};
+ghost use Rattle.std.specs.Prelude.{Ok, Err, option_map, IfOk, IfErr, MatchResult};
 ghost use Rattle.acl_names.specs.ListText.{Spells};
 ghost use Rattle.acl_posix.specs.EntryText.{entry_of, fields_of, tag_of, tag_word, qualified};
 ghost use Rattle.acl_names.specs.Directory.{Known, uid_of, gid_of};
@@ -84,18 +85,23 @@ impl<'a> PieceReader for EntryReader<'a> {
     }
 }
 
-/// The entries that the text spells: lines, of which each is cut at its first `#`, and between commas the entries, each of
-/// one of the shapes of the long text form (1003.1e draft 17, section 23), with blanks round the fields.
+/// The entries that the text spells: lines, of which each is cut at its first `#`, and between
+/// commas the entries, each of one of the shapes of the long text form (1003.1e draft 17, section
+/// 23), with blanks round the fields.
 ///
-/// It refuses a text for its first piece that is no entry, `Syntax` or `UnknownName`, or that is one too many, before that
-/// piece is read; and if memory runs out, even if a fault further on isn't yet found. A text of no entries is none.
+/// It refuses a text for its first piece that is no entry, `Syntax` or `UnknownName`, or that is
+/// one too many, before that piece is read; and if memory runs out, even if a fault further on
+/// isn't yet found. A text of no entries is none.
 pub fn read_entries(alloc: Global, text: &[u8], directory: &Directory) -> Result<Entries, TextFault>
-    ensures read { IfOk result (λ entries. Spells (entry_of directory.now) MAX_ENTRIES text.now entries) }
+    ensures read { IfOk result (λ entries. Spells (entry_of directory.now) MAX_ENTRIES text.now
+        entries) }
     ensures fault { IfErr result (IsTextFault directory.now text.now) }
     // What is spelt is read, unless memory runs out; so a text spells at most one list.
-    ensures only { (entries : List EntryValue) → Spells (entry_of directory.now) MAX_ENTRIES text.now entries
+    ensures only { (entries : List EntryValue)
+        → Spells (entry_of directory.now) MAX_ENTRIES text.now entries
         → MatchResult result (λ read. read ≡ entries) (λ fault. fault ≡ TextFault.Memory) }
-    ensures short { length (pieces text.now) ≤ 8 → IfErr result (λ fault. fault ≢ TextFault.Memory) }
+    ensures short { length (pieces text.now) ≤ 8
+        → IfErr result (λ fault. fault ≢ TextFault.Memory) }
 {
     match read_list(alloc, &EntryReader { directory }, MAX_ENTRIES, text) {
         Ok(items) => match Entries::of_items(items) {
@@ -117,16 +123,20 @@ fn text_fault(fault: ListFault<PieceFault>) -> TextFault
     }
 }
 
-/// What a piece says is what the shapes of entries say. There is nothing to run here: a proof cites the contract.
+/// What a piece says is what the shapes of entries say. There is nothing to run here: a proof cites
+/// the contract.
 pub fn pieces_have_shapes()
-    ensures { (known : Known) (piece : List ℕ) (entry : EntryValue) → (entry_of known piece ≡ Ok entry) ↔ HasShape known piece entry }
+    ensures { (known : Known) (piece : List ℕ) (entry : EntryValue)
+        → (entry_of known piece ≡ Ok entry) ↔ HasShape known piece entry }
 {}
 
-/// A piece that is no entry is refused for an unknown name exactly if it is one where the name is known, and else for its
-/// shape. There is nothing to run here: a proof cites the contract.
+/// A piece that is no entry is refused for an unknown name exactly if it is one where the name is
+/// known, and else for its shape. There is nothing to run here: a proof cites the contract.
 pub fn faults_of_pieces()
-    ensures unknown_name { (known : Known) (piece : List ℕ) → (entry_of known piece ≡ Err PieceFault.UnknownName) ↔ HasUnknownName known piece }
-    ensures syntax { (known : Known) (piece : List ℕ) → (entry_of known piece ≡ Err PieceFault.Syntax) ↔ HasNoShape piece }
+    ensures unknown_name { (known : Known) (piece : List ℕ)
+        → (entry_of known piece ≡ Err PieceFault.UnknownName) ↔ HasUnknownName known piece }
+    ensures syntax { (known : Known) (piece : List ℕ)
+        → (entry_of known piece ≡ Err PieceFault.Syntax) ↔ HasNoShape piece }
 {}
 
 fn read_fields(piece: &[u8]) -> Option<Fields<'_>>
@@ -236,7 +246,8 @@ fn behind<'t>(front: &[u8], text: &'t [u8]) -> Option<&'t [u8]>
     }
 }
 
-/// The tag that the word and a qualifier say: none, a decimal, or a name; and what stands after its colon.
+/// The tag that the word and a qualifier say: none, a decimal, or a name; and what stands after its
+/// colon.
 fn read_tag_front<'t>(
     directory: &Directory,
     word: TagWord,
@@ -270,7 +281,8 @@ fn read_name_front<'t>(
 }
 
 fn read_user_front<'t>(directory: &Directory, text: &'t [u8]) -> Option<(Tag, &'t [u8])>
-    ensures { IfSome result (λ front. BeginsWithTag directory.now text.now TagWord.User front.0 front.1.now) }
+    ensures { IfSome result (λ front. BeginsWithTag directory.now text.now TagWord.User front.0
+        front.1.now) }
 {
     let (name, hash, rest) = split_name(b':', text)?;
     let uid = directory.uid_by_hash(hash, name)?;
@@ -278,7 +290,8 @@ fn read_user_front<'t>(directory: &Directory, text: &'t [u8]) -> Option<(Tag, &'
 }
 
 fn read_group_front<'t>(directory: &Directory, text: &'t [u8]) -> Option<(Tag, &'t [u8])>
-    ensures { IfSome result (λ front. BeginsWithTag directory.now text.now TagWord.Group front.0 front.1.now) }
+    ensures { IfSome result (λ front. BeginsWithTag directory.now text.now TagWord.Group front.0
+        front.1.now) }
 {
     let (name, hash, rest) = split_name(b':', text)?;
     let gid = directory.gid_by_hash(hash, name)?;
@@ -299,7 +312,8 @@ fn tag_of_word(word: TagWord) -> Tag
 
 /// The tag of an entry for the user or the group with this id.
 fn named_tag(word: TagWord, id: u32) -> Option<Tag>
-    ensures { IfSome result (λ tag. (known : Known) (text : List ℕ) → decimal_value text ≡ Some id → tag_of known word (Some text) ≡ Ok tag) }
+    ensures { IfSome result (λ tag. (known : Known) (text : List ℕ) → decimal_value text ≡ Some id
+        → tag_of known word (Some text) ≡ Ok tag) }
 {
     match word {
         TagWord::User => Some(Tag::User(Uid::new(id)?)),

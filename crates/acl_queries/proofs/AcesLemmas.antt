@@ -12,8 +12,8 @@ use Rattle.acl_nfs4.specs.declared.limits.TheConstants.{MAX_ACES}
 use Rattle.acl_queries.specs.AclText.{nobody}
 use Rattle.acl_queries.specs.Compared.{aces_of, as_ace}
 use Rattle.acl_queries.specs.Faults.{Explains, fault_of_aces}
-use Rattle.acl_queries.specs.declared.decide_command.fault.FieldFault.{FieldFault}
-use Rattle.acl_queries.specs.declared.decide_command.fault.FieldFault.TheVariants.{TooMany}
+use Rattle.acl_queries.specs.declared.command.query_fault.FieldFault.{FieldFault}
+use Rattle.acl_queries.specs.declared.command.query_fault.FieldFault.TheVariants.{TooMany}
 
 -- what a piece says, as the field has it
 abbrev pub ace_field : Text → Result Nfsace4 FieldFault

@@ -11,8 +11,8 @@ use Rattle.acl_posix.specs.declared.entries.TextFault.TheVariants as text
 use Rattle.acl_posix.specs.declared.limits.TheConstants.{MAX_ENTRIES}
 use Rattle.acl_queries.specs.AclText.{as_field, entries_of, nobody}
 use Rattle.acl_queries.specs.Faults.{Explains, fault_of_text}
-use Rattle.acl_queries.specs.declared.decide_command.fault.FieldFault.{FieldFault}
-use Rattle.acl_queries.specs.declared.decide_command.fault.FieldFault.TheVariants.{TooMany}
+use Rattle.acl_queries.specs.declared.command.query_fault.FieldFault.{FieldFault}
+use Rattle.acl_queries.specs.declared.command.query_fault.FieldFault.TheVariants.{TooMany}
 
 -- what a piece says, as the field has it
 abbrev pub field_of : List ℕ → Result EntryValue FieldFault

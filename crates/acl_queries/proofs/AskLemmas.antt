@@ -21,7 +21,7 @@ use Rattle.acl_queries.specs.AclText.{accepted, acl_of, as_field, entries_of, no
 use Rattle.acl_queries.specs.Ask.{Ask, GiveAcl, GiveFlag, GiveGids, GiveId, GivePerms, Write}
 use Rattle.acl_queries.specs.Asked.{Asked, acl_in, asked_by, asked_in, flag_in, flag_of, gids_in, gids_of, id_in, id_of, perms_in, perms_of}
 use Rattle.acl_queries.specs.CommandLine.{TakesWords, decide_line}
-use Rattle.acl_queries.specs.declared.decide_command.fault.FieldFault.TheVariants.{BadAcl, BadId, BadPerms, InvalidAcl, TooMany}
+use Rattle.acl_queries.specs.declared.command.query_fault.FieldFault.TheVariants.{BadAcl, BadId, BadPerms, InvalidAcl, TooMany}
 use Rattle.acl_queries.proofs.AclLemmas.{entries_of-spelt, field_of}
 
 -- Gids.

@@ -9,9 +9,9 @@ use Rattle.acl_queries.specs.Differences.{Answers}
 use Rattle.acl_queries.specs.Faults.{failed_write, status_of}
 use Rattle.acl_queries.specs.Outcome.{EndsAs}
 use Rattle.acl_queries.specs.Output.{AppendsFront}
-use Rattle.acl_queries.specs.declared.decide_command.fault.DecideFault.{DecideFault}
-use Rattle.acl_queries.specs.declared.decide_command.fault.DecideFault.TheVariants.{Field, Usage, Run}
-use Rattle.acl_queries.specs.declared.fault.RunFault.TheVariants.{Memory, NoThread, Output, Stopped}
+use Rattle.acl_queries.specs.declared.command.query_fault.QueryFault.{QueryFault}
+use Rattle.acl_queries.specs.declared.command.query_fault.QueryFault.TheVariants.{Field, Usage, Run}
+use Rattle.acl_queries.specs.declared.command.run_fault.RunFault.TheVariants.{Memory, NoThread, Output, Stopped}
 use Rattle.acl_queries.proofs.OutcomeLemmas.{Appends-nothing, silent_of}
 
 -- what goes out of lists that read is an answer's
@@ -28,7 +28,7 @@ module _ (words : List Text) (old new : Option (List ℕ)) (status : ℕ) where
   refused_by (kind ∷ kinds) some ends = ends
 
   -- words that are refused end as they come to
-  pub EndsAsCompared-refused : (fault : DecideFault) → IsCompareFaultOf words fault → (fault ≢ failed_write → Keeps old new)
+  pub EndsAsCompared-refused : (fault : QueryFault) → IsCompareFaultOf words fault → (fault ≢ failed_write → Keeps old new)
       → status ≡ status_of fault → status ≢ 3 → EndsAsCompared words old new status
   EndsAsCompared-refused (Field fault) (taken, is) silent is_status ended =
       let kept = silent (λ e. ended (is_status ∙ ap status_of e)) in
@@ -41,7 +41,7 @@ module _ (words : List Text) (old new : Option (List ℕ)) (status : ℕ) where
   EndsAsCompared-refused (Run fault) is silent is_status ended = absurd (ended is_status)
 
   -- of words that are refused, and of an answer that can't be written, no more went out than a front of an answer
-  pub IsCutShort-refused : (fault : DecideFault) → (fault ≢ failed_write → Keeps old new)
+  pub IsCutShort-refused : (fault : QueryFault) → (fault ≢ failed_write → Keeps old new)
       → (fault ≡ failed_write → IsOkAnd (compared_by words) (λ compared. (text : List ℕ) × Answers compared text × AppendsFront old new text)) → IsCutShort words old new
   IsCutShort-refused (Field fault) silent cut = inl (silent_of (Field fault) old new silent (λ never. never))
   IsCutShort-refused (Usage error) silent cut = inl (silent_of (Usage error) old new silent (λ never. never))

@@ -7,10 +7,10 @@ use Rattle.acl_queries.specs.Compared.{Compared, compared_in, list_in}
 use Rattle.acl_queries.specs.Comparing.{between}
 use Rattle.acl_queries.specs.Faults.{Explains}
 use Rattle.acl_queries.specs.declared.compare_command.list.AnyAcl.{AnyAcl}
-use Rattle.acl_queries.specs.declared.decide_command.fault.DecideFault.{DecideFault}
-use Rattle.acl_queries.specs.declared.decide_command.fault.DecideFault.TheVariants.{Field, Usage, Run}
-use Rattle.acl_queries.specs.declared.decide_command.fault.FieldFault.{FieldFault}
-use Rattle.acl_queries.specs.declared.fault.RunFault.TheVariants.{Memory, NoThread, Output, Stopped}
+use Rattle.acl_queries.specs.declared.command.query_fault.QueryFault.{QueryFault}
+use Rattle.acl_queries.specs.declared.command.query_fault.QueryFault.TheVariants.{Field, Usage, Run}
+use Rattle.acl_queries.specs.declared.command.query_fault.FieldFault.{FieldFault}
+use Rattle.acl_queries.specs.declared.command.run_fault.RunFault.TheVariants.{Memory, NoThread, Output, Stopped}
 
 -- the fields, each as it reads
 abbrev fields : Result ℕ FieldFault → Result ℕ FieldFault → Result AnyAcl FieldFault → Result AnyAcl FieldFault → Result Compared FieldFault
@@ -18,7 +18,7 @@ fields owner group first second =
     owner >>= (λ o. group >>= (λ g. first >>= (λ f. second >>= (λ s. Ok (between o g f s)))))
 
 module _ (owner group : ℕ) (first : AnyAcl) where
-  last_explains : (s : Result AnyAcl FieldFault) (fault : DecideFault) → Explains s fault
+  last_explains : (s : Result AnyAcl FieldFault) (fault : QueryFault) → Explains s fault
       → Explains (fields (Ok owner) (Ok group) (Ok first) s) fault
   last_explains (Err e) (Field fault) is = cc
   last_explains (Ok s) (Field fault) is = cc
@@ -35,7 +35,7 @@ module _ (owner group : ℕ) (first : AnyAcl) where
     unfolding compared_in
     compared-read second is_second = rw (is_owner, is_group, is_first, is_second) refl
 
-    pub last-explains : (fault : DecideFault) → Explains (list_in (codes "other-style") (codes "other-text") rows) fault → Explains (compared_in rows) fault
+    pub last-explains : (fault : QueryFault) → Explains (list_in (codes "other-style") (codes "other-text") rows) fault → Explains (compared_in rows) fault
     unfolding compared_in
     last-explains fault is =
         let second = list_in (codes "other-style") (codes "other-text") rows in

@@ -4,11 +4,11 @@ use Rattle.std.specs.List.{AllByRecursion}
 use Rattle.acl_names.specs.Asker.{identity_of}
 use Rattle.acl_names.specs.Bits.{has, ◌∪◌}
 use Rattle.acl_names.proofs.BitSets.{has-or, no_bits}
-use Rattle.acl_posix.specs.Entry.{EntryValue}
+use Rattle.acl_posix.specs.Access.{grants}
 use Rattle.acl_nfs4.specs.Comparison.{DecideAlike, Decider, IsDifference}
 use Rattle.acl_nfs4.specs.Mask.{mask_bits}
 use Rattle.acl_nfs4.specs.declared.comparison.Difference.{Difference}
-use Rattle.acl_bridge.specs.Comparison.{GrantAlikeToAll, IsFirstDifference, whole_requests}
+use Rattle.acl_bridge.specs.Comparison.{GrantAlikeToAll, Granter, IsFirstDifference, whole_requests}
 use Rattle.acl_queries.specs.Compared.{Compared}
 use Rattle.acl_queries.specs.Differences.{AreAlike, Differ, RequestsAlike, RequestsDiffer, bits_between, decider_of}
 use Rattle.acl_queries.specs.declared.compare_command.list.AnyAcl.{AnyAcl}
@@ -32,14 +32,14 @@ module _ (before after : Decider) (bits : ℕ) (alike : DecideAlike before after
       ∙ is.gained bit ∙ not_one_alone (has bits bit) (after asker bit) (before asker bit) (λ asked. sym (alike asker bit asked)))
 
 -- no request differs if each is granted alike
-no_first_difference : (first second : List EntryValue) (owner group : ℕ) (requests : List ℕ) (difference : Difference)
-    → AllByRecursion (GrantAlikeToAll first second owner group) requests → ¬ IsFirstDifference first second owner group requests difference
-no_first_difference first second owner group [] difference alike never = never
-no_first_difference first second owner group (request ∷ more) difference (here, later) (inl differs) = differs.apart (here (identity_of difference.asker))
-no_first_difference first second owner group (request ∷ more) difference (here, later) (inr (same, differs)) = no_first_difference first second owner group more difference later differs
+no_first_difference : (before after : Granter) (requests : List ℕ) (difference : Difference)
+    → AllByRecursion (GrantAlikeToAll before after) requests → ¬ IsFirstDifference before after requests difference
+no_first_difference before after [] difference alike never = never
+no_first_difference before after (request ∷ more) difference (here, later) (inl differs) = differs.apart (here (identity_of difference.asker))
+no_first_difference before after (request ∷ more) difference (here, later) (inr (same, differs)) = no_first_difference before after more difference later differs
 
 no_request_differs : (owner group : ℕ) (first second : AnyAcl) (difference : Difference) → RequestsAlike owner group first second → ¬ RequestsDiffer owner group first second difference
-no_request_differs owner group (Posix first) (Posix second) difference alike differs = no_first_difference first second owner group whole_requests difference alike differs
+no_request_differs owner group (Posix first) (Posix second) difference alike differs = no_first_difference (grants first owner group) (grants second owner group) whole_requests difference alike differs
 no_request_differs owner group (Posix first) (Nfs4 second) difference alike never = never
 no_request_differs owner group (Nfs4 first) (Posix second) difference alike never = never
 no_request_differs owner group (Nfs4 first) (Nfs4 second) difference alike never = never

@@ -12,8 +12,10 @@ use Rattle.acl_posix.specs.Validity.{fault_of}
 use Rattle.acl_posix.specs.declared.limits.TheConstants.{MAX_ENTRIES}
 use Rattle.acl_posix.specs.declared.reading.PieceFault.{PieceFault}
 use Rattle.acl_posix.specs.declared.reading.PieceFault.TheVariants as piece
-use Rattle.acl_queries.specs.declared.decide_command.fault.FieldFault.{FieldFault}
-use Rattle.acl_queries.specs.declared.decide_command.fault.FieldFault.TheVariants.{BadAcl, TooMany, UnknownName, InvalidAcl}
+use Rattle.acl_queries.specs.declared.command.query_fault.FieldFault.{FieldFault}
+use Rattle.acl_queries.specs.declared.command.query_fault.FieldFault.TheVariants.{BadAcl, TooMany}
+use Rattle.acl_queries.specs.declared.command.query_fault.FieldFault.TheVariants.{UnknownName}
+use Rattle.acl_queries.specs.declared.command.query_fault.FieldFault.TheVariants.{InvalidAcl}
 
 -- a directory that knows no user and no group
 abbrev pub nobody : Known
@@ -30,7 +32,8 @@ as_field (Err fault) = Err (piece_fault fault)
 
 -- the entries that a text spells, at most 64
 abbrev pub entries_of : Text → Result (List EntryValue) FieldFault
-entries_of text = at_most_read TooMany MAX_ENTRIES (λ piece. as_field (entry_of nobody piece)) (pieces text)
+entries_of text = at_most_read TooMany MAX_ENTRIES (λ piece. as_field (entry_of nobody piece))
+    (pieces text)
 
 -- the access control list of these entries
 abbrev pub accepted : List EntryValue → Result (List EntryValue) FieldFault

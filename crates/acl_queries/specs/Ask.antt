@@ -1,5 +1,6 @@
 -- Which question words ask, field by field.
-use Rattle.std.specs.Prelude.{◌≡◌, ◌≤◌, ◌↔◌, ◌⊎◌, ℕ, Bool, true, List, [], length, map, Some, None, codes}
+use Rattle.std.specs.Prelude.{◌≡◌, ◌≤◌, ◌↔◌, ◌⊎◌, ℕ, Bool, true, List, [], length, map, Some, None}
+use Rattle.std.specs.Prelude.{codes}
 use Rattle.clap.specs.Words.{Text, first_of, matches_of}
 use Rattle.acl_names.specs.Bytes.{comma}
 use Rattle.acl_names.specs.Ids.{decimal_value}
@@ -30,16 +31,20 @@ Write texts ids = map decimal_value texts ≡ map Some ids
 
 -- the words give the gids, between commas, or nothing at all
 abbrev pub GiveGids : List Text → List ℕ → Type 0
-GiveGids words gids = ((first_of (codes "gids") (matches_of decide_line words) ≡ None) × (gids ≡ []))
-    ⊎ ((text : Text) × Give words (codes "gids") text × Write (parts comma text) gids × (length gids ≤ MAX_GROUPS_OF_USER))
+GiveGids words gids = ((first_of (codes "gids") (matches_of decide_line words) ≡ None)
+    × (gids ≡ []))
+    ⊎ ((text : Text) × Give words (codes "gids") text × Write (parts comma text) gids
+    × (length gids ≤ MAX_GROUPS_OF_USER))
 
 -- the words give permissions
 abbrev pub GivePerms : List Text → ℕ → Type 0
-GivePerms words perms = (text : Text) × Give words (codes "perms") text × (perms_of_text text ≡ Some perms)
+GivePerms words perms = (text : Text) × Give words (codes "perms") text
+    × (perms_of_text text ≡ Some perms)
 
 -- the words give a text that spells valid entries, and the access control list is those in order
 abbrev pub GiveAcl : List Text → List EntryValue → Type 0
-GiveAcl words acl = (text : Text) × (entries : List EntryValue) × Give words (codes "text") text × Spells (entry_of nobody) MAX_ENTRIES text entries
+GiveAcl words acl = (text : Text) × (entries : List EntryValue) × Give words (codes "text") text
+    × Spells (entry_of nobody) MAX_ENTRIES text entries
     × IsValid entries × (in_order entries ≡ acl)
 
 -- the words set the flag exactly if this is true; the parser gives it a value then, `true`

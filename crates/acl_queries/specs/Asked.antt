@@ -1,5 +1,6 @@
 -- What the words of `decide` ask, read field by field.
-use Rattle.std.specs.Prelude.{ℕ, Bool, false, List, [], Option, Some, None, Result, Ok, codes, bytes_eq}
+use Rattle.std.specs.Prelude.{ℕ, Bool, false, List, [], Option, Some, None, Result, Ok, codes}
+use Rattle.std.specs.Prelude.{bytes_eq}
 use Rattle.clap.specs.Words.{Text, Row, first_of, matches_of}
 use Rattle.acl_names.specs.Bytes.{comma}
 use Rattle.acl_names.specs.Ids.{decimal_value}
@@ -12,11 +13,12 @@ use Rattle.acl_posix.specs.Entry.{EntryValue}
 use Rattle.acl_posix.specs.PermsText.{perms_of_text}
 use Rattle.acl_queries.specs.AclText.{acl_of}
 use Rattle.acl_queries.specs.CommandLine.{decide_line}
-use Rattle.acl_queries.specs.declared.decide_command.fault.FieldFault.{FieldFault}
-use Rattle.acl_queries.specs.declared.decide_command.fault.FieldFault.TheVariants.{BadId, BadPerms, BadAcl, TooMany}
+use Rattle.acl_queries.specs.declared.command.query_fault.FieldFault.{FieldFault}
+use Rattle.acl_queries.specs.declared.command.query_fault.FieldFault.TheVariants.{BadId, BadPerms}
+use Rattle.acl_queries.specs.declared.command.query_fault.FieldFault.TheVariants.{BadAcl, TooMany}
 
--- whether the requester may do all of what is requested with a file of this owner, this group and this access control list;
--- and, with nfs4, which NFSv4 list it translates to
+-- whether the requester may do all of what is requested with a file of this owner, this group and
+-- this access control list; and, with nfs4, which NFSv4 list it translates to
 pub record Asked : Type 0 where
   pub owner : ℕ
   pub group : ℕ

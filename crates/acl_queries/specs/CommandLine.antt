@@ -22,7 +22,8 @@ required_word name = record (new_rule name) { value_names = 1; required = true }
 unfoldable pub decide_line : App
 decide_line = fold with_rule (new_app (codes "decide"))
     (flag (codes "nfs4") ∷ required_option (codes "owner") ∷ required_option (codes "group")
-    ∷ required_option (codes "uid") ∷ optional_option (codes "gids") ∷ required_option (codes "perms")
+    ∷ required_option (codes "uid") ∷ optional_option (codes "gids") ∷ required_option
+    (codes "perms")
     ∷ required_word (codes "text") ∷ [])
 
 -- the parser finds no fault in the words, of which the first is the command's name

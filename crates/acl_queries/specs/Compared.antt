@@ -16,8 +16,11 @@ use Rattle.acl_queries.specs.declared.compare_command.list.AnyAcl.{AnyAcl}
 use Rattle.acl_queries.specs.declared.compare_command.list.AnyAcl.TheVariants as list
 use Rattle.acl_queries.specs.declared.compare_command.list.Style.{Style}
 use Rattle.acl_queries.specs.declared.compare_command.list.Style.TheVariants as style
-use Rattle.acl_queries.specs.declared.decide_command.fault.FieldFault.{FieldFault}
-use Rattle.acl_queries.specs.declared.decide_command.fault.FieldFault.TheVariants.{BadAcl, BadStyle, InheritOnly, TooMany, UnknownName}
+use Rattle.acl_queries.specs.declared.command.query_fault.FieldFault.{FieldFault}
+use Rattle.acl_queries.specs.declared.command.query_fault.FieldFault.TheVariants.{BadAcl, BadStyle}
+use Rattle.acl_queries.specs.declared.command.query_fault.FieldFault.TheVariants.{InheritOnly}
+use Rattle.acl_queries.specs.declared.command.query_fault.FieldFault.TheVariants.{TooMany}
+use Rattle.acl_queries.specs.declared.command.query_fault.FieldFault.TheVariants.{UnknownName}
 
 -- a faulty piece of an NFSv4 list, as the fault of the field
 abbrev pub ace_fault : PieceFault → FieldFault
@@ -31,7 +34,8 @@ as_ace (Err fault) = Err (ace_fault fault)
 
 -- the entries of the NFSv4 list that a text spells, at most 128
 abbrev pub aces_of : Text → Result (List Nfsace4) FieldFault
-aces_of text = at_most_read TooMany MAX_ACES (λ piece. as_ace (piece_value nobody piece)) (pieces text)
+aces_of text = at_most_read TooMany MAX_ACES (λ piece. as_ace (piece_value nobody piece))
+    (pieces text)
 
 -- the style of list that has this name
 abbrev pub style_of : Text → Result Style FieldFault

@@ -6,7 +6,12 @@ use Rattle.acl_queries.specs.declared.compare_command.list.AnyAcl.{AnyAcl}
 
 -- two lists for a file of this owner and this group
 abbrev pub between : ℕ → ℕ → AnyAcl → AnyAcl → Compared
-between owner group first second = record { owner = owner; group = group; first = first; second = second }
+between owner group first second = record {
+  owner = owner;
+  group = group;
+  first = first;
+  second = second;
+}
 
 -- what the comparison compares
 abbrev pub compared : Comparison → Compared

@@ -1,9 +1,8 @@
 -- The lines and the exit statuses of faults.
-use Rattle.std.specs.Prelude.{◌≡◌, ◌≢◌, ◌++◌, ◌∷◌, [], ℕ, List, Option, Some, None, Result, Err, IfSome, IsOk, codes, ⊤}
-use Rattle.std.specs.Io.KnownBytes.{Keeps}
-use Rattle.acl_names.specs.Bytes.{newline}
+use Rattle.std.specs.Prelude.{◌≡◌, ◌≢◌, ℕ, List, Option, Some, None, Result, Err, IsOk, codes, ⊤}
 use Rattle.clap.specs.Words.{Text, kind_of}
 use Rattle.clap.specs.declared.error.Error.{Error}
+use Rattle.clap.specs.declared.error.kind.ErrorKind.{ErrorKind}
 use Rattle.clap.specs.declared.error.kind.ErrorKind.TheVariants.{OutOfMemory}
 use Rattle.acl_nfs4.specs.declared.acl.AceFault.{AceFault}
 use Rattle.acl_nfs4.specs.declared.acl.AceFault.TheVariants as aces
@@ -13,13 +12,19 @@ use Rattle.acl_posix.specs.declared.entries.TextFault.{TextFault}
 use Rattle.acl_posix.specs.declared.entries.TextFault.TheVariants as text
 use Rattle.acl_queries.specs.Asked.{asked_by}
 use Rattle.acl_queries.specs.CommandLine.{TakesWords}
-use Rattle.acl_queries.specs.Output.{AppendsFront}
+use Rattle.acl_queries.specs.ErrorOutput.{SaysFault, line_of_words}
 use Rattle.acl_queries.specs.RunFaults.{run_fault_line}
-use Rattle.acl_queries.specs.declared.fault.RunFault.TheVariants.{Memory, Output, Stopped, NoThread}
-use Rattle.acl_queries.specs.declared.decide_command.fault.DecideFault.{DecideFault}
-use Rattle.acl_queries.specs.declared.decide_command.fault.DecideFault.TheVariants.{Field, Usage, Run}
-use Rattle.acl_queries.specs.declared.decide_command.fault.FieldFault.{FieldFault}
-use Rattle.acl_queries.specs.declared.decide_command.fault.FieldFault.TheVariants.{BadId, TooMany, BadPerms, BadAcl, UnknownName, InvalidAcl, BadStyle, InheritOnly}
+use Rattle.acl_queries.specs.declared.command.run_fault.RunFault.TheVariants.{Memory, Output}
+use Rattle.acl_queries.specs.declared.command.run_fault.RunFault.TheVariants.{Stopped, NoThread}
+use Rattle.acl_queries.specs.declared.command.query_fault.QueryFault.{QueryFault}
+use Rattle.acl_queries.specs.declared.command.query_fault.QueryFault.TheVariants.{Field, Usage, Run}
+use Rattle.acl_queries.specs.declared.command.query_fault.FieldFault.{FieldFault}
+use Rattle.acl_queries.specs.declared.command.query_fault.FieldFault.TheVariants.{BadId, TooMany}
+use Rattle.acl_queries.specs.declared.command.query_fault.FieldFault.TheVariants.{BadPerms, BadAcl}
+use Rattle.acl_queries.specs.declared.command.query_fault.FieldFault.TheVariants.{UnknownName}
+use Rattle.acl_queries.specs.declared.command.query_fault.FieldFault.TheVariants.{InvalidAcl}
+use Rattle.acl_queries.specs.declared.command.query_fault.FieldFault.TheVariants.{BadStyle}
+use Rattle.acl_queries.specs.declared.command.query_fault.FieldFault.TheVariants.{InheritOnly}
 
 abbrev pub field_fault_words : FieldFault → List ℕ
 field_fault_words BadId = codes "bad-id"
@@ -32,27 +37,46 @@ field_fault_words BadStyle = codes "bad-style"
 field_fault_words InheritOnly = codes "inherit-only"
 
 abbrev pub field_fault_line : FieldFault → List ℕ
-field_fault_line fault = codes "aclctl: " ++ field_fault_words fault ++ newline ∷ []
+field_fault_line fault = line_of_words (field_fault_words fault)
 
 -- the line of a fault, if it isn't the parser's
-abbrev pub fault_line : DecideFault → Option (List ℕ)
+abbrev pub fault_line : QueryFault → Option (List ℕ)
 fault_line (Field fault) = Some (field_fault_line fault)
 fault_line (Usage error) = None
 fault_line (Run fault) = Some (run_fault_line fault)
 
 -- the exit status of a fault
-abbrev pub status_of : DecideFault → ℕ
+abbrev pub status_of : QueryFault → ℕ
 status_of (Field fault) = 1
 status_of (Usage error) = 2
 status_of (Run fault) = 3
 
--- beside an answer nothing is told, and of a fault a front of its line: all of it, unless a write fails; the text of wrong usage is the parser's
-abbrev pub Tells : (DecideFault → Type 0) → ℕ → Option (List ℕ) → Option (List ℕ) → Type 0
-Tells IsFault status old new = (status ≡ 0 → Keeps old new)
-    × (status ≢ 0 → (fault : DecideFault) × IsFault fault × (status ≡ status_of fault) × IfSome (fault_line fault) (AppendsFront old new))
+-- what the parser refuses is wrong usage, unless memory ran out
+abbrev pub usage_status_by : ErrorKind → ℕ
+usage_status_by OutOfMemory = 3
+usage_status_by kind = 2
+
+abbrev pub usage_status : Error → ℕ
+usage_status error = usage_status_by (kind_of error)
+
+abbrev pub usage_line_by : ErrorKind → Option (List ℕ)
+usage_line_by OutOfMemory = Some (run_fault_line Memory)
+usage_line_by kind = None
+
+abbrev pub usage_line : Error → Option (List ℕ)
+usage_line error = usage_line_by (kind_of error)
+
+-- a status and a line are those of words that the parser refuses, which is so unless memory ran out
+abbrev pub SaysUsage : Type 0 → ℕ → Option (List ℕ) → Type 0
+SaysUsage Refused = SaysFault usage_status usage_line
+    (λ error. kind_of error ≢ OutOfMemory → Refused)
+
+-- a status and a line are those of a fault for which words are refused
+abbrev pub SaysQueryFault : (QueryFault → Type 0) → ℕ → Option (List ℕ) → Type 0
+SaysQueryFault = SaysFault status_of fault_line
 
 -- a refusal by the parser is wrong usage, unless memory ran out
-abbrev pub BecomesFault : Error → DecideFault → Type 0
+abbrev pub BecomesFault : Error → QueryFault → Type 0
 BecomesFault error (Field fault) = ⊥
 BecomesFault error (Usage same) = (same ≡ error) × (kind_of error ≡ OutOfMemory → ⊥)
 BecomesFault error (Run Memory) = kind_of error ≡ OutOfMemory
@@ -61,7 +85,7 @@ BecomesFault error (Run Stopped) = ⊥
 BecomesFault error (Run NoThread) = ⊥
 
 -- the fault is that of the reading, or out of memory
-abbrev pub Explains : {A : Type 0} → Result A FieldFault → DecideFault → Type 0
+abbrev pub Explains : {A : Type 0} → Result A FieldFault → QueryFault → Type 0
 Explains reading (Field fault) = reading ≡ Err fault
 Explains reading (Usage error) = ⊥
 Explains reading (Run Memory) = ⊤
@@ -69,34 +93,34 @@ Explains reading (Run Output) = ⊥
 Explains reading (Run Stopped) = ⊥
 Explains reading (Run NoThread) = ⊥
 
-abbrev pub out_of_memory : DecideFault
+abbrev pub out_of_memory : QueryFault
 out_of_memory = Run Memory
 
-abbrev pub failed_write : DecideFault
+abbrev pub failed_write : QueryFault
 failed_write = Run Output
 
 -- a text that is refused, and entries that are
-abbrev pub fault_of_text : TextFault → DecideFault
+abbrev pub fault_of_text : TextFault → QueryFault
 fault_of_text text.Syntax = Field BadAcl
 fault_of_text text.UnknownName = Field UnknownName
 fault_of_text text.TooMany = Field TooMany
 fault_of_text text.Memory = Run Memory
 
-abbrev pub fault_of_aces : AceFault → DecideFault
+abbrev pub fault_of_aces : AceFault → QueryFault
 fault_of_aces aces.Syntax = Field BadAcl
 fault_of_aces aces.UnknownName = Field UnknownName
 fault_of_aces aces.TooMany = Field TooMany
 fault_of_aces aces.InheritOnly = Field InheritOnly
 fault_of_aces aces.Memory = Run Memory
 
-abbrev pub fault_of_invalid : Invalid → DecideFault
+abbrev pub fault_of_invalid : Invalid → QueryFault
 fault_of_invalid invalid.Missing = Field InvalidAcl
 fault_of_invalid invalid.Repeated = Field InvalidAcl
 fault_of_invalid invalid.NoMask = Field InvalidAcl
 fault_of_invalid invalid.Memory = Run Memory
 
 -- the words are refused for this: if the parser takes them, for the first field that doesn't read
-abbrev pub IsFaultOf : List Text → DecideFault → Type 0
+abbrev pub IsFaultOf : List Text → QueryFault → Type 0
 IsFaultOf words (Field fault) = TakesWords words × (asked_by words ≡ Err fault)
 IsFaultOf words (Usage error) = ¬ TakesWords words
 IsFaultOf words (Run Memory) = ⊤

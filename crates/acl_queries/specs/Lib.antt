@@ -1,5 +1,6 @@
 pub mod Input
 pub mod Output
+pub mod ErrorOutput
 pub mod CommandLine
 pub mod RunFaults
 pub mod Faults

@@ -1,5 +1,6 @@
 -- What `decide` comes to.
-use Rattle.std.specs.Prelude.{◌≡◌, ℕ, Bool, ◌++◌, ◌∷◌, [], List, Option, Result, Ok, Err, codes, if◌then◌else◌}
+use Rattle.std.specs.Prelude.{◌≡◌, ℕ, Bool, ◌++◌, ◌∷◌, [], List, Option, Result, Ok, Err, codes}
+use Rattle.std.specs.Prelude.{if◌then◌else◌}
 use Rattle.std.specs.Io.KnownBytes.{Appends}
 use Rattle.acl_names.specs.Bytes.{newline}
 use Rattle.clap.specs.Words.{Kinds, Text, fault_of}
@@ -10,7 +11,7 @@ use Rattle.acl_queries.specs.AclText.{nobody}
 use Rattle.acl_posix.specs.Entry.{EntryValue}
 use Rattle.acl_queries.specs.Asked.{Asked, asked_by}
 use Rattle.acl_queries.specs.CommandLine.{decide_line}
-use Rattle.acl_queries.specs.declared.decide_command.fault.FieldFault.{FieldFault}
+use Rattle.acl_queries.specs.declared.command.query_fault.FieldFault.{FieldFault}
 
 -- an exit status, and what goes to the output
 pub record Outcome : Type 0 where
@@ -28,7 +29,8 @@ is_granted asked = grants asked.acl asked.owner asked.group asked.requester aske
 
 -- the line that answers
 abbrev pub answer_line : Bool → List ℕ
-answer_line granted = if granted then codes "granted" ++ newline ∷ [] else codes "denied" ++ newline ∷ []
+answer_line granted = if granted then codes "granted" ++ newline ∷ []
+    else codes "denied" ++ newline ∷ []
 
 -- the entries of the NFSv4 list that an access control list translates to, one a line
 abbrev pub translation_text : List EntryValue → List ℕ
@@ -36,7 +38,8 @@ translation_text acl = aces_text nobody (translation acl)
 
 -- the line, and after it the translation if it is asked for
 abbrev pub answer_text : Asked → List ℕ
-answer_text asked = answer_line (is_granted asked) ++ (if asked.nfs4 then translation_text asked.acl else [])
+answer_text asked = answer_line (is_granted asked)
+    ++ (if asked.nfs4 then translation_text asked.acl else [])
 
 -- an answer, or the fault of a field
 abbrev pub outcome_of_reading : Result Asked FieldFault → Outcome

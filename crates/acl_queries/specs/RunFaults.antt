@@ -1,8 +1,9 @@
 -- What is said of a valid command that failed.
-use Rattle.std.specs.Prelude.{ℕ, List, [], ◌∷◌, ◌++◌, codes}
-use Rattle.acl_names.specs.Bytes.{newline}
-use Rattle.acl_queries.specs.declared.fault.RunFault.{RunFault}
-use Rattle.acl_queries.specs.declared.fault.RunFault.TheVariants.{Memory, Stopped, NoThread, Output}
+use Rattle.std.specs.Prelude.{ℕ, List, Option, Some, ◌++◌, codes}
+use Rattle.acl_queries.specs.ErrorOutput.{line_of_words}
+use Rattle.acl_queries.specs.declared.command.run_fault.RunFault.{RunFault}
+use Rattle.acl_queries.specs.declared.command.run_fault.RunFault.TheVariants.{Memory, Stopped}
+use Rattle.acl_queries.specs.declared.command.run_fault.RunFault.TheVariants.{NoThread, Output}
 
 abbrev pub run_fault_words : RunFault → List ℕ
 run_fault_words Memory = codes "memory"
@@ -12,4 +13,11 @@ run_fault_words Output = codes "output"
 
 -- the line of it
 abbrev pub run_fault_line : RunFault → List ℕ
-run_fault_line fault = codes "aclctl: run: " ++ run_fault_words fault ++ newline ∷ []
+run_fault_line fault = line_of_words (codes "run: " ++ run_fault_words fault)
+
+abbrev pub run_line : RunFault → Option (List ℕ)
+run_line fault = Some (run_fault_line fault)
+
+-- the exit status of it
+abbrev pub run_status : RunFault → ℕ
+run_status fault = 3

@@ -13,6 +13,7 @@ use Rattle.acl_broker.specs.Takers.{TakerState, Keeps}
 use Rattle.acl_broker.specs.declared.end.End.{End}
 use Rattle.acl_broker.specs.declared.taker_side.TakerSide.{TakerSide}
 use Rattle.acl_runs.specs.ErrorLimit.{errors_in}
+use Rattle.acl_runs.specs.Handling.{Handling}
 use Rattle.acl_runs.specs.Taking.{made, AreLimited, StartsWith}
 use Rattle.acl_runs.specs.Workers.{IsServed}
 use Rattle.acl_runs.specs.Threads.{IsReady, Handle, AreStarted, AreGathered, AreServed}
@@ -20,18 +21,18 @@ use Rattle.acl_runs.specs.declared.error_limits.ErrorLimits.{ErrorLimits}
 use Rattle.acl_runs.specs.declared.workers.Gathered.{Gathered}
 use Rattle.acl_runs.proofs.SettlingLemmas.{some_item}
 
-module _ {C P I R K : Type 0} (rest : C → List I) (text : P → R → List ℕ) (is_error : R → Bool) (keep : R → K) (replies : P) (limit : Option ℕ) (ends : List (End I R)) (sessions : List C) (workers : List (Handle C P I R K)) (gathered : Gathered I R K) (started : AreStarted replies limit ends sessions workers) (joined : AreGathered rest text is_error keep workers gathered) where
+module _ {C P I R K : Type 0} (rest : C → List I) (handling : P → Handling R K) (replies : P) (limit : Option ℕ) (ends : List (End I R)) (sessions : List C) (workers : List (Handle C P I R K)) (gathered : Gathered I R K) (started : AreStarted replies limit ends sessions workers) (joined : AreGathered rest handling workers gathered) where
   -- what one worker hands on, of the end and the requests with which it was started
   served_at : (k : ℕ) (requests : C) (end : End I R) (answers : Vec K Global) (output : Vec ℕ Global) → k < length sessions
-      → IsServed (text replies) is_error keep limit (rest (get_or sessions k requests)) (get_or gathered.ends.items k end) (get_or gathered.answers.items k answers).items (get_or gathered.outputs.items k output).items
+      → IsServed (handling replies) limit (rest (get_or sessions k requests)) (get_or gathered.ends.items k end) (get_or gathered.answers.items k answers).items (get_or gathered.outputs.items k output).items
   served_at k requests end answers output below =
       let worker : Handle C P I R K = some_item workers k (omega (arith, below, started.count)) in
       let promise = (get_or workers k worker).promise in
       let begun = started.each k end requests worker below in
       let kept = (joined.each k worker end answers output (omega (arith, below, started.count))).served in
-      subst (λ r. IsServed (text r) is_error keep limit (rest (get_or sessions k requests)) (get_or gathered.ends.items k end) (get_or gathered.answers.items k answers).items (get_or gathered.outputs.items k output).items) begun.replies_are
-      (subst (λ l. IsServed (text promise.replies.now) is_error keep l (rest (get_or sessions k requests)) (get_or gathered.ends.items k end) (get_or gathered.answers.items k answers).items (get_or gathered.outputs.items k output).items) begun.max_errors_is
-      (subst (λ c. IsServed (text promise.replies.now) is_error keep promise.max_errors (rest c) (get_or gathered.ends.items k end) (get_or gathered.answers.items k answers).items (get_or gathered.outputs.items k output).items) begun.requests_are kept))
+      subst (λ r. IsServed (handling r) limit (rest (get_or sessions k requests)) (get_or gathered.ends.items k end) (get_or gathered.answers.items k answers).items (get_or gathered.outputs.items k output).items) begun.replies_are
+      (subst (λ l. IsServed (handling promise.replies.now) l (rest (get_or sessions k requests)) (get_or gathered.ends.items k end) (get_or gathered.answers.items k answers).items (get_or gathered.outputs.items k output).items) begun.max_errors_is
+      (subst (λ c. IsServed (handling promise.replies.now) promise.max_errors (rest c) (get_or gathered.ends.items k end) (get_or gathered.answers.items k answers).items (get_or gathered.outputs.items k output).items) begun.requests_are kept))
 
   stays_at : (k : ℕ) (end : End I R) → length ends ≡ length sessions → k < length sessions → StaysEndOf (get_or ends k end) (get_or gathered.ends.items k end)
   stays_at k end count below =
@@ -42,7 +43,7 @@ module _ {C P I R K : Type 0} (rest : C → List I) (text : P → R → List ℕ
       subst (λ start. StaysEndOf start (get_or gathered.ends.items k end)) (started.each k end requests worker below).start
       (joined.each k worker end answers output (omega (arith, below, started.count))).stays
 
-  pub are_served : AreServed (text replies) is_error keep limit (map rest sessions) gathered
+  pub are_served : AreServed (handling replies) limit (map rest sessions) gathered
   are_served =
       let count : length (map rest sessions) ≡ length workers = length-map sessions rest ∙ sym started.count in
       record {
@@ -52,7 +53,7 @@ module _ {C P I R K : Type 0} (rest : C → List I) (text : P → R → List ℕ
         each = λ k none end answers output below.
             let within : k < length sessions = omega (arith, below, count, started.count) in
             let requests : C = some_item sessions k within in
-            subst (λ wanted. IsServed (text replies) is_error keep limit wanted (get_or gathered.ends.items k end) (get_or gathered.answers.items k answers).items (get_or gathered.outputs.items k output).items) (sym (get_or-map rest sessions k requests none within))
+            subst (λ wanted. IsServed (handling replies) limit wanted (get_or gathered.ends.items k end) (get_or gathered.answers.items k answers).items (get_or gathered.outputs.items k output).items) (sym (get_or-map rest sessions k requests none within))
             (served_at k requests end answers output within);
       }
 

@@ -54,8 +54,8 @@ module _ {I R : Type 0} where
   pub refused_made : (result : Result ℕ TakeRefused) (why : TakeRefused) (old new : TakerSide I R) → result ≡ Err why → TakeMoves result old new → SameMade old new
   refused_made (Ok place) why old new is moves = absurd (ok_isnt_err is)
   refused_made (Err UnknownSession) why old new is moves = absurd moves
-  refused_made (Err Empty) why old new is moves = (made_is old new moves.2.0 moves.2.1, moves.1.1)
-  refused_made (Err Memory) why old new is moves = (ap (λ front. front ++ outbox new) (given_is old new moves.8) ∙ ap (λ box. given old ++ box) moves.7, moves.1.1)
+  refused_made (Err Empty) why old new is moves = (made_is old new moves.answers.0 moves.answers.1, moves.flags.1)
+  refused_made (Err Memory) why old new is moves = (ap (λ front. front ++ outbox new) (given_is old new moves.answers) ∙ ap (λ box. given old ++ box) moves.owed, moves.flags.1)
 
   pub delivered_made : (result : Bool) (old new : TakerSide I R) → DeliverMoves result old new → SameMade old new
   delivered_made true old new moves = (ap (λ g. g ++ outbox new) moves.2.2 ∙ append_assoc (given old) (moves.2.0 ∷ []) (outbox new) ∙ ap (λ box. given old ++ box) (sym moves.2.1), moves.1.3.1)
@@ -111,10 +111,10 @@ module _ {I R : Type 0} (is_error : R → Bool) where
   pub limited_over : (allowed left : ℕ) (old mid new : TakerSide I R) (more : OwesMore old mid) → old.cancelled ≡ false → is_error more.reply ≡ true → nat_eq (left - 1) 0 ≡ true → CancelsAlone mid new → IsLimited is_error allowed left old → IsLimited is_error allowed (left - 1) new
   limited_over allowed left old mid new more live error last cancels limited =
       let was = limited.live live in
-      let all : made new ≡ made old ++ more.reply ∷ [] = made_is mid new cancels.3 cancels.4 ∙ more.made in
+      let all : made new ≡ made old ++ more.reply ∷ [] = made_is mid new (ap (λ side. side.answers) cancels) (ap (λ side. side.outbox) cancels) ∙ more.made in
       let none : left - 1 ≡ 0 = eqb-true (left - 1) 0 last in
       record {
-        live = λ live'. absurd (both_ways new.cancelled live' cancels.6);
+        live = λ live'. absurd (both_ways new.cancelled live' (ap (λ side. side.cancelled) cancels));
         over = λ _. record {
           before = made old;
           last = more.reply;

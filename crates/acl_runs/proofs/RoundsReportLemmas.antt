@@ -6,6 +6,7 @@ use Rattle.std.proofs.Common.{ap, sym, ◌∙◌, subst, arith, get_or, ◌≡�
 use Rattle.std.proofs.lemmas.List.{length-map, map-id, get_or_default, take_all}
 use Rattle.acl_broker.specs.Journal.{items_from, state_after, answers_to}
 use Rattle.acl_broker.specs.declared.steps.JournalEntry.{JournalEntry}
+use Rattle.acl_runs.specs.Handling.{Handling, keeping_all}
 use Rattle.acl_runs.specs.RunReport.{IsReport}
 use Rattle.acl_runs.specs.declared.report.RunReport.{RunReport}
 use Rattle.acl_runs.proofs.SettlingLemmas.{some_item}
@@ -38,22 +39,22 @@ module _ {I : Type 0} where
   few_at n (list ∷ lists) zero few = few.0
   few_at n (list ∷ lists) (suc session) few = few_at n lists session few.1
 
-module _ {C State I R : Type 0} (rest : C → List I) (next : State → I → State) (reply : State → I → R) (text : R → List ℕ) (is_error : R → Bool) where
-  began_answered : (service : State) (sessions : List C) (run : Run C State I R) → HasBegun rest service sessions run → Answered next reply text service run
+module _ {C State I R K : Type 0} (rest : C → List I) (next : State → I → State) (reply : State → I → R) (handling : Handling R K) where
+  began_answered : (service : State) (sessions : List C) (run : Run C State I R) → HasBegun rest service sessions run → Answered next reply handling.text service run
   began_answered service sessions run begun = record {
     state = begun.service_is ∙ ap (λ j. state_after next service j) (sym begun.journal);
     answers = λ session progress below. (begun.fresh session progress below).0 ∙ ap (λ j. answers_to next reply session service j) (sym begun.journal);
-    outputs = λ session progress below. (begun.fresh session progress below).1 ∙ ap (λ j. flat_map text (answers_to next reply session service j)) (sym begun.journal);
+    outputs = λ session progress below. (begun.fresh session progress below).1 ∙ ap (λ j. flat_map handling.text (answers_to next reply session service j)) (sym begun.journal);
   }
 
-  module _ (service : State) (sessions : List C) (most : ℕ) (old new : Run C State I R) (report : RunReport State R I R) (begun : HasBegun rest service sessions old) (served_all : AllRounds rest next reply text most old new) (told : IsReported new report) where
+  module _ (service : State) (sessions : List C) (most : ℕ) (old new : Run C State I R) (report : RunReport State (JournalEntry I) R) (begun : HasBegun rest service sessions old) (served_all : AllRounds rest next reply handling.text most old new) (told : IsReported new report) where
     journal_is : report.journal.items ≡ rounds most (map rest sessions)
     journal_is = ap (λ j. j.items) told.journal ∙ served_all.journal ∙ ap (λ front. front ++ rounds most (rests rest old)) begun.journal ∙ ap (λ lists. rounds most lists) begun.rests_are
 
     pub are_rounds : AllByRecursion (λ list. length list ≤ most) (map rest sessions) → AreRounds (map rest sessions) report.journal.items
     are_rounds few = (most, few, journal_is)
 
-    pub is_report : AllByRecursion (λ list. length list ≤ most) (map rest sessions) → IsReport next reply text is_error (λ answer. answer) service None (map rest sessions) report
+    pub is_report : AllByRecursion (λ list. length list ≤ most) (map rest sessions) → IsReport next reply (keeping_all handling) service None (map rest sessions) report
     is_report few =
         let wanted = map rest sessions in
         let had = served_all.answered service (began_answered service sessions old begun) in
@@ -71,7 +72,7 @@ module _ {C State I R : Type 0} (rest : C → List I) (next : State → I → St
           outputs = λ session none below.
               let within : session < length new.sessions.items = omega (arith, below, many) in
               let progress : Progress C R = some_item new.sessions.items session within in
-              ap (λ (v : Vec ℕ Global). v.items) (told.outputs session progress none within) ∙ had.outputs session progress within ∙ ap (λ j. flat_map text (answers_to next reply session service j)) (sym same);
+              ap (λ (v : Vec ℕ Global). v.items) (told.outputs session progress none within) ∙ had.outputs session progress within ∙ ap (λ j. flat_map handling.text (answers_to next reply session service j)) (sym same);
           state = told.service_is ∙ had.state ∙ ap (λ j. state_after next service j) (sym same);
         }
 

@@ -17,6 +17,7 @@ use Rattle.acl_broker.specs.declared.steps.JournalEntry.{JournalEntry}
 use Rattle.acl_broker.proofs.TakerKeeps.{prefix_trans}
 use Rattle.acl_broker.proofs.RejoinedPoint.{rejoined_point, is_rejoined_point}
 use Rattle.acl_runs.specs.ErrorLimit.{errors_in, UsesUp, EndsAtError, IsServedUpTo}
+use Rattle.acl_runs.specs.Handling.{Handling}
 use Rattle.acl_runs.specs.RunReport.{IsReport}
 use Rattle.acl_runs.specs.Taking.{made, IsLimited, AreLimited}
 use Rattle.acl_runs.specs.Workers.{IsServed}
@@ -98,26 +99,26 @@ module _ {I R : Type 0} (is_error : R → Bool) where
   served_up_to (Some allowed) wanted sent items polled answers true as_many items_are polled_are (inr part) limited =
       ((prefix_trans items sent wanted items_are part.0, inr ((limited allowed refl).1 refl)), all_polled is_error allowed polled answers polled_are part.1 ((limited allowed refl).1 refl))
 
-module _ {State I R K : Type 0} (next : State → I → State) (reply : State → I → R) (text : R → List ℕ) (is_error : R → Bool) (keep : R → K) where
-  limit_at : (opening : State) (taker : TakerState State I R) (limit : Option ℕ) (limits : ErrorLimits) (session : ℕ) (side : TakerSide I R) → Keeps next reply opening taker → AreLimited is_error limit limits taker.sides → session < length taker.sides
+module _ {State I R K : Type 0} (next : State → I → State) (reply : State → I → R) (handling : Handling R K) where
+  limit_at : (opening : State) (taker : TakerState State I R) (limit : Option ℕ) (limits : ErrorLimits) (session : ℕ) (side : TakerSide I R) → Keeps next reply opening taker → AreLimited handling.is_error limit limits taker.sides → session < length taker.sides
       → (allowed : ℕ) → limit ≡ Some allowed
-      → (((get_or taker.sides session side).cancelled ≡ false → errors_in is_error (answers_to next reply session opening taker.journal) < allowed)
-      × ((get_or taker.sides session side).cancelled ≡ true → EndsAtError is_error allowed (answers_to next reply session opening taker.journal)))
+      → (((get_or taker.sides session side).cancelled ≡ false → errors_in handling.is_error (answers_to next reply session opening taker.journal) < allowed)
+      × ((get_or taker.sides session side).cancelled ≡ true → EndsAtError handling.is_error allowed (answers_to next reply session opening taker.journal)))
   limit_at opening taker None limits session side keeps limited below allowed is = absurd (none_isnt_some is)
   limit_at opening taker (Some most) limits session side keeps limited below allowed is =
       let answers : made (get_or taker.sides session side) ≡ answers_to next reply session opening taker.journal = (keeps.each session side below).answered in
       let same : most ≡ allowed = ap (λ n. some_of n 0) is in
-      let one : IsLimited is_error most (get_or limits.left.items session 0) (get_or taker.sides session side) = limited.1 session 0 side below in (
-        λ live. let had = one.live live in omega (arith, had.0, had.1, same, ap (λ all. errors_in is_error all) answers),
-        λ over. subst (λ n. EndsAtError is_error n (answers_to next reply session opening taker.journal)) same (subst (λ all. EndsAtError is_error most all) answers (one.over over)),
+      let one : IsLimited handling.is_error most (get_or limits.left.items session 0) (get_or taker.sides session side) = limited.1 session 0 side below in (
+        λ live. let had = one.live live in omega (arith, had.0, had.1, same, ap (λ all. errors_in handling.is_error all) answers),
+        λ over. subst (λ n. EndsAtError handling.is_error n (answers_to next reply session opening taker.journal)) same (subst (λ all. EndsAtError handling.is_error most all) answers (one.over over)),
       )
 
   -- the report of a run, from what each session was served and where the rejoined broker stands
-  pub report_of : (opening : State) (limit : Option ℕ) (limits : ErrorLimits) (wanted : List (List I)) (taker : TakerState State I R) (gathered : Gathered I R K) (broker : BrokerState State I R) (report : RunReport State K I R)
-      → Keeps next reply opening taker → AreLimited is_error limit limits taker.sides → AreServed text is_error keep limit wanted gathered → AreEndsOf gathered.ends.items taker.sides
+  pub report_of : (opening : State) (limit : Option ℕ) (limits : ErrorLimits) (wanted : List (List I)) (taker : TakerState State I R) (gathered : Gathered I R K) (broker : BrokerState State I R) (report : RunReport State (JournalEntry I) K)
+      → Keeps next reply opening taker → AreLimited handling.is_error limit limits taker.sides → AreServed handling limit wanted gathered → AreEndsOf gathered.ends.items taker.sides
       → ((point : Point State I R) → IsPointOf opening taker gathered.ends.items point → StandsAt next reply point broker)
       → report.journal.items ≡ taker.journal → report.service ≡ taker.service → report.answers ≡ gathered.answers → report.outputs ≡ gathered.outputs
-      → IsReport next reply text is_error keep opening limit wanted report
+      → IsReport next reply handling opening limit wanted report
   report_of opening limit limits wanted taker gathered broker report keeps limited served are stands journal_is service_is answers_are outputs_are =
       let ends = gathered.ends.items in
       let journal = taker.journal in
@@ -129,26 +130,26 @@ module _ {State I R K : Type 0} (next : State → I → State) (reply : State �
       let end : End I R = some_item ends session (omega (arith, below, served.ends)) in
       let side : TakerSide I R = some_item taker.sides session within in
       let lane = stood.each session fresh_lane within in
-      let is : IsServed text is_error keep limit (get_or wanted session none) (get_or ends session end) (get_or gathered.answers.items session answers).items (get_or gathered.outputs.items session output).items = served.each session none end answers output below in
+      let is : IsServed handling limit (get_or wanted session none) (get_or ends session end) (get_or gathered.answers.items session answers).items (get_or gathered.outputs.items session output).items = served.each session none end answers output below in
       let items_are : IsPrefix (items_from session journal) (sent_by (get_or ends session end)) = subst (λ all. IsPrefix (items_from session journal) all) (get_or-map sent_by ends session end [] (omega (arith, below, served.ends))) lane.merged in
       let polled = polled_by (get_or ends session end) in
       let polled_are : IsPrefix polled (answers_of session) =
       ((get_or broker.lanes session fresh_lane).owed, ap (λ front. front ++ (get_or broker.lanes session fresh_lane).owed) (sym (get_or-map polled_by ends session end [] (omega (arith, below, served.ends)))) ∙ lane.answered) in
-      let all : IsServedUpTo is_error limit (get_or wanted session none) (items_from session journal) (answers_of session) × (polled ≡ answers_of session) =
-      served_up_to is_error limit (get_or wanted session none) (sent_by (get_or ends session end)) (items_from session journal) polled (answers_of session) (get_or taker.sides session side).cancelled
+      let all : IsServedUpTo handling.is_error limit (get_or wanted session none) (items_from session journal) (answers_of session) × (polled ≡ answers_of session) =
+      served_up_to handling.is_error limit (get_or wanted session none) (sent_by (get_or ends session end)) (items_from session journal) polled (answers_of session) (get_or taker.sides session side).cancelled
       (length-answers_to next reply session opening journal) items_are polled_are is.sent (limit_at opening taker limit limits session side keeps limited within) in
-      let both : IsServedUpTo is_error limit (get_or wanted session none) (items_from session journal) (answers_of session) × ((get_or gathered.answers.items session answers).items ≡ map keep (answers_of session)) × ((get_or gathered.outputs.items session output).items ≡ flat_map text (answers_of session)) =
-      (all.0, is.kept_is ∙ ap (λ answers. map keep answers) all.1, is.output_is ∙ ap (λ answers. flat_map text answers) all.1) in
+      let both : IsServedUpTo handling.is_error limit (get_or wanted session none) (items_from session journal) (answers_of session) × ((get_or gathered.answers.items session answers).items ≡ map handling.keep (answers_of session)) × ((get_or gathered.outputs.items session output).items ≡ flat_map handling.text (answers_of session)) =
+      (all.0, is.kept_is ∙ ap (λ answers. map handling.keep answers) all.1, is.output_is ∙ ap (λ answers. flat_map handling.text answers) all.1) in
       both in
       let wanted_at = λ (session : ℕ) (below : session < length wanted). some_item wanted session below in
       let answers_at = λ (session : ℕ) (below : session < length wanted). some_item gathered.answers.items session (omega (arith, below, served.answers)) in
       let output_at = λ (session : ℕ) (below : session < length wanted). some_item gathered.outputs.items session (omega (arith, below, served.outputs)) in
       record {
         known = subst (λ entries. AllByRecursion (λ entry. entry.session < length wanted) entries) (sym journal_is) (subst (λ n. AllByRecursion (λ entry. entry.session < n) journal) sessions keeps.known);
-        served = λ session none below. subst (λ entries. IsServedUpTo is_error limit (get_or wanted session none) (items_from session entries) (answers_to next reply session opening entries)) (sym journal_is) (one session none (answers_at session below) (output_at session below) below).0;
+        served = λ session none below. subst (λ entries. IsServedUpTo handling.is_error limit (get_or wanted session none) (items_from session entries) (answers_to next reply session opening entries)) (sym journal_is) (one session none (answers_at session below) (output_at session below) below).0;
         answered = ap (λ answers. length answers.items) answers_are ∙ served.answers;
-        answers = λ session none below. ap (λ answers. (get_or answers.items session none).items) answers_are ∙ (one session (wanted_at session below) none (output_at session below) below).1 ∙ ap (λ entries. map keep (answers_to next reply session opening entries)) (sym journal_is);
+        answers = λ session none below. ap (λ answers. (get_or answers.items session none).items) answers_are ∙ (one session (wanted_at session below) none (output_at session below) below).1 ∙ ap (λ entries. map handling.keep (answers_to next reply session opening entries)) (sym journal_is);
         printed = ap (λ outputs. length outputs.items) outputs_are ∙ served.outputs;
-        outputs = λ session none below. ap (λ outputs. (get_or outputs.items session none).items) outputs_are ∙ (one session (wanted_at session below) (answers_at session below) none below).2 ∙ ap (λ entries. flat_map text (answers_to next reply session opening entries)) (sym journal_is);
+        outputs = λ session none below. ap (λ outputs. (get_or outputs.items session none).items) outputs_are ∙ (one session (wanted_at session below) (answers_at session below) none below).2 ∙ ap (λ entries. flat_map handling.text (answers_to next reply session opening entries)) (sym journal_is);
         state = service_is ∙ keeps.state ∙ ap (λ entries. state_after next opening entries) (sym journal_is);
       }

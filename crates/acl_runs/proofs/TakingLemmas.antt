@@ -89,7 +89,7 @@ module _ {State I R : Type 0} (next : State → I → State) (reply : State → 
   module _ (old new : TakerState State I R) (limits : ErrorLimits) (session place : ℕ) (inside : session < length old.sides) (pairs : KeepEnds old.sides new.sides) (keeps : StillKeeps next reply old new) (appends : AppendsOne session old.journal new.journal) (moves : At session old.sides new.sides (TakeMoves (Ok place))) (others : SameExceptAt session old.sides new.sides) (failed : Bool) (last_fails : Of session new.sides (λ side. LastFails is_error failed (outbox side))) where
     -- what is owed after an accepted take, and whether it is an error
     more_of : (opening : State) (default : TakerSide I R) → Keeps next reply opening old → OwesMore (get_or old.sides session default) (get_or new.sides session default)
-    more_of opening default kept = owes_more next reply opening old new session default inside kept (keeps opening kept) appends others.0 (moves default inside).6
+    more_of opening default kept = owes_more next reply opening old new session default inside kept (keeps opening kept) appends others.0 (moves default inside).answers
 
     fails_so : (opening : State) (default : TakerSide I R) (kept : Keeps next reply opening old) → is_error (more_of opening default kept).reply ≡ failed
     fails_so opening default kept =
@@ -97,7 +97,7 @@ module _ {State I R : Type 0} (next : State → I → State) (reply : State → 
         sym (last_fails default (omega (arith, inside, others.0)) (outbox (get_or old.sides session default)) more.reply more.box)
 
     live_then : (default : TakerSide I R) → (get_or new.sides session default).cancelled ≡ false
-    live_then default = (moves default inside).1.1 ∙ (moves default inside).2
+    live_then default = (moves default inside).flags.1 ∙ (moves default inside).live
 
     -- an accepted take whose answer is no error
     pub takes_on_fine : failed ≡ false → TakesOn next reply is_error old limits new limits
@@ -106,7 +106,7 @@ module _ {State I R : Type 0} (next : State → I → State) (reply : State → 
       keeps = keeps;
       limits = λ opening limit kept. counts_stay is_error limits session old.sides new.sides others
           (λ allowed left side below. limited_more is_error allowed left (get_or old.sides session side) (get_or new.sides session side)
-          (more_of opening side kept) (moves side inside).2 (live_then side) (fails_so opening side kept ∙ fine))
+          (more_of opening side kept) (moves side inside).live (live_then side) (fails_so opening side kept ∙ fine))
           limit;
     }
 
@@ -117,7 +117,7 @@ module _ {State I R : Type 0} (next : State → I → State) (reply : State → 
       keeps = keeps;
       limits = λ opening limit kept. counts_down is_error limits limits' session last old.sides new.sides counts inside others
           (λ allowed left side is. limited_fewer is_error allowed left (get_or old.sides session side) (get_or new.sides session side)
-          (more_of opening side kept) (moves side inside).2 (live_then side) (fails_so opening side kept ∙ fails) (is ∙ not_last))
+          (more_of opening side kept) (moves side inside).live (live_then side) (fails_so opening side kept ∙ fails) (is ∙ not_last))
           limit;
     }
 
@@ -130,6 +130,6 @@ module _ {State I R : Type 0} (next : State → I → State) (reply : State → 
       limits = λ opening limit kept. counts_down is_error limits limits' session last old.sides after.sides counts inside
           (others'.0 ∙ others.0, λ other d differs. others'.1 other d differs ∙ others.1 other d differs)
           (λ allowed left side is. limited_over is_error allowed left (get_or old.sides session side) (get_or new.sides session side) (get_or after.sides session side)
-          (more_of opening side kept) (moves side inside).2 (fails_so opening side kept ∙ fails) (is ∙ is_last) (cancels side (omega (arith, inside, others.0))))
+          (more_of opening side kept) (moves side inside).live (fails_so opening side kept ∙ fails) (is ∙ is_last) (cancels side (omega (arith, inside, others.0))))
           limit;
     }

@@ -1,4 +1,5 @@
 pub mod ErrorLimit
+pub mod Handling
 pub mod RunReport
 pub mod Workers
 pub mod Taking

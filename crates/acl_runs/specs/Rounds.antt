@@ -1,5 +1,6 @@
 -- A run in rounds: a request of each session in turn.
-use Rattle.std.specs.Prelude.{◌≡◌, ℕ, zero, suc, ◌<◌, ◌≤◌, List, [], ◌∷◌, ◌++◌, length, map, take, drop, slice_index_or}
+use Rattle.std.specs.Prelude.{◌≡◌, ℕ, zero, suc, ◌<◌, ◌≤◌, List, [], ◌∷◌, ◌++◌, length, map, take}
+use Rattle.std.specs.Prelude.{drop, slice_index_or}
 use Rattle.std.specs.List.{AllByRecursion, flat_map}
 use Rattle.acl_broker.specs.Journal.{state_after, answers_to}
 use Rattle.acl_broker.specs.declared.steps.JournalEntry.{JournalEntry}
@@ -10,9 +11,11 @@ module _ {I : Type 0} where
   -- these items, as entries of a session
   abbrev pub entries_of : ℕ → List I → List (JournalEntry I)
   entries_of session [] = []
-  entries_of session (item ∷ items) = record { session = session; item = item } ∷ entries_of session items
+  entries_of session (item ∷ items) = record { session = session; item = item } ∷ entries_of session
+      items
 
-  -- the first of each of these lists that has one, in the order of the sessions, of which the first has this number
+  -- the first of each of these lists that has one, in the order of the sessions, of which the first
+  -- has this number
   abbrev pub heads : ℕ → List (List I) → List (JournalEntry I)
   heads session [] = []
   heads session (list ∷ lists) = entries_of session (take 1 list) ++ heads (suc session) lists
@@ -24,11 +27,18 @@ module _ {I : Type 0} where
 
   -- all rounds of these lists
   abbrev pub AreRounds : List (List I) → List (JournalEntry I) → Type 0
-  AreRounds lists journal = (n : ℕ) × AllByRecursion (λ list. length list ≤ n) lists × (journal ≡ rounds n lists)
+  AreRounds lists journal = (n : ℕ) × AllByRecursion (λ list. length list ≤ n) lists
+      × (journal ≡ rounds n lists)
 
-module _ {C State I R : Type 0} (next : State → I → State) (reply : State → I → R) (text : R → List ℕ) where
-  -- the state is the journal's result, and each progress has the journal's answers to its session, and their text
+module _ {C State I R : Type 0} (next : State → I → State) (reply : State → I → R)
+    (text : R → List ℕ) where
+  -- the state is the journal's result, and each progress has the journal's answers to its session,
+  -- and their text
   pub record Answered (opening : State) (run : Run C State I R) : Type 0 where
     pub state : run.service ≡ state_after next opening run.journal.items
-    pub answers : (session : ℕ) (progress : Progress C R) → session < length run.sessions.items → (slice_index_or run.sessions.items session progress).answers.items ≡ answers_to next reply session opening run.journal.items
-    pub outputs : (session : ℕ) (progress : Progress C R) → session < length run.sessions.items → (slice_index_or run.sessions.items session progress).output.items ≡ flat_map text (answers_to next reply session opening run.journal.items)
+    pub answers : (session : ℕ) (progress : Progress C R) → session < length run.sessions.items
+        → (slice_index_or run.sessions.items session progress).answers.items
+        ≡ answers_to next reply session opening run.journal.items
+    pub outputs : (session : ℕ) (progress : Progress C R) → session < length run.sessions.items
+        → (slice_index_or run.sessions.items session progress).output.items
+        ≡ flat_map text (answers_to next reply session opening run.journal.items)

@@ -4,24 +4,32 @@ use Rattle.std.specs.List.{AllByRecursion, flat_map}
 use Rattle.std.specs.declared.vec.Vec.{Vec}
 use Rattle.std.specs.declared.alloc.Global.{Global}
 use Rattle.acl_broker.specs.Journal.{items_from, state_after, answers_to}
+use Rattle.acl_broker.specs.declared.steps.JournalEntry.{JournalEntry}
 use Rattle.acl_runs.specs.ErrorLimit.{IsServedUpTo}
+use Rattle.acl_runs.specs.Handling.{Handling}
 use Rattle.acl_runs.specs.declared.report.RunReport.{RunReport}
 
-module _ {State I R K : Type 0} (next : State → I → State) (reply : State → I → R) (text : R → List ℕ) (is_error : R → Bool) (keep : R → K) where
+module _ {State I R K : Type 0} (next : State → I → State) (reply : State → I → R)
+    (handling : Handling R K) where
   -- what a run reports that began with this state, for sessions with these requests
-  pub record IsReport (opening : State) (limit : Option ℕ) (wanted : List (List I)) (report : RunReport State K I R) : Type 0 where
+  pub record IsReport (opening : State) (limit : Option ℕ) (wanted : List (List I))
+      (report : RunReport State (JournalEntry I) K) : Type 0 where
     -- each entry is of a session,
     pub known : AllByRecursion (λ entry. entry.session < length wanted) report.journal.items
     -- the journal has the whole of what each session wanted, up to its last error that is allowed,
     pub served : (session : ℕ) (none : List I) → session < length wanted
-        → IsServedUpTo is_error limit (slice_index_or wanted session none) (items_from session report.journal.items) (answers_to next reply session opening report.journal.items)
+        → IsServedUpTo handling.is_error limit (slice_index_or wanted session none)
+        (items_from session report.journal.items)
+        (answers_to next reply session opening report.journal.items)
     -- what is kept of a session's answers is of those of the journal, each at its place,
     pub answered : length report.answers.items ≡ length wanted
     pub answers : (session : ℕ) (none : Vec K Global) → session < length wanted
-        → (slice_index_or report.answers.items session none).items ≡ map keep (answers_to next reply session opening report.journal.items)
+        → (slice_index_or report.answers.items session none).items
+        ≡ map handling.keep (answers_to next reply session opening report.journal.items)
     -- its output is their text,
     pub printed : length report.outputs.items ≡ length wanted
     pub outputs : (session : ℕ) (none : Vec ℕ Global) → session < length wanted
-        → (slice_index_or report.outputs.items session none).items ≡ flat_map text (answers_to next reply session opening report.journal.items)
+        → (slice_index_or report.outputs.items session none).items
+        ≡ flat_map handling.text (answers_to next reply session opening report.journal.items)
     -- and the state is the journal's result
     pub state : report.service ≡ state_after next opening report.journal.items

@@ -1,6 +1,6 @@
-//! Runs of sessions over any service: each session's requests go through a broker into one journal, and what is answered is
-//! printed for each session. What a session's requests are, how replies are printed and which of them are errors is told by
-//! two traits.
+//! Runs of sessions over any service: each session's requests go through a broker into one journal,
+//! and what is answered is printed for each session. What a session's requests are, how replies are
+//! printed and which of them are errors is told by two traits.
 #![tactic(auto)]
 
 mod error_limits;
@@ -9,7 +9,7 @@ mod idle;
 mod printed;
 mod replies;
 mod report;
-mod requests;
+mod request_source;
 mod rounds;
 mod serving;
 mod stop;
@@ -23,7 +23,7 @@ pub(crate) use idle::Idle;
 pub(crate) use printed::Printed;
 pub use replies::Replies;
 pub use report::RunReport;
-pub use requests::Requests;
+pub use request_source::RequestSource;
 pub use rounds::serve_in_rounds;
 pub use serving::serve_sessions;
 pub use stop::ServeFault;

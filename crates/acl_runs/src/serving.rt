@@ -4,26 +4,28 @@ ghost use Rattle.acl_broker.specs.Ends.{AreEndsOf};
 ghost use Rattle.acl_broker.specs.Takers.{view, Keeps};
 ghost use Rattle.acl_broker.specs.declared.limits.TheConstants.{SESSIONS};
 ghost use Rattle.acl_runs.specs.RunReport.{IsReport};
-ghost use Rattle.acl_runs.specs.Threads.{IsBegun, Settles};
+ghost use Rattle.acl_runs.specs.Threads.{IsBegun, ReportsWhatIsKept, Settles};
 
-use crate::taking::take_turns;
+use crate::taking::serve_until_done;
 use crate::workers::{Gathered, join_workers, start_workers};
-use crate::{ErrorLimits, Gate, Replies, Requests, RunReport, ServeFault, Setting, Stop};
-use acl_broker::{Broker, End, Service, Taker};
+use crate::{ErrorLimits, Gate, Replies, RequestSource, RunReport, ServeFault, Setting, Stop};
+use acl_broker::{Broker, End, KeptEntry, Service, Taker};
 use std::alloc::{AllocError, Global};
 use std::sync::Wait;
 use std::thread;
 use std::thread::{Scope, Threads};
 use std::time::Clock;
 
-/// Serves each session by a worker in a thread of its own, while this thread takes the requests of all into one journal and
-/// delivers the answers. A worker asks the gate before it submits a request, and tells it of each answer that it has printed.
+/// Serves each session by a worker in a thread of its own, while this thread takes the requests of
+/// all into one journal and delivers the answers. A worker asks the gate before it submits a
+/// request, and tells it of each answer that it has printed.
 ///
-/// With `max_errors` of K, a session is cancelled at its K-th error: no request of it enters the journal after that.
+/// With `max_errors` of K, a session is cancelled at its K-th error: no request of it enters the
+/// journal after that.
 ///
-/// There are 1 to `SESSIONS` sessions, each of fewer than 2^32 requests, and an error limit is at least 1. On a fault all workers
-/// are joined, and the journal, the answers and the service are dropped: `Memory`, `GateStopped` or `ThreadRefused`; if several
-/// arise, any one of them.
+/// There are 1 to `SESSIONS` sessions, each of fewer than 2^32 requests, and an error limit is at
+/// least 1. On a fault all workers are joined, and the journal, the answers and the service are
+/// dropped: `Memory`, `GateStopped` or `ThreadRefused`; if several arise, any one of them.
 pub fn serve_sessions<R, G, P, S, C>(
     rt: &R,
     alloc: Global,
@@ -32,20 +34,18 @@ pub fn serve_sessions<R, G, P, S, C>(
     service: S,
     sessions: Vec<C>,
     max_errors: Option<u32>,
-) -> Result<RunReport<S, P::Kept>, ServeFault>
+) -> Result<RunReport<S, KeptEntry<S>, P::Kept>, ServeFault>
 where
     R: Threads + Wait + Clock + Sync,
     G: Gate,
     P: Replies<Reply = S::Reply>,
     S: Service + Drop,
-    C: Requests<Request = S::Request> + Send + Drop,
-    S::Request: Send + Drop,
-    S::Reply: Send + Drop,
-    P::Kept: Send + Drop,
+    C: RequestSource<Request = S::Request>,
     requires count { (1 ≤ length sessions.items) × (length sessions.items ≤ SESSIONS) }
     requires few { All (λ session. length (C.rest session) < 2 ^ 32) sessions.items }
     requires some { max_errors ≢ Some 0 }
-    ensures { IfOk result (IsReport S.next S.reply (P.text replies.now) P.is_error P.keep service max_errors (map C.rest sessions.items)) }
+    ensures { IfOk result (IsReport S.next S.reply (P.handling replies.now) service max_errors
+        (map C.rest sessions.items)) }
 {
     let Ok(begun) = begin(alloc, &sessions, service, max_errors) else {
         return Err(ServeFault::Memory);
@@ -55,9 +55,10 @@ where
     thread::scope(
         thread::scope_env(),
         rt,
-        |scope| -> Result<RunReport<S, P::Kept>, ServeFault>
+        |scope| -> Result<RunReport<S, KeptEntry<S>, P::Kept>, ServeFault>
             requires { IsBegun C.rest max_errors sessions.items begun }
-            ensures { IfOk result (λ report. (opening : S) → Keeps S.next S.reply opening (view begun.taker) → IsReport S.next S.reply (P.text replies.entry.now) P.is_error P.keep opening max_errors (map C.rest sessions.items) report) }
+            ensures { IfOk result (ReportsWhatIsKept S.next S.reply (P.handling replies.entry.now)
+                (view begun.taker) max_errors (map C.rest sessions.items)) }
         {
             let setting = Setting {
                 rt,
@@ -80,16 +81,14 @@ struct Begun<S: Service> {
     limits: ErrorLimits,
 }
 
-/// The ends of these sessions and their taker, to which nothing was submitted yet, and the errors allowed to each.
-fn begin<S: Service + Drop, C: Requests<Request = S::Request>>(
+/// The ends of these sessions and their taker, to which nothing was submitted yet, and the errors
+/// allowed to each.
+fn begin<S: Service + Drop, C: RequestSource<Request = S::Request>>(
     alloc: Global,
     sessions: &Vec<C>,
     service: S,
     max_errors: Option<u32>,
 ) -> Result<Begun<S>, AllocError>
-where
-    S::Request: Drop,
-    S::Reply: Drop,
     requires count { (1 ≤ length sessions.now.items) × (length sessions.now.items ≤ SESSIONS) }
     requires few { All (λ session. length (C.rest session) < 2 ^ 32) sessions.now.items }
     requires some { max_errors ≢ Some 0 }
@@ -109,24 +108,26 @@ where
     })
 }
 
-/// Starts the workers, takes until all sessions have ended, joins the workers and ties both sides together.
+/// Starts the workers, takes until all sessions have ended, joins the workers and ties both sides
+/// together.
 fn run_workers<'s, E, R, G, P, S, C>(
     scope: &Scope<'s, E>,
     setting: &Setting<'s, R, G, P>,
     sessions: Vec<C>,
     begun: Begun<S>,
-) -> Result<RunReport<S, P::Kept>, ServeFault>
+) -> Result<RunReport<S, KeptEntry<S>, P::Kept>, ServeFault>
 where
     R: Threads + Wait + Clock + Sync + 's,
     G: Gate + 's,
     P: Replies<Reply = S::Reply> + 's,
     S: Service + Drop,
-    C: Requests<Request = S::Request> + Send + Drop + 's,
-    S::Request: Send + Drop + 's,
-    S::Reply: Send + Drop + 's,
-    P::Kept: Send + Drop + 's,
+    C: RequestSource<Request = S::Request> + 's,
+    S::Request: 's,
+    S::Reply: 's,
+    P::Kept: 's,
     requires { IsBegun C.rest setting.now.max_errors sessions.items begun }
-    ensures { IfOk result (λ report. (opening : S) → Keeps S.next S.reply opening (view begun.taker) → IsReport S.next S.reply (P.text setting.now.replies.now) P.is_error P.keep opening setting.now.max_errors (map C.rest sessions.items) report) }
+    ensures { IfOk result (ReportsWhatIsKept S.next S.reply (P.handling setting.now.replies.now)
+        (view begun.taker) setting.now.max_errors (map C.rest sessions.items)) }
 {
     let Begun {
         ends,
@@ -135,9 +136,10 @@ where
     } = begun;
     let count = sessions.len() as u32;
     let workers = start_workers(scope, setting, sessions, ends)?;
-    if let Err(fault) = take_turns::<R, P, S>(
+    if let Err(fault) = serve_until_done(
         setting.rt,
         setting.stop,
+        setting.replies,
         &mut taker,
         &mut limits,
         count,
@@ -153,10 +155,7 @@ where
 fn settle<S: Service, K>(
     taker: Taker<S>,
     gathered: Gathered<S::Request, S::Reply, K>,
-) -> RunReport<S, K>
-where
-    S::Request: Drop,
-    S::Reply: Drop,
+) -> RunReport<S, KeptEntry<S>, K>
     requires { AreEndsOf gathered.ends.items (view taker).sides }
     ensures { Settles S.next S.reply (view taker) gathered result }
 {

@@ -1,29 +1,29 @@
 //! What the thread of a run does while its workers run: it takes and delivers.
 ghost use Rattle.acl_broker.specs.Takers.{view};
 ghost use Rattle.acl_runs.specs.Taking.{TakesOn};
+ghost use Rattle.acl_runs.specs.declared.error_limits.ErrorLimits.{ErrorLimits};
 
 use crate::{ErrorLimits, Idle, Replies, ServeFault, Stop, error_limits};
-use acl_broker::{Service, TakeRefused, Taker};
+use acl_broker::{SLOTS, Service, TakeRefused, Taker};
 use std::sync::Wait;
 use std::time::Clock;
 
 /// Takes and delivers for the sessions in turn, until all have ended and nothing is owed.
-pub(super) fn take_turns<R: Wait + Clock, P: Replies<Reply = S::Reply>, S: Service>(
+pub(super) fn serve_until_done<R: Wait + Clock, P: Replies<Reply = S::Reply>, S: Service>(
     rt: &R,
     stop: &Stop,
+    replies: &P,
     taker: &mut Taker<S>,
     limits: &mut ErrorLimits,
     count: u32,
 ) -> Result<(), ServeFault>
-where
-    S::Request: Drop,
-    S::Reply: Drop,
-    ensures { TakesOn S.next S.reply P.is_error (view taker.old) limits.old (view taker.new) limits.new }
+    ensures { TakesOn S.next S.reply (P.handling replies.now).is_error (view taker.old) limits.old
+        (view taker.new) limits.new }
 {
     let mut idle = Idle::new();
     for _ in rt.forever() {
         stop.check()?;
-        match take_round::<P, S>(taker, limits, count)? {
+        match serve_each_once(replies, taker, limits, count)? {
             Round::Moved => idle.end(),
             Round::Idle => idle.wait(rt),
             Round::Over => return Ok(()),
@@ -42,48 +42,97 @@ enum Round {
     Over,
 }
 
-/// Takes and delivers once for each session.
-fn take_round<P: Replies<Reply = S::Reply>, S: Service>(
+/// The most requests that are taken for a session in its turn.
+const TURN: u32 = 64;
+
+/// Takes and delivers for each session in turn.
+fn serve_each_once<P: Replies<Reply = S::Reply>, S: Service>(
+    replies: &P,
     taker: &mut Taker<S>,
     limits: &mut ErrorLimits,
     count: u32,
 ) -> Result<Round, ServeFault>
-where
-    S::Request: Drop,
-    S::Reply: Drop,
-    ensures { TakesOn S.next S.reply P.is_error (view taker.old) limits.old (view taker.new) limits.new }
+    ensures { TakesOn S.next S.reply (P.handling replies.now).is_error (view taker.old) limits.old
+        (view taker.new) limits.new }
 {
     let mut moved = false;
-    let mut over = true;
     for session in 0..count {
-        moved |= take_turn::<P, S>(taker, limits, session)?;
-        over = over && taker.ended(session) && taker.owed(session) == 0;
+        moved |= serve_one(replies, taker, limits, session)?;
     }
-    Ok(if over {
-        Round::Over
-    } else if moved {
+    Ok(if moved {
         Round::Moved
+    } else if are_over(taker, count) {
+        Round::Over
     } else {
         Round::Idle
     })
 }
 
-/// Takes and delivers once for a session. False if nothing was taken or delivered.
-fn take_turn<P: Replies<Reply = S::Reply>, S: Service>(
+/// Whether so many sessions have ended, and nothing is owed to any.
+fn are_over<S: Service>(taker: &Taker<S>, count: u32) -> bool {
+    for session in 0..count {
+        if !taker.ended(session) || taker.owed(session) > 0 {
+            return false;
+        }
+    }
+    true
+}
+
+/// Takes for a session what it has submitted, and delivers its answers. False if nothing was taken
+/// or delivered.
+fn serve_one<P: Replies<Reply = S::Reply>, S: Service>(
+    replies: &P,
     taker: &mut Taker<S>,
     limits: &mut ErrorLimits,
     session: u32,
 ) -> Result<bool, ServeFault>
-where
-    S::Request: Drop,
-    S::Reply: Drop,
-    ensures { TakesOn S.next S.reply P.is_error (view taker.old) limits.old (view taker.new) limits.new }
+    ensures { TakesOn S.next S.reply (P.handling replies.now).is_error (view taker.old) limits.old
+        (view taker.new) limits.new }
 {
-    let taken = match error_limits::take::<S, P>(taker, limits, session) {
-        Ok(()) => true,
-        Err(TakeRefused::Memory) => return Err(ServeFault::Memory),
-        Err(_) => false,
-    };
-    let delivered = taker.deliver(session);
+    let taken = take_some(replies, taker, limits, session)?;
+    let delivered = deliver_some(replies, taker, session);
     Ok(taken | delivered)
+}
+
+/// Takes for a session until nothing is there to be taken, `TURN` times at the most. False if
+/// nothing was taken.
+fn take_some<P: Replies<Reply = S::Reply>, S: Service>(
+    replies: &P,
+    taker: &mut Taker<S>,
+    limits: &mut ErrorLimits,
+    session: u32,
+) -> Result<bool, ServeFault>
+    ensures { TakesOn S.next S.reply (P.handling replies.now).is_error (view taker.old) limits.old
+        (view taker.new) limits.new }
+{
+    let mut taken = false;
+    for _ in 0..TURN {
+        match error_limits::take(replies, taker, limits, session) {
+            Ok(()) => taken = true,
+            Err(TakeRefused::Memory) => return Err(ServeFault::Memory),
+            Err(_) => return Ok(taken),
+        }
+    }
+    Ok(taken)
+}
+
+/// Delivers to a session until nothing can be delivered, as often as a ring has slots at the most.
+/// False if nothing was delivered.
+fn deliver_some<P: Replies<Reply = S::Reply>, S: Service>(
+    replies: &P,
+    taker: &mut Taker<S>,
+    session: u32,
+) -> bool
+    ensures { (limits : ErrorLimits)
+        → TakesOn S.next S.reply (P.handling replies.now).is_error (view taker.old) limits
+        (view taker.new) limits }
+{
+    let mut delivered = false;
+    for _ in 0..SLOTS {
+        if !taker.deliver(session) {
+            return delivered;
+        }
+        delivered = true;
+    }
+    delivered
 }

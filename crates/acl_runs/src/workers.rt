@@ -1,10 +1,10 @@
 //! Workers in threads of their own: how they are started and joined.
 ghost use Rattle.std.specs.Prelude.{◌≡◌, ◌<◌, ◌^◌, All, length, IfOk};
 ghost use Rattle.acl_broker.specs.declared.end.End.TheVariants.{Open, Closed};
-ghost use Rattle.acl_runs.specs.Workers.{IsNew, IsFinished};
+ghost use Rattle.acl_runs.specs.Workers.{IsNew, Finishes};
 ghost use Rattle.acl_runs.specs.Threads.{IsStarted, AreStarted, AreGathered, AreFresh, HasRoom};
 
-use crate::{Finished, Gate, Printed, Replies, Requests, ServeFault, Setting, work};
+use crate::{Finished, Gate, Printed, Replies, RequestSource, ServeFault, Setting, work};
 use acl_broker::{End, SessionEnd};
 use std::alloc::{AllocError, Global};
 use std::snapshot::Snapshot;
@@ -14,22 +14,24 @@ use std::time::Clock;
 
 /// That a worker serves a session by the end with which it began.
 #[derive(Drop)]
-pub(super) struct Serves<'a, C: Requests, P: Replies> {
+pub(super) struct Serves<'a, C: RequestSource, P: Replies> {
     start: Snapshot<SessionEnd<C::Request, P::Reply>>,
     requests: Snapshot<C>,
     replies: &'a P,
     max_errors: Option<u32>,
 }
 
-impl<'a, C: Requests, P: Replies> Promise<
+impl<'a, C: RequestSource, P: Replies> Promise<
     Result<Finished<C::Request, P::Reply, P::Kept>, ServeFault>,
 > for Serves<'a, C, P> {
-    ghost kept_by = { λ promise result. IfOk result (λ finished. IsFinished (P.text promise.replies.now) P.is_error P.keep promise.start.value promise.max_errors (C.rest promise.requests.value) (Closed finished.end) finished.printed.answers.items finished.printed.output.items) };
+    ghost kept_by = { λ promise result. IfOk result
+        (Finishes (P.handling promise.replies.now) promise.start.value promise.max_errors
+        (C.rest promise.requests.value)) };
 }
 
 pub(super) type Worker<'a, C, P> = PromisedHandle<
     Result<
-        Finished<<C as Requests>::Request, <P as Replies>::Reply, <P as Replies>::Kept>,
+        Finished<<C as RequestSource>::Request, <P as Replies>::Reply, <P as Replies>::Kept>,
         ServeFault,
     >,
     Serves<'a, C, P>,
@@ -46,14 +48,15 @@ where
     R: Threads + Wait + Clock + Sync + 's,
     G: Gate + 's,
     P: Replies + 's,
-    C: Requests + Send + Drop + 's,
-    C::Request: Send + Drop + 's,
-    P::Reply: Send + Drop + 's,
-    P::Kept: Send + Drop + 's,
+    C: RequestSource + 's,
+    C::Request: 's,
+    P::Reply: 's,
+    P::Kept: 's,
     requires count { length ends.items ≡ length sessions.items }
     requires fresh { AreFresh ends.items }
     requires few { All (λ session. length (C.rest session) < 2 ^ 32) sessions.items }
-    ensures { IfOk result (λ workers. AreStarted setting.now.replies.now setting.now.max_errors ends.items sessions.items workers.items) }
+    ensures { IfOk result (λ workers. AreStarted setting.now.replies.now setting.now.max_errors
+        ends.items sessions.items workers.items) }
 {
     let Ok(mut workers) = Vec::with_capacity(setting.alloc, sessions.len()) else {
         return Err(ServeFault::Memory);
@@ -75,14 +78,15 @@ where
     Ok(workers)
 }
 
-/// Starts the worker of a session. The closure captures plain references, and makes its setting anew.
+/// Starts the worker of a session. The closure captures plain references, and makes its setting
+/// anew.
 fn start_worker<
     's,
     E,
     R: Threads + Wait + Clock + Sync + 's,
     G: Gate + 's,
     P: Replies + 's,
-    C: Requests + Send + Drop + 's,
+    C: RequestSource + 's,
 >(
     scope: &Scope<'s, E>,
     setting: &Setting<'s, R, G, P>,
@@ -90,12 +94,13 @@ fn start_worker<
     requests: C,
 ) -> Result<Worker<'s, C, P>, ServeFault>
 where
-    C::Request: Send + Drop + 's,
-    P::Reply: Send + Drop + 's,
-    P::Kept: Send + Drop + 's,
+    C::Request: 's,
+    P::Reply: 's,
+    P::Kept: 's,
     requires fresh { IsNew end }
     requires few { length (C.rest requests) < 2 ^ 32 }
-    ensures { IfOk result (λ worker. IsStarted setting.now.replies.now setting.now.max_errors (Open end) requests worker) }
+    ensures { IfOk result (λ worker. IsStarted setting.now.replies.now setting.now.max_errors
+        (Open end) requests worker) }
 {
     let Setting {
         rt,
@@ -113,7 +118,8 @@ where
     };
     let worker = move || -> Result<Finished<C::Request, P::Reply, P::Kept>, ServeFault>
         requires { IsNew end × (length (C.rest requests) < 2 ^ 32) }
-        ensures { IfOk result (λ finished. IsFinished (P.text replies.entry.now) P.is_error P.keep end max_errors (C.rest requests) (Closed finished.end) finished.printed.answers.items finished.printed.output.items) }
+        ensures { IfOk result (Finishes (P.handling replies.entry.now) end max_errors
+            (C.rest requests)) }
     {
         let setting = Setting {
             rt,
@@ -140,16 +146,12 @@ pub(super) struct Gathered<I, A, K> {
 }
 
 /// Joins the workers, in order.
-pub(super) fn join_workers<R: Threads, P: Replies, C: Requests>(
+pub(super) fn join_workers<R: Threads, P: Replies, C: RequestSource>(
     rt: &R,
     alloc: Global,
     workers: Vec<Worker<'_, C, P>>,
 ) -> Result<Gathered<C::Request, P::Reply, P::Kept>, ServeFault>
-where
-    C::Request: Drop,
-    P::Reply: Drop,
-    P::Kept: Drop,
-    ensures { IfOk result (AreGathered C.rest P.text P.is_error P.keep workers.entry.items) }
+    ensures { IfOk result (AreGathered C.rest P.handling workers.entry.items) }
 {
     let Ok(mut gathered) = make_room(alloc, workers.len()) else {
         return Err(ServeFault::Memory);

@@ -5,3 +5,4 @@ pub mod SessionLemmas
 pub mod PrintLemmas
 pub mod FileLemmas
 pub mod CutLemmas
+pub mod FaultLemmas

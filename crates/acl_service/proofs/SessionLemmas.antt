@@ -16,8 +16,8 @@ use Rattle.acl_runs.specs.ErrorLimit.{IsServedUpTo}
 use Rattle.acl_runs.specs.RunReport.{IsReport}
 use Rattle.acl_service.specs.Runs.{answer_to, answers_of, tree_after, tree_after_one}
 use Rattle.acl_service.specs.Served.{next_served, reply_served}
-use Rattle.acl_service.specs.Sessions.{ExplainsSessions, IsServedAlone, answers_in, is_error, requests_of_each, tree_after_journal}
-use Rattle.acl_service.specs.Told.{told}
+use Rattle.acl_service.specs.Sessions.{ExplainsSessions, IsServedAlone, answer_handling, answers_in, is_error, requests_of_each, tree_after_journal}
+use Rattle.acl_service.specs.Told.{IsToldOf, told}
 use Rattle.acl_runs.specs.declared.report.RunReport.{RunReport}
 use Rattle.acl_service.specs.declared.served.Served.{Served}
 use Rattle.acl_service.specs.declared.sessions.report.Report.{Report}
@@ -34,8 +34,8 @@ served_tree served [] = refl
 served_tree served (entry ∷ journal) = served_tree (next_served served entry.item) journal
 
 -- what is told of a run explains its sessions
-pub explains : (served : Served) (limit : Option ℕ) (texts : List (Vec ℕ Global)) (run : RunReport Served Answer Numbered Answer)
-    → IsReport next_served reply_served (answer_text served.directory.now) is_error (λ answer. answer) served limit (requests_of_each served.directory.now texts) run
+pub explains : (served : Served) (limit : Option ℕ) (texts : List (Vec ℕ Global)) (run : RunReport Served (JournalEntry Numbered) Answer)
+    → IsReport next_served reply_served (answer_handling served.directory.now) served limit (requests_of_each served.directory.now texts) run
     → ExplainsSessions served.directory.now served.tree limit texts (told run)
 explains served limit texts run is =
     let known = served.directory.now in
@@ -56,13 +56,32 @@ explains served limit texts run is =
     }
 
 -- the same, of the report, if the run is of sessions that want the texts' requests
-pub explained : (served : Served) (limit : Option ℕ) (texts : List (Vec ℕ Global)) (wanted : List (List Numbered)) (run : RunReport Served Answer Numbered Answer) (report : Report)
+pub explained : (served : Served) (limit : Option ℕ) (texts : List (Vec ℕ Global)) (wanted : List (List Numbered)) (run : RunReport Served (JournalEntry Numbered) Answer) (report : Report)
     → wanted ≡ requests_of_each served.directory.now texts → report ≡ told run
-    → IsReport next_served reply_served (answer_text served.directory.now) is_error (λ answer. answer) served limit wanted run
+    → IsReport next_served reply_served (answer_handling served.directory.now) served limit wanted run
     → ExplainsSessions served.directory.now served.tree limit texts report
 explained served limit texts wanted run report wanted_are is_told is =
     subst (λ report. ExplainsSessions served.directory.now served.tree limit texts report) (sym is_told)
-    (explains served limit texts run (subst (λ wanted. IsReport next_served reply_served (answer_text served.directory.now) is_error (λ answer. answer) served limit wanted run) wanted_are is))
+    (explains served limit texts run (subst (λ wanted. IsReport next_served reply_served (answer_handling served.directory.now) served limit wanted run) wanted_are is))
+
+-- and so does a report that has the run's entries in a list of its own
+pub explained_by : (known : Known) (tree : NodesUnderUmask) (limit : Option ℕ) (texts : List (Vec ℕ Global)) (run : RunReport Served (JournalEntry Numbered) Answer) (report : Report)
+    → IsToldOf run report → ExplainsSessions known tree limit texts (told run) → ExplainsSessions known tree limit texts report
+explained_by known tree limit texts run report same is = record {
+  entries = subst (λ entries. AllByRecursion (λ entry. entry.session < length texts) entries) (sym same.journal) is.entries;
+  served = λ session none below.
+      subst (λ entries. IsServedUpTo is_error limit (requests_of known (get_or texts session none).items) (items_from session entries) (answers_in known tree entries session)) (sym same.journal)
+      (is.served session none below);
+  answered = ap (λ (answers : Vec (Vec Answer Global) Global). length answers.items) same.answers ∙ is.answered;
+  answers = λ session none below.
+      subst (λ entries. (get_or report.answers.items session none).items ≡ answers_in known tree entries session) (sym same.journal)
+      (ap (λ (answers : Vec (Vec Answer Global) Global). (get_or answers.items session none).items) same.answers ∙ is.answers session none below);
+  outputs_are = ap (λ (outputs : Vec (Vec ℕ Global) Global). length outputs.items) same.outputs ∙ is.outputs_are;
+  outputs = λ session none below.
+      subst (λ entries. (get_or report.outputs.items session none).items ≡ printed known (answers_in known tree entries session)) (sym same.journal)
+      (ap (λ (outputs : Vec (Vec ℕ Global) Global). (get_or outputs.items session none).items) same.outputs ∙ is.outputs session none below);
+  result = same.tree ∙ is.result ∙ ap (λ entries. tree_after_journal known tree entries) (sym same.journal);
+}
 
 -- a journal of one session has its items and no others
 alone_items : (journal : List (JournalEntry Numbered)) → AllByRecursion (λ entry. entry.session < 1) journal → map (λ entry. entry.item) journal ≡ items_from 0 journal

@@ -1,5 +1,6 @@
 pub mod Runs
 pub mod Served
+pub mod ServedCode
 pub mod SetupTable
 pub mod Setup
 pub mod Shown

@@ -10,7 +10,8 @@ use Rattle.toml.specs.Data.{Members}
 use Rattle.acl_service.specs.Setup.{Setup, setup_in}
 use Rattle.acl_service.specs.SetupTable.{IsToml, ReadsAs}
 use Rattle.acl_service.specs.declared.setup.fault.SetupError.{SetupError}
-use Rattle.acl_service.specs.declared.setup.fault.SetupError.TheVariants.{NotToml, BadField, Parts, Memory}
+use Rattle.acl_service.specs.declared.setup.fault.SetupError.TheVariants.{NotToml, BadField, Parts}
+use Rattle.acl_service.specs.declared.setup.fault.SetupError.TheVariants.{Memory}
 
 pub record Opened : Type 0 where
   pub known : Known
@@ -27,15 +28,21 @@ opened_by setup = do
   known ← unless setup.known (fault_of setup.known)
   owner ← or_fault BadField (uid_of known setup.root.owner)
   group ← or_fault BadField (gid_of known setup.root.group)
-  Ok (record { known = known; tree = root_alone owner group setup.root.mode setup.root.style setup.umask })
+  Ok (record {
+    known = known;
+    tree = root_alone owner group setup.root.mode setup.root.style
+        setup.umask;
+  })
 
--- what a table opens, or the first fault that it has: its fields come first, then what is wrong with the users and groups
+-- what a table opens, or the first fault that it has: its fields come first, then what is wrong
+-- with the users and groups
 abbrev pub opened_in : Members → Result Opened SetupError
 opened_in table = or_fault BadField (setup_in table) >>= opened_by
 
 -- a directory that answers as these users and groups, and this tree
 abbrev pub IsOpened : Result Opened SetupError → Known → NodesUnderUmask → Type 0
-IsOpened reading known tree = IsOkAnd reading (λ opened. AnswersAs known opened.known × (tree ≡ opened.tree))
+IsOpened reading known tree = IsOkAnd reading
+    (λ opened. AnswersAs known opened.known × (tree ≡ opened.tree))
 
 -- the fault is that of the reading, or out of memory
 abbrev pub ExplainsSetup : Result Opened SetupError → SetupError → Type 0
@@ -45,9 +52,11 @@ ExplainsSetup reading fault = reading ≡ Err fault
 
 -- the bytes are a document, and open this directory and this tree
 abbrev pub Opens : List ℕ → Known → NodesUnderUmask → Type 0
-Opens bytes known tree = (table : Members) × ReadsAs bytes table × IsOpened (opened_in table) known tree
+Opens bytes known tree = (table : Members) × ReadsAs bytes table
+    × IsOpened (opened_in table) known tree
 
--- the bytes are refused for this: they are no document, or its table has this fault; out of memory says nothing of them
+-- the bytes are refused for this: they are no document, or its table has this fault; out of memory
+-- says nothing of them
 abbrev pub IsRefusedSetup : List ℕ → SetupError → Type 0
 IsRefusedSetup bytes NotToml = ¬ IsToml bytes
 IsRefusedSetup bytes Memory = ⊤

@@ -14,7 +14,10 @@ tree_after_one known tree numbered = next known tree numbered.request
 
 -- the answer to a request: the reply, with the number of the request's line
 abbrev pub answer_to : Known → NodesUnderUmask → Numbered → Answer
-answer_to known tree numbered = record { line = numbered.line; reply = reply known tree numbered.request }
+answer_to known tree numbered = record {
+  line = numbered.line;
+  reply = reply known tree numbered.request;
+}
 
 -- the tree after these requests
 abbrev pub tree_after : Known → NodesUnderUmask → List Numbered → NodesUnderUmask
@@ -24,7 +27,8 @@ tree_after known tree (numbered ∷ more) = tree_after known (tree_after_one kno
 -- the answers to them, each by the tree at its turn
 abbrev pub answers_of : Known → NodesUnderUmask → List Numbered → List Answer
 answers_of known tree [] = []
-answers_of known tree (numbered ∷ more) = answer_to known tree numbered ∷ answers_of known (tree_after_one known tree numbered) more
+answers_of known tree (numbered ∷ more) = answer_to known tree numbered ∷ answers_of known
+    (tree_after_one known tree numbered) more
 
 -- what is printed of a session with this text
 abbrev pub session_text : Known → NodesUnderUmask → List ℕ → List ℕ

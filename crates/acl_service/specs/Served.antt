@@ -6,7 +6,10 @@ use Rattle.acl_service.specs.declared.served.Served.{Served}
 
 -- the state after a request: its tree is the next
 abbrev pub next_served : Served → Numbered → Served
-next_served served numbered = record served { tree = tree_after_one served.directory.now served.tree numbered }
+next_served served numbered = record served {
+  tree = tree_after_one served.directory.now served.tree
+      numbered;
+}
 
 -- the answer to a request
 abbrev pub reply_served : Served → Numbered → Answer

@@ -1,19 +1,22 @@
 -- What is reported of sessions that worked on one tree.
-use Rattle.std.specs.Prelude.{◌≡◌, ℕ, ◌<◌, Bool, true, false, List, length, map, slice_index_or, Option}
+use Rattle.std.specs.Prelude.{◌≡◌, ℕ, ◌<◌, Bool, true, false, List, length, map, slice_index_or}
+use Rattle.std.specs.Prelude.{Option}
 use Rattle.std.specs.List.{AllByRecursion}
 use Rattle.std.specs.declared.vec.Vec.{Vec}
 use Rattle.std.specs.declared.alloc.Global.{Global}
 use Rattle.acl_names.specs.Directory.{Known}
 use Rattle.acl_tree.specs.Tree.{NodesUnderUmask}
 use Rattle.acl_tree.specs.declared.reply.Reply.{Reply}
-use Rattle.acl_tree.specs.declared.reply.Reply.TheVariants.{Done, Node, Granted, Denied, Translated, TranslatedBoth, Refused, Fault}
-use Rattle.acl_lang.specs.Printed.{printed}
+use Rattle.acl_tree.specs.declared.reply.Reply.TheVariants.{Done, Node, Granted, Denied, Translated}
+use Rattle.acl_tree.specs.declared.reply.Reply.TheVariants.{TranslatedBoth, Refused, Fault}
+use Rattle.acl_lang.specs.Printed.{answer_text, printed}
 use Rattle.acl_lang.specs.Texts.{requests_of}
 use Rattle.acl_lang.specs.declared.answer.Answer.{Answer}
 use Rattle.acl_lang.specs.declared.text.Numbered.{Numbered}
 use Rattle.acl_broker.specs.Journal.{items_from, answers_to}
 use Rattle.acl_broker.specs.declared.steps.JournalEntry.{JournalEntry}
 use Rattle.acl_runs.specs.ErrorLimit.{IsServedUpTo}
+use Rattle.acl_runs.specs.Handling.{Handling}
 use Rattle.acl_service.specs.Runs.{answer_to, session_text, tree_after, tree_after_one}
 use Rattle.acl_service.specs.declared.sessions.report.Report.{Report}
 
@@ -31,37 +34,55 @@ is_error_reply (Fault fault) = true
 abbrev pub is_error : Answer → Bool
 is_error answer = is_error_reply answer.reply
 
+-- what is made of answers: their text with the names of a directory, and what is kept of each
+abbrev pub handling_of : {K : Type 0} → Known → (Answer → K) → Handling Answer K
+handling_of {K} known keep = record { text = answer_text known; is_error = is_error; keep = keep }
+
+-- each is kept whole
+abbrev pub answer_handling : Known → Handling Answer Answer
+answer_handling known = handling_of known (λ answer. answer)
+
 -- the requests of each text
 abbrev pub requests_of_each : Known → List (Vec ℕ Global) → List (List Numbered)
 requests_of_each known texts = map (λ text. requests_of known text.items) texts
 
 -- the answers to a session's entries in a journal, each by the tree at its place
 abbrev pub answers_in : Known → NodesUnderUmask → List (JournalEntry Numbered) → ℕ → List Answer
-answers_in known tree journal session = answers_to (tree_after_one known) (answer_to known) session tree journal
+answers_in known tree journal session = answers_to (tree_after_one known) (answer_to known) session
+    tree journal
 
 -- the tree that a journal leads to
-abbrev pub tree_after_journal : Known → NodesUnderUmask → List (JournalEntry Numbered) → NodesUnderUmask
+abbrev pub tree_after_journal : Known → NodesUnderUmask → List (JournalEntry Numbered)
+    → NodesUnderUmask
 tree_after_journal known tree journal = tree_after known tree (map (λ entry. entry.item) journal)
 
 -- the report of sessions with these texts that began with this tree
-pub record ExplainsSessions (known : Known) (tree : NodesUnderUmask) (limit : Option ℕ) (texts : List (Vec ℕ Global)) (report : Report) : Type 0 where
+pub record ExplainsSessions (known : Known) (tree : NodesUnderUmask) (limit : Option ℕ)
+    (texts : List (Vec ℕ Global)) (report : Report) : Type 0 where
   -- each entry is of a session that has a text,
   pub entries : AllByRecursion (λ entry. entry.session < length texts) report.journal.items
-  -- the journal has the whole of each text's requests, up to the session's last error that is allowed,
+  -- the journal has the whole of each text's requests, up to the session's last error that is
+  -- allowed,
   pub served : (session : ℕ) (none : Vec ℕ Global) → session < length texts
-      → IsServedUpTo is_error limit (requests_of known (slice_index_or texts session none).items) (items_from session report.journal.items) (answers_in known tree report.journal.items session)
+      → IsServedUpTo is_error limit (requests_of known (slice_index_or texts session none).items)
+      (items_from session report.journal.items)
+      (answers_in known tree report.journal.items session)
   -- a session's answers are the journal's to it,
   pub answered : length report.answers.items ≡ length texts
   pub answers : (session : ℕ) (none : Vec Answer Global) → session < length texts
-      → (slice_index_or report.answers.items session none).items ≡ answers_in known tree report.journal.items session
+      → (slice_index_or report.answers.items session none).items
+      ≡ answers_in known tree report.journal.items session
   -- its output is what is printed of them,
   pub outputs_are : length report.outputs.items ≡ length texts
   pub outputs : (session : ℕ) (none : Vec ℕ Global) → session < length texts
-      → (slice_index_or report.outputs.items session none).items ≡ printed known (answers_in known tree report.journal.items session)
+      → (slice_index_or report.outputs.items session none).items
+      ≡ printed known (answers_in known tree report.journal.items session)
   -- and the tree is the journal's result
   pub result : report.tree ≡ tree_after_journal known tree report.journal.items
 
 -- a run of one session comes to what the session comes to alone
-pub record IsServedAlone (known : Known) (tree : NodesUnderUmask) (text : List ℕ) (report : Report) : Type 0 where
-  pub output : (none : Vec ℕ Global) → (slice_index_or report.outputs.items 0 none).items ≡ session_text known tree text
+pub record IsServedAlone (known : Known) (tree : NodesUnderUmask) (text : List ℕ) (report : Report)
+    : Type 0 where
+  pub output : (none : Vec ℕ Global) → (slice_index_or report.outputs.items 0 none).items
+      ≡ session_text known tree text
   pub result : report.tree ≡ tree_after known tree (requests_of known text)

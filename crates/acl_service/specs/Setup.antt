@@ -1,5 +1,6 @@
 -- What a setup says, as a function of its table.
-use Rattle.std.specs.Prelude.{ℕ, ◌-◌, ◌&&◌, Bool, nat_le, List, [], ◌∷◌, Option, Some, None, codes, if◌then◌else◌, bytes_eq}
+use Rattle.std.specs.Prelude.{ℕ, ◌-◌, ◌&&◌, Bool, nat_le, List, [], ◌∷◌, Option, Some, None, codes}
+use Rattle.std.specs.Prelude.{if◌then◌else◌, bytes_eq}
 use Rattle.acl_names.specs.Bytes.{digit_0, digit_7}
 use Rattle.acl_names.specs.Directory.{Known, KnownGroup, KnownUser}
 use Rattle.acl_posix.specs.Mode.{Classes}
@@ -64,7 +65,8 @@ group_in value = do
   gid ← id_at (codes "gid") table
   Some (record { name = name; gid = gid })
 
--- domain = "..", umask = "OOO", [root], any number of [[user]] and of [[group]]; other keys play no part
+-- domain = "..", umask = "OOO", [root], any number of [[user]] and of [[group]]; other keys play no
+-- part
 unfoldable pub setup_in : Members → Option Setup
 setup_in table = do
   domain ← text_at (codes "domain") table
@@ -72,4 +74,12 @@ setup_in table = do
   root ← table_at (codes "root") table >>= root_in
   users ← items_at user_in (codes "user") table
   groups ← items_at group_in (codes "group") table
-  Some (record { umask = umask; root = root; known = record { domain = domain; users = users; groups = groups } })
+  Some (record {
+    umask = umask;
+    root = root;
+    known = record {
+      domain = domain;
+      users = users;
+      groups = groups;
+    };
+  })

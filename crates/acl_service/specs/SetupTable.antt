@@ -1,10 +1,13 @@
 -- The values of a table, by their types.
-use Rattle.std.specs.Prelude.{◌≡◌, ⊤, ℕ, ℤ, pos, negsuc, List, [], ◌∷◌, Option, Some, None, Result, MatchResult, IsUtf8, if◌then◌else◌, nat_le, option_and_then}
+use Rattle.std.specs.Prelude.{◌≡◌, ⊤, ℕ, ℤ, pos, negsuc, List, [], ◌∷◌, Option, Some, None, Result}
+use Rattle.std.specs.Prelude.{MatchResult, IsUtf8, if◌then◌else◌, nat_le, option_and_then}
 use Rattle.acl_names.specs.declared.limits.TheConstants.{MAX_ID}
-use Rattle.toml.specs.Data.{Data, Items, Members, as_array, as_integer, as_str, as_table, get_member, item, no_items}
+use Rattle.toml.specs.Data.{Data, Items, Members, as_array, as_integer, as_str, as_table}
+use Rattle.toml.specs.Data.{get_member, item, no_items}
 use Rattle.toml.specs.Parse.{parse_document}
 use Rattle.acl_service.specs.declared.setup.fault.SetupError.{SetupError}
-use Rattle.acl_service.specs.declared.setup.fault.SetupError.TheVariants.{NotToml, BadField, Parts, Memory}
+use Rattle.acl_service.specs.declared.setup.fault.SetupError.TheVariants.{NotToml, BadField, Parts}
+use Rattle.acl_service.specs.declared.setup.fault.SetupError.TheVariants.{Memory}
 
 -- the bytes are the text of a document, and the table is what it says
 abbrev pub ReadsAs : List ℕ → Members → Type 0
@@ -60,4 +63,5 @@ IsBadField reading Memory = ⊤
 
 -- the result is the value of the reading, or says why there is none
 abbrev pub Answers : {T A : Type 0} → (T → A) → Option A → Result T SetupError → Type 0
-Answers shown reading result = MatchResult result (λ value. reading ≡ Some (shown value)) (IsBadField reading)
+Answers shown reading result = MatchResult result (λ value. reading ≡ Some (shown value))
+    (IsBadField reading)

@@ -1,15 +1,16 @@
 -- The lines and the exit statuses of runs that come to nothing.
-use Rattle.std.specs.Prelude.{◌≢◌, ◌<◌, ◌≤◌, ◌++◌, ◌∷◌, [], ⊤, ℕ, List, codes}
-use Rattle.acl_names.specs.Bytes.{newline}
+use Rattle.std.specs.Prelude.{◌≢◌, ◌<◌, ◌≤◌, ◌++◌, ⊤, ℕ, List, Option, Some, codes}
 use Rattle.acl_broker.specs.declared.limits.TheConstants.{SESSIONS}
 use Rattle.acl_service.specs.Opened.{IsRefusedSetup}
 use Rattle.acl_service.specs.SetupFaults.{setup_error_words}
+use Rattle.acl_queries.specs.ErrorOutput.{SaysFault, line_of_words}
 use Rattle.acl_queries.specs.RunFaults.{run_fault_words}
-use Rattle.acl_queries.specs.declared.fault.RunFault.TheVariants as run
+use Rattle.acl_queries.specs.declared.command.run_fault.RunFault.TheVariants as run
 use Rattle.acl_service.specs.declared.one.OneFault.{OneFault}
 use Rattle.acl_service.specs.declared.one.OneFault.TheVariants as one
 use Rattle.acl_service.specs.declared.run_command.fault.TextsFault.{TextsFault}
-use Rattle.acl_service.specs.declared.run_command.fault.TextsFault.TheVariants.{TooManySessions, Setup, Run}
+use Rattle.acl_service.specs.declared.run_command.fault.TextsFault.TheVariants.{TooManySessions}
+use Rattle.acl_service.specs.declared.run_command.fault.TextsFault.TheVariants.{Setup, Run}
 use Rattle.acl_runs.specs.declared.stop.ServeFault.{ServeFault}
 use Rattle.acl_runs.specs.declared.stop.ServeFault.TheVariants as serve
 use Rattle.acl_service.specs.declared.setup.fault.SetupError.{SetupError}
@@ -21,7 +22,10 @@ texts_fault_words (Setup error) = codes "setup: " ++ setup_error_words error
 texts_fault_words (Run fault) = codes "run: " ++ run_fault_words fault
 
 abbrev pub texts_fault_line : TextsFault → List ℕ
-texts_fault_line fault = codes "aclctl: " ++ texts_fault_words fault ++ newline ∷ []
+texts_fault_line fault = line_of_words (texts_fault_words fault)
+
+abbrev pub texts_line : TextsFault → Option (List ℕ)
+texts_line fault = Some (texts_fault_line fault)
 
 -- the exit status of a fault
 abbrev pub texts_status : TextsFault → ℕ
@@ -52,8 +56,8 @@ pub record RefusesSetup (bytes : List ℕ) : Type 0 where
   pub refused : IsRefusedSetup bytes error
   pub because : error ≢ setup.Memory
 
--- so many sessions with this setup are refused for this: there are too many, or else for the setup; of a run that lacked
--- something nothing is said but that there weren't too many
+-- so many sessions with this setup are refused for this: there are too many, or else for the setup;
+-- of a run that lacked something nothing is said but that there weren't too many
 abbrev pub IsTextsFault : List ℕ → ℕ → TextsFault → Type 0
 IsTextsFault bytes sessions TooManySessions = SESSIONS < sessions
 IsTextsFault bytes sessions (Setup error) = (sessions ≤ SESSIONS) × RefusesSetup bytes
@@ -63,3 +67,7 @@ IsTextsFault bytes sessions (Run fault) = sessions ≤ SESSIONS
 abbrev pub IsRunFault : TextsFault → Type 0
 IsRunFault (Run fault) = ⊤
 IsRunFault fault = ⊥
+
+-- what is said of so many sessions with this setup
+abbrev pub SaysTexts : List ℕ → ℕ → ℕ → Option (List ℕ) → Type 0
+SaysTexts bytes sessions = SaysFault texts_status texts_line (IsTextsFault bytes sessions)

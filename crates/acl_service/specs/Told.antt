@@ -1,10 +1,25 @@
 -- Private steps, which no public clause cites: what a run over the tree tells of its sessions.
+use Rattle.std.specs.Prelude.{◌≡◌}
 use Rattle.acl_lang.specs.declared.answer.Answer.{Answer}
 use Rattle.acl_lang.specs.declared.text.Numbered.{Numbered}
+use Rattle.acl_broker.specs.declared.steps.JournalEntry.{JournalEntry}
 use Rattle.acl_runs.specs.declared.report.RunReport.{RunReport}
 use Rattle.acl_service.specs.declared.served.Served.{Served}
 use Rattle.acl_service.specs.declared.sessions.report.Report.{Report}
 
 -- the same, with the service's tree
-abbrev pub told : RunReport Served Answer Numbered Answer → Report
-told run = record { journal = run.journal; answers = run.answers; outputs = run.outputs; tree = run.service.tree }
+abbrev pub told : RunReport Served (JournalEntry Numbered) Answer → Report
+told run = record {
+  journal = run.journal;
+  answers = run.answers;
+  outputs = run.outputs;
+  tree = run.service.tree;
+}
+
+-- the same, of a report that has the entries in a list of its own
+pub record IsToldOf (run : RunReport Served (JournalEntry Numbered) Answer) (report : Report) : Type
+    0 where
+  pub journal : report.journal.items ≡ run.journal.items
+  pub answers : report.answers ≡ run.answers
+  pub outputs : report.outputs ≡ run.outputs
+  pub tree : report.tree ≡ run.service.tree

@@ -16,18 +16,21 @@ ghost use Rattle.acl_service.specs.Sessions.{ExplainsSessions, IsServedAlone};
 ghost use Rattle.acl_service.specs.declared.served.Served.{Served};
 ghost use Rattle.acl_service.specs.declared.sessions.report.Report.{Report};
 
-/// The journal explains every answer. For every list of steps by which a broker before a tree went on, its journal is a merge
-/// of prefixes of the sessions' accepted commands, each once, in its session's order, none submitted after that session's
-/// close, none taken after its cancel; each answer is the one that the tree gives at the command's place; and the tree is the
-/// journal's result. What the tree becomes and replies is the commands' own meaning.
+/// The journal explains every answer. For every list of steps by which a broker before a tree went
+/// on, its journal is a merge of prefixes of the sessions' accepted commands, each once, in its
+/// session's order, none submitted after that session's close, none taken after its cancel; each
+/// answer is the one that the tree gives at the command's place; and the tree is the journal's
+/// result. What the tree becomes and replies is the commands' own meaning.
 ///
-/// And whatever list a command translates, the translation decides alike: for every owner, group and requester, both grant the
-/// same of read, write and execute.
+/// And whatever list a command translates, the translation decides alike: for every owner, group
+/// and requester, both grant the same of read, write and execute.
 ///
 /// There is nothing to run here: a proof cites the contract.
 pub fn journal_explains_every_answer()
-    ensures journal { (old : BrokerState Served Numbered Answer) (history : History Numbered Answer) (new : BrokerState Served Numbered Answer)
-        → GoesOnAll next_served reply_served old history new → Merges next_served reply_served old history new }
+    ensures journal { (old : BrokerState Served Numbered Answer) (history : History Numbered Answer)
+        (new : BrokerState Served Numbered Answer)
+        → GoesOnAll next_served reply_served old history new
+        → Merges next_served reply_served old history new }
     ensures tree { (served : Served) (numbered : Numbered) → IsServedBy served numbered }
     ensures translation { TranslationDecidesAlike }
 {}
@@ -37,5 +40,6 @@ pub fn journal_explains_every_answer()
 /// There is nothing to run here: a proof cites the contract.
 pub fn one_session_is_served_as_alone()
     ensures { (known : Known) (tree : NodesUnderUmask) (text : Vec ℕ Global) (report : Report)
-        → ExplainsSessions known tree None (text ∷ []) report → IsServedAlone known tree text.items report }
+        → ExplainsSessions known tree None (text ∷ []) report
+        → IsServedAlone known tree text.items report }
 {}

@@ -1,5 +1,6 @@
-//! The service: many sessions on one tree. The sessions of a run, the setup that it begins with, and the command `run`, over
-//! any words, readers and writers. The commands that ask of lists alone are those of `acl_queries`.
+//! The service: many sessions on one tree. The sessions of a run, the setup that it begins with,
+//! and the command `run`, over any words, readers and writers. The commands that ask of lists alone
+//! are those of `acl_queries`.
 #![tactic(auto)]
 
 mod headline;
@@ -10,13 +11,14 @@ mod sessions;
 mod setup;
 
 pub use acl_queries::{
-    CapFault, RunFault, WordsFault, alike_lists_differ_for_nobody, compare, decide, read_capped,
-    words_ask_what_they_give, words_of, write_text,
+    CapFault, CommandFault, ErrorOutput, RunFault, WordsFault, alike_lists_differ_for_nobody,
+    compare, decide, read_capped, report, words_ask_what_they_give, words_of, write_text,
 };
 pub use acl_runs::{Gate, OpenGate, ServeFault};
 pub use headline::{journal_explains_every_answer, one_session_is_served_as_alone};
 pub use one::{OneFault, run_one};
 pub use run_command::{OpenFiles, run, run_texts};
 pub use served::Served;
+pub(crate) use served::ServedInPrint;
 pub use sessions::{Report, serve, serve_rounds};
 pub use setup::{SetupError, read_setup};

@@ -3,12 +3,13 @@ ghost use Rattle.std.specs.Prelude.{◌≡◌, ◌≤◌, ◌++◌, length, IfOk
 ghost use Rattle.std.specs.Io.KnownBytes.{Appends, Keeps};
 ghost use Rattle.acl_lang.specs.Texts.{requests_of};
 ghost use Rattle.acl_queries.specs.Output.{AppendsFront};
-ghost use Rattle.acl_service.specs.Runs.{session_text, tree_after};
+ghost use Rattle.acl_lang.specs.Printed.{answer_text};
+ghost use Rattle.acl_service.specs.Runs.{answer_to, session_text, tree_after, tree_after_one};
 
-use acl_lang::{Answer, MAX_TEXT_LEN, Requests, render};
+use acl_lang::{Answer, MAX_TEXT_LEN, Numbered, Requests, render, render_node};
 use acl_names::Directory;
 use acl_queries::write_text;
-use acl_tree::Tree;
+use acl_tree::{Request, Tree};
 use std::alloc::{AllocError, Global};
 use std::io::Write;
 
@@ -21,9 +22,9 @@ pub enum OneFault {
     Write,
 }
 
-/// Applies the requests of the text's lines one by one, and prints each answer before the next line is read. Answers are
-/// seldom twice as long as their text: with so much room from the start they are seldom copied into more, and a machine lends
-/// memory only to what is written of it.
+/// Applies the requests of the text's lines one by one, and prints each answer before the next line
+/// is read. Answers are seldom twice as long as their text: with so much room from the start they
+/// are seldom copied into more, and a machine lends memory only to what is written of it.
 fn answer_lines(
     alloc: Global,
     directory: &Directory,
@@ -32,25 +33,49 @@ fn answer_lines(
     printed: &mut Vec<u8>,
 ) -> Result<(), AllocError>
     requires { length text.now ≤ MAX_TEXT_LEN }
-    ensures text { OnOk result (printed.new.items ≡ printed.old.items ++ session_text directory.now tree.old text.now) }
-    ensures tree { OnOk result (tree.new ≡ tree_after directory.now tree.old (requests_of directory.now text.now)) }
+    ensures text { OnOk result (printed.new.items
+        ≡ printed.old.items ++ session_text directory.now tree.old text.now) }
+    ensures tree { OnOk result (tree.new ≡ tree_after directory.now tree.old
+        (requests_of directory.now text.now)) }
 {
     printed.reserve(text.len().saturating_mul(2))?;
     let mut requests = Requests::new(text, directory);
     while let Some(numbered) = requests.next(alloc)? {
-        let reply = tree.apply(alloc, &numbered.request, directory)?;
-        let answer = Answer {
-            line: numbered.line,
-            reply,
-        };
-        render(&answer, directory, printed)?;
+        answer_one(alloc, directory, tree, &numbered, printed)?;
     }
     Ok(())
 }
 
-/// Applies the commands of a text to the tree, line by line, and answers with the tree that they leave. Their answers go to
-/// `out`: all of them are made first and then written at once. The text has at most 1,048,576 bytes. On a fault the tree is
-/// dropped. `Memory`: nothing was written. `Write`: a front of the answers went out.
+/// Applies a request, and prints its answer. A node that is asked for is printed where it stands.
+fn answer_one(
+    alloc: Global,
+    directory: &Directory,
+    tree: &mut Tree,
+    numbered: &Numbered,
+    printed: &mut Vec<u8>,
+) -> Result<(), AllocError>
+    ensures text { OnOk result (printed.new.items
+        ≡ printed.old.items ++ answer_text directory.now
+        (answer_to directory.now tree.old numbered.now)) }
+    ensures tree { OnOk result (tree.new ≡ tree_after_one directory.now tree.old numbered.now) }
+{
+    if let Request::Get(path) = &numbered.request {
+        if let Some(node) = tree.node(path) {
+            return render_node(numbered.line, path, node, directory, printed);
+        }
+    }
+    let reply = tree.apply(alloc, &numbered.request, directory)?;
+    let answer = Answer {
+        line: numbered.line,
+        reply,
+    };
+    render(&answer, directory, printed)
+}
+
+/// Applies the commands of a text to the tree, line by line, and answers with the tree that they
+/// leave. Their answers go to `out`: all of them are made first and then written at once. The text
+/// has at most 1,048,576 bytes. On a fault the tree is dropped. `Memory`: nothing was written.
+/// `Write`: a front of the answers went out.
 pub fn run_one<W: Write>(
     alloc: Global,
     directory: &Directory,
@@ -59,10 +84,15 @@ pub fn run_one<W: Write>(
     out: &mut W,
 ) -> Result<Tree, OneFault>
     requires { length text.now ≤ MAX_TEXT_LEN }
-    ensures tree { IfOk result (λ after. after ≡ tree_after directory.now tree (requests_of directory.now text.now)) }
-    ensures written { OnOk result (Appends (W.contents out.old) (W.contents out.new) (session_text directory.now tree text.now)) }
-    ensures memory { IsErrOf result OneFault.Memory → Keeps (W.contents out.old) (W.contents out.new) }
-    ensures cut { IsErrOf result OneFault.Write → AppendsFront (W.contents out.old) (W.contents out.new) (session_text directory.now tree text.now) }
+    ensures tree { IfOk result (λ after. after
+        ≡ tree_after directory.now tree (requests_of directory.now text.now)) }
+    ensures written { OnOk result (Appends (W.contents out.old) (W.contents out.new)
+        (session_text directory.now tree text.now)) }
+    ensures memory { IsErrOf result OneFault.Memory
+        → Keeps (W.contents out.old) (W.contents out.new) }
+    ensures cut { IsErrOf result OneFault.Write
+        → AppendsFront (W.contents out.old) (W.contents out.new)
+        (session_text directory.now tree text.now) }
 {
     let mut tree = tree;
     let mut printed = Vec::new(alloc);

@@ -4,19 +4,22 @@ ghost use Rattle.std.specs.Io.KnownBytes.{Appends, Keeps};
 ghost use Rattle.clap.specs.Words.{found_of, rows_of};
 ghost use Rattle.acl_lang.specs.declared.limits.TheConstants.{MAX_TEXT_LEN};
 ghost use Rattle.acl_broker.specs.declared.limits.TheConstants.{SESSIONS};
+ghost use Rattle.acl_queries.specs.ErrorOutput.{Reports};
 ghost use Rattle.acl_queries.specs.Output.{AppendsFront};
-ghost use Rattle.acl_service.specs.TextsFaults.{RefusesSetup};
+ghost use Rattle.acl_service.specs.FilesFaults.{SaysFiles, SaysRun};
+ghost use Rattle.acl_service.specs.TextsFaults.{RefusesSetup, SaysTexts};
 ghost use Rattle.acl_service.specs.RunTexts.{RunsTexts};
-ghost use Rattle.acl_service.specs.RunWords.{RunTakes, RunsWords, run_rows};
+ghost use Rattle.acl_service.specs.RunWords.{CanRun, IsSessionFault, RunTakes, RunsWords};
+ghost use Rattle.acl_service.specs.RunWords.{input_count, run_rows, sessions_in};
 
 mod command_line;
 mod fault;
 mod files;
 mod printing;
 mod texts;
-mod usage;
 
 use acl_queries::options::flag_field;
+use acl_queries::{ErrorOutput, report};
 use acl_runs::{Gate, OpenGate};
 use clap::ArgMatches;
 use command_line::{limit_field, parse, session_fields, setup_field};
@@ -29,23 +32,25 @@ use std::sync::Wait;
 use std::thread::Threads;
 use std::time::Clock;
 use texts::{Options, print_texts};
-use usage::report_usage;
 
-/// Runs sessions with these texts over the directory and the tree that the setup opens, and writes what they print to `out`.
-/// Of one session that is its output. Of more, each output stands after a line `session K`, from 0 in the order of the
-/// texts. With `journal` there follow the line `journal` and, for each command in the order in which they took effect, a
-/// line `K N`: its session and its line's number. With `max_errors` of K, a session ends at its K-th answer that is an error.
-/// A single session of which neither is asked runs without threads.
+/// Runs sessions with these texts over the directory and the tree that the setup opens, and writes
+/// what they print to `out`. Of one session that is its output. Of more, each output stands after a
+/// line `session K`, from 0 in the order of the texts. With `journal` there follow the line
+/// `journal` and, for each command in the order in which they took effect, a line `K N`: its
+/// session and its line's number. With `max_errors` of K, a session ends at its K-th answer that is
+/// an error. A single session of which neither is asked runs without threads.
 ///
-/// Nothing is written before the run has ended. What is wrong goes to `err` in one line; a fault while writing there changes
-/// nothing.
+/// Nothing is written before the run has ended. What is wrong goes to `err` in one line; a fault
+/// while writing there changes nothing.
 ///
-/// It returns the exit status: 0 with the outputs; 1 if the setup is refused; 2 for more than 64 texts, before the setup
-/// is read; and 3 if memory runs out, the gate stops the run, a thread can't be started or `out` can't be written. At 1 and 2
-/// nothing was written, and at 3 nothing or a front of what the run prints.
+/// It returns the exit status: 0 with the outputs; 1 if the setup is refused; 2 for more than 64
+/// texts, before the setup is read; and 3 if memory runs out, the gate stops the run, a thread
+/// can't be started or `out` can't be written. At 1 and 2 nothing was written, and at 3 nothing or
+/// a front of what the run prints.
 ///
-/// There is at least one text, each text has at most 1,048,576 bytes, and an error limit is at least 1.
-pub fn run_texts<R: Threads + Wait + Clock + Sync, G: Gate, W: Write, E: Write>(
+/// There is at least one text, each text has at most 1,048,576 bytes, and an error limit is at
+/// least 1.
+pub fn run_texts<R: Threads + Wait + Clock + Sync, G: Gate, W: Write, E: Write + Drop>(
     rt: &R,
     alloc: Global,
     gate: &G,
@@ -54,22 +59,26 @@ pub fn run_texts<R: Threads + Wait + Clock + Sync, G: Gate, W: Write, E: Write>(
     journal: bool,
     max_errors: Option<u32>,
     out: &mut W,
-    err: &mut E,
+    err: &mut ErrorOutput<E>,
 ) -> u8
     requires count { 1 ≤ length texts.now }
     requires short { All (λ text. length text.items ≤ MAX_TEXT_LEN) texts.now }
     requires some { max_errors ≢ Some 0 }
     ensures statuses { result ≤ 3 }
-    ensures printed { result ≡ 0 → RunsTexts setup.now texts.now journal max_errors (Appends (W.contents out.old) (W.contents out.new)) }
+    ensures printed { result ≡ 0 → RunsTexts setup.now texts.now journal max_errors
+        (Appends (W.contents out.old) (W.contents out.new)) }
     ensures refused_setup { result ≡ 1 → RefusesSetup setup.now }
     ensures too_many { (result ≡ 2) ↔ (SESSIONS < length texts.now) }
 
     // Nothing is written if the run is refused.
     ensures silent { 1 ≤ result → result ≤ 2 → Keeps (W.contents out.old) (W.contents out.new) }
 
-    // If the run lacks something, or a write fails, nothing went out or a front of what the texts print.
+    // If the run lacks something, or a write fails, nothing went out or a front of what the texts
+    // print.
     ensures cut { result ≡ 3 → Keeps (W.contents out.old) (W.contents out.new)
-        ⊎ RunsTexts setup.now texts.now journal max_errors (AppendsFront (W.contents out.old) (W.contents out.new)) }
+        ⊎ RunsTexts setup.now texts.now journal max_errors
+        (AppendsFront (W.contents out.old) (W.contents out.new)) }
+    ensures told { Reports (SaysTexts setup.now (length texts.now)) result err.old err.new }
 {
     let options = Options {
         journal,
@@ -77,20 +86,23 @@ pub fn run_texts<R: Threads + Wait + Clock + Sync, G: Gate, W: Write, E: Write>(
     };
     match print_texts(rt, alloc, gate, setup, texts, options, out) {
         Ok(()) => 0,
-        Err(fault) => fault.report(err),
+        Err(fault) => report(&fault, err),
     }
 }
 
-/// Runs the sessions of files. The words are those of the command, its name first: `run --setup FILE [--journal]
-/// [--max-errors K] SESSION..`. A SESSION `-` is what `input` has, and may stand once. `files` opens the others: the setup
-/// first and then the sessions, each of at most 1,048,576 bytes. All are read before the run begins, which is that of
-/// `run_texts`, and what they print goes to `out`. What is wrong goes to `err`, and so does help; a fault while writing there
+/// Runs the sessions of files. The words are those of the command, its name first: `run --setup
+/// FILE [--journal] [--max-errors K] SESSION..`. A SESSION `-` is what `input` has, and may stand
+/// once; without one, nothing of `input` is read. `files` opens the others: the setup first and
+/// then the sessions in their order, each of at most 1,048,576 bytes, and none after one that can't
+/// be read. All are read before the run begins, which is that of `run_texts`, and what they print
+/// goes to `out`. What is wrong goes to `err`, and so does help; a fault while writing there
 /// changes nothing.
 ///
-/// It returns the exit status: 0 with the outputs; 1 if a file can't be opened or read or is too long, or the setup is
-/// refused; 2 if the parser of command lines refuses the words, or there are more than 64 sessions or two of them `-`,
-/// before any file is opened; and 3 if memory runs out, a thread can't be started or `out` can't be written. At 1 and 2 nothing
-/// was written, and at 3 nothing or a front of what the run prints.
+/// It returns the exit status: 0 with the outputs; 1 if a file can't be opened or read or is too
+/// long, or the setup is refused; 2 if the parser of command lines refuses the words, or there are
+/// more than 64 sessions or two of them `-`, before any file is opened; and 3 if memory runs out, a
+/// thread can't be started or `out` can't be written. At 1 and 2 nothing was written, and at 3
+/// nothing or a front of what the run prints.
 pub fn run<R, F, S, I, W, E>(
     rt: &R,
     alloc: Global,
@@ -98,7 +110,7 @@ pub fn run<R, F, S, I, W, E>(
     words: &[S],
     input: &mut I,
     out: &mut W,
-    err: &mut E,
+    err: &mut ErrorOutput<E>,
 ) -> u8
 where
     R: Threads + Wait + Clock + Sync,
@@ -106,22 +118,40 @@ where
     S: AsStr,
     I: Read,
     W: Write,
-    E: Write,
+    E: Write + Drop,
     ensures statuses { result ≤ 3 }
-    ensures taken { result ≡ 0 → RunTakes (map S.text words.now) }
-    ensures printed { result ≡ 0 → RunsWords (F.bytes_of files.now) (I.remaining input.old) (run_rows (map S.text words.now))
+
+    // With outputs, or if a file or the setup is refused, the words and the names of the sessions
+    // were taken.
+    ensures taken { result ≤ 1 → RunTakes (map S.text words.now)
+        × CanRun (sessions_in (run_rows (map S.text words.now))) }
+
+    // Wrong usage is one of these, and then nothing is read.
+    ensures refused { result ≡ 2 → (¬ RunTakes (map S.text words.now))
+        ⊎ IsSessionFault (sessions_in (run_rows (map S.text words.now))) }
+    ensures unread { result ≡ 2 → input.new ≡ input.old }
+
+    // Standard input is left as it is if no session is `-`.
+    ensures untouched { input_count (sessions_in (run_rows (map S.text words.now))) ≡ 0
+        → input.new ≡ input.old }
+    ensures printed { result ≡ 0 → RunsWords (F.bytes_of files.now) (I.remaining input.old)
+        (run_rows (map S.text words.now))
         (Appends (W.contents out.old) (W.contents out.new)) }
 
     // Nothing is written if the words, a file or the setup are refused.
     ensures silent { 1 ≤ result → result ≤ 2 → Keeps (W.contents out.old) (W.contents out.new) }
 
-    // If the run lacks something, or a write fails, nothing went out or a front of what the files print.
+    // If the run lacks something, or a write fails, nothing went out or a front of what the files
+    // print.
     ensures cut { result ≡ 3 → Keeps (W.contents out.old) (W.contents out.new)
-        ⊎ RunsWords (F.bytes_of files.now) (I.remaining input.old) (run_rows (map S.text words.now)) (AppendsFront (W.contents out.old) (W.contents out.new)) }
+        ⊎ RunsWords (F.bytes_of files.now) (I.remaining input.old) (run_rows (map S.text words.now))
+        (AppendsFront (W.contents out.old) (W.contents out.new)) }
+    ensures told { Reports (SaysRun (F.bytes_of files.now) (map S.text words.now)) result err.old
+        err.new }
 {
     match parse(alloc, words) {
         Ok(matches) => run_files(rt, alloc, files, &matches, input, out, err),
-        Err(error) => report_usage(&error, err),
+        Err(error) => report(&error, err),
     }
 }
 
@@ -133,23 +163,32 @@ fn run_files<R, F, I, W, E>(
     matches: &ArgMatches<'_>,
     input: &mut I,
     out: &mut W,
-    err: &mut E,
+    err: &mut ErrorOutput<E>,
 ) -> u8
 where
     R: Threads + Wait + Clock + Sync,
     F: OpenFiles,
     I: Read,
     W: Write,
-    E: Write,
+    E: Write + Drop,
     ensures statuses { result ≤ 3 }
-    ensures printed { result ≡ 0 → RunsWords (F.bytes_of files.now) (I.remaining input.old) (rows_of (found_of matches.now))
+    ensures taken { result ≤ 1 → CanRun (sessions_in (rows_of (found_of matches.now))) }
+    ensures refused { result ≡ 2 → IsSessionFault (sessions_in (rows_of (found_of matches.now))) }
+    ensures untouched { input_count (sessions_in (rows_of (found_of matches.now))) ≡ 0
+        → input.new ≡ input.old }
+    ensures unread { result ≡ 2 → input.new ≡ input.old }
+    ensures printed { result ≡ 0 → RunsWords (F.bytes_of files.now) (I.remaining input.old)
+        (rows_of (found_of matches.now))
         (Appends (W.contents out.old) (W.contents out.new)) }
     ensures silent { 1 ≤ result → result ≤ 2 → Keeps (W.contents out.old) (W.contents out.new) }
     ensures cut { result ≡ 3 → Keeps (W.contents out.old) (W.contents out.new)
-        ⊎ RunsWords (F.bytes_of files.now) (I.remaining input.old) (rows_of (found_of matches.now)) (AppendsFront (W.contents out.old) (W.contents out.new)) }
+        ⊎ RunsWords (F.bytes_of files.now) (I.remaining input.old) (rows_of (found_of matches.now))
+        (AppendsFront (W.contents out.old) (W.contents out.new)) }
+    ensures told { Reports (SaysFiles (F.bytes_of files.now) (rows_of (found_of matches.now)))
+        result err.old err.new }
 {
     let Some(names) = session_fields(matches) else {
-        return FilesFault::SessionCount.report(err);
+        return report(&FilesFault::SessionCount, err);
     };
     match read_texts(alloc, files, input, setup_field(matches), names) {
         Ok(texts) => run_texts(
@@ -163,6 +202,6 @@ where
             out,
             err,
         ),
-        Err(fault) => fault.report(err),
+        Err(fault) => report(&fault, err),
     }
 }

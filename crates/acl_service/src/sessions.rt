@@ -10,29 +10,34 @@ mod cursor;
 mod printer;
 mod report;
 
-use crate::Served;
+use crate::{Served, ServedInPrint};
+use acl_lang::Answer;
 use acl_names::Directory;
-use acl_runs::{Gate, RunReport, ServeFault, serve_in_rounds, serve_sessions};
+use acl_runs::{Gate, ServeFault, serve_in_rounds, serve_sessions};
 use acl_tree::Tree;
 use cursor::open_all;
 pub(crate) use printer::PrintedAnswer;
-use printer::{Printer, PrinterAlone};
+use printer::Printer;
 pub use report::Report;
-use report::report_of;
+pub(crate) use report::RunInPrint;
+use report::{report_of, report_of_kept};
 use std::alloc::Global;
+use std::marker::PhantomData;
 use std::sync::Wait;
 use std::thread::Threads;
 use std::time::Clock;
 
 /// Lets a session for each text work on the tree, all at the same time.
 ///
-/// Each session has a thread of its own, which reads its text line by line, asks the gate before it submits a request, prints
-/// its answers and tells the gate of each. This thread applies the requests of all, one after the other, and delivers the
-/// answers. With `max_errors` of K, a session ends at its K-th answer that is a refusal or a faulty line. A thread that finds
-/// nothing to do yields, and then naps.
+/// Each session has a thread of its own, which reads its text line by line, asks the gate before it
+/// submits a request, prints its answers and tells the gate of each. This thread applies the
+/// requests of all, one after the other, and delivers the answers. With `max_errors` of K, a
+/// session ends at its K-th answer that is a refusal or a faulty line. A thread that finds nothing
+/// to do yields, and then naps.
 ///
-/// A fault ends the run: every worker is joined, and the journal, the answers and the tree are dropped. The texts are 1 to 64,
-/// each of at most 1,048,576 bytes, and an error limit is at least 1.
+/// A fault ends the run: every worker is joined, and the journal, the answers and the tree are
+/// dropped. The texts are 1 to 64, each of at most 1,048,576 bytes, and an error limit is at least
+/// 1.
 pub fn serve<R: Threads + Wait + Clock + Sync, G: Gate>(
     rt: &R,
     alloc: Global,
@@ -48,17 +53,22 @@ pub fn serve<R: Threads + Wait + Clock + Sync, G: Gate>(
     ensures { IfOk result (ExplainsSessions directory.now tree max_errors texts.now) }
 {
     let sessions = open_all(alloc, directory, texts)?;
-    let printer = Printer { directory };
+    let printer = Printer::<Answer> {
+        directory,
+        kept: PhantomData,
+    };
     let service = Served {
         alloc,
         directory,
         tree,
     };
     let run = serve_sessions(rt, alloc, gate, &printer, service, sessions, max_errors)?;
-    Ok(report_of(run))
+    let report = report_of_kept(alloc, run)?;
+    Ok(report)
 }
 
-/// The same, of whose answers nothing is wanted but their text: none is kept, so that long sessions take less memory.
+/// The same, of whose answers nothing is wanted but their text: none is kept, so that long sessions
+/// take less memory.
 pub(crate) fn serve_in_print<'a, R: Threads + Wait + Clock + Sync, G: Gate>(
     rt: &R,
     alloc: Global,
@@ -67,28 +77,34 @@ pub(crate) fn serve_in_print<'a, R: Threads + Wait + Clock + Sync, G: Gate>(
     tree: Tree,
     texts: &[Vec<u8>],
     max_errors: Option<u32>,
-) -> Result<RunReport<Served<'a>, PrintedAnswer>, ServeFault>
+) -> Result<RunInPrint<'a>, ServeFault>
     requires count { (1 ≤ length texts.now) × (length texts.now ≤ SESSIONS) }
     requires short { All (λ text. length text.items ≤ MAX_TEXT_LEN) texts.now }
     requires some { max_errors ≢ Some 0 }
-    ensures { IfOk result (λ run. ExplainsSessions directory.now tree max_errors texts.now (told run)) }
+    ensures { IfOk result (λ run. ExplainsSessions directory.now tree max_errors texts.now
+        (told run)) }
 {
     let sessions = open_all(alloc, directory, texts)?;
-    let alone = PrinterAlone { directory };
-    let service = Served {
-        alloc,
+    let alone = Printer::<PrintedAnswer> {
         directory,
-        tree,
+        kept: PhantomData,
+    };
+    let service = ServedInPrint {
+        served: Served {
+            alloc,
+            directory,
+            tree,
+        },
     };
     let run = serve_sessions(rt, alloc, gate, &alone, service, sessions, max_errors)?;
     Ok(run)
 }
 
-/// Lets a session for each text work on the tree, all on this thread and in turn: the first request of each text that has
-/// one, in the order of the sessions, then the second of each, and so on.
+/// Lets a session for each text work on the tree, all on this thread and in turn: the first request
+/// of each text that has one, in the order of the sessions, then the second of each, and so on.
 ///
-/// The only fault is that memory runs out; the journal, the answers and the tree are dropped then. The texts are 1 to 64,
-/// each of at most 1,048,576 bytes.
+/// The only fault is that memory runs out; the journal, the answers and the tree are dropped then.
+/// The texts are 1 to 64, each of at most 1,048,576 bytes.
 pub fn serve_rounds(
     alloc: Global,
     directory: &Directory,
@@ -98,11 +114,15 @@ pub fn serve_rounds(
     requires count { (1 ≤ length texts.now) × (length texts.now ≤ SESSIONS) }
     requires short { All (λ text. length text.items ≤ MAX_TEXT_LEN) texts.now }
     ensures report { IfOk result (ExplainsSessions directory.now tree None texts.now) }
-    ensures journal { IfOk result (λ report. AreRounds (requests_of_each directory.now texts.now) report.journal.items) }
+    ensures journal { IfOk result (λ report. AreRounds (requests_of_each directory.now texts.now)
+        report.journal.items) }
     ensures fault { IfErr result (λ fault. fault ≡ ServeFault.Memory) }
 {
     let sessions = open_all(alloc, directory, texts)?;
-    let printer = Printer { directory };
+    let printer = Printer::<Answer> {
+        directory,
+        kept: PhantomData,
+    };
     let service = Served {
         alloc,
         directory,

@@ -11,7 +11,8 @@ use Rattle.acl_tree.specs.declared.request.Request.{Request}
 
 -- for every directory, tree and command, of these and the tree after it
 abbrev pub EachCommand : (NodesUnderUmask → Request → NodesUnderUmask → Type 0) → Type 0
-EachCommand P = (directory : Known) (tree : NodesUnderUmask) (request : Request) → P tree request (next directory tree request)
+EachCommand P = (directory : Known) (tree : NodesUnderUmask) (request : Request)
+    → P tree request (next directory tree request)
 
 -- the command was refused, or was none
 abbrev pub IsRefusal : Reply → Type 0
@@ -35,8 +36,10 @@ CommandsKeepNodes = EachCommand (λ tree request after. KeepsNodes tree after)
 
 -- a command changes and creates a node at the path that it names, and nowhere else
 abbrev pub CommandsStayAtTheirPath : Type 0
-CommandsStayAtTheirPath = EachCommand (λ tree request after. (path : List ℕ) → path_of request ≢ Some path → IsSameAt path tree after)
+CommandsStayAtTheirPath = EachCommand (λ tree request after. (path : List ℕ)
+    → path_of request ≢ Some path → IsSameAt path tree after)
 
 -- no command gives a file a default list
 abbrev pub CommandsGiveFilesNoDefault : Type 0
-CommandsGiveFilesNoDefault = EachCommand (λ tree request after. FilesHaveNoDefault tree → FilesHaveNoDefault after)
+CommandsGiveFilesNoDefault = EachCommand (λ tree request after. FilesHaveNoDefault tree
+    → FilesHaveNoDefault after)

@@ -10,4 +10,5 @@ use Rattle.acl_tree.specs.NodeAcls.{grants4}
 abbrev pub MasksAreDecided : Type 0
 MasksAreDecided =
     (acl : List Nfsace4) (owner group : ℕ) (requester : Identity) (mask : ℕ) → mask < 2 ^ 32
-    → IsTrue (grants4 acl owner group requester mask) ↔ Grants (matches owner group requester) acl mask
+    → IsTrue (grants4 acl owner group requester mask)
+    ↔ Grants (matches owner group requester) acl mask

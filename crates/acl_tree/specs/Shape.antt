@@ -25,7 +25,8 @@ IsDirectory found = IsSomeAnd found (λ node. node.kind ≡ Dir)
 
 -- what each node lies in is there, and is a directory
 abbrev pub NodesLieInDirectories : NodesUnderUmask → Type 0
-NodesLieInDirectories tree = EachNode tree (λ path node. IsDirectory (map.get tree.nodes (parent path)))
+NodesLieInDirectories tree = EachNode tree (λ path node. IsDirectory
+    (map.get tree.nodes (parent path)))
 
 -- nodes are at paths, and nowhere else
 abbrev pub NodesAreAtPaths : NodesUnderUmask → Type 0
@@ -43,7 +44,8 @@ pub record KeepsKindAndOwners (old new : Node) : Type 0 where
 
 -- each node is still there, and of the same kind, owner and group
 abbrev pub KeepsNodes : NodesUnderUmask → NodesUnderUmask → Type 0
-KeepsNodes old new = EachNode old (λ path node. IsSomeAnd (map.get new.nodes path) (KeepsKindAndOwners node))
+KeepsNodes old new = EachNode old (λ path node. IsSomeAnd (map.get new.nodes path)
+    (KeepsKindAndOwners node))
 
 -- at this path there is the same node, or still none
 abbrev pub IsSameAt : List ℕ → NodesUnderUmask → NodesUnderUmask → Type 0

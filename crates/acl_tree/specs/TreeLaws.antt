@@ -5,7 +5,8 @@ use Rattle.acl_posix.specs.Mode.{Classes}
 use Rattle.acl_tree.specs.Apply.{next}
 use Rattle.acl_tree.specs.Commands.{root_alone}
 use Rattle.acl_tree.specs.Requests.{NamesAPath, path_of}
-use Rattle.acl_tree.specs.Shape.{FilesHaveNoDefault, NodesLieInDirectories, NodesAreAtPaths, IsWithinLimit, KeepsNodes, IsSameAt}
+use Rattle.acl_tree.specs.Shape.{FilesHaveNoDefault, NodesLieInDirectories, NodesAreAtPaths}
+use Rattle.acl_tree.specs.Shape.{IsWithinLimit, KeepsNodes, IsSameAt}
 use Rattle.acl_tree.specs.Tree.{NodesUnderUmask}
 use Rattle.acl_tree.specs.declared.node_acl.Style.{Style}
 use Rattle.acl_tree.specs.declared.request.Request.{Request}
@@ -26,7 +27,8 @@ pub record IsMadeByCommands (directory : Known) (tree : NodesUnderUmask) : Type 
 
 -- for every tree that commands make
 abbrev pub EachMadeTree : (NodesUnderUmask → Type 0) → Type 0
-EachMadeTree P = (directory : Known) (tree : NodesUnderUmask) → IsMadeByCommands directory tree → P tree
+EachMadeTree P = (directory : Known) (tree : NodesUnderUmask) → IsMadeByCommands directory tree
+    → P tree
 
 -- no file has a default list
 abbrev pub FilesNeverHaveADefault : Type 0
@@ -48,14 +50,17 @@ TreesHavePathsAlone =
 
 -- the umask is that of the new tree
 abbrev pub TheUmaskStays : Type 0
-TheUmaskStays = (directory : Known) (tree : NodesUnderUmask) (made : IsMadeByCommands directory tree) → tree.umask ≡ made.umask
+TheUmaskStays = (directory : Known) (tree : NodesUnderUmask)
+    (made : IsMadeByCommands directory tree) → tree.umask ≡ made.umask
 
 -- whatever commands come, a node stays, and so do its kind, its owner and its group
 abbrev pub NodesStay : Type 0
-NodesStay = (directory : Known) (tree : NodesUnderUmask) (requests : List Request) → KeepsNodes tree (after_all directory tree requests)
+NodesStay = (directory : Known) (tree : NodesUnderUmask) (requests : List Request)
+    → KeepsNodes tree (after_all directory tree requests)
 
 -- commands at other paths leave what is at this one
 abbrev pub OtherCommandsLeaveANode : Type 0
 OtherCommandsLeaveANode =
     (directory : Known) (tree : NodesUnderUmask) (requests : List Request) (path : List ℕ)
-    → All (λ request. path_of request ≢ Some path) requests → IsSameAt path tree (after_all directory tree requests)
+    → All (λ request. path_of request ≢ Some path) requests
+    → IsSameAt path tree (after_all directory tree requests)

@@ -5,8 +5,8 @@ use std::alloc::{AllocError, Global};
 use std::marker::Model;
 use std::ops::Deref;
 
-/// A value in a place of its own, so that what holds it stays small: a request and a reply travel by the hundred thousand, and
-/// most hold no list. A contract sees the value alone.
+/// A value in a place of its own, so that what holds it stays small: a request and a reply travel
+/// by the hundred thousand, and most hold no list. A contract sees the value alone.
 #[derive(Debug, Drop)]
 pub struct Boxed<T> {
     inner: Box<T>,

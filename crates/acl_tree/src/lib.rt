@@ -1,4 +1,5 @@
-//! A tree of files and directories with access control lists of either style, and the commands on it.
+//! A tree of files and directories with access control lists of either style, and the commands on
+//! it.
 #![tactic(auto)]
 
 mod boxed;

@@ -1,7 +1,8 @@
 //! The nodes of a tree.
 ghost use Rattle.std.specs.Prelude.{◌≡◌, IfOk};
 ghost use Rattle.acl_posix.specs.Perms.{bits_of};
-ghost use Rattle.acl_tree.specs.Nodes.{is_dir, may, view_of, with_access, with_default, with_mode, with_nfs4};
+ghost use Rattle.acl_tree.specs.Nodes.{is_dir, may, view_of, with_access, with_default, with_mode};
+ghost use Rattle.acl_tree.specs.Nodes.{with_nfs4};
 ghost use Rattle.acl_tree.specs.Refusals.{Changes};
 
 use crate::node_acl::try_clone_boxed;
@@ -33,7 +34,8 @@ impl Node {
         matches!(self.kind, Kind::Dir)
     }
 
-    /// What is shown of it at this path, with copies of its lists. It fails only if memory runs out.
+    /// What is shown of it at this path, with copies of its lists. It fails only if memory runs
+    /// out.
     pub fn view(&self, alloc: Global, path: &Path) -> Result<View, AllocError>
         ensures { IfOk result (λ view. view ≡ view_of path.now self.now) }
     {

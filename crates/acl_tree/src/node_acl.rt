@@ -3,7 +3,9 @@ ghost use Rattle.std.specs.Prelude.{◌≡◌, IfOk};
 ghost use Rattle.acl_names.specs.Bits.{without};
 ghost use Rattle.acl_posix.specs.Perms.{bits_of};
 ghost use Rattle.acl_nfs4.specs.Mask.{mask_bits};
-ghost use Rattle.acl_tree.specs.NodeAcls.{acl_at_creation, acl_with_mode, beyond_umask, default_below, grants4, list_grants, mode_shown, root_acl};
+ghost use Rattle.acl_tree.specs.NodeAcls.{acl_at_creation, acl_with_mode, beyond_umask};
+ghost use Rattle.acl_tree.specs.NodeAcls.{default_below, grants4, list_grants, mode_shown};
+ghost use Rattle.acl_tree.specs.NodeAcls.{root_acl};
 ghost use Rattle.acl_tree.specs.Refusals.{Answers, Changes};
 
 use crate::Boxed;
@@ -26,7 +28,8 @@ pub enum Style {
 /// The access control lists of a node.
 #[derive(Debug, Drop)]
 pub enum NodeAcl {
-    /// The list that access is decided by, and the one that new nodes inherit; in a tree only directories have the second.
+    /// The list that access is decided by, and the one that new nodes inherit; in a tree only
+    /// directories have the second.
     Posix { access: Acl, default: Option<Acl> },
     /// The list that access is decided by, and that new nodes inherit from.
     Nfs4 { acl: Acl4 },
@@ -55,7 +58,8 @@ pub(crate) fn try_clone_boxed(
     }
 }
 
-/// The default list of a new node below one with this list: a directory takes it over, a file has none.
+/// The default list of a new node below one with this list: a directory takes it over, a file has
+/// none.
 fn default_below(alloc: Global, kind: Kind, default: &Acl) -> Result<Option<Acl>, AllocError>
     ensures { IfOk result (λ below. below ≡ default_below kind default.now) }
 {
@@ -109,7 +113,8 @@ impl NodeAcl {
         }
     }
 
-    /// The mode that is shown: that of the access list, or what the NFSv4 list grants the owner, the group and the others.
+    /// The mode that is shown: that of the access list, or what the NFSv4 list grants the owner,
+    /// the group and the others.
     pub fn mode(&self) -> Mode
         ensures { result ≡ mode_shown self.now }
     {
@@ -119,7 +124,8 @@ impl NodeAcl {
         }
     }
 
-    /// Whether the list, on a node of this owner and this group, grants the requester each of the permissions.
+    /// Whether the list, on a node of this owner and this group, grants the requester each of the
+    /// permissions.
     pub(crate) fn grants(&self, owner: Uid, group: Gid, requester: &Requester, perms: Perms) -> bool
         ensures { result ≡ list_grants self.now owner group requester.now (bits_of perms) }
     {
@@ -164,7 +170,8 @@ impl NodeAcl {
         }
     }
 
-    /// The lists of a new node in a directory with these. The umask counts only if nothing is inherited.
+    /// The lists of a new node in a directory with these. The umask counts only if nothing is
+    /// inherited.
     pub(crate) fn at_creation(
         &self,
         alloc: Global,

@@ -34,7 +34,8 @@ pub enum Reply {
     Denied,
     /// The translation of the access list of a node that has no default list.
     Translated(Boxed<Acl4>),
-    /// The translation of the access list, and that of the default list, which only new nodes inherit.
+    /// The translation of the access list, and that of the default list, which only new nodes
+    /// inherit.
     TranslatedBoth {
         access: Boxed<Acl4>,
         inherit: Boxed<Acl4>,

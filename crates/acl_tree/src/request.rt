@@ -9,7 +9,8 @@ use acl_posix::{Acl, Mode, Perms};
 pub enum Request {
     /// To show the node.
     Get(Path),
-    /// To set the access list. The node becomes one of the POSIX style: a default list stays, an NFSv4 list goes.
+    /// To set the access list. The node becomes one of the POSIX style: a default list stays, an
+    /// NFSv4 list goes.
     SetAccess(Path, Boxed<Acl>),
     /// To set a directory's default list, or with none to take it away.
     SetDefault(Path, Option<Boxed<Acl>>),
@@ -17,8 +18,8 @@ pub enum Request {
     SetNfs4(Path, Boxed<Acl4>),
     /// To set the mode, by the list's own style.
     Chmod(Path, Mode),
-    /// To create a node for this owner and with this mode. Its style is its directory's, from which it inherits; its group is
-    /// the owner's first, or the directory's if the owner is in none.
+    /// To create a node for this owner and with this mode. Its style is its directory's, from which
+    /// it inherits; its group is the owner's first, or the directory's if the owner is in none.
     Create(Kind, Path, Uid, Mode),
     /// To ask whether the user has each of the permissions.
     Check(Path, Uid, Perms),

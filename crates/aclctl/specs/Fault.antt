@@ -1,12 +1,13 @@
 -- The lines and the exit statuses of the program's faults.
-use Rattle.std.specs.Prelude.{ℕ, List, ◌++◌, ◌∷◌, [], codes}
-use Rattle.acl_names.specs.Bytes.{newline}
-use Rattle.acl_queries.specs.declared.input.CapFault.{CapFault}
-use Rattle.acl_queries.specs.declared.input.CapFault.TheVariants as cap
-use Rattle.acl_queries.specs.declared.words.WordsFault.{WordsFault}
-use Rattle.acl_queries.specs.declared.words.WordsFault.TheVariants as words
+use Rattle.std.specs.Prelude.{ℕ, List, Option, Some, codes}
+use Rattle.acl_queries.specs.ErrorOutput.{line_of_words}
+use Rattle.acl_queries.specs.declared.command.input.CapFault.{CapFault}
+use Rattle.acl_queries.specs.declared.command.input.CapFault.TheVariants as cap
+use Rattle.acl_queries.specs.declared.command.words.WordsFault.{WordsFault}
+use Rattle.acl_queries.specs.declared.command.words.WordsFault.TheVariants as words
 use Rattle.aclctl.specs.declared.fault.ProgramFault.{ProgramFault}
-use Rattle.aclctl.specs.declared.fault.ProgramFault.TheVariants.{CannotRead, TooManyWords, BadWords, NoCommand, Memory}
+use Rattle.aclctl.specs.declared.fault.ProgramFault.TheVariants.{CannotRead, TooManyWords, BadWords}
+use Rattle.aclctl.specs.declared.fault.ProgramFault.TheVariants.{NoCommand, Memory}
 
 abbrev pub fault_words : ProgramFault → List ℕ
 fault_words CannotRead = codes "cannot read -"
@@ -16,7 +17,10 @@ fault_words NoCommand = codes "no command"
 fault_words Memory = codes "run: memory"
 
 abbrev pub fault_line : ProgramFault → List ℕ
-fault_line fault = codes "aclctl: " ++ fault_words fault ++ newline ∷ []
+fault_line fault = line_of_words (fault_words fault)
+
+abbrev pub program_line : ProgramFault → Option (List ℕ)
+program_line fault = Some (fault_line fault)
 
 abbrev pub status_of : ProgramFault → ℕ
 status_of CannotRead = 1

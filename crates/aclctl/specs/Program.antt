@@ -1,12 +1,18 @@
 -- What the program comes to.
-use Rattle.std.specs.Prelude.{◌≡◌, ◌≤◌, ℕ, ◌⊎◌, ◌++◌, List, [], ◌∷◌, Option, Some, None, codes, if◌then◌else◌, bytes_eq}
+use Rattle.std.specs.Prelude.{◌≡◌, ◌≤◌, ℕ, ◌⊎◌, ◌++◌, List, [], ◌∷◌, Option, Some, None, codes}
+use Rattle.std.specs.Prelude.{if◌then◌else◌, bytes_eq}
 use Rattle.std.specs.Io.KnownBytes.{Appends, IsAtEnd, Keeps}
 use Rattle.acl_names.specs.Bytes.{newline}
-use Rattle.acl_queries.specs.CompareOutcome.{EndsAsCompared, IsCutShort}
+use Rattle.acl_queries.specs.CompareOutcome.{EndsAsCompared, IsCompareFaultOf, IsCutShort}
+use Rattle.acl_queries.specs.ErrorOutput.{SaysFault}
+use Rattle.acl_queries.specs.Faults.{IsFaultOf, SaysQueryFault}
 use Rattle.acl_queries.specs.Outcome.{EndsAs, Outcome, outcome_of}
 use Rattle.acl_queries.specs.Output.{AppendsFront}
-use Rattle.acl_service.specs.RunWords.{RunsWords, run_rows}
-use Rattle.aclctl.specs.Fault.{status_of}
+use Rattle.acl_queries.specs.RunFaults.{run_fault_line}
+use Rattle.acl_queries.specs.declared.command.run_fault.RunFault.TheVariants.{Output}
+use Rattle.acl_service.specs.FilesFaults.{SaysRun}
+use Rattle.acl_service.specs.RunWords.{RunsWords, input_count, run_rows, sessions_in}
+use Rattle.aclctl.specs.Fault.{fault_line, program_line, status_of}
 use Rattle.aclctl.specs.Input.{AreWordsOf, IsInputFault}
 use Rattle.aclctl.specs.declared.fault.ProgramFault.{ProgramFault}
 use Rattle.aclctl.specs.declared.fault.ProgramFault.TheVariants.{NoCommand}
@@ -41,47 +47,107 @@ command_of name =
 abbrev pub version_text : List ℕ
 version_text = codes "aclctl 0.1.0" ++ newline ∷ []
 
+-- how many sessions of these words of the command are standard input
+abbrev pub inputs_of : Option Command → List (List ℕ) → ℕ
+inputs_of (Some Run) words = input_count (sessions_in (run_rows words))
+inputs_of (Some Decide) words = 0
+inputs_of (Some Compare) words = 0
+inputs_of (Some Help) words = 0
+inputs_of (Some Version) words = 0
+inputs_of None words = 0
+
+-- by the command that the first of the words names
+abbrev pub inputs_named : List (List ℕ) → ℕ
+inputs_named [] = 0
+inputs_named (first ∷ more) = inputs_of (command_of first) (first ∷ more)
+
 -- sessions ended so: with their outputs, or with nothing written if they were refused
-pub record EndsAsRun (files : Files) (input : Option (List ℕ)) (words : List (List ℕ)) (old new : Option (List ℕ)) (status : ℕ) : Type 0 where
+pub record EndsAsRun (files : Files) (input : Option (List ℕ)) (words : List (List ℕ))
+    (old new : Option (List ℕ)) (status : ℕ) : Type 0 where
   pub printed : status ≡ 0 → RunsWords files input (run_rows words) (Appends old new)
   pub silent : 1 ≤ status → status ≤ 2 → Keeps old new
 
 -- with these files and this standard input, a run ended as these words of the command come to
-abbrev pub EndsAsCommand : Files → Option (List ℕ) → Option Command → List (List ℕ) → Option (List ℕ) → Option (List ℕ) → ℕ → Type 0
-EndsAsCommand files input (Some Decide) words old new status = EndsAs (outcome_of words) old new status
+abbrev pub EndsAsCommand : Files → Option (List ℕ) → Option Command → List (List ℕ)
+    → Option (List ℕ) → Option (List ℕ) → ℕ → Type 0
+EndsAsCommand files input (Some Decide) words old new status =
+    EndsAs (outcome_of words) old new status
 EndsAsCommand files input (Some Compare) words old new status = EndsAsCompared words old new status
-EndsAsCommand files input (Some Run) words old new status = EndsAsRun files input words old new status
-EndsAsCommand files input (Some Help) words old new status = EndsAs (record { status = 0; text = HELP.now }) old new status
-EndsAsCommand files input (Some Version) words old new status = EndsAs (record { status = 0; text = version_text }) old new status
+EndsAsCommand files input (Some Run) words old new status =
+    EndsAsRun files input words old new status
+EndsAsCommand files input (Some Help) words old new status =
+    EndsAs (record { status = 0; text = HELP.now }) old new status
+EndsAsCommand files input (Some Version) words old new status =
+    EndsAs (record { status = 0; text = version_text }) old new status
 EndsAsCommand files input None words old new status = EndsAs (refusal NoCommand) old new status
 
 -- by the command that the first of the words names
-abbrev pub EndsAsWords : Files → Option (List ℕ) → List (List ℕ) → Option (List ℕ) → Option (List ℕ) → ℕ → Type 0
+abbrev pub EndsAsWords : Files → Option (List ℕ) → List (List ℕ) → Option (List ℕ) → Option (List ℕ)
+    → ℕ → Type 0
 EndsAsWords files input [] old new status = EndsAs (refusal NoCommand) old new status
-EndsAsWords files input (first ∷ more) old new status = EndsAsCommand files input (command_of first) (first ∷ more) old new status
+EndsAsWords files input (first ∷ more) old new status =
+    EndsAsCommand files input (command_of first) (first ∷ more) old new status
 
--- with these bytes on standard input, a run ended as their words come to, with nothing left there; or it was refused for a
--- fault of the bytes or of reading them
+-- with these bytes on standard input, a run ended as their words come to, with nothing left there;
+-- or it was refused for a fault of the bytes or of reading them
 abbrev pub EndsFrom : Files → List ℕ → Option (List ℕ) → Option (List ℕ) → ℕ → Type 0
 EndsFrom files bytes old new status =
-    ((words : List (List ℕ)) × (rest : Option (List ℕ)) × IsAtEnd rest × AreWordsOf bytes words × EndsAsWords files rest words old new status)
+    ((words : List (List ℕ)) × (rest : Option (List ℕ)) × IsAtEnd rest × AreWordsOf bytes words
+    × EndsAsWords files rest words old new status)
     ⊎ ((fault : ProgramFault) × IsInputFault fault bytes × EndsAs (refusal fault) old new status)
 
--- if memory or a thread was lacking or a write failed, nothing went out, or a front of what these words of the command print
-abbrev pub IsCommandCutShort : Files → Option (List ℕ) → Option Command → List (List ℕ) → Option (List ℕ) → Option (List ℕ) → Type 0
-IsCommandCutShort files input (Some Decide) words old new = AppendsFront old new (outcome_of words).text
+-- if memory or a thread was lacking or a write failed, nothing went out, or a front of what these
+-- words of the command print
+abbrev pub IsCommandCutShort : Files → Option (List ℕ) → Option Command → List (List ℕ)
+    → Option (List ℕ) → Option (List ℕ) → Type 0
+IsCommandCutShort files input (Some Decide) words old new =
+    AppendsFront old new (outcome_of words).text
 IsCommandCutShort files input (Some Compare) words old new = IsCutShort words old new
-IsCommandCutShort files input (Some Run) words old new = Keeps old new ⊎ RunsWords files input (run_rows words) (AppendsFront old new)
+IsCommandCutShort files input (Some Run) words old new = Keeps old new
+    ⊎ RunsWords files input (run_rows words) (AppendsFront old new)
 IsCommandCutShort files input (Some Help) words old new = AppendsFront old new HELP.now
 IsCommandCutShort files input (Some Version) words old new = AppendsFront old new version_text
 IsCommandCutShort files input None words old new = ⊥
 
 -- by the command that the first of the words names
-abbrev pub AreWordsCutShort : Files → Option (List ℕ) → List (List ℕ) → Option (List ℕ) → Option (List ℕ) → Type 0
+abbrev pub AreWordsCutShort : Files → Option (List ℕ) → List (List ℕ) → Option (List ℕ)
+    → Option (List ℕ) → Type 0
 AreWordsCutShort files input [] old new = ⊥
-AreWordsCutShort files input (first ∷ more) old new = IsCommandCutShort files input (command_of first) (first ∷ more) old new
+AreWordsCutShort files input (first ∷ more) old new =
+    IsCommandCutShort files input (command_of first) (first ∷ more) old new
 
 -- with these bytes on standard input: nothing went out, or a front of what their words print
 abbrev pub IsCutShortFrom : Files → List ℕ → Option (List ℕ) → Option (List ℕ) → Type 0
 IsCutShortFrom files bytes old new =
-    Keeps old new ⊎ ((words : List (List ℕ)) × (rest : Option (List ℕ)) × IsAtEnd rest × AreWordsOf bytes words × AreWordsCutShort files rest words old new)
+    Keeps old new ⊎ ((words : List (List ℕ)) × (rest : Option (List ℕ)) × IsAtEnd rest
+    × AreWordsOf bytes words × AreWordsCutShort files rest words old new)
+
+-- what is said if the text of help or the version can't be written
+abbrev pub SaysLostOutput : ℕ → Option (List ℕ) → Type 0
+SaysLostOutput status line = (status ≡ 3) × (line ≡ Some (run_fault_line Output))
+
+-- what is said if no command is named: the line, and then a text for people
+abbrev pub SaysNoCommand : ℕ → Option (List ℕ) → Type 0
+SaysNoCommand status line = (status ≡ status_of NoCommand)
+    × ((more : List ℕ) × (line ≡ Some (fault_line NoCommand ++ more)))
+
+-- what is said of these words of the command
+abbrev pub SaysCommand : Files → Option Command → List (List ℕ) → ℕ → Option (List ℕ) → Type 0
+SaysCommand files (Some Decide) words = SaysQueryFault (IsFaultOf words)
+SaysCommand files (Some Compare) words = SaysQueryFault (IsCompareFaultOf words)
+SaysCommand files (Some Run) words = SaysRun files words
+SaysCommand files (Some Help) words = SaysLostOutput
+SaysCommand files (Some Version) words = SaysLostOutput
+SaysCommand files None words = SaysNoCommand
+
+-- by the command that the first of the words names
+abbrev pub SaysWords : Files → List (List ℕ) → ℕ → Option (List ℕ) → Type 0
+SaysWords files [] = SaysNoCommand
+SaysWords files (first ∷ more) = SaysCommand files (command_of first) (first ∷ more)
+
+-- with these bytes on standard input: what is said of their words, or of a fault of the bytes or of
+-- reading them
+abbrev pub SaysFrom : Files → List ℕ → ℕ → Option (List ℕ) → Type 0
+SaysFrom files bytes status line =
+    ((words : List (List ℕ)) × AreWordsOf bytes words × SaysWords files words status line)
+    ⊎ SaysFault status_of program_line (λ fault. IsInputFault fault bytes) status line

@@ -1,14 +1,12 @@
 //! Why the program runs no command.
-ghost use Rattle.std.specs.Prelude.{◌≡◌, OnOk, Some};
-ghost use Rattle.std.specs.Io.KnownBytes.{Appends};
+ghost use Rattle.std.specs.Prelude.{◌≡◌};
 
-use acl_service::{CapFault, RunFault, WordsFault};
+use acl_service::{CapFault, CommandFault, ErrorOutput, RunFault, WordsFault};
 use std::alloc::AllocError;
-use std::{fmt, io};
-use thiserror::Error;
+use std::io::{self, Write};
 
-/// Why there is no command to run. It is shown by the words that follow `aclctl: ` on the fault line.
-#[derive(Clone, Copy, Debug, PartialEq, Eq, Error)]
+/// Why there is no command to run.
+#[derive(Clone, Copy, Debug, PartialEq, Eq)]
 pub enum ProgramFault {
     /// Standard input can't be read.
     CannotRead,
@@ -22,29 +20,14 @@ pub enum ProgramFault {
     Memory,
 }
 
-impl fmt::Display for ProgramFault {
-    ghost use Rattle.aclctl.specs.Fault.{fault_words};
+impl CommandFault for ProgramFault {
+    ghost use Rattle.aclctl.specs.Fault.{program_line, status_of};
 
-    ghost output = { λ fault. Some (fault_words fault) };
+    ghost status_of = { status_of };
 
-    fn fmt<W: fmt::Write>(&self, f: &mut fmt::Formatter<W>) -> fmt::Result {
-        match self {
-            ProgramFault::CannotRead => f.write_str("cannot read -"),
-            ProgramFault::TooManyWords => f.write_str("too many words"),
-            ProgramFault::BadWords => f.write_str("bad words"),
-            ProgramFault::NoCommand => f.write_str("no command"),
-            ProgramFault::Memory => write!(f, "run: {}", RunFault::Memory),
-        }
-    }
-}
+    ghost line_of = { program_line };
 
-impl ProgramFault {
-    ghost use Rattle.aclctl.specs.Fault.{fault_line, status_of};
-
-    /// The exit status.
-    fn status(self) -> u8
-        ensures { result ≡ status_of self }
-    {
+    fn status(&self) -> u8 {
         match self {
             ProgramFault::CannotRead => 1,
             ProgramFault::TooManyWords | ProgramFault::BadWords => 2,
@@ -53,18 +36,14 @@ impl ProgramFault {
         }
     }
 
-    fn write_line<E: io::Write>(self, err: &mut E) -> io::Result<()>
-        ensures { OnOk result (Appends (E.contents err.old) (E.contents err.new) (fault_line self)) }
-    {
-        writeln!(err, "aclctl: {self}")
-    }
-
-    /// Writes the line of the fault, and returns the exit status; a fault while writing doesn't change it.
-    pub fn report<E: io::Write>(self, err: &mut E) -> u8
-        ensures { result ≡ status_of self }
-    {
-        let _ = self.write_line(err);
-        self.status()
+    fn tell<E: Write + Drop>(&self, err: &mut ErrorOutput<E>) {
+        match self {
+            ProgramFault::CannotRead => err.write_line("cannot read -", ""),
+            ProgramFault::TooManyWords => err.write_line("too many words", ""),
+            ProgramFault::BadWords => err.write_line("bad words", ""),
+            ProgramFault::NoCommand => err.write_line("no command", ""),
+            ProgramFault::Memory => RunFault::Memory.tell(err),
+        }
     }
 }
 

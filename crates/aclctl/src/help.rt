@@ -1,14 +1,16 @@
 //! What the program says of itself.
 ghost use Rattle.std.specs.Prelude.{◌≡◌, ◌≢◌, ◌≤◌};
+ghost use Rattle.acl_queries.specs.ErrorOutput.{Reports};
 ghost use Rattle.acl_queries.specs.Outcome.{EndsAs};
 ghost use Rattle.acl_queries.specs.Output.{AppendsFront};
 ghost use Rattle.aclctl.specs.Fault.{status_of};
-ghost use Rattle.aclctl.specs.Program.{version_text};
+ghost use Rattle.aclctl.specs.Program.{SaysLostOutput, SaysNoCommand, version_text};
 ghost use Rattle.aclctl.specs.declared.fault.ProgramFault.TheVariants.{NoCommand};
 ghost use Rattle.aclctl.specs.declared.help.TheConstants.{HELP};
 
 use crate::fault::ProgramFault;
-use acl_service::{RunFault, write_text};
+use acl_service::{ErrorOutput, RunFault, report, write_text};
+use std::alloc::Global;
 use std::io::Write;
 
 /// What tells a person how to go on.
@@ -38,48 +40,65 @@ const MAX_SHOWN: usize = 64;
 const VERSION: &str = "aclctl 0.1.0\n";
 
 /// Prints a text, and returns the exit status.
-fn print<W: Write, E: Write>(text: &str, out: &mut W, err: &mut E) -> u8
+fn print<W: Write, E: Write + Drop>(text: &str, out: &mut W, err: &mut ErrorOutput<E>) -> u8
     ensures statuses { result ≤ 3 }
-    ensures ended { result ≢ 3 → EndsAs (record { status = 0; text = text.now }) (W.contents out.old) (W.contents out.new) result }
+    ensures ended { result ≢ 3 → EndsAs (record { status = 0; text = text.now })
+        (W.contents out.old) (W.contents out.new) result }
     ensures cut { result ≡ 3 → AppendsFront (W.contents out.old) (W.contents out.new) text.now }
+    ensures told { Reports SaysLostOutput result err.old err.new }
 {
-    if write_text(text.as_bytes(), out).is_err() {
-        let _ = write_text(RunFault::Output.line().as_bytes(), err);
-        return 3;
+    match write_text(text.as_bytes(), out) {
+        Ok(()) => 0,
+        Err(_) => report(&RunFault::Output, err),
     }
-    0
 }
 
 /// Prints what the program's commands are.
-pub fn print_help<W: Write, E: Write>(out: &mut W, err: &mut E) -> u8
+pub fn print_help<W: Write, E: Write + Drop>(out: &mut W, err: &mut ErrorOutput<E>) -> u8
     ensures statuses { result ≤ 3 }
-    ensures ended { result ≢ 3 → EndsAs (record { status = 0; text = HELP.now }) (W.contents out.old) (W.contents out.new) result }
+    ensures ended { result ≢ 3 → EndsAs (record { status = 0; text = HELP.now })
+        (W.contents out.old) (W.contents out.new) result }
     ensures cut { result ≡ 3 → AppendsFront (W.contents out.old) (W.contents out.new) HELP.now }
+    ensures told { Reports SaysLostOutput result err.old err.new }
 {
     print(HELP, out, err)
 }
 
 /// Prints the program's name and its version.
-pub fn print_version<W: Write, E: Write>(out: &mut W, err: &mut E) -> u8
+pub fn print_version<W: Write, E: Write + Drop>(out: &mut W, err: &mut ErrorOutput<E>) -> u8
     ensures statuses { result ≤ 3 }
-    ensures ended { result ≢ 3 → EndsAs (record { status = 0; text = version_text }) (W.contents out.old) (W.contents out.new) result }
+    ensures ended { result ≢ 3 → EndsAs (record { status = 0; text = version_text })
+        (W.contents out.old) (W.contents out.new) result }
     ensures cut { result ≡ 3 → AppendsFront (W.contents out.old) (W.contents out.new) version_text }
+    ensures told { Reports SaysLostOutput result err.old err.new }
 {
     print(VERSION, out, err)
 }
 
-/// Tells that no command was named, by the word if there is a short one, and which commands there are. It returns the exit status; a
-/// fault while writing doesn't change it.
-pub fn report_no_command<E: Write>(word: Option<&str>, err: &mut E) -> u8
-    ensures { result ≡ status_of NoCommand }
+/// Tells that no command was named, by the word if there is a short one, and which commands there
+/// are. It returns the exit status; a fault while writing doesn't change it.
+pub fn report_no_command<E: Write + Drop>(
+    alloc: Global,
+    word: Option<&str>,
+    err: &mut ErrorOutput<E>,
+) -> u8
+    ensures status { result ≡ status_of NoCommand }
+    ensures told { Reports SaysNoCommand result err.old err.new }
 {
-    let status = ProgramFault::NoCommand.report(err);
+    let status = report(&ProgramFault::NoCommand, err);
+    let named = named_by(alloc, word).unwrap_or(String::new(alloc));
+    err.write_text(named.as_bytes());
+    err.write_text(b"\n");
+    err.write_text(HELP.as_bytes());
+    status
+}
+
+/// What is said of a short word that names no command. None if memory runs out.
+fn named_by(alloc: Global, word: Option<&str>) -> Option<String> {
     match word {
         Some(word) if word.len() <= MAX_SHOWN => {
-            let _ = writeln!(err, "{word:?} names no command");
+            format!(in alloc; "{word:?} names no command\n").ok()
         }
-        _ => {}
+        _ => None,
     }
-    let _ = write!(err, "\n{HELP}");
-    status
 }

@@ -6,7 +6,7 @@ mod help;
 mod input;
 mod program;
 
-use acl_service::OpenFiles;
+use acl_service::{ErrorOutput, OpenFiles, report};
 use fault::ProgramFault;
 use std::fs::File;
 use std::process::ExitCode;
@@ -36,6 +36,7 @@ fn given_words(rt: &HostRuntime) -> Result<Vec<String>, ProgramFault> {
 }
 
 fn main(rt: HostRuntime) -> ExitCode {
+    let mut err = ErrorOutput::new(rt.stderr());
     let status = match given_words(&rt) {
         Ok(given) => program::run(
             &rt,
@@ -44,9 +45,9 @@ fn main(rt: HostRuntime) -> ExitCode {
             given,
             &mut rt.stdin(),
             &mut rt.stdout(),
-            &mut rt.stderr(),
+            &mut err,
         ),
-        Err(fault) => fault.report(&mut rt.stderr()),
+        Err(fault) => report(&fault, &mut err),
     };
     ExitCode::from(status)
 }

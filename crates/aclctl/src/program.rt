@@ -1,11 +1,13 @@
 //! The program: its words, and the command that the first of them names.
 ghost use Rattle.std.specs.Prelude.{◌≡◌, ◌≢◌, ◌≤◌, [], map, IfSome};
 ghost use Rattle.std.specs.String.{string_bytes};
+ghost use Rattle.acl_queries.specs.ErrorOutput.{Reports};
 ghost use Rattle.aclctl.specs.Program.{AreWordsCutShort, EndsAsWords, EndsFrom, IsCutShortFrom};
+ghost use Rattle.aclctl.specs.Program.{SaysFrom, SaysWords, inputs_named};
 
 use crate::help::{print_help, print_version, report_no_command};
 use crate::input::command_words;
-use acl_service::{OpenFiles, compare, decide};
+use acl_service::{ErrorOutput, OpenFiles, compare, decide, report};
 use std::alloc::Global;
 use std::convert::AsStr;
 use std::io::{Read, Write};
@@ -13,9 +15,10 @@ use std::sync::Wait;
 use std::thread::Threads;
 use std::time::Clock;
 
-/// Runs the command that the first word names (`decide`, `compare`, `run`, `--help`, `--version`). It returns the exit status: that
-/// of the command; 2 if the first word names none, and the commands go to `err`. At 3 (out of memory, a thread refused, a write
-/// failed, or the run stopped) nothing or a front of the output went out.
+/// Runs the command that the first word names (`decide`, `compare`, `run`, `--help`, `--version`).
+/// It returns the exit status: that of the command; 2 if the first word names none, and the
+/// commands go to `err`. At 3 (out of memory, a thread refused, a write failed, or the run stopped)
+/// nothing or a front of the output went out.
 pub fn run_command<R, F, S, I, W, E>(
     rt: &R,
     alloc: Global,
@@ -23,7 +26,7 @@ pub fn run_command<R, F, S, I, W, E>(
     words: &[S],
     input: &mut I,
     out: &mut W,
-    err: &mut E,
+    err: &mut ErrorOutput<E>,
 ) -> u8
 where
     R: Threads + Wait + Clock + Sync,
@@ -31,16 +34,25 @@ where
     S: AsStr,
     I: Read,
     W: Write,
-    E: Write,
+    E: Write + Drop,
     ensures statuses { result ≤ 3 }
 
     // Unless memory runs out, a thread is refused or a write fails.
-    ensures ended { result ≢ 3 → EndsAsWords (F.bytes_of files.now) (I.remaining input.old) (map S.text words.now)
+    ensures ended { result ≢ 3 → EndsAsWords (F.bytes_of files.now) (I.remaining input.old)
+        (map S.text words.now)
         (W.contents out.old) (W.contents out.new) result }
 
     // If it does, no more went out than a front of what the words print.
-    ensures cut { result ≡ 3 → AreWordsCutShort (F.bytes_of files.now) (I.remaining input.old) (map S.text words.now)
+    ensures cut { result ≡ 3 → AreWordsCutShort (F.bytes_of files.now) (I.remaining input.old)
+        (map S.text words.now)
         (W.contents out.old) (W.contents out.new) }
+
+    // Nothing is told beside an answer. Else the whole line of a fault is, unless a write fails.
+    ensures told { Reports (SaysWords (F.bytes_of files.now) (map S.text words.now)) result err.old
+        err.new }
+
+    // Standard input is left as it is, unless it is a session of `run`.
+    ensures untouched { inputs_named (map S.text words.now) ≡ 0 → input.new ≡ input.old }
 {
     match words.first() {
         Some(first) if first.as_str() == "decide" => decide(alloc, words, out, err),
@@ -50,12 +62,14 @@ where
         }
         Some(first) if first.as_str() == "--help" => print_help(out, err),
         Some(first) if first.as_str() == "--version" => print_version(out, err),
-        Some(first) => report_no_command(Some(first.as_str()), err),
-        None => report_no_command(None, err),
+        Some(first) => report_no_command(alloc, Some(first.as_str()), err),
+        None => report_no_command(alloc, None, err),
     }
 }
 
-/// Runs the command of the words given, or if there are none of those that the reader has, and returns the exit status.
+/// Runs the command of the words given, or if there are none of those that the reader has, and
+/// returns the exit status. Of words that are given only those of `run` that name the reader as a
+/// session let it be read.
 pub fn run<R, F, I, W, E>(
     rt: &R,
     alloc: Global,
@@ -63,14 +77,14 @@ pub fn run<R, F, I, W, E>(
     given: Vec<String>,
     reader: &mut I,
     out: &mut W,
-    err: &mut E,
+    err: &mut ErrorOutput<E>,
 ) -> u8
 where
     R: Threads + Wait + Clock + Sync,
     F: OpenFiles,
     I: Read,
     W: Write,
-    E: Write,
+    E: Write + Drop,
     ensures statuses { result ≤ 3 }
 
     // Unless memory runs out, a thread is refused or a write fails.
@@ -78,17 +92,28 @@ where
         → EndsAsWords (F.bytes_of files.now) (I.remaining reader.old) (map string_bytes given.items)
         (W.contents out.old) (W.contents out.new) result }
     ensures read { given.items ≡ [] → result ≢ 3 → IfSome (I.remaining reader.old)
-        (λ bytes. EndsFrom (F.bytes_of files.now) bytes (W.contents out.old) (W.contents out.new) result) }
+        (λ bytes. EndsFrom (F.bytes_of files.now) bytes (W.contents out.old) (W.contents out.new)
+        result) }
 
     // If it does, no more went out than a front of what the words print.
     ensures cut_given { given.items ≢ [] → result ≡ 3
-        → AreWordsCutShort (F.bytes_of files.now) (I.remaining reader.old) (map string_bytes given.items)
+        → AreWordsCutShort (F.bytes_of files.now) (I.remaining reader.old)
+        (map string_bytes given.items)
         (W.contents out.old) (W.contents out.new) }
     ensures cut_read { given.items ≡ [] → result ≡ 3 → IfSome (I.remaining reader.old)
-        (λ bytes. IsCutShortFrom (F.bytes_of files.now) bytes (W.contents out.old) (W.contents out.new)) }
+        (λ bytes. IsCutShortFrom (F.bytes_of files.now) bytes (W.contents out.old)
+        (W.contents out.new)) }
+
+    // Nothing is told beside an answer. Else the whole line of a fault is, unless a write fails.
+    ensures told_given { given.items ≢ [] → Reports
+        (SaysWords (F.bytes_of files.now) (map string_bytes given.items)) result err.old err.new }
+    ensures told_read { given.items ≡ [] → IfSome (I.remaining reader.old)
+        (λ bytes. Reports (SaysFrom (F.bytes_of files.now) bytes) result err.old err.new) }
+    ensures untouched { given.items ≢ [] → inputs_named (map string_bytes given.items) ≡ 0
+        → reader.new ≡ reader.old }
 {
     match command_words(alloc, given, reader) {
         Ok(words) => run_command(rt, alloc, files, words.as_slice(), reader, out, err),
-        Err(fault) => fault.report(err),
+        Err(fault) => report(&fault, err),
     }
 }

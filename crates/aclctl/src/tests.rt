@@ -1,6 +1,6 @@
 //! Tests of the program.
 use crate::program::{run, run_command};
-use acl_service::OpenFiles;
+use acl_service::{ErrorOutput, OpenFiles};
 use std::alloc::{AllocError, Global};
 use std::io::{self, Read, Write};
 use std::sync::Wait;
@@ -110,7 +110,15 @@ fn run_given<R: Threads + Wait + Clock + Sync, I: Read>(
 ) -> Ended {
     let mut out = Vec::new(alloc);
     let mut err = Vec::new(alloc);
-    let status = run(rt, alloc, &EMPTY, given, input, &mut out, &mut err);
+    let status = run(
+        rt,
+        alloc,
+        &EMPTY,
+        given,
+        input,
+        &mut out,
+        &mut ErrorOutput::new(&mut err),
+    );
     Ended { status, out, err }
 }
 
@@ -124,7 +132,15 @@ fn run_over<R: Threads + Wait + Clock + Sync, I: Read>(
 ) -> Ended {
     let mut out = Vec::new(alloc);
     let mut err = Vec::new(alloc);
-    let status = run_command(rt, alloc, files, words, input, &mut out, &mut err);
+    let status = run_command(
+        rt,
+        alloc,
+        files,
+        words,
+        input,
+        &mut out,
+        &mut ErrorOutput::new(&mut err),
+    );
     Ended { status, out, err }
 }
 
@@ -256,14 +272,32 @@ fn words_on_standard_input_take_65_536_bytes(rt: HostRuntime) -> Result<(), Fail
     Ok(())
 }
 
+/// The last word is a list with a comment behind it that fills what words may have.
+#[test]
+fn long_words_are_words(rt: HostRuntime) -> Result<(), Fail> {
+    for count in [10_000, 59_999, 65_536] {
+        let mut text = ASKED_LINES.trim_end().as_bytes().to_vec(rt.alloc())?;
+        text.push(b'#')?;
+        while text.len() < count {
+            text.push(b'x')?;
+        }
+        let ended = run_input(&rt, rt.alloc(), &mut text.as_slice());
+        assert_eq!(rt; ended.status, 0);
+        assert_eq!(rt; ended.out.as_slice(), b"granted\n".as_slice());
+        assert!(rt; ended.err.is_empty());
+    }
+    Ok(())
+}
+
 /// Runs the words where no input can be read and no output can be written.
-fn run_broken<R: Threads + Wait + Clock + Sync, E: Write>(
+fn run_broken<R: Threads + Wait + Clock + Sync, E: Write + Drop>(
     rt: &R,
     alloc: Global,
     words: &[&str],
-    err: &mut E,
+    err: E,
 ) -> u8 {
-    run_command(rt, alloc, &EMPTY, words, &mut Broken, &mut Broken, err)
+    let mut err = ErrorOutput::new(err);
+    run_command(rt, alloc, &EMPTY, words, &mut Broken, &mut Broken, &mut err)
 }
 
 #[test]
@@ -272,10 +306,7 @@ fn failed_writes(rt: HostRuntime) {
     assert_eq!(rt; run_broken(&rt, rt.alloc(), ASKED.as_slice(), &mut err), 3);
     assert_eq!(rt; err.as_slice(), b"aclctl: run: output\n".as_slice());
     // A fault while writing to standard error changes no status.
-    assert_eq!(rt;
-        run_broken(&rt, rt.alloc(), ["help"].as_slice(), &mut Broken),
-        2
-    );
+    assert_eq!(rt; run_broken(&rt, rt.alloc(), ["help"].as_slice(), Broken), 2);
     assert_eq!(rt;
         run_broken(&rt, rt.alloc(), ["--help"].as_slice(), &mut err),
         3

@@ -5,7 +5,8 @@ ghost use Rattle.std.specs.List.{list_any};
 ghost use Rattle.std.specs.List.Sorted.{IsPermutation};
 ghost use Rattle.acl_names.specs.Bits.{has_all};
 ghost use Rattle.acl_posix.specs.Access.{grants, is_for_group_of};
-ghost use Rattle.acl_posix.specs.CheckSteps.{group_answer, groups_answer, mask_allows, tag_answer, tag_has, user_answer};
+ghost use Rattle.acl_posix.specs.CheckSteps.{group_answer, groups_answer, mask_allows, tag_answer};
+ghost use Rattle.acl_posix.specs.CheckSteps.{tag_has, user_answer};
 ghost use Rattle.acl_posix.specs.Entry.{EntryValue};
 ghost use Rattle.acl_posix.specs.Perms.{bits_of};
 ghost use Rattle.acl_posix.specs.Validity.{IsValid};
@@ -15,11 +16,12 @@ use acl_names::{Gid, Requester, Uid};
 use bitflags::Flags;
 
 impl Acl {
-    /// Whether the requester may do all of what is requested with a file of this owner and this group: the access check of
-    /// 1003.1e draft 17, section 23. The owner's entry decides for the owner, else the user's own entry, else the entries
-    /// for the file's group and for groups by their ids of which the requester is in some: one of them must have all of the
-    /// request. Else the others' entry decides. If there is a mask, the entries for users, the file's group and groups give no
-    /// more than the mask has. It takes no memory.
+    /// Whether the requester may do all of what is requested with a file of this owner and this
+    /// group: the access check of 1003.1e draft 17, section 23. The owner's entry decides for the
+    /// owner, else the user's own entry, else the entries for the file's group and for groups by
+    /// their ids of which the requester is in some: one of them must have all of the request. Else
+    /// the others' entry decides. If there is a mask, the entries for users, the file's group and
+    /// groups give no more than the mask has. It takes no memory.
     pub fn grants(&self, owner: Uid, group: Gid, requester: &Requester, request: Perms) -> bool
         ensures value { result ≡ grants self.now owner group requester.now (bits_of request) }
 
@@ -71,7 +73,8 @@ impl Acl {
         }
     }
 
-    /// Whether the entry of the user and the mask have all of the request, if there is such an entry.
+    /// Whether the entry of the user and the mask have all of the request, if there is such an
+    /// entry.
     fn user_answer(&self, uid: Uid, request: Perms) -> Option<bool>
         ensures valid { IsValid self.now }
         ensures value { result ≡ user_answer self.now uid (bits_of request) }
@@ -93,7 +96,8 @@ impl Acl {
         }
     }
 
-    /// Whether an entry for a group of the requester, and the mask, have all of the request, if there is such an entry.
+    /// Whether an entry for a group of the requester, and the mask, have all of the request, if
+    /// there is such an entry.
     fn group_answer(&self, requester: &Requester, group: Gid, request: Perms) -> Option<bool>
         ensures valid { IsValid self.now }
         ensures value { result ≡ group_answer self.now group requester.now (bits_of request) }
@@ -115,8 +119,8 @@ impl Acl {
     }
 }
 
-/// Whether one of the entries for a group of the requester has all of the request, if there are such entries. It looks at
-/// each entry once, and no further than the first that has it.
+/// Whether one of the entries for a group of the requester has all of the request, if there are
+/// such entries. It looks at each entry once, and no further than the first that has it.
 fn groups_answer(
     entries: &[Entry],
     requester: &Requester,

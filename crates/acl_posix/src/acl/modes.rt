@@ -2,7 +2,8 @@
 
 ghost use Rattle.std.specs.Prelude.{◌≡◌, ◌≤◌, length, map, IfOk, IsOk, IfSome, option_map};
 ghost use Rattle.acl_posix.specs.Entry.{EntryValue};
-ghost use Rattle.acl_posix.specs.Mode.{mode_of, mode_perms, perms_at, group_class_tag, set_to, met_with, chmod, at_creation, of_mode, calc_mask};
+ghost use Rattle.acl_posix.specs.Mode.{mode_of, mode_perms, perms_at, group_class_tag, set_to};
+ghost use Rattle.acl_posix.specs.Mode.{met_with, chmod, at_creation, of_mode, calc_mask};
 ghost use Rattle.acl_posix.specs.Perms.{bits_of, IsPermissions};
 ghost use Rattle.acl_posix.specs.Access.{is_under_mask};
 
@@ -72,8 +73,9 @@ fn meet_all(entries: &mut [Entry], group_class: &Tag, mode: Mode)
 }
 
 impl Acl {
-    /// The mode of a file with this access control list (1003.1e draft 17, section 23): what the owner's entry, the mask, or
-    /// if there is none the file's group's entry, and the others' entry say.
+    /// The mode of a file with this access control list (1003.1e draft 17, section 23): what the
+    /// owner's entry, the mask, or if there is none the file's group's entry, and the others' entry
+    /// say.
     pub fn mode(&self) -> Mode
         ensures { result ≡ mode_of self.now }
     {
@@ -93,7 +95,8 @@ impl Acl {
         set_all(self.sorted.as_mut_slice(), &group_class, mode);
     }
 
-    /// The access control list that says what the mode says, with three entries. It takes no memory.
+    /// The access control list that says what the mode says, with three entries. It takes no
+    /// memory.
     pub fn of_mode(alloc: Global, mode: Mode) -> Result<Acl, AllocError>
         ensures value { IfOk result (λ acl. acl ≡ of_mode mode) }
         ensures succeeds { IsOk result }
@@ -118,9 +121,10 @@ impl Acl {
         Ok(Acl { sorted })
     }
 
-    /// The access control list of a new file with this mode, under a default access control list (1003.1e draft 17, section
-    /// 23): the default list, its entries for the owner, the group class and the others met with the mode's bits. Fails
-    /// only if memory runs out, and not up to 8 entries.
+    /// The access control list of a new file with this mode, under a default access control list
+    /// (1003.1e draft 17, section 23): the default list, its entries for the owner, the group class
+    /// and the others met with the mode's bits. Fails only if memory runs out, and not up to 8
+    /// entries.
     pub fn at_creation(alloc: Global, default: &Acl, mode: Mode) -> Result<Acl, AllocError>
         ensures value { IfOk result (λ acl. acl ≡ at_creation default.now mode) }
         ensures short { length default.now ≤ 8 → IsOk result }
@@ -131,8 +135,8 @@ impl Acl {
         Ok(Acl { sorted })
     }
 
-    /// The union of the permissions of the users, the file's group and the groups: what a mask would have to be to limit
-    /// none of them.
+    /// The union of the permissions of the users, the file's group and the groups: what a mask
+    /// would have to be to limit none of them.
     pub fn calc_mask(&self) -> Perms
         ensures { bits_of result ≡ calc_mask self.now }
     {

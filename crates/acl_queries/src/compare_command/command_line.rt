@@ -3,7 +3,7 @@ ghost use Rattle.std.specs.Prelude.{◌≡◌, IfErr, IfOk, OnOk, map};
 ghost use Rattle.clap.specs.Words.{app_of, found_of, kind_of, matches_of, rows_of};
 ghost use Rattle.acl_queries.specs.CompareLine.{TakesCompareWords, compare_line};
 
-use crate::options::{group_option, owner_option, required_word};
+use crate::command::options::{group_option, owner_option, required_word};
 use clap::error::ErrorKind;
 use clap::{ArgMatches, Command, Error};
 use std::alloc::{AllocError, Global};
@@ -12,10 +12,12 @@ use std::convert::AsStr;
 /// An example, and what the exit statuses are.
 const EXAMPLE: &str = "For example:
   aclctl compare --owner 1000 --group 50 posix u::rw,g::r,o::- posix u::rw,g::r,o::r
-Exit status: 0 with an answer, whichever it is; 1 if a field doesn't read; 2 if the words are wrong, and with this help; 3 if
+Exit status: 0 with an answer, whichever it is; 1 if a field doesn't read;
+    2 if the words are wrong, and with this help; 3 if
 memory runs out or the answer can't be written.";
 
-/// The command line of `compare`. No value has a parser: what a field may be is for its reader to say.
+/// The command line of `compare`. No value has a parser: what a field may be is for its reader to
+/// say.
 fn command<'a>(alloc: Global) -> Result<Command<'a>, AllocError>
     ensures { IfOk result (λ command. app_of command ≡ compare_line) }
 {

@@ -8,12 +8,12 @@ ghost use Rattle.acl_queries.specs.Differences.{AreAlike, Differ};
 ghost use Rattle.acl_queries.specs.Faults.{Explains};
 
 use super::list::{AnyAcl, read_list, read_style};
-use crate::decide_command::fault::{DecideFault, FieldFault};
-use crate::decide_command::question::{gid_field, uid_field};
-use crate::options::text_field;
+use crate::command::ids::{gid_field, uid_field};
+use crate::command::options::text_field;
+use crate::command::query_fault::{FieldFault, QueryFault};
 use acl_bridge::{difference_from_posix, posix_difference, whole_request_difference};
 use acl_names::{Gid, Uid};
-use acl_nfs4::{Acl4, Difference, Mask};
+use acl_nfs4::{Acl4, Difference, Mask, Owners};
 use acl_posix::Acl;
 use bitflags::Flags;
 use clap::ArgMatches;
@@ -30,7 +30,11 @@ pub(super) struct Comparison {
 
 /// A difference as it is in the other direction.
 fn swapped(difference: Difference) -> Difference
-    ensures { result ≡ record { asker = difference.asker; lost = difference.gained; gained = difference.lost } }
+    ensures { result ≡ record {
+      asker = difference.asker;
+      lost = difference.gained;
+      gained = difference.lost;
+    } }
 {
     Difference {
         asker: difference.asker,
@@ -39,21 +43,23 @@ fn swapped(difference: Difference) -> Difference
     }
 }
 
-/// What two POSIX lists decide differently: of the permissions by themselves, or else of the requests of several.
+/// What two POSIX lists decide differently: of the permissions by themselves, or else of the
+/// requests of several.
 fn between_posix_lists(
     alloc: Global,
     first: &Acl,
     second: &Acl,
-    owner: Uid,
-    group: Gid,
+    owners: &Owners,
 ) -> Result<Option<Difference>, AllocError>
     ensures { IfOk result (λ found. MatchOption found
-        (AreAlike (between owner group (list.Posix first.now) (list.Posix second.now)))
-        (Differ (between owner group (list.Posix first.now) (list.Posix second.now)))) }
+        (AreAlike (between owners.now.owner owners.now.group (list.Posix first.now)
+        (list.Posix second.now)))
+        (Differ (between owners.now.owner owners.now.group (list.Posix first.now)
+        (list.Posix second.now)))) }
 {
-    match posix_difference(alloc, first, second, owner, group)? {
+    match posix_difference(alloc, first, owners, second, owners)? {
         Some(difference) => Ok(Some(difference)),
-        None => whole_request_difference(alloc, first, second, owner, group),
+        None => whole_request_difference(alloc, first, owners, second, owners),
     }
 }
 
@@ -62,14 +68,15 @@ fn towards_posix(
     alloc: Global,
     first: &Acl4,
     second: &Acl,
-    owner: Uid,
-    group: Gid,
+    owners: &Owners,
 ) -> Result<Option<Difference>, AllocError>
     ensures { IfOk result (λ found. MatchOption found
-        (AreAlike (between owner group (list.Nfs4 first.now) (list.Posix second.now)))
-        (Differ (between owner group (list.Nfs4 first.now) (list.Posix second.now)))) }
+        (AreAlike (between owners.now.owner owners.now.group (list.Nfs4 first.now)
+        (list.Posix second.now)))
+        (Differ (between owners.now.owner owners.now.group (list.Nfs4 first.now)
+        (list.Posix second.now)))) }
 {
-    match difference_from_posix(alloc, second, first, owner, group)? {
+    match difference_from_posix(alloc, second, owners, first, owners)? {
         Some(difference) => Ok(Some(swapped(difference))),
         None => Ok(None),
     }
@@ -80,42 +87,50 @@ fn from_posix(
     alloc: Global,
     first: &Acl,
     second: &Acl4,
-    owner: Uid,
-    group: Gid,
+    owners: &Owners,
 ) -> Result<Option<Difference>, AllocError>
     ensures { IfOk result (λ found. MatchOption found
-        (AreAlike (between owner group (list.Posix first.now) (list.Nfs4 second.now)))
-        (Differ (between owner group (list.Posix first.now) (list.Nfs4 second.now)))) }
+        (AreAlike (between owners.now.owner owners.now.group (list.Posix first.now)
+        (list.Nfs4 second.now)))
+        (Differ (between owners.now.owner owners.now.group (list.Posix first.now)
+        (list.Nfs4 second.now)))) }
 {
-    difference_from_posix(alloc, first, second, owner, group)
+    difference_from_posix(alloc, first, owners, second, owners)
 }
 
 /// What two NFSv4 lists decide differently.
-fn between_nfs4_lists(first: &Acl4, second: &Acl4, owner: Uid, group: Gid) -> Option<Difference>
+fn between_nfs4_lists(first: &Acl4, second: &Acl4, owners: &Owners) -> Option<Difference>
     ensures { MatchOption result
-        (AreAlike (between owner group (list.Nfs4 first.now) (list.Nfs4 second.now)))
-        (Differ (between owner group (list.Nfs4 first.now) (list.Nfs4 second.now))) }
+        (AreAlike (between owners.now.owner owners.now.group (list.Nfs4 first.now)
+        (list.Nfs4 second.now)))
+        (Differ (between owners.now.owner owners.now.group (list.Nfs4 first.now)
+        (list.Nfs4 second.now))) }
 {
-    first.difference(second, owner, group, Mask::all())
+    first.difference(owners, second, owners, Mask::all())
 }
 
 impl Comparison {
     /// What the lists decide differently, for whom; none if they decide alike for everyone.
     pub(super) fn difference(&self, alloc: Global) -> Result<Option<Difference>, AllocError>
-        ensures { IfOk result (λ found. MatchOption found (AreAlike (compared self.now)) (Differ (compared self.now))) }
+        ensures { IfOk result (λ found. MatchOption found (AreAlike (compared self.now))
+            (Differ (compared self.now))) }
     {
+        let owners = Owners {
+            owner: self.owner,
+            group: self.group,
+        };
         match (&self.first, &self.second) {
             (AnyAcl::Posix(first), AnyAcl::Posix(second)) => {
-                between_posix_lists(alloc, first, second, self.owner, self.group)
+                between_posix_lists(alloc, first, second, &owners)
             }
             (AnyAcl::Posix(first), AnyAcl::Nfs4(second)) => {
-                from_posix(alloc, first, second, self.owner, self.group)
+                from_posix(alloc, first, second, &owners)
             }
             (AnyAcl::Nfs4(first), AnyAcl::Posix(second)) => {
-                towards_posix(alloc, first, second, self.owner, self.group)
+                towards_posix(alloc, first, second, &owners)
             }
             (AnyAcl::Nfs4(first), AnyAcl::Nfs4(second)) => {
-                Ok(between_nfs4_lists(first, second, self.owner, self.group))
+                Ok(between_nfs4_lists(first, second, &owners))
             }
         }
     }
@@ -127,9 +142,11 @@ fn list_field(
     matches: &ArgMatches<'_>,
     style_name: &str,
     text_name: &str,
-) -> Result<AnyAcl, DecideFault>
-    ensures read { IfOk result (λ acl. list_in style_name.now text_name.now (rows_of (found_of matches.now)) ≡ Ok acl) }
-    ensures refused { IfErr result (Explains (list_in style_name.now text_name.now (rows_of (found_of matches.now)))) }
+) -> Result<AnyAcl, QueryFault>
+    ensures read { IfOk result (λ acl. list_in style_name.now text_name.now
+        (rows_of (found_of matches.now)) ≡ Ok acl) }
+    ensures refused { IfErr result (Explains (list_in style_name.now text_name.now
+        (rows_of (found_of matches.now)))) }
 {
     let style = read_style(text_field(matches, style_name).ok_or(FieldFault::BadStyle)?)?;
     read_list(
@@ -144,8 +161,9 @@ fn list_field(
 pub(super) fn read_comparison(
     alloc: Global,
     matches: &ArgMatches<'_>,
-) -> Result<Comparison, DecideFault>
-    ensures read { IfOk result (λ comparison. compared_in (rows_of (found_of matches.now)) ≡ Ok (compared comparison)) }
+) -> Result<Comparison, QueryFault>
+    ensures read { IfOk result (λ comparison. compared_in (rows_of (found_of matches.now))
+        ≡ Ok (compared comparison)) }
     ensures refused { IfErr result (Explains (compared_in (rows_of (found_of matches.now)))) }
 {
     let owner = uid_field(matches, "owner")?;

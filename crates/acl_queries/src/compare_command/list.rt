@@ -1,10 +1,11 @@
-//! Lists of either style, as the fields of `compare` write them: with ids, for the directory has no names.
+//! Lists of either style, as the fields of `compare` write them: with ids, for the directory has no
+//! names.
 ghost use Rattle.std.specs.Prelude.{◌≡◌, Ok, IfErr, IfOk};
 ghost use Rattle.acl_queries.specs.Compared.{aces_of, style_of, list_of};
 ghost use Rattle.acl_queries.specs.Faults.{Explains};
 
-use crate::decide_command::acl::{empty_directory, read_acl};
-use crate::decide_command::fault::{DecideFault, FieldFault};
+use crate::command::acl::{empty_directory, read_acl};
+use crate::command::query_fault::{FieldFault, QueryFault};
 use acl_nfs4::{Acl4, read_aces};
 use acl_posix::Acl;
 use std::alloc::Global;
@@ -37,7 +38,7 @@ pub(super) fn read_style(text: &str) -> Result<Style, FieldFault>
 }
 
 /// The NFSv4 list that a text spells.
-fn read_acl4(alloc: Global, text: &str) -> Result<Acl4, DecideFault>
+fn read_acl4(alloc: Global, text: &str) -> Result<Acl4, QueryFault>
     ensures read { IfOk result (λ aces. aces_of text.now ≡ Ok aces) }
     ensures refused { IfErr result (Explains (aces_of text.now)) }
 {
@@ -46,7 +47,7 @@ fn read_acl4(alloc: Global, text: &str) -> Result<Acl4, DecideFault>
 }
 
 /// The list of this style that a text spells.
-pub(super) fn read_list(alloc: Global, style: Style, text: &str) -> Result<AnyAcl, DecideFault>
+pub(super) fn read_list(alloc: Global, style: Style, text: &str) -> Result<AnyAcl, QueryFault>
     ensures read { IfOk result (λ acl. list_of style text.now ≡ Ok acl) }
     ensures refused { IfErr result (Explains (list_of style text.now)) }
 {

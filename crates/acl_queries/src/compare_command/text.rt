@@ -2,7 +2,8 @@
 ghost use Rattle.std.specs.Prelude.{◌≡◌, ◌++◌, IfOk, OnOk};
 ghost use Rattle.acl_nfs4.specs.Mask.{mask_bits};
 ghost use Rattle.acl_queries.specs.Comparing.{compared};
-ghost use Rattle.acl_queries.specs.Differences.{Answers, bits_text, difference_text, gids_text, told_text};
+ghost use Rattle.acl_queries.specs.Differences.{Answers, bits_text, difference_text, gids_text};
+ghost use Rattle.acl_queries.specs.Differences.{told_text};
 
 use super::comparison::Comparison;
 use acl_names::{Gid, push_id};

@@ -3,7 +3,7 @@ ghost use Rattle.std.specs.Prelude.{◌≡◌, IfErr, IfOk, OnOk, map};
 ghost use Rattle.clap.specs.Words.{app_of, found_of, kind_of, matches_of, rows_of};
 ghost use Rattle.acl_queries.specs.CommandLine.{TakesWords, decide_line};
 
-use crate::options::{
+use crate::command::options::{
     flag, group_option, optional_option, owner_option, required_option, required_word,
 };
 use clap::error::ErrorKind;
@@ -14,10 +14,12 @@ use std::convert::AsStr;
 /// An example, and what the exit statuses are.
 const EXAMPLE: &str = "For example:
   aclctl decide --owner 1000 --group 50 --uid 1001 --gids 50,60 --perms r u::rw,g::r,o::-
-Exit status: 0 with an answer, granted or denied; 1 if a field doesn't read; 2 if the words are wrong, and with this help; 3 if
+Exit status: 0 with an answer, granted or denied; 1 if a field doesn't read;
+    2 if the words are wrong, and with this help; 3 if
 memory runs out or the answer can't be written.";
 
-/// The command line of `decide`. No value has a parser: what a field may be is for its reader to say.
+/// The command line of `decide`. No value has a parser: what a field may be is for its reader to
+/// say.
 fn command<'a>(alloc: Global) -> Result<Command<'a>, AllocError>
     ensures { IfOk result (λ command. app_of command ≡ decide_line) }
 {

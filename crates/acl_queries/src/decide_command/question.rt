@@ -2,20 +2,21 @@
 ghost use Rattle.std.specs.Prelude.{◌≡◌, codes, Ok, Err, IfErr, IfOk};
 ghost use Rattle.clap.specs.Words.{found_of, rows_of};
 ghost use Rattle.acl_posix.specs.Perms.{bits_of};
-ghost use Rattle.acl_queries.specs.Asked.{acl_in, asked_in, gids_in, id_in, perms_in};
+ghost use Rattle.acl_queries.specs.Asked.{acl_in, asked_in, gids_in, perms_in};
 ghost use Rattle.acl_queries.specs.Faults.{Explains};
 
-use super::acl::read_acl;
-use super::fault::{DecideFault, FieldFault};
-use super::ids::{read_gid, read_gids, read_uid};
-use crate::options::{flag_field, text_field};
+use crate::command::acl::read_acl;
+use crate::command::ids::{gid_field, read_gids, uid_field};
+use crate::command::options::{flag_field, text_field};
+use crate::command::query_fault::{FieldFault, QueryFault};
 use acl_names::{Gid, Requester, Uid};
 use acl_posix::{Acl, Perms, read_perms};
 use clap::ArgMatches;
 use std::alloc::Global;
 use std::marker::Model;
 
-/// Whether who asks may do what is requested with a file; and, with `nfs4`, what its access control list translates to.
+/// Whether who asks may do what is requested with a file; and, with `nfs4`, what its access control
+/// list translates to.
 #[derive(Drop)]
 pub(super) struct Question {
     pub owner: Uid,
@@ -54,22 +55,8 @@ impl Question {
     }
 }
 
-/// The user of a name.
-pub(crate) fn uid_field(matches: &ArgMatches<'_>, name: &str) -> Result<Uid, FieldFault>
-    ensures { result ≡ id_in name.now (rows_of (found_of matches.now)) }
-{
-    read_uid(text_field(matches, name).ok_or(FieldFault::BadId)?)
-}
-
-/// The group of a name.
-pub(crate) fn gid_field(matches: &ArgMatches<'_>, name: &str) -> Result<Gid, FieldFault>
-    ensures { result ≡ id_in name.now (rows_of (found_of matches.now)) }
-{
-    read_gid(text_field(matches, name).ok_or(FieldFault::BadId)?)
-}
-
 /// The groups of who asks; none if the words don't tell.
-fn gids_field(alloc: Global, matches: &ArgMatches<'_>) -> Result<Vec<Gid>, DecideFault>
+fn gids_field(alloc: Global, matches: &ArgMatches<'_>) -> Result<Vec<Gid>, QueryFault>
     ensures read { IfOk result (λ gids. gids_in (rows_of (found_of matches.now)) ≡ Ok gids.items) }
     ensures refused { IfErr result (Explains (gids_in (rows_of (found_of matches.now)))) }
 {
@@ -81,7 +68,8 @@ fn gids_field(alloc: Global, matches: &ArgMatches<'_>) -> Result<Vec<Gid>, Decid
 
 /// What is requested.
 fn perms_field(matches: &ArgMatches<'_>) -> Result<Perms, FieldFault>
-    ensures read { IfOk result (λ perms. perms_in (rows_of (found_of matches.now)) ≡ Ok (bits_of perms)) }
+    ensures read { IfOk result (λ perms. perms_in (rows_of (found_of matches.now))
+        ≡ Ok (bits_of perms)) }
     ensures refused { IfErr result (λ fault. perms_in (rows_of (found_of matches.now)) ≡ Err fault) }
 {
     let text = text_field(matches, "perms").ok_or(FieldFault::BadPerms)?;
@@ -89,7 +77,7 @@ fn perms_field(matches: &ArgMatches<'_>) -> Result<Perms, FieldFault>
 }
 
 /// The file's access control list.
-fn acl_field(alloc: Global, matches: &ArgMatches<'_>) -> Result<Acl, DecideFault>
+fn acl_field(alloc: Global, matches: &ArgMatches<'_>) -> Result<Acl, QueryFault>
     ensures read { IfOk result (λ acl. acl_in (rows_of (found_of matches.now)) ≡ Ok acl) }
     ensures refused { IfErr result (Explains (acl_in (rows_of (found_of matches.now)))) }
 {
@@ -101,10 +89,7 @@ fn acl_field(alloc: Global, matches: &ArgMatches<'_>) -> Result<Acl, DecideFault
 
 /// What the words ask, their fields read in order.
 #[tactic(auto, unfolding(crate::specs::Asked::asked_in))]
-pub(super) fn read_question(
-    alloc: Global,
-    matches: &ArgMatches<'_>,
-) -> Result<Question, DecideFault>
+pub(super) fn read_question(alloc: Global, matches: &ArgMatches<'_>) -> Result<Question, QueryFault>
     ensures read { IfOk result (λ question. asked_in (rows_of (found_of matches.now)) ≡ Ok question) }
     ensures refused { IfErr result (Explains (asked_in (rows_of (found_of matches.now)))) }
 {

@@ -2,12 +2,13 @@
 ghost use Rattle.std.specs.Prelude.{◌≡◌, ◌++◌, OnOk};
 ghost use Rattle.acl_queries.specs.Outcome.{translation_text};
 
-use super::acl::empty_directory;
+use crate::command::acl::empty_directory;
 use acl_bridge::translate;
 use acl_posix::Acl;
 use std::alloc::{AllocError, Global};
 
-/// Appends the entries of the NFSv4 list that an access control list translates to, one a line, with ids in decimal.
+/// Appends the entries of the NFSv4 list that an access control list translates to, one a line,
+/// with ids in decimal.
 pub(super) fn print_translation(
     alloc: Global,
     acl: &Acl,

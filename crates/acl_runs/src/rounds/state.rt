@@ -2,7 +2,7 @@
 ghost use Rattle.std.specs.Prelude.{◌≡◌, ◌<◌, [], length, map, IfOk};
 ghost use Rattle.acl_runs.specs.RoundsState.{HasBegun, IsReported};
 
-use crate::{Requests, RunReport};
+use crate::{RequestSource, RunReport};
 use acl_broker::{JournalEntry, Service};
 use std::alloc::{AllocError, Global};
 
@@ -23,14 +23,11 @@ pub(crate) struct Run<C, S, I, A> {
 }
 
 /// All sessions, to which nothing was answered yet.
-pub(crate) fn begin_all<S: Service + Drop, C: Requests<Request = S::Request> + Drop>(
+pub(crate) fn begin_all<S: Service + Drop, C: RequestSource<Request = S::Request>>(
     alloc: Global,
     service: S,
     sessions: Vec<C>,
 ) -> Result<Run<C, S, S::Request, S::Reply>, AllocError>
-where
-    S::Request: Drop,
-    S::Reply: Drop,
     ensures { IfOk result (HasBegun C.rest service sessions.items) }
 {
     let mut begun = Vec::with_capacity(alloc, sessions.len())?;
@@ -49,13 +46,10 @@ where
 }
 
 /// What each session was answered, with the journal and the service.
-pub(crate) fn report_all<S: Service + Drop, C: Requests<Request = S::Request> + Drop>(
+pub(crate) fn report_all<S: Service + Drop, C: RequestSource<Request = S::Request>>(
     alloc: Global,
     run: Run<C, S, S::Request, S::Reply>,
-) -> Result<RunReport<S, S::Reply>, AllocError>
-where
-    S::Request: Drop,
-    S::Reply: Drop,
+) -> Result<RunReport<S, JournalEntry<S::Request>, S::Reply>, AllocError>
     ensures { IfOk result (IsReported run) }
 {
     let Run {

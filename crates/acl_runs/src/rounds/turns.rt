@@ -3,20 +3,18 @@ ghost use Rattle.std.specs.Prelude.{◌≡◌, ◌<◌, ◌≤◌, ◌^◌, All,
 ghost use Rattle.acl_runs.specs.Turns.{Answers, Turns, Rounds, AllRounds};
 
 use super::state::{Progress, Run};
-use crate::{Replies, Requests};
+use crate::{Replies, RequestSource};
 use acl_broker::{JournalEntry, Service};
 use std::alloc::AllocError;
 
 /// Answers the next request of a session. `None` if it has none.
-fn answer_next<P: Replies<Reply = S::Reply>, S: Service, C: Requests<Request = S::Request>>(
+fn answer_next<P: Replies<Reply = S::Reply>, S: Service, C: RequestSource<Request = S::Request>>(
     replies: &P,
     service: &mut S,
     progress: &mut Progress<C, S::Reply>,
 ) -> Result<Option<S::Request>, AllocError>
-where
-    S::Request: Drop,
-    S::Reply: Drop,
-    ensures { IfOk result (λ taken. Answers C.rest S.next S.reply (P.text replies.now) service.old progress.old taken service.new progress.new) }
+    ensures { IfOk result (λ taken. Answers C.rest S.next S.reply (P.handling replies.now).text
+        service.old progress.old taken service.new progress.new) }
 {
     let Some(request) = progress.requests.next()? else {
         return Ok(None);
@@ -29,16 +27,14 @@ where
 }
 
 /// The turn of a session. False if it had no request left.
-fn take_turn<P: Replies<Reply = S::Reply>, S: Service, C: Requests<Request = S::Request>>(
+fn take_turn<P: Replies<Reply = S::Reply>, S: Service, C: RequestSource<Request = S::Request>>(
     replies: &P,
     run: &mut Run<C, S, S::Request, S::Reply>,
     session: u32,
 ) -> Result<bool, AllocError>
-where
-    S::Request: Drop,
-    S::Reply: Drop,
     requires { session < length run.old.sessions.items }
-    ensures { IfOk result (λ more. Turns C.rest S.next S.reply (P.text replies.now) session run.old more run.new) }
+    ensures { IfOk result (λ more. Turns C.rest S.next S.reply (P.handling replies.now).text session
+        run.old more run.new) }
 {
     run.journal.reserve(1)?;
     let progress = &mut run.sessions[session as usize];
@@ -50,15 +46,13 @@ where
 }
 
 /// The turn of each session. False if none had a request left.
-fn take_turns<P: Replies<Reply = S::Reply>, S: Service, C: Requests<Request = S::Request>>(
+fn take_turns<P: Replies<Reply = S::Reply>, S: Service, C: RequestSource<Request = S::Request>>(
     replies: &P,
     run: &mut Run<C, S, S::Request, S::Reply>,
 ) -> Result<bool, AllocError>
-where
-    S::Request: Drop,
-    S::Reply: Drop,
     requires { length run.old.sessions.items < 2 ^ 32 }
-    ensures { IfOk result (λ more. Rounds C.rest S.next S.reply (P.text replies.now) run.old more run.new) }
+    ensures { IfOk result (λ more. Rounds C.rest S.next S.reply (P.handling replies.now).text
+        run.old more run.new) }
 {
     let mut more = false;
     for session in 0..run.sessions.len() as u32 {
@@ -71,13 +65,11 @@ where
 pub(super) fn take_rounds<
     P: Replies<Reply = S::Reply>,
     S: Service,
-    C: Requests<Request = S::Request>,
+    C: RequestSource<Request = S::Request>,
 >(replies: &P, run: &mut Run<C, S, S::Request, S::Reply>, most: u32) -> Result<(), AllocError>
-where
-    S::Request: Drop,
-    S::Reply: Drop,
     requires { length run.old.sessions.items < 2 ^ 32 }
-    ensures { OnOk result (AllRounds C.rest S.next S.reply (P.text replies.now) most run.old run.new) }
+    ensures { OnOk result (AllRounds C.rest S.next S.reply (P.handling replies.now).text most
+        run.old run.new) }
 {
     for _ in 0..most {
         if !take_turns(replies, run)? {

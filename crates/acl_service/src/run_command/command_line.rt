@@ -1,7 +1,9 @@
 //! The words of `run`, as the parser of command lines takes them.
-ghost use Rattle.std.specs.Prelude.{◌≡◌, ◌≢◌, IfErr, IfOk, OnOk, Some, codes, false, map, option_map};
+ghost use Rattle.std.specs.Prelude.{◌≡◌, ◌≢◌, IfErr, IfOk, OnOk, Some, codes, false, map};
+ghost use Rattle.std.specs.Prelude.{option_map};
 ghost use Rattle.clap.specs.Words.{all_of, app_of, found_of, kind_of, rows_of, rule_of};
-ghost use Rattle.acl_service.specs.RunWords.{HasLimit, IsLimit, RunTakes, limit_option, run_line, run_rows, session_words, setup_in};
+ghost use Rattle.acl_service.specs.RunWords.{HasLimit, IsLimit, RunTakes, limit_option, run_line};
+ghost use Rattle.acl_service.specs.RunWords.{run_rows, session_words, setup_in};
 
 use acl_queries::options::{flag, optional_option, required_option, required_word, text_field};
 use clap::builder::ValueParser;
@@ -83,7 +85,8 @@ pub(super) fn setup_field<'a>(matches: &ArgMatches<'a>) -> &'a str
 
 /// The names of the sessions' files.
 pub(super) fn session_fields<'m, 'a>(matches: &'m ArgMatches<'a>) -> Option<&'m [&'a str]>
-    ensures { option_map (λ names. map (λ name. name.now) names.now) result ≡ all_of (codes "session") (rows_of (found_of matches.now)) }
+    ensures { option_map (λ names. map (λ name. name.now) names.now) result
+        ≡ all_of (codes "session") (rows_of (found_of matches.now)) }
 {
     matches.get_strs("session")
 }

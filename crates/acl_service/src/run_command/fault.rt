@@ -1,15 +1,14 @@
 //! Why sessions print nothing, or not all of it.
-ghost use Rattle.std.specs.Prelude.{◌≡◌, OnOk, Some};
-ghost use Rattle.std.specs.Io.KnownBytes.{Appends};
+ghost use Rattle.std.specs.Prelude.{◌≡◌};
 
 use crate::{OneFault, RunFault, SetupError};
+use acl_queries::{CommandFault, ErrorOutput};
 use acl_runs::ServeFault;
 use std::alloc::AllocError;
-use std::{fmt, io};
-use thiserror::Error;
+use std::io::{self, Write};
 
-/// Why texts come to nothing. It is shown by the words that follow `aclctl: ` on the fault line.
-#[derive(Clone, Copy, Debug, PartialEq, Eq, Error)]
+/// Why texts come to nothing.
+#[derive(Clone, Copy, Debug, PartialEq, Eq)]
 pub(super) enum TextsFault {
     /// There are more texts than there may be sessions.
     TooManySessions,
@@ -18,27 +17,14 @@ pub(super) enum TextsFault {
     Run(RunFault),
 }
 
-impl fmt::Display for TextsFault {
-    ghost use Rattle.acl_service.specs.TextsFaults.{texts_fault_words};
+impl CommandFault for TextsFault {
+    ghost use Rattle.acl_service.specs.TextsFaults.{texts_line, texts_status};
 
-    ghost output = { λ fault. Some (texts_fault_words fault) };
+    ghost status_of = { texts_status };
 
-    fn fmt<W: fmt::Write>(&self, f: &mut fmt::Formatter<W>) -> fmt::Result {
-        match self {
-            TextsFault::TooManySessions => f.write_str("at most 64 sessions"),
-            TextsFault::Setup(error) => write!(f, "setup: {error}"),
-            TextsFault::Run(fault) => write!(f, "run: {fault}"),
-        }
-    }
-}
+    ghost line_of = { texts_line };
 
-impl TextsFault {
-    ghost use Rattle.acl_service.specs.TextsFaults.{texts_fault_line, texts_status};
-
-    /// The exit status.
-    fn status(self) -> u8
-        ensures { result ≡ texts_status self }
-    {
+    fn status(&self) -> u8 {
         match self {
             TextsFault::TooManySessions => 2,
             TextsFault::Setup(_) => 1,
@@ -46,18 +32,12 @@ impl TextsFault {
         }
     }
 
-    fn write_line<E: io::Write>(self, err: &mut E) -> io::Result<()>
-        ensures { OnOk result (Appends (E.contents err.old) (E.contents err.new) (texts_fault_line self)) }
-    {
-        writeln!(err, "aclctl: {self}")
-    }
-
-    /// Writes the line of the fault, if that can be done, and returns the exit status.
-    pub(super) fn report<E: io::Write>(self, err: &mut E) -> u8
-        ensures { result ≡ texts_status self }
-    {
-        let _ = self.write_line(err);
-        self.status()
+    fn tell<E: Write + Drop>(&self, err: &mut ErrorOutput<E>) {
+        match self {
+            TextsFault::TooManySessions => err.write_line("at most 64 sessions", ""),
+            TextsFault::Setup(error) => err.write_line("setup: ", error.words()),
+            TextsFault::Run(fault) => fault.tell(err),
+        }
     }
 }
 

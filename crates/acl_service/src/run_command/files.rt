@@ -1,17 +1,18 @@
 //! The files of a run.
-ghost use Rattle.std.specs.Prelude.{◌≡◌, ◌≤◌, ℕ, All, List, Option, Some, IfOk, IfSome, OnOk, length, map};
+ghost use Rattle.std.specs.Prelude.{◌≡◌, ◌≤◌, ℕ, All, IfErr, IfOk, List, OnOk, Option, Some};
+ghost use Rattle.std.specs.Prelude.{bytes_eq, codes, false, length, map};
 ghost use Rattle.std.specs.Io.KnownBytes.{Appends};
-ghost use Rattle.acl_broker.specs.declared.limits.TheConstants.{SESSIONS};
 ghost use Rattle.acl_lang.specs.declared.limits.TheConstants.{MAX_TEXT_LEN};
-ghost use Rattle.acl_service.specs.RunWords.{AreTold, IsTold, session_told};
+ghost use Rattle.acl_service.specs.FilesFaults.{IsFilesFault, IsReadFault, IsReadFaultAmong};
+ghost use Rattle.acl_service.specs.FilesFaults.{files_status};
+ghost use Rattle.acl_service.specs.RunWords.{AreTold, CanRun, IsTold, input_count, session_told};
 
 use crate::{CapFault, RunFault, read_capped};
 use acl_broker::SESSIONS;
 use acl_lang::MAX_TEXT_LEN;
+use acl_queries::{CommandFault, ErrorOutput};
 use std::alloc::Global;
-use std::io::{Read, Write};
-use std::{fmt, io};
-use thiserror::Error;
+use std::io::{self, Read, Write};
 
 /// The name of standard input as a session.
 const INPUT: &str = "-";
@@ -28,10 +29,11 @@ pub trait OpenFiles {
         ensures { IfOk result (λ file. Self.File.remaining file ≡ bytes_of self.now name.now) };
 }
 
-/// Why a run's files give no texts. It is shown by the words that follow `aclctl: ` on the fault line.
-#[derive(Clone, Copy, Debug, PartialEq, Eq, Error)]
+/// Why a run's files give no texts.
+#[derive(Clone, Copy, Debug, PartialEq, Eq)]
 pub(super) enum FilesFault<'a> {
-    /// There are more sessions than there may be; or none, which the parser of command lines doesn't let through.
+    /// There are more sessions than there may be; or none, which the parser of command lines
+    /// doesn't let through.
     SessionCount,
     /// Standard input is named as more than one session.
     InputTwice,
@@ -40,28 +42,14 @@ pub(super) enum FilesFault<'a> {
     Memory,
 }
 
-impl<'a> fmt::Display for FilesFault<'a> {
-    ghost use Rattle.acl_service.specs.FilesFaults.{files_fault_words};
+impl<'a> CommandFault for FilesFault<'a> {
+    ghost use Rattle.acl_service.specs.FilesFaults.{files_line, files_status};
 
-    ghost output = { λ fault. Some (files_fault_words fault) };
+    ghost status_of = { files_status };
 
-    fn fmt<W: fmt::Write>(&self, f: &mut fmt::Formatter<W>) -> fmt::Result {
-        match self {
-            FilesFault::SessionCount => f.write_str("at most 64 sessions"),
-            FilesFault::InputTwice => f.write_str("- is given twice"),
-            FilesFault::CannotRead(name) => write!(f, "cannot read {name}"),
-            FilesFault::Memory => write!(f, "run: {}", RunFault::Memory),
-        }
-    }
-}
+    ghost line_of = { files_line };
 
-impl<'a> FilesFault<'a> {
-    ghost use Rattle.acl_service.specs.FilesFaults.{files_fault_line, files_status};
-
-    /// The exit status.
-    fn status(self) -> u8
-        ensures { result ≡ files_status self.entry }
-    {
+    fn status(&self) -> u8 {
         match self {
             FilesFault::CannotRead(_) => 1,
             FilesFault::SessionCount | FilesFault::InputTwice => 2,
@@ -69,18 +57,13 @@ impl<'a> FilesFault<'a> {
         }
     }
 
-    fn write_line<E: Write>(self, err: &mut E) -> io::Result<()>
-        ensures { OnOk result (Appends (E.contents err.old) (E.contents err.new) (files_fault_line self.entry)) }
-    {
-        writeln!(err, "aclctl: {self}")
-    }
-
-    /// Writes the line of the fault, if that can be done, and returns the exit status.
-    pub(super) fn report<E: Write>(self, err: &mut E) -> u8
-        ensures { result ≡ files_status self.entry }
-    {
-        let _ = self.write_line(err);
-        self.status()
+    fn tell<E: Write + Drop>(&self, err: &mut ErrorOutput<E>) {
+        match self {
+            FilesFault::SessionCount => err.write_line("at most 64 sessions", ""),
+            FilesFault::InputTwice => err.write_line("- is given twice", ""),
+            FilesFault::CannotRead(name) => err.write_line("cannot read ", name),
+            FilesFault::Memory => RunFault::Memory.tell(err),
+        }
     }
 }
 
@@ -99,6 +82,7 @@ fn read_all<'a, I: Read>(
 ) -> Result<Vec<u8>, FilesFault<'a>>
     ensures capped { IfOk result (λ bytes. length bytes.items ≤ MAX_TEXT_LEN) }
     ensures told { IfOk result (λ bytes. IsTold (I.remaining reader.old) bytes.items) }
+    ensures refused { IfErr result (IsReadFault name.entry.now) }
 {
     match read_capped(alloc, reader, MAX_TEXT_LEN) {
         Ok(bytes) => Ok(bytes),
@@ -115,6 +99,7 @@ fn read_file<'a, F: OpenFiles>(
 ) -> Result<Vec<u8>, FilesFault<'a>>
     ensures capped { IfOk result (λ bytes. length bytes.items ≤ MAX_TEXT_LEN) }
     ensures told { IfOk result (λ bytes. IsTold (F.bytes_of files.now name.entry.now) bytes.items) }
+    ensures refused { IfErr result (IsReadFault name.entry.now) }
 {
     match files.open(name) {
         Ok(mut file) => read_all(alloc, name, &mut file),
@@ -122,67 +107,64 @@ fn read_file<'a, F: OpenFiles>(
     }
 }
 
-/// The bytes of standard input, if a session has its name.
-fn read_input<'a, I: Read>(
-    alloc: Global,
-    names: &[&'a str],
-    input: &mut I,
-) -> Result<Option<Vec<u8>>, FilesFault<'a>>
-    ensures capped { IfOk result (λ given. IfSome given (λ bytes. length bytes.items ≤ MAX_TEXT_LEN)) }
-    ensures told { IfOk result (λ given. IfSome given (λ bytes. IsTold (I.remaining input.old) bytes.items)) }
-{
-    if names.iter().any(|name| *name == INPUT) {
-        Ok(Some(read_all(alloc, INPUT, input)?))
-    } else {
-        Ok(None)
-    }
-}
-
-/// The text of a session: of `-` what standard input gave, which it gives once, and else what the file of the name has.
-fn read_session<'a, F: OpenFiles>(
+/// The text of a session: of `-` what `input` has, and else what the file of the name has, which
+/// leaves `input` as it is.
+fn read_session<'a, F: OpenFiles, I: Read>(
     alloc: Global,
     files: &F,
+    input: &mut I,
     name: &'a str,
-    given: &mut Option<Vec<u8>>,
 ) -> Result<Vec<u8>, FilesFault<'a>>
-    requires { IfSome given.old (λ bytes. length bytes.items ≤ MAX_TEXT_LEN) }
     ensures capped { IfOk result (λ text. length text.items ≤ MAX_TEXT_LEN) }
-    ensures told { IfOk result (λ text. (told : Option (List ℕ)) → IfSome given.old (λ bytes. IsTold told bytes.items)
-        → IsTold (session_told (F.bytes_of files.now) told name.entry.now) text.items) }
-    ensures left { IfSome given.new (λ bytes. given.old ≡ Some bytes) }
+    ensures told { IfOk result (λ text.
+        IsTold (session_told (F.bytes_of files.now) (I.remaining input.old) name.entry.now)
+        text.items) }
+    ensures untouched { bytes_eq name.entry.now (codes "-") ≡ false → input.new ≡ input.old }
+    ensures refused { IfErr result (IsReadFault name.entry.now) }
 {
     if name == INPUT {
-        given.take().ok_or(FilesFault::InputTwice)
+        read_all(alloc, name, input)
     } else {
         read_file(alloc, files, name)
     }
 }
 
-/// The texts of the sessions of these names, of which one may be that of standard input.
-fn read_sessions<'a, F: OpenFiles>(
+/// The texts of the sessions of these names, read in this order. One of them may be that of
+/// `input`, of which else nothing is read.
+fn read_sessions<'a, F: OpenFiles, I: Read>(
     alloc: Global,
     files: &F,
+    input: &mut I,
     names: &[&'a str],
-    given: Option<Vec<u8>>,
 ) -> Result<Vec<Vec<u8>>, FilesFault<'a>>
-    requires { IfSome given (λ bytes. length bytes.items ≤ MAX_TEXT_LEN) }
+    requires { input_count (map (λ name. name.now) names.now) ≤ 1 }
     ensures count { IfOk result (λ texts. length texts.items ≡ length names.now) }
-    ensures capped { IfOk result (λ texts. All (λ text. length text.items ≤ MAX_TEXT_LEN) texts.items) }
-    ensures told { IfOk result (λ texts. (told : Option (List ℕ)) → IfSome given (λ bytes. IsTold told bytes.items)
-        → AreTold (F.bytes_of files.now) told (map (λ name. name.now) names.now) texts.items) }
+    ensures capped { IfOk result (λ texts. All (λ text. length text.items ≤ MAX_TEXT_LEN)
+        texts.items) }
+    ensures told { IfOk result (λ texts. AreTold (F.bytes_of files.now) (I.remaining input.old)
+        (map (λ name. name.now) names.now) texts.items) }
+    ensures untouched { input_count (map (λ name. name.now) names.now) ≡ 0 → input.new ≡ input.old }
+    ensures refused { IfErr result (IsReadFaultAmong (map (λ name. name.now) names.now)) }
 {
-    let mut given = given;
     let Ok(mut texts) = Vec::with_capacity(alloc, names.len()) else {
         return Err(FilesFault::Memory);
     };
     for name in names {
-        let text = read_session(alloc, files, *name, &mut given)?;
+        let text = read_session(alloc, files, input, *name)?;
         texts.push_reserved(text);
     }
     Ok(texts)
 }
 
-/// Reads the setup of one name and then the sessions of the others, of which one may be that of standard input.
+/// How many of the names are that of standard input.
+fn count_inputs(names: &[&str]) -> usize
+    ensures { result ≡ input_count (map (λ name. name.now) names.now) }
+{
+    names.iter().filter(|name| **name == INPUT).count()
+}
+
+/// Reads the setup of one name and then the sessions of the others, in their order. One of these
+/// may be that of `input`, of which else nothing is read.
 pub(super) fn read_texts<'a, F: OpenFiles, I: Read>(
     alloc: Global,
     files: &F,
@@ -190,21 +172,29 @@ pub(super) fn read_texts<'a, F: OpenFiles, I: Read>(
     setup: &'a str,
     names: &[&'a str],
 ) -> Result<Texts, FilesFault<'a>>
-    ensures count { IfOk result (λ texts. (1 ≤ length texts.sessions.items) × (length texts.sessions.items ≤ SESSIONS)) }
-    ensures capped { IfOk result (λ texts. All (λ text. length text.items ≤ MAX_TEXT_LEN) texts.sessions.items) }
-    ensures setup { IfOk result (λ texts. IsTold (F.bytes_of files.now setup.entry.now) texts.setup.items) }
-    ensures sessions { IfOk result (λ texts. AreTold (F.bytes_of files.now) (I.remaining input.old) (map (λ name. name.now) names.now) texts.sessions.items) }
+    ensures taken { OnOk result (CanRun (map (λ name. name.now) names.now)) }
+    ensures count { IfOk result (λ texts. length texts.sessions.items ≡ length names.now) }
+    ensures capped { IfOk result (λ texts. All (λ text. length text.items ≤ MAX_TEXT_LEN)
+        texts.sessions.items) }
+    ensures setup { IfOk result (λ texts. IsTold (F.bytes_of files.now setup.entry.now)
+        texts.setup.items) }
+    ensures sessions { IfOk result (λ texts. AreTold (F.bytes_of files.now) (I.remaining input.old)
+        (map (λ name. name.now) names.now) texts.sessions.items) }
+    ensures untouched { input_count (map (λ name. name.now) names.now) ≡ 0 → input.new ≡ input.old }
+
+    // Before any file is opened.
+    ensures unread { IfErr result (λ fault. files_status fault ≡ 2 → input.new ≡ input.old) }
+    ensures refused { IfErr result (IsFilesFault setup.entry.now (map (λ name. name.now) names.now)) }
 {
     if names.is_empty() || names.len() > SESSIONS as usize {
         return Err(FilesFault::SessionCount);
     }
-    if names.iter().filter(|name| **name == INPUT).count() > 1 {
+    if count_inputs(names) > 1 {
         return Err(FilesFault::InputTwice);
     }
     let setup = read_file(alloc, files, setup)?;
-    let given = read_input(alloc, names, input)?;
     Ok(Texts {
         setup,
-        sessions: read_sessions(alloc, files, names, given)?,
+        sessions: read_sessions(alloc, files, input, names)?,
     })
 }

@@ -5,8 +5,8 @@ ghost use Rattle.std.specs.List.{flat_map};
 ghost use Rattle.acl_queries.specs.Output.{AppendsFront};
 ghost use Rattle.acl_service.specs.RunText.{entry_text, journal_text, outputs_text, sessions_text};
 
-use acl_broker::JournalEntry;
-use acl_lang::Numbered;
+use crate::ServedInPrint;
+use acl_broker::KeptEntry;
 use acl_names::{put_bytes, put_decimal};
 use acl_queries::write_text;
 use itoa::Buffer;
@@ -18,21 +18,22 @@ use std::io::Write;
 const MAX_ENTRY_LINE: usize = 22;
 
 /// Appends the line of an entry.
-fn push_entry(entry: &JournalEntry<Numbered>, text: &mut Vec<u8>) -> Result<(), AllocError>
+fn push_entry(entry: &KeptEntry<ServedInPrint<'_>>, text: &mut Vec<u8>) -> Result<(), AllocError>
     ensures { OnOk result (text.new.items ≡ text.old.items ++ entry_text entry.now) }
 {
     text.reserve(MAX_ENTRY_LINE)?;
-    put_decimal(entry.session, text);
+    put_decimal(entry.session(), text);
     put_bytes(b" ", text);
-    put_decimal(entry.item.line, text);
+    put_decimal(entry.kept().line(), text);
     put_bytes(b"\n", text);
     Ok(())
 }
 
-/// The line `journal`, and after it a line for each entry: its session and the number of its request's line.
+/// The line `journal`, and after it a line for each entry: its session and the number of its
+/// request's line.
 pub(super) fn print_journal(
     alloc: Global,
-    journal: &[JournalEntry<Numbered>],
+    journal: &[KeptEntry<ServedInPrint<'_>>],
 ) -> Result<Vec<u8>, AllocError>
     ensures { IfOk result (λ text. text.items ≡ journal_text journal.now) }
 {
@@ -46,8 +47,10 @@ pub(super) fn print_journal(
 
 /// Writes texts, one after the other. If a write fails, a front of them all went out.
 fn write_texts<W: Write>(texts: &[&[u8]], out: &mut W) -> io::Result<()>
-    ensures written { OnOk result (Appends (W.contents out.old) (W.contents out.new) (flat_map (λ text. text.now) texts.now)) }
-    ensures front { AppendsFront (W.contents out.old) (W.contents out.new) (flat_map (λ text. text.now) texts.now) }
+    ensures written { OnOk result (Appends (W.contents out.old) (W.contents out.new)
+        (flat_map (λ text. text.now) texts.now)) }
+    ensures front { AppendsFront (W.contents out.old) (W.contents out.new)
+        (flat_map (λ text. text.now) texts.now) }
 {
     for text in texts {
         write_text(text, out)?;
@@ -57,8 +60,10 @@ fn write_texts<W: Write>(texts: &[&[u8]], out: &mut W) -> io::Result<()>
 
 /// Writes the output of each session after a line that tells which it is.
 fn write_sessions<W: Write>(outputs: &[Vec<u8>], out: &mut W) -> io::Result<()>
-    ensures written { OnOk result (Appends (W.contents out.old) (W.contents out.new) (sessions_text 0 (map (λ output. output.items) outputs.now))) }
-    ensures front { AppendsFront (W.contents out.old) (W.contents out.new) (sessions_text 0 (map (λ output. output.items) outputs.now)) }
+    ensures written { OnOk result (Appends (W.contents out.old) (W.contents out.new)
+        (sessions_text 0 (map (λ output. output.items) outputs.now))) }
+    ensures front { AppendsFront (W.contents out.old) (W.contents out.new)
+        (sessions_text 0 (map (λ output. output.items) outputs.now)) }
 {
     let mut buffer = Buffer::new();
     for session in 0..outputs.len() {
@@ -73,8 +78,10 @@ fn write_sessions<W: Write>(outputs: &[Vec<u8>], out: &mut W) -> io::Result<()>
 
 /// Writes the outputs of the sessions. That of a single one stands by itself.
 pub(super) fn write_outputs<W: Write>(outputs: &[Vec<u8>], out: &mut W) -> io::Result<()>
-    ensures written { OnOk result (Appends (W.contents out.old) (W.contents out.new) (outputs_text (map (λ output. output.items) outputs.now))) }
-    ensures front { AppendsFront (W.contents out.old) (W.contents out.new) (outputs_text (map (λ output. output.items) outputs.now)) }
+    ensures written { OnOk result (Appends (W.contents out.old) (W.contents out.new)
+        (outputs_text (map (λ output. output.items) outputs.now))) }
+    ensures front { AppendsFront (W.contents out.old) (W.contents out.new)
+        (outputs_text (map (λ output. output.items) outputs.now)) }
 {
     match outputs {
         [output] => write_text(output.as_slice(), out),

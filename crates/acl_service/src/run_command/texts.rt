@@ -1,5 +1,6 @@
 //! Sessions whose texts are at hand.
-ghost use Rattle.std.specs.Prelude.{◌≡◌, ◌≢◌, ◌≤◌, ℕ, All, IfErr, IsErrOf, List, OnOk, Some, length, map};
+ghost use Rattle.std.specs.Prelude.{◌≡◌, ◌≢◌, ◌≤◌, ℕ, All, IfErr, IsErrOf, List, OnOk, Some};
+ghost use Rattle.std.specs.Prelude.{length, map};
 ghost use Rattle.std.specs.Io.KnownBytes.{Appends, Keeps};
 ghost use Rattle.acl_lang.specs.declared.limits.TheConstants.{MAX_TEXT_LEN};
 ghost use Rattle.acl_broker.specs.declared.limits.TheConstants.{SESSIONS};
@@ -11,12 +12,12 @@ ghost use Rattle.acl_service.specs.Runs.{session_text};
 
 use super::fault::TextsFault;
 use super::printing::{print_journal, write_outputs};
-use crate::sessions::{PrintedAnswer, serve_in_print};
-use crate::{Served, read_setup, run_one};
+use crate::sessions::{RunInPrint, serve_in_print};
+use crate::{read_setup, run_one};
 use acl_broker::SESSIONS;
 use acl_names::Directory;
 use acl_queries::write_text;
-use acl_runs::{Gate, RunReport};
+use acl_runs::Gate;
 use acl_tree::Tree;
 use std::alloc::Global;
 use std::io::Write;
@@ -33,18 +34,23 @@ pub(super) struct Options {
     pub max_errors: Option<u32>,
 }
 
-/// Writes the outputs of a run, and after them its journal if that is asked for. All that takes memory comes first.
+/// Writes the outputs of a run, and after them its journal if that is asked for. All that takes
+/// memory comes first.
 fn print_report<W: Write>(
     alloc: Global,
-    report: &RunReport<Served<'_>, PrintedAnswer>,
+    report: &RunInPrint<'_>,
     journal: bool,
     out: &mut W,
 ) -> Result<(), TextsFault>
     ensures printed { OnOk result (Appends (W.contents out.old) (W.contents out.new)
-        (run_text journal report.now.journal.items (map (λ output. output.items) report.now.outputs.items))) }
-    ensures silent { IfErr result (λ fault. fault ≢ lost_output → Keeps (W.contents out.old) (W.contents out.new)) }
-    ensures cut { IsErrOf result lost_output → AppendsFront (W.contents out.old) (W.contents out.new)
-        (run_text journal report.now.journal.items (map (λ output. output.items) report.now.outputs.items)) }
+        (run_text journal report.now.journal.items
+        (map (λ output. output.items) report.now.outputs.items))) }
+    ensures silent { IfErr result (λ fault. fault ≢ lost_output
+        → Keeps (W.contents out.old) (W.contents out.new)) }
+    ensures cut { IsErrOf result lost_output → AppendsFront (W.contents out.old)
+        (W.contents out.new)
+        (run_text journal report.now.journal.items
+        (map (λ output. output.items) report.now.outputs.items)) }
     ensures fault { IfErr result IsRunFault }
 {
     let entries = if journal {
@@ -66,9 +72,12 @@ fn print_session<W: Write>(
     out: &mut W,
 ) -> Result<(), TextsFault>
     requires { length text.now ≤ MAX_TEXT_LEN }
-    ensures printed { OnOk result (Appends (W.contents out.old) (W.contents out.new) (session_text directory.now tree text.now)) }
-    ensures silent { IfErr result (λ fault. fault ≢ lost_output → Keeps (W.contents out.old) (W.contents out.new)) }
-    ensures cut { IsErrOf result lost_output → AppendsFront (W.contents out.old) (W.contents out.new) (session_text directory.now tree text.now) }
+    ensures printed { OnOk result (Appends (W.contents out.old) (W.contents out.new)
+        (session_text directory.now tree text.now)) }
+    ensures silent { IfErr result (λ fault. fault ≢ lost_output
+        → Keeps (W.contents out.old) (W.contents out.new)) }
+    ensures cut { IsErrOf result lost_output → AppendsFront (W.contents out.old)
+        (W.contents out.new) (session_text directory.now tree text.now) }
     ensures fault { IfErr result IsRunFault }
 {
     run_one(alloc, directory, tree, text, out)?;
@@ -89,10 +98,13 @@ fn print_sessions<R: Threads + Wait + Clock + Sync, G: Gate, W: Write>(
     requires count { (1 ≤ length texts.now) × (length texts.now ≤ SESSIONS) }
     requires short { All (λ text. length text.items ≤ MAX_TEXT_LEN) texts.now }
     requires some { options.max_errors ≢ Some 0 }
-    ensures printed { OnOk result ((text : List ℕ) × IsOfReport directory.now tree texts.now options.journal options.max_errors text
+    ensures printed { OnOk result ((text : List ℕ)
+        × IsOfReport directory.now tree texts.now options.journal options.max_errors text
         × Appends (W.contents out.old) (W.contents out.new) text) }
-    ensures silent { IfErr result (λ fault. fault ≢ lost_output → Keeps (W.contents out.old) (W.contents out.new)) }
-    ensures cut { IsErrOf result lost_output → (text : List ℕ) × IsOfReport directory.now tree texts.now options.journal options.max_errors text
+    ensures silent { IfErr result (λ fault. fault ≢ lost_output
+        → Keeps (W.contents out.old) (W.contents out.new)) }
+    ensures cut { IsErrOf result lost_output → (text : List ℕ)
+        × IsOfReport directory.now tree texts.now options.journal options.max_errors text
         × AppendsFront (W.contents out.old) (W.contents out.new) text }
     ensures fault { IfErr result IsRunFault }
 {
@@ -114,9 +126,12 @@ pub(super) fn print_texts<R: Threads + Wait + Clock + Sync, G: Gate, W: Write>(
     requires short { All (λ text. length text.items ≤ MAX_TEXT_LEN) texts.now }
     requires some { options.max_errors ≢ Some 0 }
     ensures few { OnOk result (length texts.now ≤ SESSIONS) }
-    ensures printed { OnOk result (RunsTexts setup.now texts.now options.journal options.max_errors (Appends (W.contents out.old) (W.contents out.new))) }
-    ensures silent { IfErr result (λ fault. fault ≢ lost_output → Keeps (W.contents out.old) (W.contents out.new)) }
-    ensures cut { IsErrOf result lost_output → RunsTexts setup.now texts.now options.journal options.max_errors (AppendsFront (W.contents out.old) (W.contents out.new)) }
+    ensures printed { OnOk result (RunsTexts setup.now texts.now options.journal options.max_errors
+        (Appends (W.contents out.old) (W.contents out.new))) }
+    ensures silent { IfErr result (λ fault. fault ≢ lost_output
+        → Keeps (W.contents out.old) (W.contents out.new)) }
+    ensures cut { IsErrOf result lost_output → RunsTexts setup.now texts.now options.journal
+        options.max_errors (AppendsFront (W.contents out.old) (W.contents out.new)) }
     ensures refused { IfErr result (IsTextsFault setup.now (length texts.now)) }
 {
     if texts.len() > SESSIONS as usize {

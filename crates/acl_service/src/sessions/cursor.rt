@@ -7,7 +7,7 @@ ghost use Rattle.acl_service.specs.Sessions.{requests_of_each};
 
 use acl_lang::{MAX_TEXT_LEN, Numbered, Requests};
 use acl_names::Directory;
-use acl_runs::{self as runs, ServeFault};
+use acl_runs::{RequestSource, ServeFault};
 use std::alloc::{AllocError, Global};
 
 /// The requests of a session's text that are still to come, read line by line.
@@ -29,7 +29,7 @@ impl<'a> Cursor<'a> {
     }
 }
 
-impl<'a> runs::Requests for Cursor<'a> {
+impl<'a> RequestSource for Cursor<'a> {
     type Request = Numbered;
 
     ghost rest = { λ cursor. cursor.requests };
@@ -46,8 +46,10 @@ pub(super) fn open_all<'a>(
     texts: &'a [Vec<u8>],
 ) -> Result<Vec<Cursor<'a>>, ServeFault>
     requires { All (λ text. length text.items ≤ MAX_TEXT_LEN) texts.now }
-    ensures requests { IfOk result (λ cursors. map rest_of cursors.items ≡ requests_of_each directory.now texts.now) }
-    ensures few { IfOk result (λ cursors. All (λ cursor. length (rest_of cursor) < 2 ^ 32) cursors.items) }
+    ensures requests { IfOk result (λ cursors. map rest_of cursors.items
+        ≡ requests_of_each directory.now texts.now) }
+    ensures few { IfOk result (λ cursors. All (λ cursor. length (rest_of cursor) < 2 ^ 32)
+        cursors.items) }
     ensures fault { IfErr result (λ fault. fault ≡ ServeFault.Memory) }
 {
     let Ok(mut cursors) = Vec::with_capacity(alloc, texts.len()) else {

@@ -1,48 +1,31 @@
 //! How answers are printed, which of them are errors, and what is kept of them.
 ghost use Rattle.std.specs.Prelude.{◌≡◌};
-ghost use Rattle.acl_service.specs.Sessions.{is_error};
 
 use acl_lang::{Answer, render};
 use acl_names::Directory;
 use acl_runs::Replies;
 use acl_tree::Reply;
 use std::alloc::AllocError;
-use std::marker::Model;
+use std::marker::{Model, PhantomData};
 use std::snapshot::Snapshot;
 
-/// Prints answers, with the names of a directory, and keeps them.
-#[derive(Drop)]
-pub(super) struct Printer<'a> {
-    pub(super) directory: &'a Directory,
+/// What a report may keep of an answer: the answer itself, or less.
+pub(super) trait KeptAnswer: Send + Drop {
+    ghost use Rattle.std.specs.Prelude.{◌≡◌};
+    ghost use Rattle.acl_lang.specs.declared.answer.Answer.{Answer};
+
+    /// What is kept of an answer.
+    ghost kept: { Answer → Self };
+
+    /// Keeps of an answer what is kept of it, and lets go of the rest.
+    fn of(answer: Answer) -> Self
+        ensures { result ≡ kept answer };
 }
 
-impl<'a> Replies for Printer<'a> {
-    type Reply = Answer;
+impl KeptAnswer for Answer {
+    ghost kept = { λ answer. answer };
 
-    type Kept = Answer;
-
-    ghost use Rattle.acl_lang.specs.Printed.{answer_text};
-    ghost use Rattle.acl_service.specs.Sessions.{is_error};
-
-    ghost text = { λ printer. answer_text printer.directory.now };
-
-    ghost is_error = { is_error };
-
-    ghost keep = { λ answer. answer };
-
-    fn print(&self, answer: &Answer, out: &mut Vec<u8>) -> Result<(), AllocError> {
-        render(answer, self.directory, out)
-    }
-
-    fn is_error(answer: &Answer) -> bool
-        ensures { result ≡ is_error answer.now }
-    {
-        matches!(answer.reply, Reply::Refused(_) | Reply::Fault(_))
-    }
-
-    fn keep(answer: Answer) -> Answer
-        ensures { result ≡ answer }
-    {
+    fn of(answer: Answer) -> Answer {
         answer
     }
 }
@@ -61,49 +44,41 @@ impl Model for PrintedAnswer {
     ghost view = { λ printed. printed.answer.value };
 }
 
-impl PrintedAnswer {
-    fn of(answer: &Answer) -> PrintedAnswer
-        ensures { result ≡ answer.now }
-    {
+impl KeptAnswer for PrintedAnswer {
+    ghost kept = { λ answer. answer };
+
+    fn of(answer: Answer) -> PrintedAnswer {
         PrintedAnswer {
-            answer: Snapshot::of(answer),
+            answer: Snapshot::of(&answer),
         }
     }
 }
 
-/// Prints answers, with the names of a directory, and keeps none.
+/// Prints answers, with the names of a directory, and keeps of each what `K` says.
 #[derive(Drop)]
-pub(super) struct PrinterAlone<'a> {
+pub(super) struct Printer<'a, K> {
     pub(super) directory: &'a Directory,
+    pub(super) kept: PhantomData<K>,
 }
 
-impl<'a> Replies for PrinterAlone<'a> {
+impl<'a, K: KeptAnswer + Sync> Replies for Printer<'a, K> {
     type Reply = Answer;
 
-    type Kept = PrintedAnswer;
+    type Kept = K;
 
-    ghost use Rattle.acl_lang.specs.Printed.{answer_text};
-    ghost use Rattle.acl_service.specs.Sessions.{is_error};
+    ghost use Rattle.acl_service.specs.Sessions.{handling_of};
 
-    ghost text = { λ printer. answer_text printer.directory.now };
-
-    ghost is_error = { is_error };
-
-    ghost keep = { λ answer. answer };
+    ghost handling = { λ printer. handling_of printer.directory.now K.kept };
 
     fn print(&self, answer: &Answer, out: &mut Vec<u8>) -> Result<(), AllocError> {
         render(answer, self.directory, out)
     }
 
-    fn is_error(answer: &Answer) -> bool
-        ensures { result ≡ is_error answer.now }
-    {
-        Printer::is_error(answer)
+    fn is_error(&self, answer: &Answer) -> bool {
+        matches!(answer.reply, Reply::Refused(_) | Reply::Fault(_))
     }
 
-    fn keep(answer: Answer) -> PrintedAnswer
-        ensures { result ≡ answer }
-    {
-        PrintedAnswer::of(&answer)
+    fn keep(&self, answer: Answer) -> K {
+        K::of(answer)
     }
 }

@@ -1,14 +1,24 @@
 //! What is reported of sessions.
-ghost use Rattle.std.specs.Prelude.{◌≡◌};
-ghost use Rattle.acl_service.specs.Told.{told};
+ghost use Rattle.std.specs.Prelude.{◌≡◌, IfOk};
+ghost use Rattle.acl_service.specs.Told.{IsToldOf, told};
 
-use crate::Served;
-use acl_broker::JournalEntry;
+use crate::sessions::PrintedAnswer;
+use crate::{Served, ServedInPrint};
+use acl_broker::{JournalEntry, KeptEntry};
 use acl_lang::{Answer, Numbered};
-use acl_runs::RunReport;
+use acl_runs::{RunReport, ServeFault};
 use acl_tree::Tree;
+use std::alloc::{AllocError, Global};
 
-/// What came of a run of sessions on one tree. `answers` and `outputs` have a place for each session.
+/// What came of a run of which the outputs and the lines of the journal are wanted alone.
+pub(crate) type RunInPrint<'a> = RunReport<
+    ServedInPrint<'a>,
+    KeptEntry<ServedInPrint<'a>>,
+    PrintedAnswer,
+>;
+
+/// What came of a run of sessions on one tree. `answers` and `outputs` have a place for each
+/// session.
 #[derive(Drop)]
 pub struct Report {
     /// The commands of all sessions in the order in which they took effect.
@@ -22,7 +32,7 @@ pub struct Report {
 }
 
 /// The report of a run over the tree.
-pub(super) fn report_of(run: RunReport<Served<'_>, Answer>) -> Report
+pub(super) fn report_of(run: RunReport<Served<'_>, JournalEntry<Numbered>, Answer>) -> Report
     ensures { result ≡ told run.entry }
 {
     let RunReport {
@@ -37,4 +47,44 @@ pub(super) fn report_of(run: RunReport<Served<'_>, Answer>) -> Report
         outputs,
         tree: service.tree,
     }
+}
+
+/// The entries, each with the item that was kept whole.
+fn entries_of(
+    alloc: Global,
+    kept: Vec<KeptEntry<Served<'_>>>,
+) -> Result<Vec<JournalEntry<Numbered>>, AllocError>
+    ensures { IfOk result (λ entries. entries.items ≡ kept.entry.items) }
+{
+    let mut entries = Vec::with_capacity(alloc, kept.len())?;
+    for entry in kept {
+        let session = entry.session();
+        let item = entry.into_kept();
+        entries.push_reserved(JournalEntry { session, item });
+    }
+    Ok(entries)
+}
+
+/// The report of a run over the tree that kept its requests.
+pub(super) fn report_of_kept(
+    alloc: Global,
+    run: RunReport<Served<'_>, KeptEntry<Served<'_>>, Answer>,
+) -> Result<Report, ServeFault>
+    ensures { IfOk result (IsToldOf run.entry) }
+{
+    let RunReport {
+        journal,
+        answers,
+        outputs,
+        service,
+    } = run;
+    let Ok(journal) = entries_of(alloc, journal) else {
+        return Err(ServeFault::Memory);
+    };
+    Ok(Report {
+        journal,
+        answers,
+        outputs,
+        tree: service.tree,
+    })
 }

@@ -8,7 +8,8 @@ use std::alloc::{AllocError, AllocFailed};
 use std::fmt;
 use thiserror::Error;
 
-/// Why a setup is refused. It is shown by the words that follow `aclctl: setup: ` on the fault line.
+/// Why a setup is refused. It is shown by the words that follow `aclctl: setup: ` on the fault
+/// line.
 #[derive(Clone, Copy, Debug, PartialEq, Eq, Error)]
 pub enum SetupError {
     /// The bytes are no TOML document.
@@ -26,17 +27,28 @@ impl fmt::Display for SetupError {
     ghost output = { λ error. Some (setup_error_words error) };
 
     fn fmt<W: fmt::Write>(&self, f: &mut fmt::Formatter<W>) -> fmt::Result {
+        f.write_str(self.words())
+    }
+}
+
+impl SetupError {
+    ghost use Rattle.acl_service.specs.SetupFaults.{setup_error_words};
+
+    /// What follows `aclctl: setup: ` on the fault line.
+    pub(crate) fn words(&self) -> &'static str
+        ensures { result.now ≡ setup_error_words self.now }
+    {
         match self {
-            SetupError::NotToml => f.write_str("not toml"),
-            SetupError::BadField => f.write_str("bad field"),
-            SetupError::Parts(fault) => f.write_str(parts_words(*fault)),
-            SetupError::Memory => f.write_str("memory"),
+            SetupError::NotToml => "not toml",
+            SetupError::BadField => "bad field",
+            SetupError::Parts(fault) => parts_words(*fault),
+            SetupError::Memory => "memory",
         }
     }
 }
 
 /// The words for users and groups that are no directory.
-fn parts_words<'a>(fault: SetupFault) -> &'a str
+fn parts_words(fault: SetupFault) -> &'static str
     ensures { result.now ≡ parts_fault_words fault }
 {
     match fault {

@@ -141,7 +141,8 @@ impl Setup {
     /// The directory of the users and groups, and a tree of the root.
     #[tactic(auto, unfolding(crate::specs::Opened::opened_by))]
     pub(super) fn open(self, alloc: Global) -> Result<(Directory, Tree), SetupError>
-        ensures opened { IfOk result (λ opened. IsOpened (opened_by (setup_shown self)) opened.0 opened.1) }
+        ensures opened { IfOk result (λ opened. IsOpened (opened_by (setup_shown self)) opened.0
+            opened.1) }
         ensures refused { IfErr result (ExplainsSetup (opened_by (setup_shown self))) }
     {
         let Setup {

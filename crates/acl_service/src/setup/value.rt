@@ -3,7 +3,8 @@ ghost use Rattle.std.specs.Prelude.{◌≡◌, ◌≤◌, Option, IfSome, option
 ghost use Rattle.toml.specs.Data.{Data, as_str, get_member};
 ghost use Rattle.toml.specs.View.{items_view, table_view, view};
 ghost use Rattle.acl_names.specs.declared.limits.TheConstants.{MAX_ID};
-ghost use Rattle.acl_service.specs.SetupTable.{Answers, each_item, id_at, id_of, items_at, table_at, text_at, texts_at};
+ghost use Rattle.acl_service.specs.SetupTable.{Answers, each_item, id_at, id_of, items_at};
+ghost use Rattle.acl_service.specs.SetupTable.{table_at, text_at, texts_at};
 ghost use Rattle.acl_service.specs.Shown.{texts_shown};
 
 use super::fault::SetupError;
@@ -21,7 +22,8 @@ pub(super) trait FromValue: Drop {
 
 /// The value at a key.
 fn value_at<'a>(table: &'a Table, key: &str) -> Option<&'a Value>
-    ensures { option_map (λ value. view value.now) result ≡ get_member key.now (table_view table.now) }
+    ensures { option_map (λ value. view value.now) result
+        ≡ get_member key.now (table_view table.now) }
 {
     table.get(key)
 }
@@ -40,7 +42,8 @@ pub(super) fn text_at<'a>(table: &'a Table, key: &str) -> Option<&'a str>
 /// The table at a key.
 #[tactic(auto, unfolding(crate::specs::SetupTable::table_at))]
 pub(super) fn table_at<'a>(table: &'a Table, key: &str) -> Option<&'a Table>
-    ensures { option_map (λ inner. table_view inner.now) result ≡ table_at key.now (table_view table.now) }
+    ensures { option_map (λ inner. table_view inner.now) result
+        ≡ table_at key.now (table_view table.now) }
 {
     match value_at(table, key) {
         Some(value) => value.as_table(),
@@ -125,7 +128,8 @@ pub(super) fn items_at<T: FromValue>(
     table: &Table,
     key: &str,
 ) -> Result<Vec<T>, SetupError>
-    ensures { Answers (λ items. items.items) (items_at T.reading key.now (table_view table.now)) result }
+    ensures { Answers (λ items. items.items) (items_at T.reading key.now (table_view table.now))
+        result }
 {
     match value_at(table, key) {
         Some(value) => {

@@ -78,7 +78,8 @@ impl Tree {
         owner: Uid,
         mode: Mode,
     ) -> Result<(), Refusal>
-        ensures { Changes (create directory.now self.old kind path.now owner mode) self.old result self.new }
+        ensures { Changes (create directory.now self.old kind path.now owner mode) self.old result
+            self.new }
     {
         let above = self.node_at(path.parent())?;
         if self.node(path).is_some() {

@@ -22,7 +22,8 @@ fn granted(may: bool) -> Reply
     if may { Reply::Granted } else { Reply::Denied }
 }
 
-/// The user with the stranger's uid as one who asks. The stranger, who is in no group, asks if no user has the uid.
+/// The user with the stranger's uid as one who asks. The stranger, who is in no group, asks if no
+/// user has the uid.
 fn asking<'a>(directory: &'a Directory, stranger: &'a Requester) -> &'a Requester
     requires { stranger.now.gids ≡ [] }
     ensures { result.now ≡ requester_of directory.now stranger.now.uid }
@@ -43,7 +44,8 @@ impl Tree {
         Ok(Reply::Node(Boxed::new(alloc, view)?))
     }
 
-    /// Whether the list of the node at the path grants the user each of the permissions. It takes no memory.
+    /// Whether the list of the node at the path grants the user each of the permissions. It takes
+    /// no memory.
     pub(super) fn check(
         &self,
         alloc: Global,
@@ -60,7 +62,8 @@ impl Tree {
         Ok(granted(node.may(requester, perms)))
     }
 
-    /// Whether the NFSv4 list of the node at the path grants the user each bit of the mask. It takes no memory.
+    /// Whether the NFSv4 list of the node at the path grants the user each bit of the mask. It
+    /// takes no memory.
     pub(super) fn check4(
         &self,
         alloc: Global,

@@ -1,6 +1,6 @@
 use Rattle.std.proofs.Common.{Err, ap}
 use Rattle.acl_queries.proofs.CompareLemmas.{EndsAsCompared-refused, IsCutShort-refused}
-use Rattle.acl_queries.proofs.OutcomeLemmas.{Tells-fault}
+use Rattle.acl_queries.proofs.OutcomeLemmas.{Reports-fault}
 use Rattle.acl_queries.proofs.compare_command.compare.Goals as goal
 
 pub returns-in-Err-clause-ended : goal.returns-in-Err-clause-ended
@@ -13,4 +13,4 @@ returns-in-Err-clause-cut g c =
 
 pub returns-in-Err-clause-told : goal.returns-in-Err-clause-told
 returns-in-Err-clause-told g c =
-    Tells-fault _ _ _ _ _ c.in-Err.ensures.refused c.report.ensures.status c.report.ensures.told
+    Reports-fault _ _ _ _ _ c.in-Err.ensures.refused c.report.ensures.status c.report.ensures.told

@@ -1,5 +1,5 @@
 use Rattle.std.proofs.Common.{Err, ap}
-use Rattle.acl_queries.proofs.OutcomeLemmas.{EndsAs-refused, Tells-fault, front_of_outcome}
+use Rattle.acl_queries.proofs.OutcomeLemmas.{EndsAs-refused, Reports-fault, front_of_outcome}
 use Rattle.acl_queries.proofs.decide_command.decide.Goals as goal
 
 pub returns-in-Err-clause-ended : goal.returns-in-Err-clause-ended
@@ -12,4 +12,4 @@ returns-in-Err-clause-cut g c =
 
 pub returns-in-Err-clause-told : goal.returns-in-Err-clause-told
 returns-in-Err-clause-told g c =
-    Tells-fault _ _ _ _ _ c.in-Err.ensures.refused c.report.ensures.status c.report.ensures.told
+    Reports-fault _ _ _ _ _ c.in-Err.ensures.refused c.report.ensures.status c.report.ensures.told

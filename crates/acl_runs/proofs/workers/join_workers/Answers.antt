@@ -17,8 +17,8 @@ loop-worker-preserved g c =
     let grown : vec_len c.push_reserved.new.self ≡ done + 1 = search rules in
     let next_worker : (d : _) → c.in-Some.worker ≡ get_or first done d = λ d.
     sym (ap (λ xs. get_or xs 0 d) step.0) ∙ was.left 0 d (omega (arith, step.1)) ∙ ap (λ n. get_or first n d) (add-zero done) in
-    let here : (d : _) → IsKept g.C.Requests.rest g.P.Replies.text g.P.Replies.is_error g.P.Replies.keep (get_or first done d) (Closed finished.end) finished.printed.answers.items finished.printed.output.items = λ d.
-    subst (λ w. IsKept g.C.Requests.rest g.P.Replies.text g.P.Replies.is_error g.P.Replies.keep w (Closed finished.end) finished.printed.answers.items finished.printed.output.items) (next_worker d) c.in_ok-end.ensures in
+    let here : (d : _) → IsKept g.C.RequestSource.rest g.P.Replies.handling (get_or first done d) (Closed finished.end) finished.printed.answers.items finished.printed.output.items = λ d.
+    subst (λ w. IsKept g.C.RequestSource.rest g.P.Replies.handling w (Closed finished.end) finished.printed.answers.items finished.printed.output.items) (next_worker d) c.in_ok-end.ensures in
     record {
       count = search rules;
       answers = search rules;
@@ -28,7 +28,7 @@ loop-worker-preserved g c =
       room_outputs = search rules;
       left = λ k d below. let h = was.left (k + 1) d in grind rules;
       joined = λ k worker end answers output below.
-          each_after_three (λ i e a o. IsKept g.C.Requests.rest g.P.Replies.text g.P.Replies.is_error g.P.Replies.keep (get_or first i worker) e a.items o.items) (vec_items old.ends) (vec_items old.answers) (vec_items old.outputs) (Closed finished.end) finished.printed.answers finished.printed.output
+          each_after_three (λ i e a o. IsKept g.C.RequestSource.rest g.P.Replies.handling (get_or first i worker) e a.items o.items) (vec_items old.ends) (vec_items old.answers) (vec_items old.outputs) (Closed finished.end) finished.printed.answers finished.printed.output
           (vec_items c.push_reserved.new.self) (vec_items c.push_reserved-in-loop-worker.new.self) (vec_items c.push_reserved-in-loop-worker-2.new.self) done
           (omega (arith, old.ends.ok.0), omega (arith, old.answers.ok.0, was.answers), omega (arith, old.outputs.ok.0, was.outputs))
           c.push_reserved.ensures.items c.push_reserved-in-loop-worker.ensures.items c.push_reserved-in-loop-worker-2.ensures.items
@@ -47,5 +47,5 @@ returns g c =
       answers = omega (arith, gathered.answers.ok.0, was.answers, all);
       outputs = omega (arith, gathered.outputs.ok.0, was.outputs, all);
       each = λ k worker end answers output below.
-          subst (λ ws. IsKept g.C.Requests.rest g.P.Replies.text g.P.Replies.is_error g.P.Replies.keep (get_or ws k worker) (get_or (vec_items gathered.ends) k end) (vec_items (get_or (vec_items gathered.answers) k answers)) (vec_items (get_or (vec_items gathered.outputs) k output))) began.0 (was.joined k worker end answers output (omega (arith, all, below)));
+          subst (λ ws. IsKept g.C.RequestSource.rest g.P.Replies.handling (get_or ws k worker) (get_or (vec_items gathered.ends) k end) (vec_items (get_or (vec_items gathered.answers) k answers)) (vec_items (get_or (vec_items gathered.outputs) k output))) began.0 (was.joined k worker end answers output (omega (arith, all, below)));
     }

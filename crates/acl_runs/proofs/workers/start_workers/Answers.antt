@@ -16,7 +16,7 @@ start_worker-requires-clause-few g c κs bounds =
     sym (ap (λ xs. get_or xs 0 c.in-Some-next.requests) taken.items) ∙ was.left_too 0 c.in-Some-next.requests (omega (arith, step.1)) ∙ ap (λ n. get_or first n c.in-Some-next.requests) (add-zero done) in
     let inside : done < length c.args.sessions.items = omega (arith, was.count, step.1, c.into_iter-end-iterator.ensures.into_iter_gives.1, c.args.ends.ok.0, c.requires.count) in
     let items : get_or first done c.in-Some-next.requests ≡ get_or c.args.sessions.items done c.in-Some-next.requests = ap (λ xs. get_or xs done c.in-Some-next.requests) c.into_iter-sessions.ensures.rest in
-    subst (λ r. length (g.C.Requests.rest r) < 2 ^ 32) (sym (next ∙ items)) (c.requires.few done c.in-Some-next.requests inside)
+    subst (λ r. length (g.C.RequestSource.rest r) < 2 ^ 32) (sym (next ∙ items)) (c.requires.few done c.in-Some-next.requests inside)
 
 -- The end that is taken stood first among the rest, so it is the one at the next place; and so with the requests.
 pub loop-end-preserved : goal.loop-end-preserved

@@ -1,10 +1,13 @@
-use Rattle.std.proofs.Common.{map}
+use Rattle.std.proofs.Common.{map, refl}
 use Rattle.acl_service.specs.Cursor.{rest_of}
+use Rattle.acl_service.specs.Told.{told}
 use Rattle.acl_service.specs.declared.served.Served.{Served}
-use Rattle.acl_service.proofs.SessionLemmas.{explained}
+use Rattle.acl_service.proofs.SessionLemmas.{explained, explained_by}
 use Rattle.acl_service.proofs.sessions.serve.Goals as goal
 
 pub returns : goal.returns
 returns g c =
     let served : Served = record { alloc = c.args.alloc; directory = c.args.directory; tree = c.args.tree } in
-    explained served c.args.max_errors c.args.texts.now (map rest_of c.in_ok-sessions.sessions.items) c.in_ok-run.run' c.report_of.result c.in_ok-sessions.ensures.requests c.report_of.ensures c.in_ok-run.ensures
+    let run = c.in_ok-run.run' in
+    explained_by c.args.directory.now c.args.tree c.args.max_errors c.args.texts.now run c.in_ok-report.report c.in_ok-report.ensures
+    (explained served c.args.max_errors c.args.texts.now (map rest_of c.in_ok-sessions.sessions.items) run (told run) c.in_ok-sessions.ensures.requests refl c.in_ok-run.ensures)

@@ -28,3 +28,21 @@ returns-in-Some-4-clause-cut g c = grind (arith, common_steps)
 
 pub returns-in-Some-6-clause-ended : goal.returns-in-Some-6-clause-ended
 returns-in-Some-6-clause-ended g c = grind (arith, common_steps)
+
+pub returns-in-Some-clause-told : goal.returns-in-Some-clause-told
+returns-in-Some-clause-told g c = grind (arith, common_steps)
+
+pub returns-in-Some-2-clause-told : goal.returns-in-Some-2-clause-told
+returns-in-Some-2-clause-told g c = grind (arith, common_steps)
+
+pub returns-in-Some-4-clause-told : goal.returns-in-Some-4-clause-told
+returns-in-Some-4-clause-told g c = grind (arith, common_steps)
+
+pub returns-in-Some-5-clause-told : goal.returns-in-Some-5-clause-told
+returns-in-Some-5-clause-told g c = grind (arith, common_steps)
+
+pub returns-in-Some-3-clause-told : goal.returns-in-Some-3-clause-told
+returns-in-Some-3-clause-told g c = grind (arith, common_steps)
+
+pub returns-in-Some-6-clause-told : goal.returns-in-Some-6-clause-told
+returns-in-Some-6-clause-told g c = grind (arith, common_steps)

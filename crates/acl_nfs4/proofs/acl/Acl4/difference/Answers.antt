@@ -1,6 +1,6 @@
 use Rattle.std.proofs.Common.{◌≡◌, ◌↔◌, subst, List, None, ℕ}
 use Rattle.acl_nfs4.specs.Ace.{Nfsace4}
-use Rattle.acl_nfs4.specs.Comparison.{AlikeAt, DecideAlike, IsDifference, OfEachWho, decided_by}
+use Rattle.acl_nfs4.specs.Comparison.{AlikeAt, DecideAlike, IsDifference, OfEachWho, decided_at}
 use Rattle.acl_nfs4.specs.Mask.{mask_bits}
 use Rattle.acl_nfs4.proofs.AllowedBits.{none_exactly, difference_tells}
 use Rattle.acl_nfs4.proofs.ComparisonLemmas.{pairs_suffice}
@@ -10,16 +10,16 @@ pub returns-clause-none : goal.returns-clause-none
 returns-clause-none c =
     let first : List Nfsace4 = c.aces-first.result.now in
     let second : List Nfsace4 = c.aces-second.result.now in
-    let owner = c.args.owner in
-    let group = c.args.group in
+    let owners = c.args.owners.now in
+    let other_owners = c.args.other_owners.now in
     let bits : ℕ = mask_bits c.args.bits in
     let stranger = c.stranger.result in
     let found = c.difference_of.result in
-    subst (λ (xs : List Nfsace4). (found ≡ None) ↔ DecideAlike (decided_by xs owner group) (decided_by c.args.other.now owner group) bits) c.aces-first.ensures.value
-    (subst (λ (ys : List Nfsace4). (found ≡ None) ↔ DecideAlike (decided_by first owner group) (decided_by ys owner group) bits) c.aces-second.ensures.value
+    subst (λ (xs : List Nfsace4). (found ≡ None) ↔ DecideAlike (decided_at xs owners) (decided_at c.args.other.now other_owners) bits) c.aces-first.ensures.value
+    (subst (λ (ys : List Nfsace4). (found ≡ None) ↔ DecideAlike (decided_at first owners) (decided_at ys other_owners) bits) c.aces-second.ensures.value
     (none_exactly found
-    (OfEachWho first (λ who. OfEachWho second (λ other. AlikeAt first second owner group bits stranger who other)))
-    (DecideAlike (decided_by first owner group) (decided_by second owner group) bits)
-    (IsDifference (decided_by first owner group) (decided_by second owner group) bits) c.difference_of.ensures
-    (pairs_suffice first second owner group bits stranger c.stranger.ensures.first c.stranger.ensures.second)
-    (difference_tells (decided_by first owner group) (decided_by second owner group) bits)))
+    (OfEachWho first (λ who. OfEachWho second (λ other. AlikeAt first second owners other_owners bits stranger who other)))
+    (DecideAlike (decided_at first owners) (decided_at second other_owners) bits)
+    (IsDifference (decided_at first owners) (decided_at second other_owners) bits) c.difference_of.ensures
+    (pairs_suffice first second owners other_owners bits stranger c.stranger.ensures.first c.stranger.ensures.second)
+    (difference_tells (decided_at first owners) (decided_at second other_owners) bits)))

@@ -8,5 +8,5 @@ pub returns : goal.returns
 unfolding bitflags_on_literals
 returns c =
     let all : mask_bits c.all.result ≡ all_masks = c.all.ensures tt in
-    nfs4_found c.difference.result c.args.first.now c.args.second.now c.args.owner c.args.group (mask_bits c.all.result) all
+    nfs4_found c.difference.result c.args.first.now c.args.second.now c.args.owners.now.owner c.args.owners.now.group (mask_bits c.all.result) all
     c.difference.ensures.none c.difference.ensures.some

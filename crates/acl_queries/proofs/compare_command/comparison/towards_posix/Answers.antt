@@ -8,8 +8,8 @@ use Rattle.acl_queries.proofs.compare_command.comparison.towards_posix.Goals as 
 
 pub returns-in-Some : goal.returns-in-Some
 returns-in-Some c =
-    let before = granted_by c.args.second.now c.args.owner c.args.group in
-    let after = decided_by c.args.first.now c.args.owner c.args.group in
+    let before = granted_by c.args.second.now c.args.owners.now.owner c.args.owners.now.group in
+    let after = decided_by c.args.first.now c.args.owners.now.owner c.args.owners.now.group in
     let is : IsDifference before after mode_bits c.in-Some.difference =
     subst (λ (found : Option Difference). IfSome found (IsDifference before after mode_bits)) c.in-Some.is c.in_ok-difference.ensures.some in
     inl (subst (IsDifference after before mode_bits) (sym c.swapped.ensures) (swapped_is before after mode_bits c.in-Some.difference is))

@@ -6,7 +6,7 @@ use Rattle.acl_runs.proofs.rounds.turns.take_rounds.Goals as goal
 pub returns-then-not-branch : goal.returns-then-not-branch
 returns-then-not-branch g c =
     left_none _ _ _ _ (c.args.most - c.loop.counter) c.args.most c.args.run.now c.loop.run c.take_turns.new.run c.loop.invariant
-    (subst (λ more. Rounds g.C.Requests.rest g.S.Service.next g.S.Service.reply (g.P.Replies.text c.args.replies.now) c.loop.run more c.take_turns.new.run) c.if-not-branch.true c.in_ok-take_turns.ensures)
+    (subst (λ more. Rounds g.C.RequestSource.rest g.S.Service.next g.S.Service.reply (g.P.Replies.handling c.args.replies.now).text c.loop.run more c.take_turns.new.run) c.if-not-branch.true c.in_ok-take_turns.ensures)
 
 pub loop-preserved : goal.loop-preserved
 loop-preserved g c =

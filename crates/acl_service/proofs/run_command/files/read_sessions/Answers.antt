@@ -1,10 +1,14 @@
-use Rattle.std.proofs.Common.{rules, ◌≡◌, ◌≤◌, ◌+◌, ◌++◌, ◌∷◌, [], ℕ, List, arith, get_or, length, map, subst, sym, take, Bor, Vec, Global}
+use Rattle.std.proofs.Common.{rules, ◌≡◌, ◌≤◌, ◌<◌, ◌+◌, ◌++◌, ◌∷◌, ◌∙◌, [], ℕ, List, ap, arith, bytes_eq, codes, get_or, length, map, subst, sym, take, true, Bor, Vec, Global}
 use Rattle.clap.specs.Words.{Text}
 use Rattle.acl_lang.specs.declared.limits.TheConstants.{MAX_TEXT_LEN}
-use Rattle.acl_service.specs.RunWords.{AreTold, IsTold}
-use Rattle.acl_service.proofs.FileLemmas.{AreTold-more, left-again, left-holds, map-take_more}
+use Rattle.acl_service.specs.FilesFaults.{IsReadFaultAmong}
+use Rattle.acl_service.specs.RunWords.{AreTold, input_count}
+use Rattle.acl_service.proofs.FileLemmas.{AreTold-more, input_count-next, input_count-take, map-take_more, none_so_far, refused_among, shown, told_before}
 use Rattle.acl_runs.proofs.PlaceLemmas.{each_after_push}
 use Rattle.acl_service.proofs.run_command.files.read_sessions.Goals as goal
+
+abbrev no_name : Bor (List ℕ)
+no_name = record { ref_ptr = (0, 0); now = [] }
 
 pub loop-name-preserved : goal.loop-name-preserved
 loop-name-preserved g c =
@@ -15,18 +19,39 @@ loop-name-preserved g c =
     let text : Vec ℕ Global = c.in_ok-text.text in
     let after = c.push_reserved.new.self.items in
     let bytes_of = g.F.OpenFiles.bytes_of c.args.files.now in
-    let none : Bor (List ℕ) = record { ref_ptr = (0, 0); now = [] } in
-    let name : Text = (get_or names at none).now in
+    let first = g.I.Read.remaining c.args.input.now in
+    let name : Text = (get_or names at no_name).now in
+    let so_far : List Text = shown (take at names) in
+    let next : shown (take (at + 1) names) ≡ so_far ++ name ∷ [] = map-take_more (λ name. name.now) names at no_name c.loop-name-test.true in
+    let few : input_count (so_far ++ name ∷ []) ≤ 1 = omega (arith, ap input_count next, input_count-take names (at + 1), c.requires) in
     let grown : length after ≡ at + 1 = search rules in
     record {
       count = grown;
       capped = λ k d below.
           each_after_push (λ i (text : Vec ℕ Global). length text.items ≤ MAX_TEXT_LEN) before text after at c.push_reserved.ensures.items (sym was.count)
           (λ i d low. was.capped i d (omega (arith, low, was.count))) c.in_ok-text.ensures.capped k d (omega (arith, below, grown));
-      left = left-again c.read_session.new.given c.loop-name.given c.args.given c.read_session.ensures.left was.left;
-      told = λ told is.
-          subst (λ (given : List Text). AreTold bytes_of told given after) (sym (map-take_more (λ name. name.now) names at none c.loop-name-test.true))
-          (subst (λ (texts : List (Vec ℕ Global)). AreTold bytes_of told (map (λ name. name.now) (take at names) ++ name ∷ []) texts) (sym c.push_reserved.ensures.items)
-          (AreTold-more bytes_of told (map (λ name. name.now) (take at names)) before name text (was.told told is)
-          (c.in_ok-text.ensures.told told (left-holds (λ bytes. IsTold told bytes.items) c.loop-name.given c.args.given was.left is))));
+      untouched = λ none.
+          let (none_before, other) = none_so_far so_far name (sym (ap input_count next) ∙ none) in
+          c.read_session.ensures.untouched other ∙ was.untouched none_before;
+      told =
+          subst (λ (given : List Text). AreTold bytes_of first given after) (sym next)
+          (subst (λ (texts : List (Vec ℕ Global)). AreTold bytes_of first (so_far ++ name ∷ []) texts) (sym c.push_reserved.ensures.items)
+          (AreTold-more bytes_of first so_far before name text was.told
+          (told_before bytes_of (g.I.Read.remaining c.loop-name.input) first name text.items
+          (λ is. ap g.I.Read.remaining (was.untouched (omega (arith, few, input_count-next so_far name is))))
+          c.in_ok-text.ensures.told)));
     }
+
+pub returns-in_err-text-clause-untouched : goal.returns-in_err-text-clause-untouched
+returns-in_err-text-clause-untouched g c none =
+    let names = c.args.names.now in
+    let at = c.loop-name.name-index in
+    let next = map-take_more (λ name. name.now) names at no_name c.loop-name-test.true in
+    let (none_before, other) = none_so_far (shown (take at names)) (get_or names at no_name).now (omega (arith, ap input_count next, input_count-take names (at + 1), none)) in
+    c.read_session.ensures.untouched other ∙ c.loop-name.invariant.untouched none_before
+
+pub returns-in_err-text-clause-refused : goal.returns-in_err-text-clause-refused
+returns-in_err-text-clause-refused g c =
+    let is : IsReadFaultAmong (shown c.args.names.now) c.in_err-text.field-0.0 =
+    refused_among c.args.names.now c.loop-name.name-index no_name c.loop-name-test.true _ c.in_err-text.ensures.refused in
+    search (rules, is)

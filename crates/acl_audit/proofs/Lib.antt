@@ -1,0 +1,12 @@
+pub mod LetterLemmas
+pub mod ExplanationLemmas
+pub mod ChangeLemmas
+pub mod FoundLemmas
+pub mod ImpactLemmas
+pub mod GroupLemmas
+pub mod ChangesLeft
+pub mod QuietLemmas
+pub mod SavedLemmas
+pub mod GroupsLemmas
+pub mod ParentLemmas
+pub mod DumpLemmas

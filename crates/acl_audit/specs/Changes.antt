@@ -1,0 +1,136 @@
+-- What lists of either style decide otherwise, for somebody or for anybody.
+use Rattle.std.specs.Prelude.{◌≡◌, ◌≢◌, ◌≤◌, ◌⊎◌, ⊤, ℕ, not, ◌&&◌, IsTrue, List, [], ◌∷◌, length}
+use Rattle.std.specs.Prelude.{Option, MatchOption, if◌then◌else◌}
+use Rattle.std.specs.List.{AllByRecursion}
+use Rattle.acl_names.specs.Asker.{identity_of}
+use Rattle.acl_names.specs.Bits.{has, ◌∪◌}
+use Rattle.acl_names.specs.Requester.{Identity}
+use Rattle.acl_posix.specs.Validity.{IsValid}
+use Rattle.acl_nfs4.specs.Comparison.{Decider, decided_by}
+use Rattle.acl_nfs4.specs.Mask.{all_masks, mask_bits, mode_bits}
+use Rattle.acl_nfs4.specs.declared.comparison.Difference.{Difference}
+use Rattle.acl_nfs4.specs.declared.owners.Owners.{Owners}
+use Rattle.acl_bridge.specs.Comparison.{Granter, granted_by, permission_bits, told_by}
+use Rattle.acl_bridge.specs.Comparison.{whole_requests}
+use Rattle.acl_tree.specs.NodeAcls.{list_grants}
+use Rattle.acl_tree.specs.declared.node.Node.{Node}
+use Rattle.acl_tree.specs.declared.node_acl.NodeAcl.{NodeAcl}
+use Rattle.acl_tree.specs.declared.node_acl.NodeAcl.TheVariants.{Posix, Nfs4}
+use Rattle.acl_audit.specs.declared.changes.Change.{Change}
+
+-- what decides about access to a file: its owner, its group, and its lists
+pub record File : Type 0 where
+  pub owner : ℕ
+  pub group : ℕ
+  pub acl : NodeAcl
+
+-- that of a node, whose kind decides nothing
+abbrev pub file_of : Node → File
+file_of node = record { owner = node.owner; group = node.group; acl = node.acl }
+
+-- a file with these lists
+abbrev pub file_with : Owners → NodeAcl → File
+file_with owners acl = record { owner = owners.owner; group = owners.group; acl = acl }
+
+-- what lists decide for an owner and a group, bit by bit
+abbrev pub list_decides : NodeAcl → ℕ → ℕ → Decider
+list_decides (Posix access default) owner group = granted_by access owner group
+list_decides (Nfs4 acl) owner group = decided_by acl owner group
+
+abbrev pub decider_of : File → Decider
+decider_of file = list_decides file.acl file.owner file.group
+
+-- over which bits lists are compared: all of them between NFSv4 lists, one for each permission
+-- between POSIX lists, and those of a file mode if the styles differ
+abbrev pub bits_between : NodeAcl → NodeAcl → ℕ
+bits_between (Nfs4 before) (Nfs4 after) = all_masks
+bits_between (Posix access default) (Posix other inherited) = permission_bits
+bits_between _ _ = mode_bits
+
+-- POSIX lists are compared by the requests of several permissions too
+abbrev pub requests_between : NodeAcl → NodeAcl → List ℕ
+requests_between (Posix access default) (Posix other inherited) = whole_requests
+requests_between _ _ = []
+
+-- what is granted, as a whole
+abbrev pub granter_of : File → Granter
+granter_of file = list_grants file.acl file.owner file.group
+
+-- lists that are ones
+abbrev pub AreValid : NodeAcl → Type 0
+AreValid (Posix access default) = IsValid access
+AreValid (Nfs4 acl) = ⊤
+
+-- both decide each of these bits alike for the requester
+abbrev pub BitsAlikeTo : Decider → Decider → ℕ → Identity → Type 0
+BitsAlikeTo before after bits requester = (bit : ℕ) → IsTrue (has bits bit)
+    → before requester bit ≡ after requester bit
+
+-- both grant each of these requests alike to the requester
+abbrev pub RequestsAlikeTo : Granter → Granter → List ℕ → Identity → Type 0
+RequestsAlikeTo before after requests requester =
+    AllByRecursion (λ request. before requester request ≡ after requester request) requests
+
+-- the requester is decided about alike, before and after
+pub record IsAlikeTo (before after : File) (requester : Identity) : Type 0 where
+  pub bits : BitsAlikeTo (decider_of before) (decider_of after) (bits_between before.acl after.acl)
+      requester
+  pub requests : RequestsAlikeTo (granter_of before) (granter_of after)
+      (requests_between before.acl after.acl) requester
+
+-- and so is everyone, of whatever uid and groups
+abbrev pub IsAlikeToAll : File → File → Type 0
+IsAlikeToAll before after = (requester : Identity) → IsAlikeTo before after requester
+
+-- of these bits, the requester loses what is granted only before and gains what is granted only
+-- after, and there is one
+pub record ChangesBits (before after : Decider) (bits : ℕ) (requester : Identity) (change : Change)
+    : Type 0 where
+  pub lost : (bit : ℕ) → has (mask_bits change.lost) bit
+      ≡ (has bits bit && (before requester bit && not (after requester bit)))
+  pub gained : (bit : ℕ) → has (mask_bits change.gained) bit
+      ≡ (has bits bit && (after requester bit && not (before requester bit)))
+  pub some : mask_bits change.lost ∪ mask_bits change.gained ≢ 0
+
+-- the requester loses the request as a whole, or gains it
+pub record ChangesRequest (before after : Granter) (request : ℕ) (requester : Identity)
+    (change : Change) : Type 0 where
+  pub apart : before requester request ≢ after requester request
+  pub lost : mask_bits change.lost ≡ (if before requester request then told_by request else 0)
+  pub gained : mask_bits change.gained ≡ (if after requester request then told_by request else 0)
+
+-- it is the first of the requests that isn't granted alike
+abbrev pub ChangesFirst : Granter → Granter → List ℕ → Identity → Change → Type 0
+ChangesFirst before after [] requester change = ⊥
+ChangesFirst before after (request ∷ more) requester change =
+    ChangesRequest before after request requester change
+    ⊎ ((before requester request ≡ after requester request)
+    × ChangesFirst before after more requester change)
+
+-- what the requester loses and gains: bits, or if these are decided alike a whole request
+abbrev pub Changes : File → File → Identity → Change → Type 0
+Changes before after requester change =
+    ChangesBits (decider_of before) (decider_of after) (bits_between before.acl after.acl) requester
+    change
+    ⊎ (BitsAlikeTo (decider_of before) (decider_of after) (bits_between before.acl after.acl)
+    requester
+    × ChangesFirst (granter_of before) (granter_of after) (requests_between before.acl after.acl)
+    requester change)
+
+-- what the asker of a difference loses and gains
+abbrev pub change_of : Difference → Change
+change_of difference = record { lost = difference.lost; gained = difference.gained }
+
+-- what a search among everyone found: nobody, and everyone is decided about alike; or somebody who
+-- isn't
+abbrev pub FindsAnybody : File → File → Option Difference → Type 0
+FindsAnybody before after found =
+    MatchOption found (IsAlikeToAll before after)
+    (λ difference. Changes before after (identity_of difference.asker) (change_of difference))
+
+-- Files that decide alike about everyone who is in at most two groups decide alike about everyone.
+abbrev pub TwoGroupsSuffice : Type 0
+TwoGroupsSuffice =
+    (before after : File) → AreValid before.acl → AreValid after.acl
+    → ((requester : Identity) → length requester.gids ≤ 2 → IsAlikeTo before after requester)
+    → IsAlikeToAll before after

@@ -1,0 +1,88 @@
+//! The commands that make a tree again.
+ghost use Rattle.std.specs.Prelude.{◌≡◌, ◌++◌, [], ◌∷◌, IfOk, OnOk};
+ghost use Rattle.acl_posix.specs.Entry.{EntryValue};
+ghost use Rattle.acl_tree.specs.declared.request.Request.TheVariants.{Create, SetAccess};
+ghost use Rattle.acl_audit.specs.Dump.{closed, creation, no_mode, set_default, set_lists};
+
+use crate::saved::{set_access, set_default, set_nfs4};
+use acl_posix::{Acl, Mode, Perms};
+use acl_tree::{Boxed, Node, NodeAcl, Path, Request};
+use bitflags::Flags;
+use std::alloc::{AllocError, Global};
+
+/// The mode that lets nobody do anything, with which nodes are created.
+fn no_mode() -> Mode
+    ensures { result ≡ no_mode }
+{
+    Mode {
+        user: Perms::empty(),
+        group: Perms::empty(),
+        other: Perms::empty(),
+    }
+}
+
+/// The command that closes the directory at the path, so that nothing that is created in it
+/// inherits: `set P access u::-,g::-,o::-`. It fails only if memory runs out.
+pub fn close(alloc: Global, path: &Path) -> Result<Request, AllocError>
+    ensures { IfOk result (λ request. request ≡ SetAccess path.now closed) }
+{
+    let acl = Boxed::new(alloc, Acl::of_mode(alloc, no_mode())?)?;
+    Ok(Request::SetAccess(path.try_clone(alloc)?, acl))
+}
+
+/// Appends the command that creates the node at the path, of which nobody may do anything yet; none
+/// for the root, which is there. It fails only if memory runs out.
+pub fn push_creation(
+    alloc: Global,
+    path: &Path,
+    node: &Node,
+    requests: &mut Vec<Request>,
+) -> Result<(), AllocError>
+    ensures { OnOk result (requests.new.items ≡ requests.old.items ++ creation (path.now, node.now)) }
+{
+    if path.as_bytes() == b"/".as_slice() {
+        return Ok(());
+    }
+    let path = path.try_clone(alloc)?;
+    requests.push(Request::Create(node.kind, path, node.owner, no_mode()))?;
+    Ok(())
+}
+
+/// Appends the command that sets the default list, if there is one.
+fn push_default(
+    alloc: Global,
+    path: &Path,
+    default: &Option<Acl>,
+    requests: &mut Vec<Request>,
+) -> Result<(), AllocError>
+    ensures { OnOk result (requests.new.items
+        ≡ requests.old.items ++ set_default path.now default.now) }
+{
+    if default.is_some() {
+        requests.push(set_default(alloc, path, default)?)?;
+    }
+    Ok(())
+}
+
+/// Appends the commands that give a node that was just created at the path the lists that this one
+/// has. It fails only if memory runs out.
+pub fn push_lists(
+    alloc: Global,
+    path: &Path,
+    node: &Node,
+    requests: &mut Vec<Request>,
+) -> Result<(), AllocError>
+    ensures { OnOk result (requests.new.items
+        ≡ requests.old.items ++ set_lists path.now node.now.acl) }
+{
+    match &node.acl {
+        NodeAcl::Posix { access, default } => {
+            requests.push(set_access(alloc, path, access)?)?;
+            push_default(alloc, path, default, requests)
+        }
+        NodeAcl::Nfs4 { acl } => {
+            requests.push(set_nfs4(alloc, path, acl)?)?;
+            Ok(())
+        }
+    }
+}

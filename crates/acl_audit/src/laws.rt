@@ -1,0 +1,55 @@
+//! The laws of what is told of nodes and trees, over the definitions alone.
+ghost use Rattle.acl_audit.specs.Changes.{TwoGroupsSuffice};
+ghost use Rattle.acl_audit.specs.Dump.{DumpsMakeTheTree};
+ghost use Rattle.acl_audit.specs.Explanation.{ClassesDecide, FirstSpeakersDecide};
+ghost use Rattle.acl_audit.specs.Explanation.{LaterEntriesDontCount, OtherEntriesDontCount};
+ghost use Rattle.acl_audit.specs.Explanation.{SilentEntriesDontCount};
+ghost use Rattle.acl_audit.specs.Impact.{AlikeNodesAreCheckedAlike, ChangesAreNotAlike};
+ghost use Rattle.acl_audit.specs.Letters.{LetterIsChecked};
+ghost use Rattle.acl_audit.specs.Saved.{FilesNeverInherit, SavedListsComeBack};
+
+/// A letter is told of a user exactly if the tree's own check of it is answered `granted`. There is
+/// nothing to run here: a proof cites the contract.
+pub fn letter_laws()
+    ensures read { LetterIsChecked 4 }
+    ensures write { LetterIsChecked 2 }
+    ensures execute { LetterIsChecked 1 }
+{}
+
+/// Files that decide alike about everyone who is in at most two groups decide alike about everyone.
+/// Where commands leave a node alike for all, every user's checks of it are answered as they were
+/// before; and who loses or gains something isn't decided about alike, so of the findings at most
+/// one is right. There is nothing to run here: a proof cites the contract.
+pub fn impact_laws()
+    ensures two_groups { TwoGroupsSuffice }
+    ensures checked { AlikeNodesAreCheckedAlike }
+    ensures exclusive { ChangesAreNotAlike }
+{}
+
+/// Of a POSIX list one class of entries decides, and no permissions count but those of its entries
+/// and, where the class is under it, the mask's. Of an NFSv4 list the first entry that speaks of a
+/// bit decides it: what comes after counts for nothing, and so do entries that stay silent about
+/// it. There is nothing to run here: a proof cites the contract.
+pub fn explanation_laws()
+    ensures classes { ClassesDecide }
+    ensures others { OtherEntriesDontCount }
+    ensures speakers { FirstSpeakersDecide }
+    ensures silent { SilentEntriesDontCount }
+    ensures later { LaterEntriesDontCount }
+{}
+
+/// What was saved of a tree that commands made gives each of its nodes its lists back, whatever
+/// commands came since, and leaves every node that is new. No file of such a tree has a list that
+/// anything would inherit, so that no list that was saved is refused. There is nothing to run here:
+/// a proof cites the contract.
+pub fn saved_laws()
+    ensures files { FilesNeverInherit }
+    ensures back { SavedListsComeBack }
+{}
+
+/// Over the tree that commands began with, the dump of the tree that they made makes it again:
+/// kinds, owners, groups, lists and umask. There is nothing to run here: a proof cites the
+/// contract.
+pub fn dump_laws()
+    ensures again { DumpsMakeTheTree }
+{}

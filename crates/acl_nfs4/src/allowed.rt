@@ -1,0 +1,51 @@
+//! What a list allows, of several bits at once (RFC 8881, section 6.2.1).
+ghost use Rattle.std.specs.Prelude.{◌≡◌, ◌&&◌, ℕ};
+ghost use Rattle.acl_names.specs.Bits.{has};
+ghost use Rattle.acl_nfs4.specs.Evaluation.{allows};
+ghost use Rattle.acl_nfs4.specs.Mask.{mask_bits};
+ghost use Rattle.acl_nfs4.specs.Who.{matches};
+
+use crate::{Ace, Acl4, Mask, Subject};
+use acl_names::{Gid, Uid};
+use bitflags::Flags as FlagSet;
+
+/// Those of the bits that the entries allow whoever asks. It goes down the list once, until no bit
+/// is open.
+pub(crate) fn allowed_to<S: Subject>(
+    aces: &[Ace],
+    owner: Uid,
+    group: Gid,
+    subject: &S,
+    bits: Mask,
+) -> Mask
+    ensures { (bit : ℕ) → has (mask_bits result) bit
+        ≡ (has (mask_bits bits) bit && allows (matches owner group (S.identity subject.now)) bit
+        aces.now) }
+{
+    let mut allowed = Mask::empty();
+    let mut open = bits;
+    for ace in aces {
+        if open.is_empty() {
+            return allowed;
+        }
+        if ace.concerns(owner, group, subject) {
+            if ace.kind().is_allow() {
+                allowed = allowed.union(open.intersection(ace.mask()));
+            }
+            open = open.without(ace.mask());
+        }
+    }
+    allowed
+}
+
+impl Acl4 {
+    /// Those of the bits that whoever asks is allowed of a file of this owner and this group: each
+    /// exactly if a request for it alone is granted. It takes no memory.
+    pub fn allowed<S: Subject>(&self, owner: Uid, group: Gid, subject: &S, bits: Mask) -> Mask
+        ensures { (bit : ℕ) → has (mask_bits result) bit
+            ≡ (has (mask_bits bits) bit && allows (matches owner group (S.identity subject.now)) bit
+            self.now) }
+    {
+        allowed_to(self.aces(), owner, group, subject, bits)
+    }
+}

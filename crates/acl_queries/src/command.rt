@@ -1,0 +1,21 @@
+//! What the commands share: their words, their options, the fields that several of them have, and
+//! what may be wrong.
+
+pub(crate) mod acl;
+mod command_fault;
+mod error_output;
+pub(crate) mod ids;
+mod input;
+pub mod options;
+mod output;
+pub(crate) mod query_fault;
+mod run_fault;
+mod usage;
+mod words;
+
+pub use command_fault::{CommandFault, report};
+pub use error_output::ErrorOutput;
+pub use input::{CapFault, read_capped};
+pub use output::write_text;
+pub use run_fault::RunFault;
+pub use words::{WordsFault, words_of};

@@ -1,0 +1,86 @@
+//! Options of the program's commands, and what the parser of command lines finds for them.
+ghost use Rattle.std.specs.Prelude.{◌≡◌, codes, false, option_map};
+ghost use Rattle.clap.specs.Words.{first_of, found_of, rows_of, rule_of};
+ghost use Rattle.acl_queries.specs.Asked.{flag_in};
+ghost use Rattle.acl_queries.specs.CommandLine.{flag, optional_option, required_option};
+ghost use Rattle.acl_queries.specs.CommandLine.{required_word};
+
+use clap::{Arg, ArgAction, ArgMatches};
+use std::alloc::Global;
+
+/// An option that has to be given, with what help calls its value.
+pub fn required_option<'a>(alloc: Global, name: &'a str, value: &'a str, help: &'a str) -> Arg<'a>
+    ensures rule { rule_of result ≡ required_option name.entry.now }
+    ensures local { result.global ≡ false }
+{
+    optional_option(alloc, name, value, help).required(true)
+}
+
+/// The option `--owner`: whose the file is.
+pub(crate) fn owner_option<'a>(alloc: Global) -> Arg<'a>
+    ensures rule { rule_of result ≡ required_option (codes "owner") }
+    ensures local { result.global ≡ false }
+{
+    let help = "The uid, in decimal, of the file's owner";
+    required_option(alloc, "owner", "N", help)
+}
+
+/// The option `--group`: the file's group.
+pub(crate) fn group_option<'a>(alloc: Global) -> Arg<'a>
+    ensures rule { rule_of result ≡ required_option (codes "group") }
+    ensures local { result.global ≡ false }
+{
+    let help = "The gid, in decimal, of the file's group";
+    required_option(alloc, "group", "N", help)
+}
+
+/// An option that may be left out, with what help calls its value.
+pub fn optional_option<'a>(alloc: Global, name: &'a str, value: &'a str, help: &'a str) -> Arg<'a>
+    ensures rule { rule_of result ≡ optional_option name.entry.now }
+    ensures local { result.global ≡ false }
+{
+    Arg::new(alloc, name)
+        .long(name)
+        .value_name(value)
+        .help(help)
+}
+
+/// An option without a value.
+pub fn flag<'a>(alloc: Global, name: &'a str, help: &'a str) -> Arg<'a>
+    ensures rule { rule_of result ≡ flag name.entry.now }
+    ensures local { result.global ≡ false }
+{
+    Arg::new(alloc, name)
+        .long(name)
+        .action(ArgAction::SetTrue)
+        .help(help)
+}
+
+/// A word that belongs to no option and has to be given, with what help calls it.
+pub fn required_word<'a>(alloc: Global, name: &'a str, value: &'a str, help: &'a str) -> Arg<'a>
+    ensures rule { rule_of result ≡ required_word name.entry.now }
+    ensures local { result.global ≡ false }
+{
+    Arg::new(alloc, name)
+        .required(true)
+        .value_name(value)
+        .help(help)
+}
+
+/// The text that the words give for a name.
+pub fn text_field<'a>(matches: &ArgMatches<'a>, name: &str) -> Option<&'a str>
+    ensures { option_map (λ text. text.now) result
+        ≡ first_of name.now (rows_of (found_of matches.now)) }
+{
+    matches.get_str(name)
+}
+
+/// Whether a flag is set.
+pub fn flag_field(matches: &ArgMatches<'_>, name: &str) -> bool
+    ensures { result ≡ flag_in name.now (rows_of (found_of matches.now)) }
+{
+    match text_field(matches, name) {
+        Some(text) => text == "true",
+        None => false,
+    }
+}

@@ -1,0 +1,121 @@
+"""scripts/aclctl and scripts/build-aclctl over a kit that is a stand-in: the order of the proofs,
+what is said of them, and failures."""
+
+import os
+import shutil
+import signal
+import subprocess
+import tempfile
+import time
+import unittest
+from pathlib import Path
+
+SCRIPTS = Path(__file__).resolve().parent.parent
+# How many seconds a stand-in may take on the slowest machine.
+SLOW = 600
+# It writes down when it begins and ends with a crate, and says how many functions are checked, as
+# the kit does.
+KIT = """#!/bin/sh
+name=$(basename "$PWD")
+echo "begin $name $*" >> "$ROOM/calls"
+[ ! -e "$ROOM/slow-$name" ] || exec sleep 900
+sleep 0.3
+echo "so far: 0 of 7 functions checked; the verdict comes last"
+echo "so far: 5 of 7 functions checked"
+echo "checked $name::last, 7 of 7"
+if [ -e "$ROOM/bad-$name" ]; then echo "fn $name::last: not proved"; exit 1; fi
+[ "$1" != run ] || { mkdir -p out; cp "$ROOM/program" out/aclctl; }
+echo "end $name" >> "$ROOM/calls"
+"""
+CRATES = """\
+low: itoa
+middle: low
+ring:
+engine may_wait=2: ring
+other: low
+service: low middle engine
+aclctl: service thiserror
+"""
+
+
+class Build(unittest.TestCase):
+    def setUp(self):
+        self.room = Path(tempfile.mkdtemp(prefix="test-build-")).resolve()
+        self.addCleanup(shutil.rmtree, self.room)
+        names = [it.split(":")[0].split()[0] for it in CRATES.splitlines()]
+        folders = [f"crates/{it}/{part}" for it in names for part in ("src", "specs", "proofs")]
+        for folder in ("bin", "scripts", *folders):
+            (self.room / folder).mkdir(parents=True)
+        for name in ("aclctl", "build-aclctl"):
+            shutil.copy(SCRIPTS / name, self.room / "scripts" / name)
+        (self.room / "crates.txt").write_text(f"# crates\n{CRATES}")
+        for name, text in (("bin/rt", KIT), ("program", '#!/bin/sh\necho "$@"\nexit 5\n')):
+            (self.room / name).write_text(text)
+            (self.room / name).chmod(0o755)
+        path = f"{self.room}/bin:{os.environ['PATH']}"
+        self.env = {**os.environ, "PATH": path, "ROOM": str(self.room), "RT_JOBS": "4"}
+
+    def aclctl(self, *words):
+        """Runs scripts/aclctl."""
+        how = {"capture_output": True, "text": True, "timeout": SLOW, "env": self.env}
+        return subprocess.run([self.room / "scripts/aclctl", *words], **how)
+
+    def calls(self):
+        """How the kit was called, in order."""
+        calls = self.room / "calls"
+        return calls.read_text().splitlines() if calls.exists() else []
+
+    def test_lower_crates_come_first_and_all_processors_are_used(self):
+        ran = self.aclctl("a", "b")
+        self.assertEqual((ran.returncode, ran.stdout), (5, "a b\n"))
+        calls = self.calls()
+        self.assertEqual(sorted(calls[:2]), ["begin low lib --jobs 3", "begin ring lib --jobs 1"])
+        self.assertIn("begin service lib --jobs 4", calls)
+        self.assertTrue(calls[-2].startswith("begin aclctl run --jobs 4 -- decide "))
+        order = ("low middle", "ring engine", "middle service", "engine service", "service aclctl")
+        for low, high in map(str.split, order):
+            begun = next(it for it, text in enumerate(calls) if text.startswith(f"begin {high} "))
+            self.assertLess(calls.index(f"end {low}"), begun)
+        self.assertFalse(any("other" in it for it in calls))
+
+    def test_a_line_for_each_crate_where_there_is_no_terminal(self):
+        lines = self.aclctl().stderr.splitlines()
+        self.assertEqual(len(lines), 7)
+        self.assertIn("only a proved program is built, so its 6 crates are proved first", lines[0])
+        middle = "crate 2 of 6, middle: 7 of 7 functions, proved after 0 minutes"
+        self.assertIn(f"scripts/aclctl: {middle}", lines)
+        self.assertTrue(lines[-1].startswith("scripts/aclctl: crate 6 of 6, aclctl: "))
+
+    def test_a_built_program_is_run_at_once(self):
+        self.aclctl()
+        count = len(self.calls())
+        self.assertEqual((self.aclctl("x").stderr, len(self.calls())), ("", count))
+        later = time.time() + 60
+        (self.room / "crates/low/src/lib.rt").touch()
+        os.utime(self.room / "crates/low/src/lib.rt", (later, later))
+        self.aclctl("x")
+        self.assertGreater(len(self.calls()), count)
+
+    def test_a_failure_names_the_log_and_shows_its_end(self):
+        (self.room / "bad-middle").touch()
+        ran = self.aclctl()
+        self.assertEqual((ran.returncode, ran.stdout), (125, ""))
+        log = f"{self.room}/out/build/middle.log"
+        self.assertIn(f"middle could not be built; {log} ends so:\nso far: 0 of 7", ran.stderr)
+        self.assertIn("fn middle::last: not proved\n", ran.stderr)
+        self.assertFalse(any("service" in it for it in self.calls()))
+
+    def test_ended_in_the_middle_it_ends_the_kit_too(self):
+        (self.room / "slow-middle").touch()
+        words = [self.room / "scripts/build-aclctl"]
+        build = subprocess.Popen(words, stderr=subprocess.DEVNULL, env=self.env)
+        while not any("middle" in it for it in self.calls()):
+            time.sleep(0.1)
+        build.send_signal(signal.SIGTERM)
+        self.assertEqual(build.wait(timeout=SLOW), 128 + signal.SIGTERM)
+        (self.room / "slow-middle").unlink()
+        self.assertEqual(self.aclctl().returncode, 5)
+
+
+if __name__ == "__main__":
+    unittest.main()

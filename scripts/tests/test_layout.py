@@ -1,0 +1,48 @@
+"""scripts/layout: which lines and files it finds fault with."""
+
+import importlib.machinery
+import importlib.util
+import unittest
+from pathlib import Path
+
+SCRIPT = Path(__file__).resolve().parent.parent / "layout"
+LONG = "x" * 101
+
+
+def loaded():
+    """The script as a module."""
+    loader = importlib.machinery.SourceFileLoader("layout", str(SCRIPT))
+    made = importlib.util.module_from_spec(importlib.util.spec_from_loader("layout", loader))
+    loader.exec_module(made)
+    return made
+
+
+layout = loaded()
+
+
+class Faults(unittest.TestCase):
+    def numbers(self, name, suffix, *lines):
+        """The numbers of the lines that are at fault."""
+        return [it for it, _ in layout.faults_of(name, suffix, lines)]
+
+    def test_a_file_begins_with_what_it_holds(self):
+        self.assertEqual(self.numbers("one.rt", ".rt", "//! One.", "use two;"), [])
+        self.assertEqual(self.numbers("one.rt", ".rt", "use two;"), [1])
+        self.assertEqual(self.numbers("One.antt", ".antt", "use Two"), [1])
+        self.assertEqual(self.numbers("Lib.antt", ".antt", "pub mod One"), [])
+
+    def test_a_line_has_at_most_100_columns_and_not_bytes(self):
+        self.assertEqual(self.numbers("one.rt", ".rt", "//! One.", LONG), [2])
+        self.assertEqual(self.numbers("one.rt", ".rt", "//! One.", LONG[1:]), [])
+        self.assertEqual(self.numbers("one.rt", ".rt", "//! One.", "\u2261" * 100), [])
+        self.assertEqual(self.numbers("one.rt", ".rt", "//! One.", LONG[1:] + " }"), [])
+
+    def test_a_text_may_be_longer(self):
+        for text in ('    "' + LONG, 'b"' + LONG):
+            self.assertEqual(self.numbers("one.rt", ".rt", "//! One.", text), [])
+        self.assertEqual(self.numbers("one.rt", ".rt", "//! One.", 'f("' + LONG), [2])
+
+    def test_a_docstring_stands_above_attributes(self):
+        head, doc, attribute = "//! One.", "    /// Two.", "    #[inline]"
+        self.assertEqual(self.numbers("one.rt", ".rt", head, doc, attribute, "fn two()"), [])
+        self.assertEqual(self.numbers("one.rt", ".rt", head, attribute, doc, "fn two()"), [3])

@@ -1,0 +1,137 @@
+"""scripts/test over a kit, a clock and scripts that are stand-ins: what runs, in which order, and
+when it ends."""
+
+import os
+import shutil
+import subprocess
+import tempfile
+import time
+import unittest
+from pathlib import Path
+
+SCRIPTS = Path(__file__).resolve().parent.parent
+# How many seconds a stand-in may take on the slowest machine.
+SLOW = 600
+# Every stand-in writes down how it was called, and lets as many seconds go by as its name has in
+# the folder takes/.
+STAND_IN = """#!/bin/sh
+echo "$(basename "$0") $*" >> "$ROOM/calls"
+now=$(cat "$ROOM/now")
+echo $((now + $(cat "$ROOM/takes/$(basename "$0")"))) > "$ROOM/now"
+cat "$ROOM/says/$(basename "$0")"
+"""
+DATE = '#!/bin/sh\ncat "$ROOM/now"\n'
+# It says how long it would let the command run, and ends it if the clock went further.
+TIMEOUT = """#!/bin/sh
+[ "$1 $2 $3" = "--foreground -k 10" ] || exit 125
+left=$4
+shift 4
+echo "timeout $left" >> "$ROOM/calls"
+ends=$(($(cat "$ROOM/now") + left))
+"$@" > "$ROOM/said"
+status=$?
+[ "$(cat "$ROOM/now")" -le "$ends" ] || { echo "$ends" > "$ROOM/now"; exit 124; }
+cat "$ROOM/said"
+exit $status
+"""
+# How the parts are called before the wrong bodies are.
+BEFORE = ["rt ci", "try-scripts ", "read-texts.py --check", "count-definitions "]
+BEFORE += ["layout "]
+BEFORE += ["try-aclctl ", "try-compare ", "refused-growths "]
+PARTS = [*(it.split()[0] for it in BEFORE), "wrong-bodies"]
+TRIED = """\
+wrong bodies: 3 of 9 were tried; the others were not, for want of time
+3 passed, 0 failed
+"""
+
+
+class Whole(unittest.TestCase):
+    def setUp(self):
+        self.room = Path(tempfile.mkdtemp(prefix="test-whole-"))
+        self.addCleanup(shutil.rmtree, self.room)
+        for folder in ("bin", "scripts", "takes", "says"):
+            (self.room / folder).mkdir()
+        shutil.copy(SCRIPTS / "test", self.room / "scripts/test")
+        (self.room / "now").write_text("1000\n")
+        for name in PARTS:
+            self.write(f"{'bin' if name == 'rt' else 'scripts'}/{name}", STAND_IN)
+            self.part(name, 0, "2 passed, 0 failed\n")
+        self.part("wrong-bodies", 0, TRIED)
+        self.write("bin/date", DATE)
+        self.write("bin/timeout", TIMEOUT)
+
+    def write(self, name, text):
+        """Writes a program."""
+        (self.room / name).write_text(text)
+        (self.room / name).chmod(0o755)
+
+    def part(self, name, seconds, says):
+        """How long a part takes, and what it says."""
+        (self.room / "takes" / name).write_text(f"{seconds}\n")
+        (self.room / "says" / name).write_text(says)
+
+    def run_test(self, *words):
+        """Runs the whole test. Returns its status, the lines that it wrote, and how its parts
+        were called."""
+        path = f"{self.room}/bin:{os.environ['PATH']}"
+        how = {"stdout": subprocess.PIPE, "stderr": subprocess.STDOUT}
+        how |= {"text": True, "timeout": SLOW}
+        how |= {"env": {**os.environ, "PATH": path, "ROOM": str(self.room)}}
+        ran = subprocess.run([self.room / "scripts/test", *words], **how)
+        calls = self.room / "calls"
+        called = calls.read_text().splitlines() if calls.exists() else []
+        return ran.returncode, ran.stdout.splitlines(), called
+
+    def test_without_minutes_nothing_is_ended_and_all_wrong_bodies_are_tried(self):
+        status, lines, calls = self.run_test()
+        self.assertEqual(status, 0)
+        self.assertEqual(lines[-1], "19 passed, 0 failed")
+        self.assertEqual(sorted(calls), sorted([*BEFORE, "wrong-bodies "]))
+
+    def test_with_minutes_wrong_bodies_come_last_and_fill_what_is_left(self):
+        self.part("rt", 60 * 100, "2 passed, 0 failed\n")
+        status, lines, calls = self.run_test("--minutes", "150")
+        self.assertEqual(status, 0)
+        self.assertEqual(lines[-2:], [TRIED.splitlines()[0], "19 passed, 0 failed"])
+        parts = [it for it in calls if not it.startswith("timeout")]
+        self.assertEqual(parts, [*BEFORE, "wrong-bodies --minutes 48"])
+        self.assertIn(f"timeout {60 * 150 - 90}", calls)
+
+    def test_where_the_proofs_take_nearly_all_no_minute_is_given(self):
+        self.part("rt", 60 * 148, "2 passed, 0 failed\n")
+        status, _, calls = self.run_test("--minutes", "150")
+        self.assertEqual((status, calls[-1]), (0, "wrong-bodies --minutes 0"))
+
+    def test_proofs_that_take_longer_are_ended_and_fail(self):
+        self.part("rt", 60 * 200, "2 passed, 0 failed\n")
+        status, lines, calls = self.run_test("--minutes", "150")
+        self.assertEqual(status, 1)
+        self.assertTrue(any("rt ci was not done in 150 minutes" in it for it in lines))
+        self.assertEqual(lines[-1], "3 passed, 8 failed")
+        self.assertEqual(calls[-1], "wrong-bodies --minutes 0")
+
+    def test_the_end_comes_in_time_by_the_clock_too(self):
+        """The stand-in of the proofs sleeps, two seconds before the time is over, under the
+        machine's own timeout."""
+        (self.room / "bin/timeout").unlink()
+        self.write("bin/date", '#!/bin/sh\ncat "$ROOM/now"\necho 1508 > "$ROOM/now"\n')
+        self.write("bin/rt", "#!/bin/sh\nexec sleep 900\n")
+        begun = time.monotonic()
+        status, lines, _ = self.run_test("--minutes", "10")
+        self.assertLess(time.monotonic() - begun, SLOW)
+        self.assertEqual(status, 1)
+        self.assertTrue(any("rt ci was not done in 10 minutes" in it for it in lines))
+
+    def test_a_part_that_fails_fails_the_whole(self):
+        self.part("wrong-bodies", 0, "wrong bodies: 9 of 9 were tried\n8 passed, 1 failed\n")
+        status, lines, _ = self.run_test("--minutes", "150")
+        self.assertEqual((status, lines[-1]), (1, "24 passed, 1 failed"))
+
+    def test_wrong_usage_runs_nothing(self):
+        option = "--minutes"
+        for words in ([option], [option, "x"], [option, ""], ["3"], [option, "3", "acl_broker"]):
+            self.assertEqual(self.run_test(*words)[::2], (2, []))
+
+
+if __name__ == "__main__":
+    unittest.main()
