@@ -127,7 +127,9 @@ fn serve_rounds_under_a_refused_growth(rt: HostRuntime) -> Result<(), Fail> {
 }
 
 /// How a run ended, or the next one if memory or a thread was refused.
-fn again<F: FnOnce() -> Ending + Drop>(refused: Ending, run: F) -> Ending {
+fn again<F: Fn() -> Ending>(refused: Ending, run: F) -> Ending
+    requires { F.IsAlwaysCallable run }
+{
     match refused {
         Ending::Memory | Ending::Thread => run(),
         _ => refused,
