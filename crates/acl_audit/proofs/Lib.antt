@@ -1,5 +1,4 @@
 pub mod LetterLemmas
-pub mod ExplanationLemmas
 pub mod ChangeLemmas
 pub mod FoundLemmas
 pub mod ImpactLemmas

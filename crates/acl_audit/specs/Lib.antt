@@ -2,7 +2,6 @@ pub mod Letters
 pub mod Changes
 pub mod Steps
 pub mod Impact
-pub mod Explanation
 pub mod Who
 pub mod Saved
 pub mod Dump

@@ -1,9 +1,6 @@
 //! The laws of what is told of nodes and trees, over the definitions alone.
 ghost use Rattle.acl_audit.specs.Changes.{TwoGroupsSuffice};
 ghost use Rattle.acl_audit.specs.Dump.{DumpsMakeTheTree};
-ghost use Rattle.acl_audit.specs.Explanation.{ClassesDecide, FirstSpeakersDecide};
-ghost use Rattle.acl_audit.specs.Explanation.{LaterEntriesDontCount, OtherEntriesDontCount};
-ghost use Rattle.acl_audit.specs.Explanation.{SilentEntriesDontCount};
 ghost use Rattle.acl_audit.specs.Impact.{AlikeNodesAreCheckedAlike, ChangesAreNotAlike};
 ghost use Rattle.acl_audit.specs.Letters.{LetterIsChecked};
 ghost use Rattle.acl_audit.specs.Saved.{FilesNeverInherit, SavedListsComeBack};
@@ -24,18 +21,6 @@ pub fn impact_laws()
     ensures two_groups { TwoGroupsSuffice }
     ensures checked { AlikeNodesAreCheckedAlike }
     ensures exclusive { ChangesAreNotAlike }
-{}
-
-/// Of a POSIX list one class of entries decides, and no permissions count but those of its entries
-/// and, where the class is under it, the mask's. Of an NFSv4 list the first entry that speaks of a
-/// bit decides it: what comes after counts for nothing, and so do entries that stay silent about
-/// it. There is nothing to run here: a proof cites the contract.
-pub fn explanation_laws()
-    ensures classes { ClassesDecide }
-    ensures others { OtherEntriesDontCount }
-    ensures speakers { FirstSpeakersDecide }
-    ensures silent { SilentEntriesDontCount }
-    ensures later { LaterEntriesDontCount }
 {}
 
 /// What was saved of a tree that commands made gives each of its nodes its lists back, whatever

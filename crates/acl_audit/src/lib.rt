@@ -1,11 +1,10 @@
 //! What administrators and auditors ask of nodes and trees: who may do what, what has changed for
-//! whom, and why an answer is as it is.
+//! whom, and what makes a tree again.
 #![tactic(auto)]
 
 mod allowed;
 mod changes;
 mod dump;
-mod explanation;
 mod impact;
 mod laws;
 mod letters;
@@ -15,9 +14,8 @@ mod who;
 
 pub use changes::{Change, change_for, change_for_anybody};
 pub use dump::{close, push_creation, push_lists};
-pub use explanation::{Class, class_of, effective_perms, first_speaker, lacks};
 pub use impact::{Impact, impact_at, impact_of, requesters_of};
-pub use laws::{dump_laws, explanation_laws, impact_laws, letter_laws, saved_laws};
+pub use laws::{dump_laws, impact_laws, letter_laws, saved_laws};
 pub use letters::effective;
 pub use saved::push_listing;
 pub use who::{push_letters, push_those_who_may};

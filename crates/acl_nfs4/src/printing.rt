@@ -88,7 +88,9 @@ fn push_line(ace: &Ace, directory: &Directory, out: &mut Vec<u8>) -> Result<(), 
     Ok(())
 }
 
-fn push_ace(ace: &Ace, directory: &Directory, out: &mut Vec<u8>) -> Result<(), AllocError>
+/// Appends the entry as `print_aces` does, without a newline: `type:flags:who:letters`. If memory
+/// runs out, what was there stays; that happens only if `out` has no room for the text.
+pub fn push_ace(ace: &Ace, directory: &Directory, out: &mut Vec<u8>) -> Result<(), AllocError>
     ensures text { OnOk result (out.new.items ≡ out.old.items ++ ace_text directory.now ace.now) }
     ensures has_id { OnOk result (HasId ace.now.who) }
     ensures kept { take (length out.old.items) out.new.items ≡ out.old.items }

@@ -17,4 +17,5 @@ pub use entry::{Entry, Tag};
 pub use limits::{MAX_DEFAULT_LINE, MAX_ENTRIES, MAX_LINE, limits_in_numbers};
 pub use mode::Mode;
 pub use perms::{Perms, read_perms};
+pub use printing::{push_entry, push_perms};
 pub use reading::{EntryReader, PieceFault, faults_of_pieces, pieces_have_shapes, read_entries};

@@ -10,6 +10,7 @@ ghost use Rattle.acl_posix.specs.EntryText.{entry_of};
 ghost use Rattle.acl_posix.specs.Perms.{bits_of};
 ghost use Rattle.acl_posix.specs.PermsText.{perms_text};
 ghost use Rattle.acl_posix.specs.PrintedText.{default_text, effective_mark, effective_text};
+ghost use Rattle.acl_posix.specs.PrintedText.{entry_text};
 ghost use Rattle.acl_posix.specs.PrintedText.{line_text, long_text, mark_of, qualifier_text};
 ghost use Rattle.acl_posix.specs.PrintedText.{word_text, HasId, HaveIds};
 
@@ -74,6 +75,33 @@ impl Acl {
         put_default_lines(entries, self.mask(), directory, out);
         Ok(())
     }
+}
+
+/// Appends the entry as `print_long` does, without a newline: `tag:qualifier:perms`. If memory runs
+/// out, `out` is as it was.
+pub fn push_entry(
+    entry: &Entry,
+    directory: &Directory,
+    out: &mut Vec<u8>,
+) -> Result<(), AllocError>
+    ensures text { OnOk result (out.new.items
+        ≡ out.old.items ++ entry_text directory.now entry.now) }
+    ensures unchanged { OnErr result (out.new.items ≡ out.old.items) }
+{
+    out.reserve(MAX_LINE)?;
+    put_tag(entry.tag, directory, out);
+    let own = letters(entry.perms);
+    put_bytes(&[b':', own[0], own[1], own[2]], out);
+    Ok(())
+}
+
+/// Appends the permissions in three characters: `r` or `-`, `w` or `-`, `x` or `-`. If memory runs
+/// out, `out` is as it was.
+pub fn push_perms(perms: Perms, out: &mut Vec<u8>) -> Result<(), AllocError>
+    ensures text { OnOk result (out.new.items ≡ out.old.items ++ perms_text (bits_of perms)) }
+    ensures unchanged { OnErr result (out.new.items ≡ out.old.items) }
+{
+    out.extend_from_slice(&letters(perms))
 }
 
 fn print_lines(

@@ -10,7 +10,7 @@ use Rattle.acl_nfs4.specs.declared.acl.AceFault.{AceFault}
 use Rattle.acl_nfs4.specs.declared.acl.AceFault.TheVariants as aces
 use Rattle.acl_nfs4.specs.declared.limits.TheConstants.{MAX_ACES}
 use Rattle.acl_queries.specs.AclText.{nobody}
-use Rattle.acl_queries.specs.Compared.{aces_of, as_ace}
+use Rattle.acl_queries.specs.ListField.{aces_of, as_ace}
 use Rattle.acl_queries.specs.Faults.{Explains, fault_of_aces}
 use Rattle.acl_queries.specs.declared.command.query_fault.FieldFault.{FieldFault}
 use Rattle.acl_queries.specs.declared.command.query_fault.FieldFault.TheVariants.{TooMany}

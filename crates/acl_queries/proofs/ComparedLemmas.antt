@@ -3,10 +3,11 @@ use Rattle.std.proofs.Common.{◌≡◌, ℕ, List, Ok, Err, codes, refl, sym, s
 use Rattle.clap.specs.Words.{Row}
 use Rattle.acl_names.specs.Steps.{◌>>=◌}
 use Rattle.acl_queries.specs.Asked.{id_in}
-use Rattle.acl_queries.specs.Compared.{Compared, compared_in, list_in}
+use Rattle.acl_queries.specs.Compared.{Compared, compared_in}
+use Rattle.acl_queries.specs.ListField.{list_in}
 use Rattle.acl_queries.specs.Comparing.{between}
 use Rattle.acl_queries.specs.Faults.{Explains}
-use Rattle.acl_queries.specs.declared.compare_command.list.AnyAcl.{AnyAcl}
+use Rattle.acl_queries.specs.declared.command.list.AnyAcl.{AnyAcl}
 use Rattle.acl_queries.specs.declared.command.query_fault.QueryFault.{QueryFault}
 use Rattle.acl_queries.specs.declared.command.query_fault.QueryFault.TheVariants.{Field, Usage, Run}
 use Rattle.acl_queries.specs.declared.command.query_fault.FieldFault.{FieldFault}

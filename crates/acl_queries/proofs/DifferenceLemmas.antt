@@ -13,7 +13,7 @@ use Rattle.acl_bridge.specs.Comparison.{GrantAlikeToAll, IsFirstDifference, gran
 use Rattle.acl_queries.specs.Comparing.{between}
 use Rattle.acl_queries.specs.Compared.{Compared}
 use Rattle.acl_queries.specs.Differences.{Answers, AreAlike, Differ, told_text}
-use Rattle.acl_queries.specs.declared.compare_command.list.AnyAcl.TheVariants.{Nfs4, Posix}
+use Rattle.acl_queries.specs.declared.command.list.AnyAcl.TheVariants.{Nfs4, Posix}
 
 -- of two NFSv4 lists all bits were compared
 pub nfs4_found : (found : Option Difference) (first second : List Nfsace4) (owner group bits : ℕ) → bits ≡ all_masks

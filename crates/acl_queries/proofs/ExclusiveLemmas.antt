@@ -11,8 +11,8 @@ use Rattle.acl_nfs4.specs.declared.comparison.Difference.{Difference}
 use Rattle.acl_bridge.specs.Comparison.{GrantAlikeToAll, Granter, IsFirstDifference, whole_requests}
 use Rattle.acl_queries.specs.Compared.{Compared}
 use Rattle.acl_queries.specs.Differences.{AreAlike, Differ, RequestsAlike, RequestsDiffer, bits_between, decider_of}
-use Rattle.acl_queries.specs.declared.compare_command.list.AnyAcl.{AnyAcl}
-use Rattle.acl_queries.specs.declared.compare_command.list.AnyAcl.TheVariants.{Posix, Nfs4}
+use Rattle.acl_queries.specs.declared.command.list.AnyAcl.{AnyAcl}
+use Rattle.acl_queries.specs.declared.command.list.AnyAcl.TheVariants.{Posix, Nfs4}
 
 -- one of two that are equal isn't granted alone
 not_one_alone : (asked before after : Bool) → (IsTrue asked → before ≡ after) → (asked && (before && not after)) ≡ false

@@ -7,7 +7,9 @@ pub mod OutcomeLemmas
 pub mod AskLemmas
 pub mod AcesLemmas
 pub mod CompareLineLemmas
-pub mod CompareLemmas
+pub mod AnsweringLemmas
 pub mod DifferenceLemmas
 pub mod ComparedLemmas
 pub mod ExclusiveLemmas
+pub mod ExplanationLemmas
+pub mod ExplainLineLemmas

@@ -2,7 +2,7 @@
 use Rattle.std.specs.Prelude.{ℕ}
 use Rattle.acl_queries.specs.Compared.{Compared}
 use Rattle.acl_queries.specs.declared.compare_command.comparison.Comparison.{Comparison}
-use Rattle.acl_queries.specs.declared.compare_command.list.AnyAcl.{AnyAcl}
+use Rattle.acl_queries.specs.declared.command.list.AnyAcl.{AnyAcl}
 
 -- two lists for a file of this owner and this group
 abbrev pub between : ℕ → ℕ → AnyAcl → AnyAcl → Compared

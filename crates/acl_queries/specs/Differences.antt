@@ -12,8 +12,8 @@ use Rattle.acl_nfs4.specs.declared.comparison.Difference.{Difference}
 use Rattle.acl_bridge.specs.Comparison.{GrantAlikeToAll, IsFirstDifference, granted_by}
 use Rattle.acl_bridge.specs.Comparison.{permission_bits, whole_requests}
 use Rattle.acl_queries.specs.Compared.{Compared}
-use Rattle.acl_queries.specs.declared.compare_command.list.AnyAcl.{AnyAcl}
-use Rattle.acl_queries.specs.declared.compare_command.list.AnyAcl.TheVariants.{Posix, Nfs4}
+use Rattle.acl_queries.specs.declared.command.list.AnyAcl.{AnyAcl}
+use Rattle.acl_queries.specs.declared.command.list.AnyAcl.TheVariants.{Posix, Nfs4}
 
 -- what a list of either style decides, bit by bit
 abbrev pub decider_of : ℕ → ℕ → AnyAcl → Decider

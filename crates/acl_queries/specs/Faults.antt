@@ -1,6 +1,6 @@
 -- The lines and the exit statuses of faults.
-use Rattle.std.specs.Prelude.{◌≡◌, ◌≢◌, ℕ, List, Option, Some, None, Result, Err, IsOk, codes, ⊤}
-use Rattle.clap.specs.Words.{Text, kind_of}
+use Rattle.std.specs.Prelude.{◌≡◌, ◌≢◌, ℕ, List, [], Option, Some, None, Result, Err, IsOk, codes, ⊤}
+use Rattle.clap.specs.Words.{Kinds, Text, fault_of, kind_of}
 use Rattle.clap.specs.declared.error.Error.{Error}
 use Rattle.clap.specs.declared.error.kind.ErrorKind.{ErrorKind}
 use Rattle.clap.specs.declared.error.kind.ErrorKind.TheVariants.{OutOfMemory}
@@ -11,7 +11,7 @@ use Rattle.acl_posix.specs.declared.acl.Invalid.TheVariants as invalid
 use Rattle.acl_posix.specs.declared.entries.TextFault.{TextFault}
 use Rattle.acl_posix.specs.declared.entries.TextFault.TheVariants as text
 use Rattle.acl_queries.specs.Asked.{asked_by}
-use Rattle.acl_queries.specs.CommandLine.{TakesWords}
+use Rattle.acl_queries.specs.CommandLine.{decide_line}
 use Rattle.acl_queries.specs.ErrorOutput.{SaysFault, line_of_words}
 use Rattle.acl_queries.specs.RunFaults.{run_fault_line}
 use Rattle.acl_queries.specs.declared.command.run_fault.RunFault.TheVariants.{Memory, Output}
@@ -119,11 +119,16 @@ fault_of_invalid invalid.Repeated = Field InvalidAcl
 fault_of_invalid invalid.NoMask = Field InvalidAcl
 fault_of_invalid invalid.Memory = Run Memory
 
--- the words are refused for this: if the parser takes them, for the first field that doesn't read
+-- Words are refused for this: the parser finds these faults in them, or else its fields read so; the
+-- first field that doesn't is told.
+abbrev pub IsRefusedFor : {A : Type 0} → Kinds → Result A FieldFault → QueryFault → Type 0
+IsRefusedFor kinds reading (Field fault) = (kinds ≡ []) × (reading ≡ Err fault)
+IsRefusedFor kinds reading (Usage error) = ¬ (kinds ≡ [])
+IsRefusedFor kinds reading (Run Memory) = ⊤
+IsRefusedFor kinds reading (Run Output) = (kinds ≡ []) × IsOk reading
+IsRefusedFor kinds reading (Run Stopped) = ⊥
+IsRefusedFor kinds reading (Run NoThread) = ⊥
+
+-- the words of `decide` are
 abbrev pub IsFaultOf : List Text → QueryFault → Type 0
-IsFaultOf words (Field fault) = TakesWords words × (asked_by words ≡ Err fault)
-IsFaultOf words (Usage error) = ¬ TakesWords words
-IsFaultOf words (Run Memory) = ⊤
-IsFaultOf words (Run Output) = TakesWords words × IsOk (asked_by words)
-IsFaultOf words (Run Stopped) = ⊥
-IsFaultOf words (Run NoThread) = ⊥
+IsFaultOf words = IsRefusedFor (fault_of decide_line words) (asked_by words)

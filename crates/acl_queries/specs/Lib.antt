@@ -9,7 +9,14 @@ pub mod Asked
 pub mod Outcome
 pub mod Ask
 pub mod CompareLine
+pub mod ListField
 pub mod Compared
 pub mod Comparing
 pub mod Differences
+pub mod Answering
 pub mod CompareOutcome
+pub mod Explanation
+pub mod ExplainLine
+pub mod Explained
+pub mod ExplainText
+pub mod ExplainOutcome

@@ -2,12 +2,15 @@
 //! what may be wrong.
 
 pub(crate) mod acl;
+pub(crate) mod answer;
 mod command_fault;
 mod error_output;
 pub(crate) mod ids;
 mod input;
+pub(crate) mod list;
 pub mod options;
 mod output;
+pub(crate) mod perms;
 pub(crate) mod query_fault;
 mod run_fault;
 mod usage;

@@ -1,6 +1,7 @@
 //! The command `compare`.
-ghost use Rattle.std.specs.Prelude.{◌≡◌, ◌≢◌, ◌≤◌, ℕ, List, map, IfErr, IsErrOf, IsOkAnd, OnOk};
+ghost use Rattle.std.specs.Prelude.{◌≡◌, ◌≢◌, ◌≤◌, map, IfErr, IsErrOf, OnOk};
 ghost use Rattle.std.specs.Io.KnownBytes.{Appends, Keeps};
+ghost use Rattle.acl_queries.specs.Answering.{IsAnswered};
 ghost use Rattle.acl_queries.specs.CompareLine.{TakesCompareWords};
 ghost use Rattle.acl_queries.specs.CompareOutcome.{EndsAsCompared, IsCompareFaultOf, IsCutShort};
 ghost use Rattle.acl_queries.specs.Compared.{Compared, compared_by};
@@ -12,7 +13,6 @@ ghost use Rattle.acl_queries.specs.Output.{AppendsFront};
 
 mod command_line;
 mod comparison;
-mod list;
 mod text;
 
 use crate::command::query_fault::QueryFault;
@@ -26,15 +26,14 @@ use text::answer_text;
 /// Writes what the lists of the words decide differently.
 fn answer<S: AsStr, W: Write>(alloc: Global, words: &[S], out: &mut W) -> Result<(), QueryFault>
     ensures taken { OnOk result (TakesCompareWords (map S.text words.now)) }
-    ensures answered { OnOk result (IsOkAnd (compared_by (map S.text words.now))
-        (λ compared. (text : List ℕ) × Answers compared text
-        × Appends (W.contents out.old) (W.contents out.new) text)) }
+    ensures answered { OnOk result (IsAnswered Answers (compared_by (map S.text words.now))
+        (Appends (W.contents out.old) (W.contents out.new))) }
     ensures refused { IfErr result (IsCompareFaultOf (map S.text words.now)) }
     ensures silent { IfErr result (λ fault. fault ≢ failed_write
         → Keeps (W.contents out.old) (W.contents out.new)) }
-    ensures cut { IsErrOf result failed_write → IsOkAnd (compared_by (map S.text words.now))
-        (λ compared. (text : List ℕ) × Answers compared text
-        × AppendsFront (W.contents out.old) (W.contents out.new) text) }
+    ensures cut { IsErrOf result failed_write
+        → IsAnswered Answers (compared_by (map S.text words.now))
+        (AppendsFront (W.contents out.old) (W.contents out.new)) }
 {
     let matches = command_line::parse(alloc, words)?;
     let comparison = read_comparison(alloc, &matches)?;

@@ -14,6 +14,7 @@ mod command_line;
 mod question;
 mod translation;
 
+use crate::command::answer::answer_line;
 use crate::command::query_fault::QueryFault;
 use crate::{ErrorOutput, RunFault, report, write_text};
 use question::Question;
@@ -26,13 +27,8 @@ use translation::print_translation;
 fn text_for(alloc: Global, question: &Question) -> Result<Vec<u8>, AllocError>
     ensures { IfOk result (λ text. text.items ≡ answer_text question.now) }
 {
-    let line = if question.is_granted() {
-        "granted\n"
-    } else {
-        "denied\n"
-    };
     let mut text = Vec::new(alloc);
-    text.extend_from_slice(line.as_bytes())?;
+    text.extend_from_slice(answer_line(question.is_granted()).as_bytes())?;
     if question.nfs4 {
         print_translation(alloc, &question.acl, &mut text)?;
     }

@@ -1,12 +1,14 @@
 //! Queries of access control lists by themselves, from the words of a command line to what is
-//! printed: who may do what (`decide`), and who gains or loses what between two lists (`compare`).
-//! And what all commands of the program share: their bytes and words, their options, and what a
-//! command may lack.
+//! printed: who may do what (`decide`), why (`explain`), and who gains or loses what between two
+//! lists (`compare`). And what all commands of the program share: their bytes and words, their
+//! options, and what a command may lack.
 #![tactic(auto)]
 
 mod command;
 mod compare_command;
 mod decide_command;
+mod explain_command;
+mod explanation;
 
 pub use command::{
     CapFault, CommandFault, ErrorOutput, RunFault, WordsFault, options, read_capped, report,
@@ -14,3 +16,5 @@ pub use command::{
 };
 pub use compare_command::{alike_lists_differ_for_nobody, compare};
 pub use decide_command::{decide, words_ask_what_they_give};
+pub use explain_command::explain;
+pub use explanation::{Class, class_of, effective_perms, explanation_laws, first_speaker, lacks};

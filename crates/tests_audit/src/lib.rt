@@ -7,8 +7,6 @@
 #[cfg(test)]
 mod dump;
 #[cfg(test)]
-mod explain;
-#[cfg(test)]
 mod impact;
 #[cfg(test)]
 mod office;

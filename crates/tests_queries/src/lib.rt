@@ -11,6 +11,10 @@ mod decide;
 #[cfg(test)]
 mod error_output;
 #[cfg(test)]
+mod explain;
+#[cfg(test)]
+mod explanation;
+#[cfg(test)]
 mod input;
 #[cfg(test)]
 mod refused_growths;

@@ -4,7 +4,9 @@
 //! `rt try --test --fail-alloc N` refuses the growth N of a test. Each test here passes whichever
 //! growth that is, and prints how many refusals it was told of: one up to the last growth that it
 //! asks for, and none from then on.
-use acl_queries::{CapFault, ErrorOutput, WordsFault, compare, decide, read_capped, words_of};
+use acl_queries::{
+    CapFault, ErrorOutput, WordsFault, compare, decide, explain, read_capped, words_of,
+};
 use std::alloc::Global;
 use std::io::{self, Read};
 use std::test::Fail;
@@ -48,6 +50,33 @@ const COMPARED_WITH_NFS4: [&str; 9] = [
     "A::11:r,A::OWNER@:rwa,D::OWNER@:x,A::7:r,D::7:wax,A::8:r,D::8:wax,A::9:r,D::9:wax,A::10:r,D::10:wax,A::GROUP@:r,A:g:60:r,A:g:70:r,A:g:80:r,D::GROUP@:wax,D:g:60:wax,D:g:70:wax,D:g:80:wax",
 ];
 
+/// What of the groups is limited by the mask.
+const EXPLAINED: [&str; 13] = [
+    "explain", "--owner", "1000", "--group", "50", "--uid", "1001", "--gids", "60,70", "--perms",
+    "rw", "posix", LIST,
+];
+
+const EXPLANATION: &str =
+    "denied\nclass group\nentry group:60:r-- r-- -w-\nentry group:70:r-- r-- -w-\nmask r--\n";
+
+const EXPLAINED_BY_ACES: [&str; 13] = [
+    "explain",
+    "--owner",
+    "1000",
+    "--group",
+    "50",
+    "--uid",
+    "1001",
+    "--gids",
+    "60,70",
+    "--perms",
+    "rw",
+    "nfs4",
+    "A::11:r,A::OWNER@:rwa,D:g:60:w,A::EVERYONE@:rwa",
+];
+
+const SPEAKERS: &str = "denied\nr 4 A::EVERYONE@:rwa\nw 3 D:g:60:w\na 4 A::EVERYONE@:rwa\n";
+
 const DIFFER_FROM_NFS4: &str = "differ\nrequester 11 -\nlost -\ngained r\n";
 
 const DIFFER: &str = "differ\nrequester 65534 50\nlost rw\ngained -\n";
@@ -74,10 +103,13 @@ fn ask(alloc: Global, words: &[&str], answer: &str) -> Ending {
     let mut faults = [0; 32];
     let mut out = lines.as_mut_slice();
     let mut err = faults.as_mut_slice();
+    let mut told = ErrorOutput::new(&mut err);
     let status = if words.first() == Some(&"compare") {
-        compare(alloc, words, &mut out, &mut ErrorOutput::new(&mut err))
+        compare(alloc, words, &mut out, &mut told)
+    } else if words.first() == Some(&"explain") {
+        explain(alloc, words, &mut out, &mut told)
     } else {
-        decide(alloc, words, &mut out, &mut ErrorOutput::new(&mut err))
+        decide(alloc, words, &mut out, &mut told)
     };
     let (room, fault_room) = (out.len(), err.len());
     let written = room.checked_add(answer.len()) == Some(512);
@@ -128,6 +160,22 @@ fn compare_under_a_refused_growth(rt: HostRuntime) -> Result<(), Fail> {
 #[test]
 fn compare_with_nfs4_under_a_refused_growth(rt: HostRuntime) -> Result<(), Fail> {
     let (ended, refusals) = ask_again(rt.alloc(), COMPARED_WITH_NFS4.as_slice(), DIFFER_FROM_NFS4);
+    assert_eq!(rt; ended, Ending::Answered);
+    println!(rt; "refusals: {refusals}")?;
+    Ok(())
+}
+
+#[test]
+fn explain_under_a_refused_growth(rt: HostRuntime) -> Result<(), Fail> {
+    let (ended, refusals) = ask_again(rt.alloc(), EXPLAINED.as_slice(), EXPLANATION);
+    assert_eq!(rt; ended, Ending::Answered);
+    println!(rt; "refusals: {refusals}")?;
+    Ok(())
+}
+
+#[test]
+fn explain_by_aces_under_a_refused_growth(rt: HostRuntime) -> Result<(), Fail> {
+    let (ended, refusals) = ask_again(rt.alloc(), EXPLAINED_BY_ACES.as_slice(), SPEAKERS);
     assert_eq!(rt; ended, Ending::Answered);
     println!(rt; "refusals: {refusals}")?;
     Ok(())

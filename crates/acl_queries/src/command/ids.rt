@@ -2,7 +2,7 @@
 ghost use Rattle.std.specs.Prelude.{◌≡◌, ◌≤◌, Some, Ok, IfErr, IfOk};
 ghost use Rattle.acl_names.specs.declared.limits.TheConstants.{MAX_ID};
 ghost use Rattle.clap.specs.Words.{found_of, rows_of};
-ghost use Rattle.acl_queries.specs.Asked.{gids_of, id_in, id_of};
+ghost use Rattle.acl_queries.specs.Asked.{gids_in, gids_of, id_in, id_of};
 ghost use Rattle.acl_queries.specs.Faults.{Explains};
 
 use super::options::text_field;
@@ -51,7 +51,7 @@ pub(crate) fn gid_field(matches: &ArgMatches<'_>, name: &str) -> Result<Gid, Fie
 }
 
 /// The groups between the commas of a text. One that would be too many isn't read.
-pub(crate) fn read_gids(alloc: Global, text: &str) -> Result<Vec<Gid>, QueryFault>
+fn read_gids(alloc: Global, text: &str) -> Result<Vec<Gid>, QueryFault>
     ensures read { IfOk result (λ gids. gids_of (Some text.now) ≡ Ok gids.items) }
     ensures refused { IfErr result (Explains (gids_of (Some text.now))) }
 {
@@ -64,4 +64,15 @@ pub(crate) fn read_gids(alloc: Global, text: &str) -> Result<Vec<Gid>, QueryFaul
         gids.push(gid)?;
     }
     Ok(gids)
+}
+
+/// The groups of who asks; none if the words don't tell.
+pub(crate) fn gids_field(alloc: Global, matches: &ArgMatches<'_>) -> Result<Vec<Gid>, QueryFault>
+    ensures read { IfOk result (λ gids. gids_in (rows_of (found_of matches.now)) ≡ Ok gids.items) }
+    ensures refused { IfErr result (Explains (gids_in (rows_of (found_of matches.now)))) }
+{
+    match text_field(matches, "gids") {
+        Some(text) => read_gids(alloc, text),
+        None => Ok(Vec::new(alloc)),
+    }
 }

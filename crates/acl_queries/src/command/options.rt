@@ -34,6 +34,36 @@ pub(crate) fn group_option<'a>(alloc: Global) -> Arg<'a>
     required_option(alloc, "group", "N", help)
 }
 
+/// The option `--uid`: who asks.
+pub(crate) fn uid_option<'a>(alloc: Global) -> Arg<'a>
+    ensures rule { rule_of result ≡ required_option (codes "uid") }
+    ensures local { result.global ≡ false }
+{
+    required_option(alloc, "uid", "N", "The uid of who asks")
+}
+
+/// The option `--gids`: the groups of who asks.
+pub(crate) fn gids_option<'a>(alloc: Global) -> Arg<'a>
+    ensures rule { rule_of result ≡ optional_option (codes "gids") }
+    ensures local { result.global ≡ false }
+{
+    let help = "The gids of who asks, at most 32, between commas";
+    optional_option(alloc, "gids", "N,N..", help)
+}
+
+/// The option `--perms`: what is asked for.
+pub(crate) fn perms_option<'a>(alloc: Global) -> Arg<'a>
+    ensures rule { rule_of result ≡ required_option (codes "perms") }
+    ensures local { result.global ≡ false }
+{
+    required_option(
+        alloc,
+        "perms",
+        "P",
+        "What is asked for: 1 to 3 of r, w, x and -. One that begins with - follows a =, as --perms=-w-",
+    )
+}
+
 /// An option that may be left out, with what help calls its value.
 pub fn optional_option<'a>(alloc: Global, name: &'a str, value: &'a str, help: &'a str) -> Arg<'a>
     ensures rule { rule_of result ≡ optional_option name.entry.now }

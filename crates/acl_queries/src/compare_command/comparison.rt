@@ -1,16 +1,15 @@
 //! What the words of `compare` ask, and the answer.
 ghost use Rattle.std.specs.Prelude.{◌≡◌, codes, IfErr, IfOk, MatchOption, Ok};
 ghost use Rattle.clap.specs.Words.{found_of, rows_of};
-ghost use Rattle.acl_queries.specs.Compared.{compared_in, list_in};
-ghost use Rattle.acl_queries.specs.declared.compare_command.list.AnyAcl.TheVariants as list;
+ghost use Rattle.acl_queries.specs.Compared.{compared_in};
+ghost use Rattle.acl_queries.specs.declared.command.list.AnyAcl.TheVariants as list;
 ghost use Rattle.acl_queries.specs.Comparing.{between, compared};
 ghost use Rattle.acl_queries.specs.Differences.{AreAlike, Differ};
 ghost use Rattle.acl_queries.specs.Faults.{Explains};
 
-use super::list::{AnyAcl, read_list, read_style};
 use crate::command::ids::{gid_field, uid_field};
-use crate::command::options::text_field;
-use crate::command::query_fault::{FieldFault, QueryFault};
+use crate::command::list::{AnyAcl, list_field};
+use crate::command::query_fault::QueryFault;
 use acl_bridge::{difference_from_posix, posix_difference, whole_request_difference};
 use acl_names::{Gid, Uid};
 use acl_nfs4::{Acl4, Difference, Mask, Owners};
@@ -134,26 +133,6 @@ impl Comparison {
             }
         }
     }
-}
-
-/// The list whose style and text have these names.
-fn list_field(
-    alloc: Global,
-    matches: &ArgMatches<'_>,
-    style_name: &str,
-    text_name: &str,
-) -> Result<AnyAcl, QueryFault>
-    ensures read { IfOk result (λ acl. list_in style_name.now text_name.now
-        (rows_of (found_of matches.now)) ≡ Ok acl) }
-    ensures refused { IfErr result (Explains (list_in style_name.now text_name.now
-        (rows_of (found_of matches.now)))) }
-{
-    let style = read_style(text_field(matches, style_name).ok_or(FieldFault::BadStyle)?)?;
-    read_list(
-        alloc,
-        style,
-        text_field(matches, text_name).ok_or(FieldFault::BadAcl)?,
-    )
 }
 
 /// What the words compare, their fields read in order.

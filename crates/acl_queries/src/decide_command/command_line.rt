@@ -4,7 +4,7 @@ ghost use Rattle.clap.specs.Words.{app_of, found_of, kind_of, matches_of, rows_o
 ghost use Rattle.acl_queries.specs.CommandLine.{TakesWords, decide_line};
 
 use crate::command::options::{
-    flag, group_option, optional_option, owner_option, required_option, required_word,
+    flag, gids_option, group_option, owner_option, perms_option, required_word, uid_option,
 };
 use clap::error::ErrorKind;
 use clap::{ArgMatches, Command, Error};
@@ -34,19 +34,9 @@ fn command<'a>(alloc: Global) -> Result<Command<'a>, AllocError>
         ))?
         .arg(owner_option(alloc))?
         .arg(group_option(alloc))?
-        .arg(required_option(alloc, "uid", "N", "The uid of who asks"))?
-        .arg(optional_option(
-            alloc,
-            "gids",
-            "N,N..",
-            "The gids of who asks, at most 32, between commas",
-        ))?
-        .arg(required_option(
-            alloc,
-            "perms",
-            "P",
-            "What is asked for: 1 to 3 of r, w, x and -. One that begins with - follows a =, as --perms=-w-",
-        ))?
+        .arg(uid_option(alloc))?
+        .arg(gids_option(alloc))?
+        .arg(perms_option(alloc))?
         .arg(required_word(
             alloc,
             "text",

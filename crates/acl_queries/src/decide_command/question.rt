@@ -1,16 +1,16 @@
 //! What the words of `decide` ask.
-ghost use Rattle.std.specs.Prelude.{◌≡◌, codes, Ok, Err, IfErr, IfOk};
+ghost use Rattle.std.specs.Prelude.{◌≡◌, codes, Ok, IfErr, IfOk};
 ghost use Rattle.clap.specs.Words.{found_of, rows_of};
-ghost use Rattle.acl_posix.specs.Perms.{bits_of};
-ghost use Rattle.acl_queries.specs.Asked.{acl_in, asked_in, gids_in, perms_in};
+ghost use Rattle.acl_queries.specs.Asked.{acl_in, asked_in};
 ghost use Rattle.acl_queries.specs.Faults.{Explains};
 
 use crate::command::acl::read_acl;
-use crate::command::ids::{gid_field, read_gids, uid_field};
+use crate::command::ids::{gid_field, gids_field, uid_field};
 use crate::command::options::{flag_field, text_field};
+use crate::command::perms::perms_field;
 use crate::command::query_fault::{FieldFault, QueryFault};
 use acl_names::{Gid, Requester, Uid};
-use acl_posix::{Acl, Perms, read_perms};
+use acl_posix::{Acl, Perms};
 use clap::ArgMatches;
 use std::alloc::Global;
 use std::marker::Model;
@@ -53,27 +53,6 @@ impl Question {
         self.acl
             .grants(self.owner, self.group, &self.requester, self.request)
     }
-}
-
-/// The groups of who asks; none if the words don't tell.
-fn gids_field(alloc: Global, matches: &ArgMatches<'_>) -> Result<Vec<Gid>, QueryFault>
-    ensures read { IfOk result (λ gids. gids_in (rows_of (found_of matches.now)) ≡ Ok gids.items) }
-    ensures refused { IfErr result (Explains (gids_in (rows_of (found_of matches.now)))) }
-{
-    match text_field(matches, "gids") {
-        Some(text) => read_gids(alloc, text),
-        None => Ok(Vec::new(alloc)),
-    }
-}
-
-/// What is requested.
-fn perms_field(matches: &ArgMatches<'_>) -> Result<Perms, FieldFault>
-    ensures read { IfOk result (λ perms. perms_in (rows_of (found_of matches.now))
-        ≡ Ok (bits_of perms)) }
-    ensures refused { IfErr result (λ fault. perms_in (rows_of (found_of matches.now)) ≡ Err fault) }
-{
-    let text = text_field(matches, "perms").ok_or(FieldFault::BadPerms)?;
-    read_perms(text.as_bytes()).ok_or(FieldFault::BadPerms)
 }
 
 /// The file's access control list.

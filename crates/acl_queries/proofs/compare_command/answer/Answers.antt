@@ -2,7 +2,8 @@ use Rattle.std.proofs.Common.{rules, ◌≡◌, Ok, map, subst}
 use Rattle.std.specs.Io.KnownBytes.{Appends}
 use Rattle.acl_queries.specs.Compared.{compared_by}
 use Rattle.acl_queries.specs.Comparing.{compared}
-use Rattle.acl_queries.proofs.CompareLemmas.{answered}
+use Rattle.acl_queries.specs.Differences.{Answers}
+use Rattle.acl_queries.proofs.AnsweringLemmas.{answered}
 use Rattle.acl_queries.proofs.compare_command.answer.Goals as goal
 
 pub returns-clause-answered : goal.returns-clause-answered
@@ -13,5 +14,5 @@ returns-clause-answered g c =
     let asked = compared c.in_ok-comparison.comparison in
     let is : compared_by words ≡ Ok asked = search rules in
     let appended : Appends old new c.as_slice.result.now = search rules in
-    answered words (Appends old new) asked c.in_ok-text.text.items is c.in_ok-text.ensures
+    answered Answers (compared_by words) (Appends old new) asked c.in_ok-text.text.items is c.in_ok-text.ensures
     (subst (Appends old new) c.as_slice.ensures.value appended)

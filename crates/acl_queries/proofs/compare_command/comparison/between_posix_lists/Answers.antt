@@ -6,7 +6,7 @@ use Rattle.acl_bridge.specs.Comparison.{GrantAlikeToAll, Granter, IsFirstDiffere
 use Rattle.acl_bridge.proofs.ComparisonLemmas.{ok_then}
 use Rattle.acl_queries.specs.Comparing.{between}
 use Rattle.acl_queries.specs.Differences.{AreAlike, Differ}
-use Rattle.acl_queries.specs.declared.compare_command.list.AnyAcl.TheVariants.{Posix}
+use Rattle.acl_queries.specs.declared.command.list.AnyAcl.TheVariants.{Posix}
 use Rattle.acl_queries.proofs.DifferenceLemmas.{whole_found}
 use Rattle.acl_queries.proofs.compare_command.comparison.between_posix_lists.Goals as goal
 

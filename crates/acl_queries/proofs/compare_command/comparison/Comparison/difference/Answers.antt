@@ -1,8 +1,8 @@
 use Rattle.std.proofs.Common.{sym, subst, MatchOption}
 use Rattle.acl_queries.specs.Comparing.{between}
 use Rattle.acl_queries.specs.Differences.{AreAlike, Differ}
-use Rattle.acl_queries.specs.declared.compare_command.list.AnyAcl.{AnyAcl}
-use Rattle.acl_queries.specs.declared.compare_command.list.AnyAcl.TheVariants.{Nfs4}
+use Rattle.acl_queries.specs.declared.command.list.AnyAcl.{AnyAcl}
+use Rattle.acl_queries.specs.declared.command.list.AnyAcl.TheVariants.{Nfs4}
 use Rattle.acl_queries.proofs.compare_command.comparison.Comparison.difference.Goals as goal
 
 pub returns-in-Nfs4-Nfs4 : goal.returns-in-Nfs4-Nfs4

@@ -12,8 +12,8 @@ use Rattle.acl_posix.specs.declared.entry.Tag.TheVariants as tags
 use Rattle.acl_nfs4.specs.Ace.{Nfsace4, decides, is_allow}
 use Rattle.acl_nfs4.specs.Evaluation.{allows, speaks}
 use Rattle.acl_nfs4.specs.declared.who.Who.{Who}
-use Rattle.acl_audit.specs.declared.explanation.Class.{Class}
-use Rattle.acl_audit.specs.declared.explanation.Class.TheVariants.{Owner, User, Group, Other}
+use Rattle.acl_queries.specs.declared.explanation.Class.{Class}
+use Rattle.acl_queries.specs.declared.explanation.Class.TheVariants.{Owner, User, Group, Other}
 
 -- ---- POSIX lists
 

@@ -1,8 +1,8 @@
 //! Why an answer is as it is: the two examples, of a user in staff and ops, and of one in ops.
-use acl_audit::{Class, class_of, effective_perms, first_speaker, lacks};
 use acl_names::{Gid, Requester, Uid};
 use acl_nfs4::Mask;
 use acl_posix::{Perms, Tag};
+use acl_queries::{Class, class_of, effective_perms, first_speaker, lacks};
 use bitflags::Flags;
 use std::alloc::Global;
 use tests_common::{acl, acl4};

@@ -19,9 +19,9 @@ use Rattle.acl_nfs4.specs.Ace.{Nfsace4, decides, is_allow}
 use Rattle.acl_nfs4.proofs.MaskBits.{contains-one}
 use Rattle.acl_nfs4.specs.Evaluation.{allows, speaks}
 use Rattle.acl_nfs4.specs.declared.who.Who.{Who}
-use Rattle.acl_audit.specs.Explanation.{AreSameOrSilent, AreSameWhere, ClassesDecide, FirstSpeakersDecide, LaterEntriesDontCount, OtherEntriesDontCount, SilentEntriesDontCount, SaidBy, counts, is_of_class, speaks_of}
-use Rattle.acl_audit.specs.declared.explanation.Class.{Class}
-use Rattle.acl_audit.specs.declared.explanation.Class.TheVariants.{Owner, User, Group, Other}
+use Rattle.acl_queries.specs.Explanation.{AreSameOrSilent, AreSameWhere, ClassesDecide, FirstSpeakersDecide, LaterEntriesDontCount, OtherEntriesDontCount, SilentEntriesDontCount, SaidBy, counts, is_of_class, speaks_of}
+use Rattle.acl_queries.specs.declared.explanation.Class.{Class}
+use Rattle.acl_queries.specs.declared.explanation.Class.TheVariants.{Owner, User, Group, Other}
 
 -- the class, by the three tests: the owner asks, the user has an entry, a group of the requester has one
 abbrev class_by : Bool → Bool → Bool → Class

@@ -1,31 +1,33 @@
-//! Lists of either style, as the fields of `compare` write them: with ids, for the directory has no
-//! names.
+//! Lists of either style, as fields write them: with ids, for the directory has no names.
 ghost use Rattle.std.specs.Prelude.{◌≡◌, Ok, IfErr, IfOk};
-ghost use Rattle.acl_queries.specs.Compared.{aces_of, style_of, list_of};
+ghost use Rattle.clap.specs.Words.{found_of, rows_of};
+ghost use Rattle.acl_queries.specs.ListField.{aces_of, list_in, list_of, style_of};
 ghost use Rattle.acl_queries.specs.Faults.{Explains};
 
-use crate::command::acl::{empty_directory, read_acl};
-use crate::command::query_fault::{FieldFault, QueryFault};
+use super::acl::{empty_directory, read_acl};
+use super::options::text_field;
+use super::query_fault::{FieldFault, QueryFault};
 use acl_nfs4::{Acl4, read_aces};
 use acl_posix::Acl;
+use clap::ArgMatches;
 use std::alloc::Global;
 
 /// A style of access control lists.
 #[derive(Clone, Copy, Debug, PartialEq, Eq)]
-pub(super) enum Style {
+pub(crate) enum Style {
     Posix,
     Nfs4,
 }
 
 /// An access control list of either style.
 #[derive(Drop)]
-pub(super) enum AnyAcl {
+pub(crate) enum AnyAcl {
     Posix(Acl),
     Nfs4(Acl4),
 }
 
 /// The style that a text names.
-pub(super) fn read_style(text: &str) -> Result<Style, FieldFault>
+fn read_style(text: &str) -> Result<Style, FieldFault>
     ensures { result ≡ style_of text.now }
 {
     if text == "posix" {
@@ -47,7 +49,7 @@ fn read_acl4(alloc: Global, text: &str) -> Result<Acl4, QueryFault>
 }
 
 /// The list of this style that a text spells.
-pub(super) fn read_list(alloc: Global, style: Style, text: &str) -> Result<AnyAcl, QueryFault>
+fn read_list(alloc: Global, style: Style, text: &str) -> Result<AnyAcl, QueryFault>
     ensures read { IfOk result (λ acl. list_of style text.now ≡ Ok acl) }
     ensures refused { IfErr result (Explains (list_of style text.now)) }
 {
@@ -55,4 +57,24 @@ pub(super) fn read_list(alloc: Global, style: Style, text: &str) -> Result<AnyAc
         Style::Posix => Ok(AnyAcl::Posix(read_acl(alloc, text)?)),
         Style::Nfs4 => Ok(AnyAcl::Nfs4(read_acl4(alloc, text)?)),
     }
+}
+
+/// The list whose style and text have these names.
+pub(crate) fn list_field(
+    alloc: Global,
+    matches: &ArgMatches<'_>,
+    style_name: &str,
+    text_name: &str,
+) -> Result<AnyAcl, QueryFault>
+    ensures read { IfOk result (λ acl. list_in style_name.now text_name.now
+        (rows_of (found_of matches.now)) ≡ Ok acl) }
+    ensures refused { IfErr result (Explains (list_in style_name.now text_name.now
+        (rows_of (found_of matches.now)))) }
+{
+    let style = read_style(text_field(matches, style_name).ok_or(FieldFault::BadStyle)?)?;
+    read_list(
+        alloc,
+        style,
+        text_field(matches, text_name).ok_or(FieldFault::BadAcl)?,
+    )
 }

@@ -1,0 +1,114 @@
+-- What `explain` says: the answer, and why it is so.
+use Rattle.std.specs.Prelude.{◌≡◌, ◌↔◌, ◌+◌, ℕ, Bool, IsTrue, List, [], ◌∷◌, ◌++◌, Option, Some, None}
+use Rattle.std.specs.Prelude.{codes, decimal, if◌then◌else◌, option_map, slice_get, unwrap_or}
+use Rattle.std.specs.List.{flat_map}
+use Rattle.acl_names.specs.Bits.{has_all}
+use Rattle.acl_names.specs.Bytes.{newline, space}
+use Rattle.acl_names.specs.Directory.{Known}
+use Rattle.acl_names.specs.Letters.{letters_text}
+use Rattle.acl_posix.specs.Access.{effective_perms, grants}
+use Rattle.acl_posix.specs.Entry.{EntryValue, perms_of}
+use Rattle.acl_posix.specs.PermsText.{perms_text}
+use Rattle.acl_posix.specs.PrintedText.{entry_text}
+use Rattle.acl_posix.specs.declared.entry.Tag.TheVariants.{Mask}
+use Rattle.acl_nfs4.specs.Ace.{Nfsace4}
+use Rattle.acl_nfs4.specs.Evaluation.{Grants}
+use Rattle.acl_nfs4.specs.Letters.{mask_table}
+use Rattle.acl_nfs4.specs.Mask.{mask_of}
+use Rattle.acl_nfs4.specs.PrintedText.{ace_text}
+use Rattle.acl_nfs4.specs.Who.{matches}
+use Rattle.acl_nfs4.specs.declared.who.Who.{Who}
+use Rattle.acl_queries.specs.AclText.{nobody}
+use Rattle.acl_queries.specs.Explained.{Explained}
+use Rattle.acl_queries.specs.Explanation.{class_of, first_speaker, is_limited, is_of_class, lacks}
+use Rattle.acl_queries.specs.Outcome.{answer_line}
+use Rattle.acl_queries.specs.declared.command.list.AnyAcl.{AnyAcl}
+use Rattle.acl_queries.specs.declared.command.list.AnyAcl.TheVariants.{Posix, Nfs4}
+use Rattle.acl_queries.specs.declared.explanation.Class.{Class}
+use Rattle.acl_queries.specs.declared.explanation.Class.TheVariants as class
+
+-- ---- POSIX lists
+
+abbrev pub class_word : Class → List ℕ
+class_word class.Owner = codes "owner"
+class_word class.User = codes "user"
+class_word class.Group = codes "group"
+class_word class.Other = codes "other"
+
+-- `class CLASS`
+abbrev pub class_line : Class → List ℕ
+class_line class = codes "class " ++ class_word class ++ codes "\n"
+
+-- `entry ENTRY EFFECTIVE LACKS`: what the entry gives under the mask, and what of the request it
+-- lacks
+abbrev pub entry_line : Known → List EntryValue → ℕ → EntryValue → List ℕ
+entry_line known acl request entry = codes "entry " ++ entry_text known entry ++ codes " "
+    ++ perms_text (effective_perms acl entry) ++ codes " " ++ perms_text (lacks acl entry request)
+    ++ codes "\n"
+
+-- of an entry that is of the class
+abbrev pub entry_line_if : Known → Class → Explained → List EntryValue → EntryValue → List ℕ
+entry_line_if known class asked acl entry =
+    if is_of_class class asked.group asked.requester entry.tag
+    then entry_line known acl asked.request entry else []
+
+-- `mask PERMS`
+abbrev pub mask_line : Option ℕ → List ℕ
+mask_line None = []
+mask_line (Some mask) = codes "mask " ++ perms_text mask ++ codes "\n"
+
+-- the mask, if it limits the class
+abbrev pub mask_line_if : Class → List EntryValue → List ℕ
+mask_line_if class acl = if is_limited class then mask_line (perms_of Mask acl) else []
+
+-- the class that decides, its entries, and the mask that limits it
+abbrev pub class_reasons : Known → Class → Explained → List EntryValue → List ℕ
+class_reasons known class asked acl = class_line class
+    ++ flat_map (entry_line_if known class asked acl) acl ++ mask_line_if class acl
+
+abbrev pub posix_reasons : Known → Explained → List EntryValue → List ℕ
+posix_reasons known asked acl =
+    class_reasons known (class_of acl asked.owner asked.group asked.requester) asked acl
+
+-- ---- NFSv4 lists
+
+-- `K ACE`, K being the place from 1; or `- -` if no entry speaks of the bit
+abbrev pub speaker_text : Known → List Nfsace4 → Option ℕ → List ℕ
+speaker_text known aces None = codes "- -"
+speaker_text known aces (Some place) = decimal (place + 1) ++ codes " "
+    ++ unwrap_or (option_map (ace_text known) (slice_get aces place)) []
+
+-- `LETTER K ACE`
+abbrev pub bit_line : Known → (Who → Bool) → List Nfsace4 → ℕ → List ℕ
+bit_line known applies aces bit = letters_text mask_table bit ++ codes " "
+    ++ speaker_text known aces (first_speaker applies bit aces) ++ codes "\n"
+
+-- of a bit that is asked for
+abbrev pub bit_line_if : Known → (Who → Bool) → ℕ → List Nfsace4 → ℕ → List ℕ
+bit_line_if known applies mask aces bit = if has_all mask bit then bit_line known applies aces bit
+    else []
+
+-- a line for each of the bits READ_DATA, WRITE_DATA, APPEND_DATA and EXECUTE that is asked for
+abbrev pub nfs4_reasons : Known → (Who → Bool) → ℕ → List Nfsace4 → List ℕ
+nfs4_reasons known applies mask aces =
+    flat_map (bit_line_if known applies mask aces) (0x1 ∷ 0x2 ∷ 0x4 ∷ 0x20 ∷ [])
+
+-- ---- either
+
+-- whether what is asked is granted
+abbrev pub Decides : Explained → AnyAcl → Bool → Type 0
+Decides asked (Posix acl) granted =
+    granted ≡ grants acl asked.owner asked.group asked.requester asked.request
+Decides asked (Nfs4 acl) granted = IsTrue granted
+    ↔ Grants (matches asked.owner asked.group asked.requester) acl (mask_of asked.request)
+
+abbrev pub reasons : Known → Explained → AnyAcl → List ℕ
+reasons known asked (Posix acl) = posix_reasons known asked acl
+reasons known asked (Nfs4 acl) = nfs4_reasons known
+    (matches asked.owner asked.group asked.requester) (mask_of asked.request) acl
+
+-- the text says whether what is asked is granted, and why
+pub record Explains (asked : Explained) (text : List ℕ) : Type 0 where
+  pub granted : Bool
+  pub decides : Decides asked asked.acl granted
+  pub says : text ≡ answer_line granted ++ reasons nobody asked asked.acl

@@ -1,0 +1,40 @@
+-- What the words of `explain` ask, read field by field.
+use Rattle.std.specs.Prelude.{ℕ, List, Result, Ok, codes}
+use Rattle.clap.specs.Words.{Text, Row, matches_of}
+use Rattle.acl_names.specs.Requester.{Identity}
+use Rattle.acl_names.specs.Steps.{◌>>=◌}
+use Rattle.acl_queries.specs.Asked.{gids_in, id_in, perms_in}
+use Rattle.acl_queries.specs.ExplainLine.{explain_line}
+use Rattle.acl_queries.specs.ListField.{list_in}
+use Rattle.acl_queries.specs.declared.command.list.AnyAcl.{AnyAcl}
+use Rattle.acl_queries.specs.declared.command.query_fault.FieldFault.{FieldFault}
+
+-- why the requester may do all of what is requested with a file of this owner, this group and this
+-- access control list, or may not
+pub record Explained : Type 0 where
+  pub owner : ℕ
+  pub group : ℕ
+  pub requester : Identity
+  pub request : ℕ
+  pub acl : AnyAcl
+
+-- what is asked, or the fault of the first field that doesn't read, in this order
+unfoldable pub explained_in : List Row → Result Explained FieldFault
+explained_in rows = do
+  owner ← id_in (codes "owner") rows
+  group ← id_in (codes "group") rows
+  uid ← id_in (codes "uid") rows
+  gids ← gids_in rows
+  perms ← perms_in rows
+  acl ← list_in (codes "style") (codes "text") rows
+  Ok (record {
+    owner = owner;
+    group = group;
+    requester = record { uid = uid; gids = gids };
+    request = perms;
+    acl = acl;
+  })
+
+-- what the words ask, if the parser finds no fault in them
+abbrev pub explained_by : List Text → Result Explained FieldFault
+explained_by words = explained_in (matches_of explain_line words)

@@ -1,0 +1,107 @@
+//! Why an NFSv4 list decides as it does.
+ghost use Rattle.std.specs.Prelude.{◌≡◌, ◌<◌, ◌+◌, ◌++◌, IfSome, OnOk, codes, decimal, length};
+ghost use Rattle.acl_nfs4.specs.Mask.{mask_bits, mask_of};
+ghost use Rattle.acl_nfs4.specs.PrintedText.{ace_text};
+ghost use Rattle.acl_nfs4.specs.Who.{matches};
+ghost use Rattle.acl_nfs4.specs.declared.limits.TheConstants.{MAX_ACES};
+ghost use Rattle.acl_queries.specs.ExplainText.{bit_line, bit_line_if, nfs4_reasons, speaker_text};
+
+use super::question::Question;
+use crate::explanation::first_speaker;
+use acl_names::Directory;
+use acl_nfs4::{Ace, Acl4, Mask, mask_of, push_ace, push_mask};
+use bitflags::Flags;
+use itoa::Buffer;
+use std::alloc::AllocError;
+
+/// Appends the place of an entry, counted from 1, and the entry.
+fn push_placed(
+    place: usize,
+    ace: &Ace,
+    directory: &Directory,
+    out: &mut Vec<u8>,
+) -> Result<(), AllocError>
+    requires { place < MAX_ACES }
+    ensures { OnOk result (out.new.items ≡ out.old.items
+        ++ decimal (place + 1) ++ codes " " ++ ace_text directory.now ace.now) }
+{
+    out.extend_from_slice(Buffer::new().format(place + 1).as_bytes())?;
+    out.push(b' ')?;
+    push_ace(ace, directory, out)
+}
+
+/// Appends who speaks: the entry at the place, or nobody.
+fn push_speaker(
+    acl: &Acl4,
+    place: Option<usize>,
+    directory: &Directory,
+    out: &mut Vec<u8>,
+) -> Result<(), AllocError>
+    requires { IfSome place (λ place. place < length acl.now) }
+    ensures { OnOk result (out.new.items ≡ out.old.items
+        ++ speaker_text directory.now acl.now place) }
+{
+    match place {
+        Some(place) => push_placed(place, &acl.aces()[place], directory, out),
+        None => out.extend_from_slice("- -".as_bytes()),
+    }
+}
+
+/// Appends the line of a bit, a mask of one.
+fn push_bit(
+    bit: Mask,
+    question: &Question,
+    acl: &Acl4,
+    directory: &Directory,
+    out: &mut Vec<u8>,
+) -> Result<(), AllocError>
+    ensures { OnOk result (out.new.items ≡ out.old.items ++ bit_line directory.now
+        (matches question.now.owner question.now.group question.now.requester) acl.now
+        (mask_bits bit)) }
+{
+    push_mask(bit, out)?;
+    out.push(b' ')?;
+    let (owner, group) = (question.owner, question.group);
+    let place = first_speaker(acl, owner, group, &question.requester, bit);
+    push_speaker(acl, place, directory, out)?;
+    out.push(b'\n')?;
+    Ok(())
+}
+
+/// Appends the line of a bit, if it is asked for.
+fn push_bit_if(
+    bit: Mask,
+    asked: Mask,
+    question: &Question,
+    acl: &Acl4,
+    directory: &Directory,
+    out: &mut Vec<u8>,
+) -> Result<(), AllocError>
+    ensures { OnOk result (out.new.items ≡ out.old.items ++ bit_line_if directory.now
+        (matches question.now.owner question.now.group question.now.requester) (mask_bits asked)
+        acl.now (mask_bits bit)) }
+{
+    if asked.contains(bit) {
+        push_bit(bit, question, acl, directory, out)?;
+    }
+    Ok(())
+}
+
+/// Appends a line for each bit that is asked for: its letter, and the entry that speaks first of
+/// it.
+pub(super) fn push_nfs4_reasons(
+    question: &Question,
+    acl: &Acl4,
+    directory: &Directory,
+    out: &mut Vec<u8>,
+) -> Result<(), AllocError>
+    ensures { OnOk result (out.new.items ≡ out.old.items ++ nfs4_reasons directory.now
+        (matches question.now.owner question.now.group question.now.requester)
+        (mask_of question.now.request) acl.now) }
+{
+    let asked = mask_of(question.request);
+    push_bit_if(Mask::READ_DATA, asked, question, acl, directory, out)?;
+    push_bit_if(Mask::WRITE_DATA, asked, question, acl, directory, out)?;
+    push_bit_if(Mask::APPEND_DATA, asked, question, acl, directory, out)?;
+    push_bit_if(Mask::EXECUTE, asked, question, acl, directory, out)
+}

@@ -1,0 +1,62 @@
+//! What the words of `explain` ask.
+ghost use Rattle.std.specs.Prelude.{◌≡◌, codes, Ok, IfErr, IfOk};
+ghost use Rattle.clap.specs.Words.{found_of, rows_of};
+ghost use Rattle.acl_queries.specs.Explained.{explained_in};
+ghost use Rattle.acl_queries.specs.Faults.{Explains};
+
+use crate::command::ids::{gid_field, gids_field, uid_field};
+use crate::command::list::{AnyAcl, list_field};
+use crate::command::perms::perms_field;
+use crate::command::query_fault::QueryFault;
+use acl_names::{Gid, Requester, Uid};
+use acl_posix::Perms;
+use clap::ArgMatches;
+use std::alloc::Global;
+use std::marker::Model;
+
+/// Why who asks may do what is requested with a file, or may not.
+#[derive(Drop)]
+pub(super) struct Question {
+    pub owner: Uid,
+    pub group: Gid,
+    pub requester: Requester,
+    pub request: Perms,
+    pub acl: AnyAcl,
+}
+
+impl Model for Question {
+    ghost use Rattle.acl_posix.specs.Perms.{bits_of};
+    ghost use Rattle.acl_queries.specs.Explained.{Explained};
+
+    ghost Value = { Explained };
+
+    ghost view = { λ question. record {
+      owner = question.owner;
+      group = question.group;
+      requester = question.requester;
+      request = bits_of question.request;
+      acl = question.acl;
+    } };
+}
+
+/// What the words ask, their fields read in order.
+#[tactic(auto, unfolding(crate::specs::Explained::explained_in))]
+pub(super) fn read_question(alloc: Global, matches: &ArgMatches<'_>) -> Result<Question, QueryFault>
+    ensures read { IfOk result (λ question. explained_in (rows_of (found_of matches.now))
+        ≡ Ok question) }
+    ensures refused { IfErr result (Explains (explained_in (rows_of (found_of matches.now)))) }
+{
+    let owner = uid_field(matches, "owner")?;
+    let group = gid_field(matches, "group")?;
+    let uid = uid_field(matches, "uid")?;
+    let gids = gids_field(alloc, matches)?;
+    let request = perms_field(matches)?;
+    let acl = list_field(alloc, matches, "style", "text")?;
+    Ok(Question {
+        owner,
+        group,
+        requester: Requester::new(uid, gids),
+        request,
+        acl,
+    })
+}

@@ -1,0 +1,183 @@
+//! Tests of `explain`.
+use acl_queries::{ErrorOutput, explain};
+use std::alloc::Global;
+use std::test::Fail;
+
+/// The fields in order: owner, group, uid, gids, perms, STYLE, TEXT.
+type Fields<'a> = [&'a str; 7];
+
+const BY_GROUPS: &str = "u::rw,g::r,g:60:rw,m::r,o::-";
+
+const BY_ACES: &str = "A::OWNER@:rwa,D:g:60:w,A::EVERYONE@:rwa";
+
+/// All fields but TEXT with blanks between them, TEXT, and the answer.
+const ANSWERS: [(&str, &str, &str); 12] = [
+    // The mask takes from both groups what one of them has.
+    (
+        "1000 50 1001 50,60 rw posix",
+        BY_GROUPS,
+        "denied\nclass group\nentry group::r-- r-- -w-\nentry group:60:rw- r-- -w-\nmask r--\n",
+    ),
+    // Another group doesn't count.
+    (
+        "1000 50 1001 60 r posix",
+        BY_GROUPS,
+        "granted\nclass group\nentry group:60:rw- r-- ---\nmask r--\n",
+    ),
+    // The mask doesn't limit the owner.
+    (
+        "1000 50 1000 60 rw posix",
+        BY_GROUPS,
+        "granted\nclass owner\nentry user::rw- rw- ---\n",
+    ),
+    // Nor does it limit the others.
+    (
+        "1000 50 1001 70 r posix",
+        "u::rw,g::r,g:60:rw,m::-,o::r",
+        "granted\nclass other\nentry other::r-- r-- ---\n",
+    ),
+    // A user's own entry goes before those of the groups. The entries are in no order.
+    (
+        "1000 50 1001 50 w posix",
+        "o::rwx,m::r,g::rwx,u:1002:rwx,u:1001:rw,u::-",
+        "denied\nclass user\nentry user:1001:rw- r-- -w-\nmask r--\n",
+    ),
+    // There is no mask.
+    (
+        "1000 50 1001 50 x posix",
+        "u::-,g::r,o::x",
+        "denied\nclass group\nentry group::r-- r-- --x\n",
+    ),
+    // To write is two bits.
+    (
+        "1000 50 1001 60 rw nfs4",
+        BY_ACES,
+        "denied\nr 3 A::EVERYONE@:rwa\nw 2 D:g:60:w\na 3 A::EVERYONE@:rwa\n",
+    ),
+    (
+        "1000 50 1000 60 rw nfs4",
+        BY_ACES,
+        "granted\nr 1 A::OWNER@:rwa\nw 1 A::OWNER@:rwa\na 1 A::OWNER@:rwa\n",
+    ),
+    // Nobody speaks of it.
+    ("1000 50 1001 60 x nfs4", BY_ACES, "denied\nx - -\n"),
+    // An entry that is only inherited decides nothing, nor does one of another kind.
+    (
+        "1000 50 1001 60 rx nfs4",
+        "A:fi:1001:rx,U:S:1001:rx,D:g:GROUP@:x,A::1001:rx",
+        "granted\nr 4 A::1001:rx\nx 4 A::1001:rx\n",
+    ),
+    // Nothing is asked for.
+    ("1000 50 1001 60 - nfs4", "", "granted\n"),
+    (
+        "1000 50 1001 60 - posix",
+        "u::rw,g::r,o::-",
+        "granted\nclass other\nentry other::--- --- ---\n",
+    ),
+];
+
+/// Fields of which one is faulty and those after it may be, with blanks between them, and what is
+/// said.
+const FAULTS: [(&str, &str); 9] = [
+    ("x y z z z z z", "aclctl: bad-id\n"),
+    ("1 4294967295 z z z z z", "aclctl: bad-id\n"),
+    ("1 2 z z z z z", "aclctl: bad-id\n"),
+    ("1 2 3 4, z z z", "aclctl: bad-id\n"),
+    ("1 2 3 4 rr z z", "aclctl: bad-perms\n"),
+    ("1 2 3 4 r POSIX x", "aclctl: bad-style\n"),
+    ("1 2 3 4 r posix u::rw", "aclctl: invalid-acl\n"),
+    ("1 2 3 4 r nfs4 A::bob:r", "aclctl: unknown-name\n"),
+    ("1 2 3 4 r nfs4 A:i:1:r", "aclctl: inherit-only\n"),
+];
+
+fn words_for<'a>(fields: &Fields<'a>) -> [&'a str; 13] {
+    [
+        "explain", "--owner", fields[0], "--group", fields[1], "--uid", fields[2], "--gids",
+        fields[3], "--perms", fields[4], fields[5], fields[6],
+    ]
+}
+
+/// Whether the command ends so: with this status, and with these texts on its output and for its
+/// faults.
+fn ends_with(alloc: Global, fields: &Fields<'_>, status: u8, text: &str, fault: &str) -> bool {
+    let words = words_for(fields);
+    let mut out = Vec::new(alloc);
+    let mut err = Vec::new(alloc);
+    explain(
+        alloc,
+        words.as_slice(),
+        &mut out,
+        &mut ErrorOutput::new(&mut err),
+    ) == status
+        && out.as_slice() == text.as_bytes()
+        && err.as_slice() == fault.as_bytes()
+}
+
+/// The fields of a line that has all but TEXT.
+fn fields_of<'a>(line: &'a str, text: &'a str) -> Option<Fields<'a>> {
+    let mut fields = line.split(' ');
+    Some([
+        fields.next()?,
+        fields.next()?,
+        fields.next()?,
+        fields.next()?,
+        fields.next()?,
+        fields.next()?,
+        text,
+    ])
+}
+
+#[test]
+fn answers_of_lists(rt: HostRuntime) -> Result<(), Fail> {
+    for (line, text, answer) in ANSWERS {
+        let fields = fields_of(line, text).ok_or("not enough fields")?;
+        assert!(rt;
+            ends_with(rt.alloc(), &fields, 0, answer, ""),
+            "{line} {text}"
+        );
+    }
+    Ok(())
+}
+
+#[test]
+fn faults_of_fields(rt: HostRuntime) -> Result<(), Fail> {
+    for (line, fault) in FAULTS {
+        let (front, text) = line.rsplit_once(' ').ok_or("not enough fields")?;
+        let fields = fields_of(front, text).ok_or("not enough fields")?;
+        assert!(rt; ends_with(rt.alloc(), &fields, 1, "", fault), "{line}");
+    }
+    Ok(())
+}
+
+/// Without groups, and with a list that the words lack.
+#[test]
+fn words_that_are_refused(rt: HostRuntime) -> Result<(), Fail> {
+    let words = [
+        "explain", "--owner", "1", "--group", "2", "--uid", "3", "--perms", "r", "posix",
+    ];
+    let mut out = Vec::new(rt.alloc());
+    let mut err = Vec::new(rt.alloc());
+    let mut told = ErrorOutput::new(&mut err);
+    let status = explain(rt.alloc(), words.as_slice(), &mut out, &mut told);
+    assert_eq!(rt; status, 2);
+    assert!(rt; out.is_empty());
+    assert!(rt; !err.is_empty());
+    Ok(())
+}
+
+/// A user without groups asks of an output that takes nothing.
+#[test]
+fn an_answer_that_cannot_be_written(rt: HostRuntime) -> Result<(), Fail> {
+    let words = [
+        "explain", "--owner", "1", "--group", "2", "--uid", "3", "--perms", "r", "nfs4", BY_ACES,
+    ];
+    let mut room = [0; 9];
+    let mut out = room.as_mut_slice();
+    let mut err = Vec::new(rt.alloc());
+    let mut told = ErrorOutput::new(&mut err);
+    let status = explain(rt.alloc(), words.as_slice(), &mut out, &mut told);
+    assert_eq!(rt; status, 3);
+    assert!(rt; room == *b"granted\nr");
+    assert!(rt; err.as_slice() == b"aclctl: run: output\n".as_slice());
+    Ok(())
+}
