@@ -9,8 +9,8 @@ use Rattle.acl_queries.specs.declared.command.query_fault.FieldFault.{FieldFault
 -- an answer, or the fault of a field
 abbrev pub EndsByReading : {A : Type 0} → (A → List ℕ → Type 0) → Result A FieldFault
     → Option (List ℕ) → Option (List ℕ) → ℕ → Type 0
-EndsByReading Answers (Ok asked) old new status =
-    (text : List ℕ) × Answers asked text × EndsAs (record { status = 0; text = text }) old new status
+EndsByReading Answers (Ok asked) old new status = (text : List ℕ) × Answers asked text
+    × EndsAs (record { status = 0; text = text }) old new status
 EndsByReading Answers (Err fault) old new status =
     EndsAs (record { status = 1; text = [] }) old new status
 

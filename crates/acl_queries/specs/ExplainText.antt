@@ -1,6 +1,6 @@
 -- What `explain` says: the answer, and why it is so.
-use Rattle.std.specs.Prelude.{◌≡◌, ◌↔◌, ◌+◌, ℕ, Bool, IsTrue, List, [], ◌∷◌, ◌++◌, Option, Some, None}
-use Rattle.std.specs.Prelude.{codes, decimal, if◌then◌else◌, option_map, slice_get, unwrap_or}
+use Rattle.std.specs.Prelude.{◌≡◌, ◌↔◌, ◌+◌, ℕ, Bool, IsTrue, List, [], ◌∷◌, ◌++◌, Option, Some}
+use Rattle.std.specs.Prelude.{None, codes, decimal, if◌then◌else◌, slice_get}
 use Rattle.std.specs.List.{flat_map}
 use Rattle.acl_names.specs.Bits.{has_all}
 use Rattle.acl_names.specs.Bytes.{newline, space}
@@ -72,11 +72,15 @@ posix_reasons known asked acl =
 
 -- ---- NFSv4 lists
 
--- `K ACE`, K being the place from 1; or `- -` if no entry speaks of the bit
+-- `K ACE`, K being the place of the entry there, from 1
+abbrev pub placed_text : Known → ℕ → Option Nfsace4 → List ℕ
+placed_text known place (Some ace) = decimal (place + 1) ++ codes " " ++ ace_text known ace
+placed_text known place None = []
+
+-- that of the entry that speaks; or `- -` if none speaks
 abbrev pub speaker_text : Known → List Nfsace4 → Option ℕ → List ℕ
+speaker_text known aces (Some place) = placed_text known place (slice_get aces place)
 speaker_text known aces None = codes "- -"
-speaker_text known aces (Some place) = decimal (place + 1) ++ codes " "
-    ++ unwrap_or (option_map (ace_text known) (slice_get aces place)) []
 
 -- `LETTER K ACE`
 abbrev pub bit_line : Known → (Who → Bool) → List Nfsace4 → ℕ → List ℕ

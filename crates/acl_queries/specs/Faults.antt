@@ -1,5 +1,6 @@
 -- The lines and the exit statuses of faults.
-use Rattle.std.specs.Prelude.{◌≡◌, ◌≢◌, ℕ, List, [], Option, Some, None, Result, Err, IsOk, codes, ⊤}
+use Rattle.std.specs.Prelude.{◌≡◌, ◌≢◌, ℕ, List, [], Option, Some, None, Result, Err, IsOk, codes}
+use Rattle.std.specs.Prelude.{⊤}
 use Rattle.clap.specs.Words.{Kinds, Text, fault_of, kind_of}
 use Rattle.clap.specs.declared.error.Error.{Error}
 use Rattle.clap.specs.declared.error.kind.ErrorKind.{ErrorKind}
@@ -119,8 +120,8 @@ fault_of_invalid invalid.Repeated = Field InvalidAcl
 fault_of_invalid invalid.NoMask = Field InvalidAcl
 fault_of_invalid invalid.Memory = Run Memory
 
--- Words are refused for this: the parser finds these faults in them, or else its fields read so; the
--- first field that doesn't is told.
+-- words are refused for this, if the parser finds these faults in them, and the fields read so: the
+-- parser's fault, or else the first field's
 abbrev pub IsRefusedFor : {A : Type 0} → Kinds → Result A FieldFault → QueryFault → Type 0
 IsRefusedFor kinds reading (Field fault) = (kinds ≡ []) × (reading ≡ Err fault)
 IsRefusedFor kinds reading (Usage error) = ¬ (kinds ≡ [])

@@ -12,7 +12,7 @@ mod setup;
 
 pub use acl_queries::{
     CapFault, CommandFault, ErrorOutput, RunFault, WordsFault, alike_lists_differ_for_nobody,
-    compare, decide, read_capped, report, words_ask_what_they_give, words_of, write_text,
+    compare, decide, explain, read_capped, report, words_ask_what_they_give, words_of, write_text,
 };
 pub use acl_runs::{Gate, OpenGate, ServeFault};
 pub use headline::{journal_explains_every_answer, one_session_is_served_as_alone};

@@ -5,6 +5,8 @@ use Rattle.std.specs.Io.KnownBytes.{Appends, IsAtEnd, Keeps}
 use Rattle.acl_names.specs.Bytes.{newline}
 use Rattle.acl_queries.specs.CompareOutcome.{EndsAsCompared, IsCompareFaultOf, IsCutShort}
 use Rattle.acl_queries.specs.ErrorOutput.{SaysFault}
+use Rattle.acl_queries.specs.ExplainOutcome.{EndsAsExplained, IsExplainFaultOf}
+use Rattle.acl_queries.specs.ExplainOutcome.{IsExplanationCutShort}
 use Rattle.acl_queries.specs.Faults.{IsFaultOf, SaysQueryFault}
 use Rattle.acl_queries.specs.Outcome.{EndsAs, Outcome, outcome_of}
 use Rattle.acl_queries.specs.Output.{AppendsFront}
@@ -29,6 +31,7 @@ refusal fault = record { status = status_of fault; text = [] }
 -- the commands
 pub data Command : Type 0 where
   Decide : Command
+  Explain : Command
   Compare : Command
   Run : Command
   Help : Command
@@ -38,10 +41,11 @@ pub data Command : Type 0 where
 abbrev pub command_of : List ℕ → Option Command
 command_of name =
     if bytes_eq name (codes "decide") then Some Decide
+    else (if bytes_eq name (codes "explain") then Some Explain
     else (if bytes_eq name (codes "compare") then Some Compare
     else (if bytes_eq name (codes "run") then Some Run
     else (if bytes_eq name (codes "--help") then Some Help
-    else (if bytes_eq name (codes "--version") then Some Version else None))))
+    else (if bytes_eq name (codes "--version") then Some Version else None)))))
 
 -- what `--version` prints
 abbrev pub version_text : List ℕ
@@ -51,6 +55,7 @@ version_text = codes "aclctl 0.1.0" ++ newline ∷ []
 abbrev pub inputs_of : Option Command → List (List ℕ) → ℕ
 inputs_of (Some Run) words = input_count (sessions_in (run_rows words))
 inputs_of (Some Decide) words = 0
+inputs_of (Some Explain) words = 0
 inputs_of (Some Compare) words = 0
 inputs_of (Some Help) words = 0
 inputs_of (Some Version) words = 0
@@ -72,6 +77,7 @@ abbrev pub EndsAsCommand : Files → Option (List ℕ) → Option Command → Li
     → Option (List ℕ) → Option (List ℕ) → ℕ → Type 0
 EndsAsCommand files input (Some Decide) words old new status =
     EndsAs (outcome_of words) old new status
+EndsAsCommand files input (Some Explain) words old new status = EndsAsExplained words old new status
 EndsAsCommand files input (Some Compare) words old new status = EndsAsCompared words old new status
 EndsAsCommand files input (Some Run) words old new status =
     EndsAsRun files input words old new status
@@ -102,6 +108,7 @@ abbrev pub IsCommandCutShort : Files → Option (List ℕ) → Option Command �
     → Option (List ℕ) → Option (List ℕ) → Type 0
 IsCommandCutShort files input (Some Decide) words old new =
     AppendsFront old new (outcome_of words).text
+IsCommandCutShort files input (Some Explain) words old new = IsExplanationCutShort words old new
 IsCommandCutShort files input (Some Compare) words old new = IsCutShort words old new
 IsCommandCutShort files input (Some Run) words old new = Keeps old new
     ⊎ RunsWords files input (run_rows words) (AppendsFront old new)
@@ -134,6 +141,7 @@ SaysNoCommand status line = (status ≡ status_of NoCommand)
 -- what is said of these words of the command
 abbrev pub SaysCommand : Files → Option Command → List (List ℕ) → ℕ → Option (List ℕ) → Type 0
 SaysCommand files (Some Decide) words = SaysQueryFault (IsFaultOf words)
+SaysCommand files (Some Explain) words = SaysQueryFault (IsExplainFaultOf words)
 SaysCommand files (Some Compare) words = SaysQueryFault (IsCompareFaultOf words)
 SaysCommand files (Some Run) words = SaysRun files words
 SaysCommand files (Some Help) words = SaysLostOutput

@@ -18,6 +18,7 @@ pub const HELP: &str = "usage: aclctl COMMAND [OPTION].. [WORD]..
 
 commands:
   decide     tells whether an access control list grants a request
+  explain    tells why it does: which entries decide
   compare    tells whether anybody gains or loses access between two lists
   run        lets sessions work on one tree at the same time, and prints their answers
   --help     prints this

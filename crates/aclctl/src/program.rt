@@ -7,7 +7,7 @@ ghost use Rattle.aclctl.specs.Program.{SaysFrom, SaysWords, inputs_named};
 
 use crate::help::{print_help, print_version, report_no_command};
 use crate::input::command_words;
-use acl_service::{ErrorOutput, OpenFiles, compare, decide, report};
+use acl_service::{ErrorOutput, OpenFiles, compare, decide, explain, report};
 use std::alloc::Global;
 use std::convert::AsStr;
 use std::io::{Read, Write};
@@ -56,6 +56,7 @@ where
 {
     match words.first() {
         Some(first) if first.as_str() == "decide" => decide(alloc, words, out, err),
+        Some(first) if first.as_str() == "explain" => explain(alloc, words, out, err),
         Some(first) if first.as_str() == "compare" => compare(alloc, words, out, err),
         Some(first) if first.as_str() == "run" => {
             acl_service::run(rt, alloc, files, words, input, out, err)

@@ -192,6 +192,19 @@ fn compares_two_lists(rt: HostRuntime) {
 }
 
 #[test]
+fn explains_an_answer(rt: HostRuntime) {
+    let words = [
+        "explain", "--owner", "1000", "--group", "50", "--uid", "1001", "--gids", "60", "--perms",
+        "rw", "nfs4", "A::OWNER@:rwa,D:g:60:w,A::EVERYONE@:rwa",
+    ];
+    let text = "denied\nr 3 A::EVERYONE@:rwa\nw 2 D:g:60:w\na 3 A::EVERYONE@:rwa\n";
+    let ended = run_over(&rt, rt.alloc(), &EMPTY, words.as_slice(), &mut Broken);
+    assert_eq!(rt; ended.status, 0);
+    assert_eq!(rt; ended.out.as_slice(), text.as_bytes());
+    assert!(rt; ended.err.is_empty());
+}
+
+#[test]
 fn first_word_names_no_command(rt: HostRuntime) -> Result<(), Fail> {
     for (words, line) in [
         (["Decide"].as_slice(), "\"Decide\" names no command\n"),

@@ -1,5 +1,5 @@
 //! Why an NFSv4 list decides as it does.
-ghost use Rattle.std.specs.Prelude.{◌≡◌, ◌<◌, ◌+◌, ◌++◌, IfSome, OnOk, codes, decimal, length};
+ghost use Rattle.std.specs.Prelude.{◌≡◌, ◌<◌, ◌+◌, ◌++◌, OnOk, codes, decimal};
 ghost use Rattle.acl_nfs4.specs.Mask.{mask_bits, mask_of};
 ghost use Rattle.acl_nfs4.specs.PrintedText.{ace_text};
 ghost use Rattle.acl_nfs4.specs.Who.{matches};
@@ -37,13 +37,15 @@ fn push_speaker(
     directory: &Directory,
     out: &mut Vec<u8>,
 ) -> Result<(), AllocError>
-    requires { IfSome place (λ place. place < length acl.now) }
     ensures { OnOk result (out.new.items ≡ out.old.items
         ++ speaker_text directory.now acl.now place) }
 {
-    match place {
-        Some(place) => push_placed(place, &acl.aces()[place], directory, out),
-        None => out.extend_from_slice("- -".as_bytes()),
+    let Some(place) = place else {
+        return out.extend_from_slice("- -".as_bytes());
+    };
+    match acl.aces().get(place) {
+        Some(ace) => push_placed(place, ace, directory, out),
+        None => Ok(()),
     }
 }
 

@@ -71,8 +71,9 @@ fn push_entry_line_if(
     Ok(())
 }
 
-/// Appends the lines of the entries of the class.
+/// Appends the lines of those entries of the list that are of the class.
 fn push_entries(
+    entries: &[Entry],
     class: Class,
     question: &Question,
     acl: &Acl,
@@ -80,9 +81,9 @@ fn push_entries(
     out: &mut Vec<u8>,
 ) -> Result<(), AllocError>
     ensures { OnOk result (out.new.items ≡ out.old.items
-        ++ flat_map (entry_line_if directory.now class question.now acl.now) acl.now) }
+        ++ flat_map (entry_line_if directory.now class question.now acl.now) entries.now) }
 {
-    for entry in acl.entries() {
+    for entry in entries {
         push_entry_line_if(entry, class, question, acl, directory, out)?;
     }
     Ok(())
@@ -120,7 +121,7 @@ fn push_class_reasons(
         ++ class_reasons directory.now class question.now acl.now) }
 {
     push_class(class, out)?;
-    push_entries(class, question, acl, directory, out)?;
+    push_entries(acl.entries(), class, question, acl, directory, out)?;
     push_mask_if(class, acl, out)
 }
 

@@ -2,6 +2,7 @@
 ghost use Rattle.std.specs.Prelude.{◌≡◌, ◌++◌, IfOk, OnOk};
 ghost use Rattle.acl_queries.specs.ExplainText.{Decides, Explains, reasons};
 ghost use Rattle.acl_queries.specs.Outcome.{answer_line};
+ghost use Rattle.acl_queries.specs.declared.command.list.AnyAcl.TheVariants.{Nfs4};
 
 use super::nfs4::push_nfs4_reasons;
 use super::posix::push_posix_reasons;
@@ -10,20 +11,27 @@ use crate::command::acl::empty_directory;
 use crate::command::answer::answer_line;
 use crate::command::list::AnyAcl;
 use acl_names::Directory;
-use acl_nfs4::mask_of;
+use acl_nfs4::{Acl4, mask_of};
 use std::alloc::{AllocError, Global};
+
+/// Whether an NFSv4 list grants what is asked.
+fn is_granted_by(acl: &Acl4, question: &Question) -> bool
+    ensures { Decides question.now (Nfs4 acl.now) result }
+{
+    let asked = mask_of(question.request);
+    acl.grants4(question.owner, question.group, &question.requester, asked)
+}
 
 impl Question {
     /// The answer.
     fn is_granted(&self) -> bool
         ensures { Decides self.now self.now.acl result }
     {
-        let (owner, group) = (self.owner, self.group);
         match &self.acl {
-            AnyAcl::Posix(acl) => acl.grants(owner, group, &self.requester, self.request),
-            AnyAcl::Nfs4(acl) => {
-                acl.grants4(owner, group, &self.requester, mask_of(self.request))
+            AnyAcl::Posix(acl) => {
+                acl.grants(self.owner, self.group, &self.requester, self.request)
             }
+            AnyAcl::Nfs4(acl) => is_granted_by(acl, self),
         }
     }
 
