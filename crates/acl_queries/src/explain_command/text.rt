@@ -1,8 +1,11 @@
 //! The text that `explain` answers with.
-ghost use Rattle.std.specs.Prelude.{◌≡◌, ◌++◌, IfOk, OnOk};
+ghost use Rattle.std.specs.Prelude.{◌≡◌, ◌↔◌, ◌++◌, IfOk, IsTrue, OnOk};
+ghost use Rattle.acl_nfs4.specs.Evaluation.{Grants};
+ghost use Rattle.acl_nfs4.specs.Mask.{mask_of};
+ghost use Rattle.acl_nfs4.specs.Who.{matches};
+ghost use Rattle.acl_posix.specs.Perms.{bits_of};
 ghost use Rattle.acl_queries.specs.ExplainText.{Decides, Explains, reasons};
 ghost use Rattle.acl_queries.specs.Outcome.{answer_line};
-ghost use Rattle.acl_queries.specs.declared.command.list.AnyAcl.TheVariants.{Nfs4};
 
 use super::nfs4::push_nfs4_reasons;
 use super::posix::push_posix_reasons;
@@ -10,16 +13,18 @@ use super::question::Question;
 use crate::command::acl::empty_directory;
 use crate::command::answer::answer_line;
 use crate::command::list::AnyAcl;
-use acl_names::Directory;
+use acl_names::{Directory, Gid, Requester, Uid};
 use acl_nfs4::{Acl4, mask_of};
+use acl_posix::Perms;
 use std::alloc::{AllocError, Global};
 
-/// Whether an NFSv4 list grants what is asked.
-fn is_granted_by(acl: &Acl4, question: &Question) -> bool
-    ensures { Decides question.now (Nfs4 acl.now) result }
+/// Whether an NFSv4 list grants the permissions.
+fn grants_perms(acl: &Acl4, owner: Uid, group: Gid, requester: &Requester, perms: Perms) -> bool
+    ensures { IsTrue result ↔ Grants (matches owner group requester.now) acl.now
+        (mask_of (bits_of perms)) }
 {
-    let asked = mask_of(question.request);
-    acl.grants4(question.owner, question.group, &question.requester, asked)
+    let mask = mask_of(perms);
+    acl.grants4(owner, group, requester, mask)
 }
 
 impl Question {
@@ -27,11 +32,10 @@ impl Question {
     fn is_granted(&self) -> bool
         ensures { Decides self.now self.now.acl result }
     {
+        let (owner, group) = (self.owner, self.group);
         match &self.acl {
-            AnyAcl::Posix(acl) => {
-                acl.grants(self.owner, self.group, &self.requester, self.request)
-            }
-            AnyAcl::Nfs4(acl) => is_granted_by(acl, self),
+            AnyAcl::Posix(acl) => acl.grants(owner, group, &self.requester, self.request),
+            AnyAcl::Nfs4(acl) => grants_perms(acl, owner, group, &self.requester, self.request),
         }
     }
 
