@@ -194,8 +194,19 @@ fn compares_two_lists(rt: HostRuntime) {
 #[test]
 fn explains_an_answer(rt: HostRuntime) {
     let words = [
-        "explain", "--owner", "1000", "--group", "50", "--uid", "1001", "--gids", "60", "--perms",
-        "rw", "nfs4", "A::OWNER@:rwa,D:g:60:w,A::EVERYONE@:rwa",
+        "explain",
+        "--owner",
+        "1000",
+        "--group",
+        "50",
+        "--uid",
+        "1001",
+        "--gids",
+        "60",
+        "--perms",
+        "rw",
+        "nfs4",
+        "A::OWNER@:rwa,D:g:60:w,A::EVERYONE@:rwa",
     ];
     let text = "denied\nr 3 A::EVERYONE@:rwa\nw 2 D:g:60:w\na 3 A::EVERYONE@:rwa\n";
     let ended = run_over(&rt, rt.alloc(), &EMPTY, words.as_slice(), &mut Broken);
