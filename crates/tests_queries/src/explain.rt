@@ -76,18 +76,18 @@ const ANSWERS: [(&str, &str, &str); 12] = [
     ),
 ];
 
-/// Fields of which one is faulty and those after it may be, with blanks between them, and what is
-/// said.
-const FAULTS: [(&str, &str); 9] = [
-    ("x y z z z z z", "aclctl: bad-id\n"),
-    ("1 4294967295 z z z z z", "aclctl: bad-id\n"),
-    ("1 2 z z z z z", "aclctl: bad-id\n"),
-    ("1 2 3 4, z z z", "aclctl: bad-id\n"),
-    ("1 2 3 4 rr z z", "aclctl: bad-perms\n"),
-    ("1 2 3 4 r POSIX x", "aclctl: bad-style\n"),
-    ("1 2 3 4 r posix u::rw", "aclctl: invalid-acl\n"),
-    ("1 2 3 4 r nfs4 A::bob:r", "aclctl: unknown-name\n"),
-    ("1 2 3 4 r nfs4 A:i:1:r", "aclctl: inherit-only\n"),
+/// All fields but TEXT, of which one is faulty and those after it may be, with blanks between them,
+/// TEXT, and what is said.
+const FAULTS: [(&str, &str, &str); 9] = [
+    ("x y z z z z", "z", "aclctl: bad-id\n"),
+    ("1 4294967295 z z z z", "z", "aclctl: bad-id\n"),
+    ("1 2 z z z z", "z", "aclctl: bad-id\n"),
+    ("1 2 3 4, z z", "z", "aclctl: bad-id\n"),
+    ("1 2 3 4 rr z", "z", "aclctl: bad-perms\n"),
+    ("1 2 3 4 r POSIX", "x", "aclctl: bad-style\n"),
+    ("1 2 3 4 r posix", "u::rw", "aclctl: invalid-acl\n"),
+    ("1 2 3 4 r nfs4", "A::bob:r", "aclctl: unknown-name\n"),
+    ("1 2 3 4 r nfs4", "A:i:1:r", "aclctl: inherit-only\n"),
 ];
 
 fn words_for<'a>(fields: &Fields<'a>) -> [&'a str; 13] {
@@ -113,10 +113,10 @@ fn ends_with(alloc: Global, fields: &Fields<'_>, status: u8, text: &str, fault: 
         && err.as_slice() == fault.as_bytes()
 }
 
-/// The fields of a line that has all but TEXT.
-fn fields_of<'a>(line: &'a str, text: &'a str) -> Option<Fields<'a>> {
+/// Whether the words end so whose fields are those of a line, and TEXT.
+fn ends(alloc: Global, line: &str, text: &str, ending: (u8, &str, &str)) -> Option<bool> {
     let mut fields = line.split(' ');
-    Some([
+    let fields = [
         fields.next()?,
         fields.next()?,
         fields.next()?,
@@ -124,29 +124,24 @@ fn fields_of<'a>(line: &'a str, text: &'a str) -> Option<Fields<'a>> {
         fields.next()?,
         fields.next()?,
         text,
-    ])
+    ];
+    Some(ends_with(alloc, &fields, ending.0, ending.1, ending.2))
 }
 
 #[test]
-fn answers_of_lists(rt: HostRuntime) -> Result<(), Fail> {
+fn answers_of_lists(rt: HostRuntime) {
     for (line, text, answer) in ANSWERS {
-        let fields = fields_of(line, text).ok_or("not enough fields")?;
-        assert!(rt;
-            ends_with(rt.alloc(), &fields, 0, answer, ""),
-            "{line} {text}"
-        );
+        let right = ends(rt.alloc(), line, text, (0, answer, ""));
+        assert_eq!(rt; right, Some(true), "{line} {text}");
     }
-    Ok(())
 }
 
 #[test]
-fn faults_of_fields(rt: HostRuntime) -> Result<(), Fail> {
-    for (line, fault) in FAULTS {
-        let (front, text) = line.rsplit_once(' ').ok_or("not enough fields")?;
-        let fields = fields_of(front, text).ok_or("not enough fields")?;
-        assert!(rt; ends_with(rt.alloc(), &fields, 1, "", fault), "{line}");
+fn faults_of_fields(rt: HostRuntime) {
+    for (line, text, fault) in FAULTS {
+        let right = ends(rt.alloc(), line, text, (1, "", fault));
+        assert_eq!(rt; right, Some(true), "{line} {text}");
     }
-    Ok(())
 }
 
 /// Without groups, and with a list that the words lack.
