@@ -5,7 +5,7 @@ use Rattle.acl_queries.proofs.ErrorLemmas.{Reports-line, Reports-map}
 use Rattle.aclctl.specs.Fault.{program_line, status_of}
 use Rattle.aclctl.specs.declared.fault.ProgramFault.{ProgramFault}
 use Rattle.aclctl.specs.declared.fault.ProgramFault.TheVariants.{CannotRead, TooManyWords, BadWords, NoCommand, Memory}
-use Rattle.aclctl.specs.Program.{EndsAsWords, SaysFrom, SaysWords, inputs_named}
+use Rattle.aclctl.specs.Program.{AreWordsCutShort, EndsAsWords, SaysFrom, SaysWords, inputs_named}
 use Rattle.aclctl.proofs.program.run.Goals as goal
 
 some_status : (fault : ProgramFault) → 1 ≤ status_of fault
@@ -31,6 +31,14 @@ returns-in-Ok-clause-read g c none ended =
     EndsAsWords (g.F.OpenFiles.bytes_of c.args.files.now) rest (map string_bytes words) (g.W.Write.contents c.args.out.now) (g.W.Write.contents c.run_command.new.out) c.run_command.result in
     let ended_as : EndsAt c.in-Ok.words.items = subst EndsAt c.as_slice.ensures.value (c.run_command.ensures.ended ended) in
     IfSome_then _ (c.in-Ok.ensures.read none) (λ bytes are_words. inl (map string_bytes c.in-Ok.words.items, rest, c.in-Ok.ensures.ended none, are_words, ended_as))
+
+pub returns-in-Ok-clause-cut_read : goal.returns-in-Ok-clause-cut_read
+returns-in-Ok-clause-cut_read g c none lacked =
+    let rest = g.I.Read.remaining c.command_words.new.reader in
+    let CutShort = λ (words : List (String Global)).
+    AreWordsCutShort (g.F.OpenFiles.bytes_of c.args.files.now) rest (map string_bytes words) (g.W.Write.contents c.args.out.now) (g.W.Write.contents c.run_command.new.out) in
+    let cut : CutShort c.in-Ok.words.items = subst CutShort c.as_slice.ensures.value (c.run_command.ensures.cut lacked) in
+    IfSome_then _ (c.in-Ok.ensures.read none) (λ bytes are_words. inr (map string_bytes c.in-Ok.words.items, rest, c.in-Ok.ensures.ended none, are_words, cut))
 
 pub returns-in-Ok-clause-untouched : goal.returns-in-Ok-clause-untouched
 returns-in-Ok-clause-untouched g c some none =
