@@ -272,15 +272,22 @@ fn words_on_standard_input_take_65_536_bytes(rt: HostRuntime) -> Result<(), Fail
     Ok(())
 }
 
-/// The last word is a list with a comment behind it that fills what words may have.
+/// The words that ask, with a comment behind the list, so many bytes in all.
+fn commented(alloc: Global, count: usize) -> Result<Vec<u8>, AllocError> {
+    let mut text = ASKED_LINES.trim_end().as_bytes().to_vec(alloc)?;
+    text.push(b'#')?;
+    for _ in text.len()..count {
+        text.push(b'x')?;
+    }
+    Ok(text)
+}
+
+/// What words may have is filled.
 #[test]
 fn long_words_are_words(rt: HostRuntime) -> Result<(), Fail> {
     for count in [10_000, 59_999, 65_536] {
-        let mut text = ASKED_LINES.trim_end().as_bytes().to_vec(rt.alloc())?;
-        text.push(b'#')?;
-        while text.len() < count {
-            text.push(b'x')?;
-        }
+        let text = commented(rt.alloc(), count)?;
+        assert_eq!(rt; text.len(), count);
         let ended = run_input(&rt, rt.alloc(), &mut text.as_slice());
         assert_eq!(rt; ended.status, 0);
         assert_eq!(rt; ended.out.as_slice(), b"granted\n".as_slice());
