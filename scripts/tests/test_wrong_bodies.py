@@ -198,7 +198,8 @@ class Bad(unittest.TestCase):
                 path.write_text(text)
             pair = ("src/lib.rt", old, "new")
             more = {"path": "wrong-bodies/lib/bent.edit", **more}
-            edit = wrong.Edit("names", "bent", [pair], [], [*goals], **more)
+            functions = more.pop("functions", [])
+            edit = wrong.Edit("names", "bent", [pair], functions, [*goals], **more)
             with patch.object(wrong, "TOP", Path(room)):
                 return wrong.why_bad(edit)
 
@@ -217,6 +218,14 @@ class Bad(unittest.TestCase):
         self.assertIsNone(self.why("done();", ("proofs/one", "returns-else", "g c")))
         self.assertIsNone(self.why("done();", ("proofs/two", "returns", "g c")))
         self.assertIsNone(self.why("done();", goal, is_neutral=True))
+
+    def test_a_goal_is_one_of_a_function_that_it_edits(self):
+        goal = ("proofs/two", "returns", "g c")
+        one = wrong.Function("src/lib.rt", 1, 2, "one", "proofs/one")
+        self.assertIn("proofs/two", self.why("done();", goal, functions=[one]))
+        two = wrong.Function("src/lib.rt", 1, 2, "two", "proofs/two")
+        self.assertIsNone(self.why("done();", goal, functions=[one, two]))
+        self.assertIsNone(self.why("done();", goal, functions=[None]))
 
 
 class Order(unittest.TestCase):
