@@ -1,7 +1,7 @@
 -- The dump of a tree makes it again.
-use Rattle.std.proofs.Common.{◌≡◌, ◌≢◌, ◌∙◌, ◌+◌, ◌<◌, ◌≤◌, ℕ, suc, Bool, true, false, cond, not, ◌&&◌, ◌||◌, List, [], ◌∷◌, ◌++◌, All, Option, Some, None, option_map, is_some, unwrap_or, Ok, IsSomeAnd, nat_lt, length, refl, sym, ap, ap₂, subst, arith, bytes_eq, nat_cmp, Ordering}
+use Rattle.std.proofs.Common.{◌≡◌, ◌≢◌, ◌∙◌, ◌+◌, ◌≤◌, ℕ, Bool, true, false, cond, not, ◌&&◌, ◌||◌, List, [], ◌∷◌, All, Option, Some, None, option_map, is_some, unwrap_or, Ok, IsSomeAnd, nat_lt, length, refl, sym, ap, ap₂, subst, arith, bytes_eq, nat_cmp, Ordering}
 use Rattle.std.specs.declared.cmp.Ordering.TheVariants.{Less, Equal, Greater}
-use Rattle.std.specs.Ordering.{is_eq, is_lt}
+use Rattle.std.specs.Ordering.{is_lt}
 use Rattle.std.specs.Cmp.Lexicographic.{slice_cmp, nat_list_cmp_total}
 use Rattle.std.specs.List.{AllByRecursion, flat_map}
 use Rattle.std.specs.FinMap as map
@@ -14,8 +14,6 @@ use Rattle.acl_names.proofs.BitSets.{has-without, has-zero, no_bits}
 use Rattle.acl_names.proofs.Keys.{same_name}
 use Rattle.acl_posix.specs.Entry.{EntryValue}
 use Rattle.acl_posix.specs.Mode.{Classes, of_mode}
-use Rattle.acl_nfs4.specs.Ace.{Nfsace4}
-use Rattle.acl_nfs4.specs.Inheritance.{has_inheritance}
 use Rattle.acl_nfs4.specs.declared.inheritance.Kind.{Kind}
 use Rattle.acl_nfs4.specs.declared.inheritance.Kind.TheVariants.{File, Dir}
 use Rattle.acl_tree.specs.Apply.{after, next}

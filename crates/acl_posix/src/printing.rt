@@ -79,11 +79,7 @@ impl Acl {
 
 /// Appends the entry as `print_long` does, without a newline: `tag:qualifier:perms`. If memory runs
 /// out, `out` is as it was.
-pub fn push_entry(
-    entry: &Entry,
-    directory: &Directory,
-    out: &mut Vec<u8>,
-) -> Result<(), AllocError>
+pub fn push_entry(entry: &Entry, directory: &Directory, out: &mut Vec<u8>) -> Result<(), AllocError>
     ensures text { OnOk result (out.new.items
         ≡ out.old.items ++ entry_text directory.now entry.now) }
     ensures unchanged { OnErr result (out.new.items ≡ out.old.items) }

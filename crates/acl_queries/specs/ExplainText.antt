@@ -3,7 +3,6 @@ use Rattle.std.specs.Prelude.{◌≡◌, ◌↔◌, ◌+◌, ℕ, Bool, IsTrue, 
 use Rattle.std.specs.Prelude.{None, codes, decimal, if◌then◌else◌, slice_get}
 use Rattle.std.specs.List.{flat_map}
 use Rattle.acl_names.specs.Bits.{has_all}
-use Rattle.acl_names.specs.Bytes.{newline, space}
 use Rattle.acl_names.specs.Directory.{Known}
 use Rattle.acl_names.specs.Letters.{letters_text}
 use Rattle.acl_posix.specs.Access.{effective_perms, grants}

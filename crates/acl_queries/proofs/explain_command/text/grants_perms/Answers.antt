@@ -1,4 +1,4 @@
-use Rattle.std.proofs.Common.{◌≡◌, ◌↔◌, ℕ, subst}
+use Rattle.std.proofs.Common.{◌↔◌, ℕ, subst}
 use Rattle.std.specs.Prelude.{IsTrue}
 use Rattle.acl_nfs4.specs.Evaluation.{Grants}
 use Rattle.acl_nfs4.specs.Who.{matches}

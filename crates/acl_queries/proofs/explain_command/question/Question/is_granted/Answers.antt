@@ -1,4 +1,4 @@
-use Rattle.std.proofs.Common.{◌≡◌, sym, subst}
+use Rattle.std.proofs.Common.{sym, subst}
 use Rattle.acl_posix.specs.Perms.{bits_of}
 use Rattle.acl_queries.specs.Explained.{Explained}
 use Rattle.acl_queries.specs.ExplainText.{Decides}
