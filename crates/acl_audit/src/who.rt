@@ -1,10 +1,8 @@
 //! Who may do what, line by line.
-ghost use Rattle.std.specs.Prelude.{◌≡◌, ◌++◌, List, OnOk, if◌then◌else◌};
+ghost use Rattle.std.specs.Prelude.{◌≡◌, ◌++◌, OnOk};
 ghost use Rattle.std.specs.List.{flat_map};
-ghost use Rattle.acl_names.specs.Bytes.{hyphen};
 ghost use Rattle.acl_names.specs.Directory.{requester_of};
 ghost use Rattle.acl_posix.specs.Perms.{bits_of};
-ghost use Rattle.acl_posix.specs.PermsText.{perms_text};
 ghost use Rattle.acl_tree.specs.Nodes.{may};
 ghost use Rattle.acl_audit.specs.Letters.{effective};
 ghost use Rattle.acl_audit.specs.Who.{letters_line, may_line, node_lines};
@@ -12,26 +10,10 @@ ghost use Rattle.acl_audit.specs.Who.{node_lines_of_those_who_may, user_line, us
 
 use crate::letters::effective;
 use acl_names::{Directory, Requester, Uid, User};
-use acl_posix::Perms;
+use acl_posix::{Perms, push_perms};
 use acl_tree::Node;
 use bitflags::Flags;
 use std::alloc::{AllocError, Global};
-
-fn letter(there: bool, byte: u8) -> u8
-    ensures { result ≡ (if there then byte else hyphen) }
-{
-    if there { byte } else { b'-' }
-}
-
-/// Appends the three characters of the permissions.
-fn push_perms(perms: Perms, out: &mut Vec<u8>) -> Result<(), AllocError>
-    ensures { OnOk result (out.new.items ≡ out.old.items ++ perms_text (bits_of perms)) }
-{
-    out.push(letter(perms.contains(Perms::READ), b'r'))?;
-    out.push(letter(perms.contains(Perms::WRITE), b'w'))?;
-    out.push(letter(perms.contains(Perms::EXECUTE), b'x'))?;
-    Ok(())
-}
 
 /// Appends the line that says which letters a user has.
 fn push_letters_line(

@@ -52,17 +52,17 @@ first : (entries : List EntryValue) (rest : List (List EntryValue)) → list_any
 first [] rest some = absurd (false≢true some)
 first (entry ∷ entries) rest some = refl
 
-only : (entries : List EntryValue) → first_nonempty (entries ∷ []) ≡ entries
+pub only : (entries : List EntryValue) → first_nonempty (entries ∷ []) ≡ entries
 only [] = refl
 only (entry ∷ entries) = refl
 
-first_kept : (p : EntryValue → Bool) (acl : List EntryValue) (rest : List (List EntryValue)) → list_any p acl ≡ true
+pub first_kept : (p : EntryValue → Bool) (acl : List EntryValue) (rest : List (List EntryValue)) → list_any p acl ≡ true
     → first_nonempty (filter p acl ∷ rest) ≡ filter p acl
 first_kept p acl rest some =
     first (filter p acl) rest
     (sym (list_any-filter p (λ _. true) acl) ∙ list_any-agree (λ e. p e && true) p (λ e. and_true (p e)) acl ∙ some)
 
-first_dropped : (p : EntryValue → Bool) (acl : List EntryValue) (rest : List (List EntryValue)) → list_any p acl ≡ false
+pub first_dropped : (p : EntryValue → Bool) (acl : List EntryValue) (rest : List (List EntryValue)) → list_any p acl ≡ false
     → first_nonempty (filter p acl ∷ rest) ≡ first_nonempty rest
 first_dropped p acl rest none = ap (λ entries. first_nonempty (entries ∷ rest)) (filter-none p acl none)
 

@@ -6,15 +6,14 @@ use Rattle.std.specs.Option.{option_map_or}
 use Rattle.std.proofs.lemmas.Bool.{false≢true}
 use Rattle.acl_names.specs.Bits.{has_all}
 use Rattle.acl_names.specs.Requester.{Identity}
-use Rattle.acl_names.proofs.AnyLemmas.{list_any-agree, list_any-filter, filter-none}
+use Rattle.acl_names.proofs.AnyLemmas.{list_any-filter}
 use Rattle.acl_posix.specs.Access.{effective_perms, first_nonempty, grants, is_for_group_of}
 use Rattle.acl_posix.specs.CheckSteps.{has_group, has_tag, mask_allows}
 use Rattle.acl_posix.specs.Entry.{EntryValue, perms_of, same_tag}
 use Rattle.acl_posix.specs.Validity.{IsValid}
 use Rattle.acl_posix.specs.declared.entry.Tag.{Tag}
 use Rattle.acl_posix.specs.declared.entry.Tag.TheVariants as tags
-use Rattle.acl_posix.proofs.AccessLemmas.{grants-group, grants-other, grants-owner, grants-user, has_tag-valid}
-use Rattle.acl_posix.proofs.PermsLemmas.{and_true}
+use Rattle.acl_posix.proofs.AccessLemmas.{first_dropped, first_kept, only, grants-group, grants-other, grants-owner, grants-user, has_tag-valid}
 use Rattle.acl_nfs4.specs.Ace.{Nfsace4, decides, is_allow}
 use Rattle.acl_nfs4.proofs.MaskBits.{contains-one}
 use Rattle.acl_nfs4.specs.Evaluation.{allows, speaks}
@@ -26,25 +25,6 @@ use Rattle.acl_queries.specs.declared.explanation.Class.TheVariants.{Owner, User
 -- the class, by the three tests: the owner asks, the user has an entry, a group of the requester has one
 abbrev class_by : Bool → Bool → Bool → Class
 class_by o u g = cond o Owner (cond u User (cond g Group Other))
-
--- a first list with a member is the first that isn't empty
-first : (entries : List EntryValue) (rest : List (List EntryValue)) → list_any (λ _. true) entries ≡ true → first_nonempty (entries ∷ rest) ≡ entries
-first [] rest some = absurd (false≢true some)
-first (entry ∷ entries) rest some = refl
-
-only : (entries : List EntryValue) → first_nonempty (entries ∷ []) ≡ entries
-only [] = refl
-only (entry ∷ entries) = refl
-
-first_kept : (p : EntryValue → Bool) (acl : List EntryValue) (rest : List (List EntryValue)) → list_any p acl ≡ true
-    → first_nonempty (filter p acl ∷ rest) ≡ filter p acl
-first_kept p acl rest some =
-    first (filter p acl) rest
-    (sym (list_any-filter p (λ _. true) acl) ∙ list_any-agree (λ e. p e && true) p (λ e. and_true (p e)) acl ∙ some)
-
-first_dropped : (p : EntryValue → Bool) (acl : List EntryValue) (rest : List (List EntryValue)) → list_any p acl ≡ false
-    → first_nonempty (filter p acl ∷ rest) ≡ first_nonempty rest
-first_dropped p acl rest none = ap (λ entries. first_nonempty (entries ∷ rest)) (filter-none p acl none)
 
 module _ (acl : List EntryValue) (owner group : ℕ) (requester : Identity) (request : ℕ) where
   abbrev of_owner : EntryValue → Bool

@@ -4,7 +4,7 @@ use Rattle.clap.specs.Words.{Text, fault_of}
 use Rattle.acl_queries.specs.Answering.{EndsBy, IsAnswerCutShort}
 use Rattle.acl_queries.specs.Explained.{explained_by}
 use Rattle.acl_queries.specs.ExplainLine.{explain_line}
-use Rattle.acl_queries.specs.ExplainText.{Explains}
+use Rattle.acl_queries.specs.ExplainText.{IsExplanation}
 use Rattle.acl_queries.specs.Faults.{IsRefusedFor}
 use Rattle.acl_queries.specs.declared.command.query_fault.QueryFault.{QueryFault}
 
@@ -14,8 +14,8 @@ IsExplainFaultOf words = IsRefusedFor (fault_of explain_line words) (explained_b
 
 -- nothing went out, or a front of an answer to what the words ask
 abbrev pub IsExplanationCutShort : List Text → Option (List ℕ) → Option (List ℕ) → Type 0
-IsExplanationCutShort words = IsAnswerCutShort Explains (explained_by words)
+IsExplanationCutShort words = IsAnswerCutShort IsExplanation (explained_by words)
 
 -- a run ended as the words come to, unless memory ran out or a write failed
 abbrev pub EndsAsExplained : List Text → Option (List ℕ) → Option (List ℕ) → ℕ → Type 0
-EndsAsExplained words = EndsBy Explains (fault_of explain_line words) (explained_by words)
+EndsAsExplained words = EndsBy IsExplanation (fault_of explain_line words) (explained_by words)

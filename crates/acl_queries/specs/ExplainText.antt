@@ -1,6 +1,6 @@
 -- What `explain` says: the answer, and why it is so.
-use Rattle.std.specs.Prelude.{◌≡◌, ◌↔◌, ◌+◌, ℕ, Bool, IsTrue, List, [], ◌∷◌, ◌++◌, Option, Some}
-use Rattle.std.specs.Prelude.{None, codes, decimal, if◌then◌else◌, slice_get}
+use Rattle.std.specs.Prelude.{◌≡◌, ◌↔◌, ◌+◌, ◌^◌, ℕ, Bool, IsTrue, List, [], ◌∷◌, ◌++◌, Option}
+use Rattle.std.specs.Prelude.{Some, None, codes, decimal, if◌then◌else◌, slice_get}
 use Rattle.std.specs.List.{flat_map}
 use Rattle.acl_names.specs.Bits.{has_all}
 use Rattle.acl_names.specs.Directory.{Known}
@@ -13,7 +13,7 @@ use Rattle.acl_posix.specs.declared.entry.Tag.TheVariants.{Mask}
 use Rattle.acl_nfs4.specs.Ace.{Nfsace4}
 use Rattle.acl_nfs4.specs.Evaluation.{Grants}
 use Rattle.acl_nfs4.specs.Letters.{mask_table}
-use Rattle.acl_nfs4.specs.Mask.{mask_of}
+use Rattle.acl_nfs4.specs.Mask.{append_data, execute, mask_of, read_data, write_data}
 use Rattle.acl_nfs4.specs.PrintedText.{ace_text}
 use Rattle.acl_nfs4.specs.Who.{matches}
 use Rattle.acl_nfs4.specs.declared.who.Who.{Who}
@@ -71,7 +71,7 @@ posix_reasons known asked acl =
 
 -- ---- NFSv4 lists
 
--- `K ACE`, K being the place of the entry there, from 1
+-- `K ACE`, K being the place of the entry there, from 1; at a place that the list has not, nothing
 abbrev pub placed_text : Known → ℕ → Option Nfsace4 → List ℕ
 placed_text known place (Some ace) = decimal (place + 1) ++ codes " " ++ ace_text known ace
 placed_text known place None = []
@@ -91,10 +91,14 @@ abbrev pub bit_line_if : Known → (Who → Bool) → ℕ → List Nfsace4 → �
 bit_line_if known applies mask aces bit = if has_all mask bit then bit_line known applies aces bit
     else []
 
--- a line for each of the bits READ_DATA, WRITE_DATA, APPEND_DATA and EXECUTE that is asked for
+-- the bits that permissions stand for, each by itself, in the order of the letters
+abbrev pub bits_of_permissions : List ℕ
+bits_of_permissions = 2 ^ read_data ∷ 2 ^ write_data ∷ 2 ^ append_data ∷ 2 ^ execute ∷ []
+
+-- a line for each of them that is asked for
 abbrev pub nfs4_reasons : Known → (Who → Bool) → ℕ → List Nfsace4 → List ℕ
 nfs4_reasons known applies mask aces =
-    flat_map (bit_line_if known applies mask aces) (0x1 ∷ 0x2 ∷ 0x4 ∷ 0x20 ∷ [])
+    flat_map (bit_line_if known applies mask aces) bits_of_permissions
 
 -- ---- either
 
@@ -111,7 +115,7 @@ reasons known asked (Nfs4 acl) = nfs4_reasons known
     (matches asked.owner asked.group asked.requester) (mask_of asked.request) acl
 
 -- the text says whether what is asked is granted, and why
-pub record Explains (asked : Explained) (text : List ℕ) : Type 0 where
+pub record IsExplanation (asked : Explained) (text : List ℕ) : Type 0 where
   pub granted : Bool
   pub decides : Decides asked asked.acl granted
   pub says : text ≡ answer_line granted ++ reasons nobody asked asked.acl

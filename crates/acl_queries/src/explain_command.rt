@@ -6,7 +6,7 @@ ghost use Rattle.acl_queries.specs.ErrorOutput.{Reports};
 ghost use Rattle.acl_queries.specs.ExplainLine.{TakesExplainWords};
 ghost use Rattle.acl_queries.specs.ExplainOutcome.{EndsAsExplained, IsExplainFaultOf};
 ghost use Rattle.acl_queries.specs.ExplainOutcome.{IsExplanationCutShort};
-ghost use Rattle.acl_queries.specs.ExplainText.{Explains};
+ghost use Rattle.acl_queries.specs.ExplainText.{IsExplanation};
 ghost use Rattle.acl_queries.specs.Explained.{explained_by};
 ghost use Rattle.acl_queries.specs.Faults.{SaysQueryFault, failed_write};
 ghost use Rattle.acl_queries.specs.Output.{AppendsFront};
@@ -28,13 +28,13 @@ use text::answer_text;
 /// Writes the answer to what the words ask, and why it is so.
 fn answer<S: AsStr, W: Write>(alloc: Global, words: &[S], out: &mut W) -> Result<(), QueryFault>
     ensures taken { OnOk result (TakesExplainWords (map S.text words.now)) }
-    ensures answered { OnOk result (IsAnswered Explains (explained_by (map S.text words.now))
+    ensures answered { OnOk result (IsAnswered IsExplanation (explained_by (map S.text words.now))
         (Appends (W.contents out.old) (W.contents out.new))) }
     ensures refused { IfErr result (IsExplainFaultOf (map S.text words.now)) }
     ensures silent { IfErr result (λ fault. fault ≢ failed_write
         → Keeps (W.contents out.old) (W.contents out.new)) }
     ensures cut { IsErrOf result failed_write
-        → IsAnswered Explains (explained_by (map S.text words.now))
+        → IsAnswered IsExplanation (explained_by (map S.text words.now))
         (AppendsFront (W.contents out.old) (W.contents out.new)) }
 {
     let matches = command_line::parse(alloc, words)?;
