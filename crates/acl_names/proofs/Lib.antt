@@ -19,5 +19,7 @@ pub mod StepLemmas
 pub mod ReadListLemmas
 mod DigitLemmas
 pub mod PlainLists
+pub mod PlainJoined
+pub mod DecimalIds
 mod PlainCounts
 pub mod LettersInTurn

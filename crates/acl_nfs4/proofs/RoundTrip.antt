@@ -4,7 +4,7 @@ use Rattle.std.specs.List.{All, AllByRecursion, join_with_byte, list_all}
 use Rattle.std.specs.Char.{is_ascii_digit}
 use Rattle.std.proofs.lemmas.Bool.Decides.{nat_tests}
 use Rattle.std.proofs.lemmas.Fmt.{decimal_is_IsNumeral}
-use Rattle.std.proofs.lemmas.List.Elements.{All-head, All-tail, All-cons, All-append, All-weaker}
+use Rattle.std.proofs.lemmas.List.Elements.{All-nil, All-head, All-tail, All-cons, All-append, All-weaker}
 use Rattle.std.proofs.lemmas.List.Splits.{slice_split_at, slice_split_none}
 use Rattle.std.proofs.lemmas.List.Sums.{AllPass-from_list_all}
 use Rattle.std.proofs.lemmas.Slice.Eq.{bytes_eq-Decides}
@@ -22,13 +22,14 @@ use Rattle.acl_names.specs.Plain.{is_field_byte, IsField, IsPlain}
 use Rattle.acl_names.proofs.Fields.{fields_again, joined_plain, tested_field, name_byte_in_field, digit_in_field}
 use Rattle.acl_names.proofs.IdTexts.{and_second, written_name, written_decimal}
 use Rattle.acl_names.proofs.LettersAgain.{letters_again}
+use Rattle.acl_names.proofs.PlainJoined.{IsPlainPiece, pieces_of_joined}
 use Rattle.acl_names.proofs.PlainLines.{IsMark, nothing, pieces_of_lines}
 use Rattle.acl_nfs4.specs.Ace.{Nfsace4, IsAce, ace_of, flags_for, is_idle}
 use Rattle.acl_nfs4.specs.AceText.{AceFields, WrittenWho, as_fields, fields_of, type_of, written_who, who_of_parts, name_at, named, resolved_who, refuse_idle, piece_value}
 use Rattle.acl_nfs4.specs.AceText as form
 use Rattle.acl_nfs4.specs.Flags.{identifier_group}
 use Rattle.acl_nfs4.specs.Letters.{flag_table, mask_table}
-use Rattle.acl_nfs4.specs.PrintedText.{type_text, named_text, who_text, ace_text, aces_text, HaveIds}
+use Rattle.acl_nfs4.specs.PrintedText.{type_text, named_text, who_text, ace_text, aces_text, fields_text, short_ace, short_text, short_who, HaveIds}
 use Rattle.acl_nfs4.specs.Who.{HasId, flags_of_who, is_named_group}
 use Rattle.acl_nfs4.specs.Acl.{AreAces}
 use Rattle.acl_nfs4.specs.declared.limits.TheConstants.{MAX_ACES}
@@ -148,6 +149,98 @@ ace_of-same ace is = λ i. record {
   mask = is.known_mask i;
 }
 
+-- ---- an entry, by its who as it is written
+
+type_again : (kind : AceType) → type_of (type_text kind) ≡ Some kind
+type_again Allow = refl
+type_again Deny = refl
+type_again Audit = refl
+type_again Alarm = refl
+
+at_most : (a b : ℕ) → a ≤ b → nat_le a b ≡ true
+at_most a b h = grind (arith, nat_tests)
+
+pub decimal_field : (id : ℕ) → id ≤ MAX_ID → IsField (decimal id)
+decimal_field id small = All-weaker (λ byte. is_ascii_digit byte ≡ true) (λ byte. is_field_byte byte ≡ true) digit_in_field (decimal id) (decimal_bytes id small)
+
+module _ (known : Known) where
+  -- a who that is read as this one
+  pub record ReadsAs (text : List ℕ) (is_group : Bool) (who : Who) : Type 0 where
+    pub written : WrittenWho
+    pub written_is : written_who text ≡ Some written
+    pub who_is : resolved_who known is_group written ≡ Some who
+
+  -- a decimal is read as the one who has this id
+  pub decimal_again : (id_of : List ℕ → Option ℕ) (is_group : Bool) (tag : ℕ → Who) (id : ℕ) → id ≤ MAX_ID
+      → ((written : Written) → named known is_group written ≡ option_map tag (resolved id_of written))
+      → ReadsAs (decimal id) is_group (tag id)
+  decimal_again id_of is_group tag id small looks_up = record {
+    written = form.Id (Number id);
+    written_is = ap who_of_parts (parts_digits (decimal id) (decimal_bytes id small)) ∙ ap (option_map (λ written. form.Id written)) (written_decimal id small);
+    who_is = looks_up (Number id) ∙ ap (λ b. option_map tag (cond b (Some id) None)) (at_most id MAX_ID small);
+  }
+
+  -- a field that is read as this who, by the flag that it asks for
+  pub record IsWritten (text : List ℕ) (who : Who) : Type 0 where
+    pub field : IsField text
+    pub reads : ReadsAs text (is_named_group who) who
+
+  -- what is printed is an entry whose id is within its range, and that has an effect
+  pub record IsPrinted (ace : Nfsace4) : Type 0 where
+    pub is_ace : IsAce ace
+    pub has_id : HasId ace.who
+    pub has_effect : is_idle ace ≡ false
+
+  pub are_printed : (aces : List Nfsace4) → AreAces aces → HaveIds aces → All IsPrinted aces
+  are_printed aces are have = λ k d inside. record { is_ace = are.each k d inside; has_id = have k d inside; has_effect = are.effective k d inside }
+
+  module _ (text_of : Who → List ℕ) (are_written : (who : Who) → HasId who → IsWritten (text_of who) who) where
+    fields_are : (ace : Nfsace4) → HasId ace.who
+        → AllByRecursion IsField (type_text ace.kind ∷ letters_text flag_table ace.flags ∷ text_of ace.who ∷ letters_text mask_table ace.mask ∷ [])
+    fields_are ace has_id = (type_field ace.kind, (flags-field ace.flags, ((are_written ace.who has_id).field, (mask-field ace.mask, tt))))
+
+    -- an entry is read again
+    pub fields_again_as : (ace : Nfsace4) → IsPrinted ace → piece_value known (fields_text (text_of ace.who) ace) ≡ Ok ace
+    fields_again_as ace is =
+        let reads = subst (λ (b : Bool). ReadsAs (text_of ace.who) b ace.who) (sym is.is_ace.group_flag) (are_written ace.who is.has_id).reads in
+        value_of_parts known (fields_text (text_of ace.who) ace) ace
+        (record {
+          shape = record {
+            fields = record {
+              kind = type_text ace.kind;
+              flags = letters_text flag_table ace.flags;
+              who = text_of ace.who;
+              letters = letters_text mask_table ace.mask;
+            };
+            kind = ace.kind;
+            flags = ace.flags;
+            written = reads.written;
+            mask = ace.mask;
+            cut = ap as_fields (fields_again (type_text ace.kind) (letters_text flag_table ace.flags ∷ text_of ace.who ∷ letters_text mask_table ace.mask ∷ [])
+                (fields_are ace is.has_id));
+            kind_is = type_again ace.kind;
+            flags_are = letters_again flag_table ace.flags flag_table_is is.is_ace.known_flags;
+            written_is = reads.written_is;
+            mask_is = letters_again mask_table ace.mask mask_table_is is.is_ace.known_mask;
+          };
+          who = ace.who;
+          who_is = reads.who_is;
+          made = ace_of-same ace is.is_ace;
+        })
+        ∙ refuse_idle_said ace is.has_effect
+
+    -- and is a plain piece
+    pub fields_piece : (ace : Nfsace4) → IsPrinted ace → IsPlainPiece (fields_text (text_of ace.who) ace)
+    fields_piece ace is =
+        let rest = letters_text flag_table ace.flags ∷ text_of ace.who ∷ letters_text mask_table ace.mask ∷ [] in (
+          omega (arith, length-append (type_text ace.kind) (colon ∷ join_with_byte colon rest)),
+          joined_plain (type_text ace.kind) rest (fields_are ace is.has_id),
+        )
+
+    pub each_again : (aces : List Nfsace4) → All IsPrinted aces → Say (piece_value known) (map (λ ace. fields_text (text_of ace.who) ace) aces) aces
+    each_again [] are = refl
+    each_again (ace ∷ aces) are = rw (fields_again_as ace (All-head IsPrinted ace aces are), each_again aces (All-tail IsPrinted ace aces are)) refl
+
 module _ (known : Known) (apart : TellsNamesApart known) where
   -- ---- the who
 
@@ -156,7 +249,7 @@ module _ (known : Known) (apart : TellsNamesApart known) where
   named_field id_of name_of id back small = go (name_of id) refl
     where
       go : (name : Option (List ℕ)) → name_of id ≡ name → IsField (named_text name known.domain id)
-      go None e = All-weaker (λ byte. is_ascii_digit byte ≡ true) (λ byte. is_field_byte byte ≡ true) digit_in_field (decimal id) (decimal_bytes id small)
+      go None e = decimal_field id small
       go (Some name) e =
           All-append (λ byte. is_field_byte byte ≡ true) name (at_sign ∷ known.domain)
           (All-weaker (λ byte. continues_name byte ≡ true) (λ byte. is_field_byte byte ≡ true) name_byte_in_field name (name_bytes name (back id name e).0))
@@ -170,29 +263,16 @@ module _ (known : Known) (apart : TellsNamesApart known) where
   who_field (User uid) has_id = named_field (uid_of known) (user_name known) uid apart.users has_id
   who_field (NamedGroup gid) has_id = named_field (gid_of known) (group_name known) gid apart.groups has_id
 
-  -- a who that is read as this one
-  record ReadsAs (text : List ℕ) (is_group : Bool) (who : Who) : Type 0 where
-    pub written : WrittenWho
-    pub written_is : written_who text ≡ Some written
-    pub who_is : resolved_who known is_group written ≡ Some who
-
   same_domain : bytes_eq known.domain known.domain ≡ true
   same_domain = (bytes_eq-Decides known.domain known.domain).1 refl
 
   named_again : (id_of : List ℕ → Option ℕ) (name_of : ℕ → Option (List ℕ)) (is_group : Bool) (tag : ℕ → Who) (id : ℕ) → ReadBack id_of name_of → id ≤ MAX_ID
       → ((written : Written) → named known is_group written ≡ option_map tag (resolved id_of written))
-      → ReadsAs (named_text (name_of id) known.domain id) is_group (tag id)
+      → ReadsAs known (named_text (name_of id) known.domain id) is_group (tag id)
   named_again id_of name_of is_group tag id back small looks_up = go (name_of id) refl
     where
-      at_most : (a b : ℕ) → a ≤ b → nat_le a b ≡ true
-      at_most a b h = grind (arith, nat_tests)
-
-      go : (name : Option (List ℕ)) → name_of id ≡ name → ReadsAs (named_text name known.domain id) is_group (tag id)
-      go None e = record {
-        written = form.Id (Number id);
-        written_is = ap who_of_parts (parts_digits (decimal id) (decimal_bytes id small)) ∙ ap (option_map (λ written. form.Id written)) (written_decimal id small);
-        who_is = looks_up (Number id) ∙ ap (λ b. option_map tag (cond b (Some id) None)) (at_most id MAX_ID small);
-      }
+      go : (name : Option (List ℕ)) → name_of id ≡ name → ReadsAs known (named_text name known.domain id) is_group (tag id)
+      go None e = decimal_again known id_of is_group tag id small looks_up
       go (Some name) e =
           let told = back id name e in
           record {
@@ -201,7 +281,7 @@ module _ (known : Known) (apart : TellsNamesApart known) where
             who_is = ap (λ b. cond b (named known is_group (Name name)) None) same_domain ∙ looks_up (Name name) ∙ ap (option_map tag) told.1;
           }
 
-  who_again : (who : Who) → HasId who → ReadsAs (who_text known who) (is_named_group who) who
+  who_again : (who : Who) → HasId who → ReadsAs known (who_text known who) (is_named_group who) who
   who_again Owner has_id = record { written = form.Owner; written_is = refl; who_is = refl }
   who_again Group has_id = record { written = form.Group; written_is = refl; who_is = refl }
   who_again Everyone has_id = record { written = form.Everyone; written_is = refl; who_is = refl }
@@ -212,79 +292,49 @@ module _ (known : Known) (apart : TellsNamesApart known) where
 
   -- ---- the entry
 
-  type_again : (kind : AceType) → type_of (type_text kind) ≡ Some kind
-  type_again Allow = refl
-  type_again Deny = refl
-  type_again Audit = refl
-  type_again Alarm = refl
-
-  fields_are : (ace : Nfsace4) → HasId ace.who
-      → AllByRecursion IsField (type_text ace.kind ∷ letters_text flag_table ace.flags ∷ who_text known ace.who ∷ letters_text mask_table ace.mask ∷ [])
-  fields_are ace has_id = (type_field ace.kind, (flags-field ace.flags, (who_field ace.who has_id, (mask-field ace.mask, tt))))
-
-  -- an entry is read again
-  piece_again : (ace : Nfsace4) → IsAce ace → HasId ace.who → is_idle ace ≡ false → piece_value known (ace_text known ace) ≡ Ok ace
-  piece_again ace is has_id effect =
-      let reads = subst (λ (b : Bool). ReadsAs (who_text known ace.who) b ace.who) (sym is.group_flag) (who_again ace.who has_id) in
-      value_of_parts known (ace_text known ace) ace
-      (record {
-        shape = record {
-          fields = record {
-            kind = type_text ace.kind;
-            flags = letters_text flag_table ace.flags;
-            who = who_text known ace.who;
-            letters = letters_text mask_table ace.mask;
-          };
-          kind = ace.kind;
-          flags = ace.flags;
-          written = reads.written;
-          mask = ace.mask;
-          cut = ap as_fields (fields_again (type_text ace.kind) (letters_text flag_table ace.flags ∷ who_text known ace.who ∷ letters_text mask_table ace.mask ∷ [])
-              (fields_are ace has_id));
-          kind_is = type_again ace.kind;
-          flags_are = letters_again flag_table ace.flags flag_table_is is.known_flags;
-          written_is = reads.written_is;
-          mask_is = letters_again mask_table ace.mask mask_table_is is.known_mask;
-        };
-        who = ace.who;
-        who_is = reads.who_is;
-        made = ace_of-same ace is;
-      })
-      ∙ refuse_idle_said ace effect
+  are_written : (who : Who) → HasId who → IsWritten known (who_text known who) who
+  are_written who has_id = record { field = who_field who has_id; reads = who_again who has_id }
 
   -- ---- the list
-
-  -- what is printed is an entry whose id is within its range, and that has an effect
-  record IsPrinted (ace : Nfsace4) : Type 0 where
-    pub is_ace : IsAce ace
-    pub has_id : HasId ace.who
-    pub has_effect : is_idle ace ≡ false
-
-  are_printed : (aces : List Nfsace4) → AreAces aces → HaveIds aces → All IsPrinted aces
-  are_printed aces are have = λ k d inside. record { is_ace = are.each k d inside; has_id = have k d inside; has_effect = are.effective k d inside }
-
-  each_again : (aces : List Nfsace4) → All IsPrinted aces → Say (piece_value known) (map (ace_text known) aces) aces
-  each_again [] are = refl
-  each_again (ace ∷ aces) are =
-      let here : IsPrinted ace = All-head IsPrinted ace aces are in
-      rw (piece_again ace here.is_ace here.has_id here.has_effect, each_again aces (All-tail IsPrinted ace aces are)) refl
 
   abbrev IsLine : Nfsace4 → Type 0
   IsLine ace = (0 < length (ace_text known ace)) × IsPlain (ace_text known ace) × IsMark []
 
-  line_is : (ace : Nfsace4) → IsPrinted ace → IsLine ace
+  line_is : (ace : Nfsace4) → IsPrinted known ace → IsLine ace
   line_is ace is =
-      let rest = letters_text flag_table ace.flags ∷ who_text known ace.who ∷ letters_text mask_table ace.mask ∷ [] in (
-        omega (arith, length-append (type_text ace.kind) (colon ∷ join_with_byte colon rest)),
-        joined_plain (type_text ace.kind) rest (fields_are ace is.has_id),
-        nothing,
-      )
+      let piece = fields_piece known (who_text known) are_written ace is in
+      (piece.0, piece.1, nothing)
 
   pub aces_spelt : (aces : List Nfsace4) → AreAces aces → HaveIds aces → Spells (piece_value known) MAX_ACES (aces_text known aces) aces
   aces_spelt aces are have =
-      let printed = are_printed aces are have in
+      let printed = are_printed known aces are have in
       record {
-        said = ap (map (piece_value known)) (pieces_of_lines (ace_text known) (λ _. []) aces (All-weaker IsPrinted IsLine line_is aces printed))
-            ∙ each_again aces printed;
+        said = ap (map (piece_value known)) (pieces_of_lines (ace_text known) (λ _. []) aces (All-weaker (IsPrinted known) IsLine line_is aces printed))
+            ∙ each_again known (who_text known) are_written aces printed;
         within = are.within;
       }
+
+-- ---- the short form, whose ids are decimals
+
+module _ (known : Known) where
+  short_written : (who : Who) → HasId who → IsWritten known (short_who who) who
+  short_written Owner has_id = record { field = tested_field (codes "OWNER@") refl; reads = record { written = form.Owner; written_is = refl; who_is = refl } }
+  short_written Group has_id = record { field = tested_field (codes "GROUP@") refl; reads = record { written = form.Group; written_is = refl; who_is = refl } }
+  short_written Everyone has_id = record { field = tested_field (codes "EVERYONE@") refl; reads = record { written = form.Everyone; written_is = refl; who_is = refl } }
+  short_written (User uid) has_id = record { field = decimal_field uid has_id; reads = decimal_again known (uid_of known) false (λ id. User id) uid has_id (λ written. refl) }
+  short_written (NamedGroup gid) has_id = record { field = decimal_field gid has_id; reads = decimal_again known (gid_of known) true (λ id. NamedGroup id) gid has_id (λ written. refl) }
+
+  pieces_of : (aces : List Nfsace4) → All (IsPrinted known) aces → All IsPlainPiece (map short_ace aces)
+  pieces_of [] are = All-nil IsPlainPiece
+  pieces_of (ace ∷ aces) are =
+      All-cons IsPlainPiece (short_ace ace) (map short_ace aces) (fields_piece known short_who short_written ace (All-head (IsPrinted known) ace aces are))
+      (pieces_of aces (All-tail (IsPrinted known) ace aces are))
+
+  pub short_pieces : (aces : List Nfsace4) → AreAces aces → HaveIds aces → All IsPlainPiece (map short_ace aces)
+  short_pieces aces are have = pieces_of aces (are_printed known aces are have)
+
+  pub short_spells : (aces : List Nfsace4) → AreAces aces → HaveIds aces → Spells (piece_value known) MAX_ACES (short_text aces) aces
+  short_spells aces are have = record {
+    said = ap (map (piece_value known)) (pieces_of_joined (map short_ace aces) (short_pieces aces are have)) ∙ each_again known short_who short_written aces (are_printed known aces are have);
+    within = are.within;
+  }

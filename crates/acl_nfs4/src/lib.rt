@@ -22,6 +22,7 @@ mod mode_change;
 mod owners;
 mod printing;
 mod reading;
+mod short;
 mod subject;
 mod who;
 

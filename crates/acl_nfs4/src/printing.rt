@@ -105,7 +105,7 @@ pub fn push_ace(ace: &Ace, directory: &Directory, out: &mut Vec<u8>) -> Result<(
 }
 
 /// Appends `type:flags:`.
-fn push_front(ace: &Ace, out: &mut Vec<u8>) -> Result<(), AllocError>
+pub(crate) fn push_front(ace: &Ace, out: &mut Vec<u8>) -> Result<(), AllocError>
     ensures text { OnOk result (out.new.items ≡ out.old.items ++ front_text ace.now) }
     ensures kept { take (length out.old.items) out.new.items ≡ out.old.items }
     ensures room { OnErr result (vec_capacity out.old

@@ -12,6 +12,7 @@ pub mod FaultLemmas
 pub mod KindLemmas
 pub mod ModeLemmas
 pub mod RoundTrip
+pub mod ShortRoundTrip
 pub mod ShapeLemmas
 pub mod StepFaults
 pub mod PieceFaultLemmas

@@ -30,7 +30,7 @@ use Rattle.acl_names.specs.Steps.{or_fault, ◌>>=◌}
 use Rattle.acl_posix.specs.PrintedText.{word_text, qualifier_text, entry_text, effective_mark, effective_text, HasId, HaveIds}
 
 -- permissions are read again
-perms_again : (perms : ℕ) → IsPermissions perms → perms_of_text (perms_text perms) ≡ Some perms
+pub perms_again : (perms : ℕ) → IsPermissions perms → perms_of_text (perms_text perms) ≡ Some perms
 unfolding perms_of_text
 perms_again zero known = refl
 perms_again (suc zero) known = refl
@@ -52,7 +52,7 @@ three_pass false true false = refl
 three_pass false false true = refl
 three_pass false false false = refl
 
-perms_field : (perms : ℕ) → IsField (perms_text perms)
+pub perms_field : (perms : ℕ) → IsField (perms_text perms)
 perms_field perms = tested_field (perms_text perms) (three_pass (has_all perms 4) (has_all perms 2) (has_all perms 1))
 
 word_field : (tag : Tag) → IsField (word_text tag)
@@ -76,7 +76,7 @@ fields_are : (known : Known) (entry : EntryValue) → TellsNamesApart known → 
 fields_are known entry is has = (word_field entry.tag, (qualifier_field known entry.tag is has, (perms_field entry.perms, tt)))
 
 -- the word of each tag
-word_of : Tag → TagWord
+unfoldable pub word_of : Tag → TagWord
 word_of UserObj = word.User
 word_of (User uid) = word.User
 word_of GroupObj = word.Group

@@ -1,10 +1,10 @@
--- How POSIX ACLs are printed: the long text form of 1003.1e draft 17, section 23, and its marks of
--- effective permissions.
+-- How POSIX ACLs are printed: the long and the short text form of 1003.1e draft 17, section 23, and
+-- the marks of effective permissions.
 use Rattle.std.specs.Prelude.{ℕ, ◌≤◌, ◌&&◌, not, List, [], ◌∷◌, ◌++◌, Option, Some, None, codes}
-use Rattle.std.specs.Prelude.{if◌then◌else◌}
+use Rattle.std.specs.Prelude.{if◌then◌else◌, decimal, map}
 use Rattle.std.specs.List.{flat_map, join_with_byte, All}
 use Rattle.acl_names.specs.declared.limits.TheConstants.{MAX_ID}
-use Rattle.acl_names.specs.Bytes.{newline, tab, colon}
+use Rattle.acl_names.specs.Bytes.{newline, tab, colon, comma}
 use Rattle.acl_names.specs.Bits.{◌∩◌, has_all}
 use Rattle.acl_names.specs.Directory.{Known, group_name, user_name}
 use Rattle.acl_names.specs.Ids.{id_text}
@@ -63,6 +63,33 @@ effective_text known mask = flat_map (line_text known mask)
 -- the same of a directory's default list, with `default:` before each line
 abbrev pub default_text : Known → Option ℕ → List EntryValue → List ℕ
 default_text known mask = flat_map (λ entry. codes "default:" ++ line_text known mask entry)
+
+-- the letter of a tag
+abbrev pub letter_text : Tag → List ℕ
+letter_text UserObj = codes "u"
+letter_text (User uid) = codes "u"
+letter_text GroupObj = codes "g"
+letter_text (Group gid) = codes "g"
+letter_text Mask = codes "m"
+letter_text Other = codes "o"
+
+-- the id that a tag names in decimal, by which it is read whatever names there are
+abbrev pub number_text : Tag → List ℕ
+number_text (User uid) = decimal uid
+number_text (Group gid) = decimal gid
+number_text UserObj = []
+number_text GroupObj = []
+number_text Mask = []
+number_text Other = []
+
+-- `letter:number:perms`
+abbrev pub short_entry : EntryValue → List ℕ
+short_entry entry = join_with_byte colon
+    (letter_text entry.tag ∷ number_text entry.tag ∷ perms_text entry.perms ∷ [])
+
+-- all entries on one line, a comma between each two
+abbrev pub short_text : List EntryValue → List ℕ
+short_text entries = join_with_byte comma (map short_entry entries)
 
 -- an id within the range of ids; other tags have none
 abbrev pub HasId : Tag → Type 0

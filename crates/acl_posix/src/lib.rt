@@ -10,11 +10,12 @@ mod mode;
 mod perms;
 mod printing;
 mod reading;
+mod short;
 
 pub use acl::{Acl, Invalid};
 pub use entries::{Entries, TextFault};
 pub use entry::{Entry, Tag};
-pub use limits::{MAX_DEFAULT_LINE, MAX_ENTRIES, MAX_LINE, limits_in_numbers};
+pub use limits::{MAX_DEFAULT_LINE, MAX_ENTRIES, MAX_LINE, MAX_SHORT_ENTRY, limits_in_numbers};
 pub use mode::Mode;
 pub use perms::{Perms, read_perms};
 pub use printing::{push_entry, push_perms};

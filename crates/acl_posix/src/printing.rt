@@ -86,8 +86,7 @@ pub fn push_entry(entry: &Entry, directory: &Directory, out: &mut Vec<u8>) -> Re
 {
     out.reserve(MAX_LINE)?;
     put_tag(entry.tag, directory, out);
-    let own = letters(entry.perms);
-    put_bytes(&[b':', own[0], own[1], own[2]], out);
+    put_letters(entry.perms, out);
     Ok(())
 }
 
@@ -210,6 +209,18 @@ fn put_tag(tag: Tag, directory: &Directory, out: &mut Vec<u8>)
         Tag::Mask => put_bytes(b"mask:", out),
         Tag::Other => put_bytes(b"other:", out),
     }
+}
+
+/// Appends a colon and the permissions.
+#[inline(always)]
+pub(crate) fn put_letters(perms: Perms, out: &mut Vec<u8>)
+    requires { vec_len out.old + 4 ≤ vec_capacity out.old }
+    ensures text { out.new.items ≡ out.old.items ++ colon ∷ perms_text (bits_of perms) }
+    ensures len { vec_len out.new ≡ vec_len out.old + 4 }
+    ensures capacity { vec_capacity out.new ≡ vec_capacity out.old }
+{
+    let own = letters(perms);
+    put_bytes(&[b':', own[0], own[1], own[2]], out);
 }
 
 /// Appends a colon, the permissions, the mark if the mask removes some, and a newline.

@@ -17,6 +17,14 @@ pub fn shown(alloc: Global, text: &str) -> Option<String> {
     printed(alloc, &list)
 }
 
+/// What `print_short` appends of the list that the text spells.
+pub fn short_of(alloc: Global, text: &str) -> Option<String> {
+    let list = acl4(alloc, text)?;
+    let mut out = Vec::new(alloc);
+    list.print_short(&mut out).ok()?;
+    String::from_utf8(out).ok()
+}
+
 /// Why the text is refused.
 pub fn fault_of(alloc: Global, text: &str) -> Option<AceFault> {
     read_aces(alloc, text.as_bytes(), &directory(alloc)?).err()

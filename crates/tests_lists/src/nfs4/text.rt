@@ -1,5 +1,5 @@
 //! Tests of the texts of NFSv4 lists.
-use crate::nfs4::fixture::{fault_of, shown};
+use crate::nfs4::fixture::{fault_of, short_of, shown};
 use crate::texts::is_text;
 use acl_nfs4::{AceFault, Mask, read_letters};
 use bitflags::Flags as FlagSet;
@@ -22,6 +22,25 @@ fn texts_in_their_printed_form(rt: HostRuntime) {
     for (text, wanted) in ROWS {
         let shown = shown(rt.alloc(), text);
         assert!(rt; is_text(shown, wanted) == Some(true), "{text}");
+    }
+}
+
+#[test]
+fn short_text_forms(rt: HostRuntime) {
+    const ROWS: [(&str, &str); 3] = [
+        (
+            "A:g:GROUP@:r\nD::OWNER@:\nA:fd:EVERYONE@:xwr\n",
+            "A::GROUP@:r,D::OWNER@:,A:fd:EVERYONE@:rwx",
+        ),
+        (
+            "A::bob@example.org:wr, L:Fifg:ops:x # all",
+            "A::1001:rw,L:fiFg:60:x",
+        ),
+        ("", ""),
+    ];
+    for (text, wanted) in ROWS {
+        let short = short_of(rt.alloc(), text);
+        assert!(rt; is_text(short, wanted) == Some(true), "{text}");
     }
 }
 

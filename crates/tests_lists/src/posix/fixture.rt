@@ -42,6 +42,14 @@ pub fn long_of(alloc: Global, text: &str) -> Option<String> {
     long(alloc, &list)
 }
 
+/// What `print_short` appends of the list that the text spells.
+pub fn short_of(alloc: Global, text: &str) -> Option<String> {
+    let list = acl(alloc, text)?;
+    let mut out = Vec::new(alloc);
+    list.print_short(&mut out).ok()?;
+    String::from_utf8(out).ok()
+}
+
 /// Whether a copy has the list's entries.
 pub fn is_copied(alloc: Global, list: &Acl) -> Option<bool> {
     let copy = list.try_clone(alloc).ok()?;

@@ -1,5 +1,5 @@
 //! Tests of the texts of POSIX lists.
-use crate::posix::fixture::{effective, effective_of, long_of};
+use crate::posix::fixture::{effective, effective_of, long_of, short_of};
 use crate::texts::is_text;
 use acl_posix::{Perms, TextFault, read_entries, read_perms};
 use std::alloc::Global;
@@ -16,6 +16,25 @@ fn long_text_forms(rt: HostRuntime) {
     let text = "user : : rwx , g::r-x\nmask:rwx # all\nother:r\n";
     let wanted = "user::rwx\ngroup::r-x\nmask::rwx\nother::r--\n";
     assert!(rt; is_text(long_of(rt.alloc(), text), wanted) == Some(true));
+}
+
+#[test]
+fn short_text_forms(rt: HostRuntime) {
+    const ROWS: [(&str, &str); 3] = [
+        ("other:-\nuser::r\ngroup::wx\n", "u::r--,g::-wx,o::---"),
+        (
+            "u::rwx,user:bob:xr,g::-,m:rwx,o:-",
+            "u::rwx,u:1001:r-x,g::---,m::rwx,o::---",
+        ),
+        (
+            "g:ops:w,g:0:x,g::r,u:4294967294:r,u:root:-,u::-,m::-,o::-",
+            "u::---,u:0:---,u:4294967294:r--,g::r--,g:0:--x,g:60:-w-,m::---,o::---",
+        ),
+    ];
+    for (text, wanted) in ROWS {
+        let short = short_of(rt.alloc(), text);
+        assert!(rt; is_text(short, wanted) == Some(true), "{text}");
+    }
 }
 
 #[test]

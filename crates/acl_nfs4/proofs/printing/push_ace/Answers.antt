@@ -5,14 +5,9 @@ use Rattle.acl_names.proofs.Prefixes.{keeps_front, longer_by}
 use Rattle.acl_names.specs.Letters.{letters_text}
 use Rattle.acl_nfs4.specs.Letters.{flag_table, mask_table}
 use Rattle.acl_nfs4.specs.PrintedText.{front_text, type_text, who_text}
-use Rattle.acl_nfs4.proofs.PrintedLengths.{ace_length}
+use Rattle.acl_nfs4.proofs.PrintedLengths.{ace_regrouped, fields_length}
 use Rattle.acl_nfs4.proofs.printing.push_ace.Goals as goal
 use Rattle.acl_nfs4.proofs.printing.push_ace.Goals.{After-push_mask}
-
-regroup : (out kind flags who mask : List ℕ)
-    → (((out ++ (kind ++ colon ∷ (flags ++ colon ∷ []))) ++ who) ++ colon ∷ []) ++ mask
-    ≡ out ++ (kind ++ colon ∷ (flags ++ colon ∷ (who ++ colon ∷ mask)))
-regroup out kind flags who mask = simp append_assoc
 
 -- what stands in front of the mask's letters
 front : (c : After-push_mask) → c.push.new.self.items
@@ -27,7 +22,7 @@ pub returns-clause-text : goal.returns-clause-text
 returns-clause-text c =
     IfOk-equal c.push_mask.result c.push_mask.new.out.items _ _ c.push_mask.ensures.text
     (ap₂ (λ (xs ys : List ℕ). xs ++ ys) (front c) (ap (letters_text mask_table) c.mask.ensures.value)
-    ∙ regroup c.args.out.now.items (type_text c.args.ace.now.kind) (letters_text flag_table c.args.ace.now.flags)
+    ∙ ace_regrouped c.args.out.now.items (type_text c.args.ace.now.kind) (letters_text flag_table c.args.ace.now.flags)
     (who_text c.args.directory.now c.args.ace.now.who) (letters_text mask_table c.args.ace.now.mask))
 
 pub returns-clause-kept : goal.returns-clause-kept
@@ -39,14 +34,14 @@ returns-clause-kept c =
 pub returns-in_err-push_front-clause-room : goal.returns-in_err-push_front-clause-room
 returns-in_err-push_front-clause-room c =
     let p = err_from_is_err_and c.from_residual.result c.from_residual.ensures.1 in
-    rw p.1 (omega (arith, ace_length c.args.directory.now c.args.ace.now, c.in_err-push_front.ensures.room))
+    rw p.1 (omega (arith, fields_length (who_text c.args.directory.now c.args.ace.now.who) c.args.ace.now, c.in_err-push_front.ensures.room))
 
 pub returns-in_err-push_who-clause-room : goal.returns-in_err-push_who-clause-room
 returns-in_err-push_who-clause-room c =
     let p = err_from_is_err_and c.from_residual-in_err-push_who.result c.from_residual-in_err-push_who.ensures.1 in
     let longer = longer_by c.args.out.now c.push_front.new.out _ c.in_ok-push_front.ensures.text in
     let who = ap (λ who. length (who_text c.args.directory.now who)) c.who.ensures in
-    rw p.1 (omega (arith, ace_length c.args.directory.now c.args.ace.now, longer, who, c.in_err-push_who.ensures.room, c.push_front.ensures.capacity))
+    rw p.1 (omega (arith, fields_length (who_text c.args.directory.now c.args.ace.now.who) c.args.ace.now, longer, who, c.in_err-push_who.ensures.room, c.push_front.ensures.capacity))
 
 pub returns-in_err-push-clause-room : goal.returns-in_err-push-clause-room
 returns-in_err-push-clause-room c =
@@ -57,7 +52,7 @@ returns-in_err-push-clause-room c =
     rw p.1
     (omega (
       arith,
-      ace_length c.args.directory.now c.args.ace.now,
+      fields_length (who_text c.args.directory.now c.args.ace.now.who) c.args.ace.now,
       longer,
       longer_still,
       who,
@@ -76,7 +71,7 @@ returns-clause-room c =
     (λ full. omega (
       arith,
       full,
-      ace_length c.args.directory.now c.args.ace.now,
+      fields_length (who_text c.args.directory.now c.args.ace.now.who) c.args.ace.now,
       longer,
       longer_still,
       who,
