@@ -280,7 +280,7 @@ fn push_owners(
     push_id(directory.group_name(group), group.value(), out)
 }
 
-fn kind_text(kind: Kind) -> &'static [u8]
+pub(crate) fn kind_text(kind: Kind) -> &'static [u8]
     ensures { result.now ≡ kind_text kind }
 {
     match kind {
@@ -290,7 +290,7 @@ fn kind_text(kind: Kind) -> &'static [u8]
 }
 
 /// Three octal digits.
-fn mode_text(mode: Mode) -> [u8; 3]
+pub(crate) fn mode_text(mode: Mode) -> [u8; 3]
     ensures { result ≡ mode_text mode }
 {
     [

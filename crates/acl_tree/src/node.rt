@@ -34,6 +34,18 @@ impl Node {
         matches!(self.kind, Kind::Dir)
     }
 
+    /// A copy of it. It fails only if memory runs out.
+    pub fn try_clone(&self, alloc: Global) -> Result<Node, AllocError>
+        ensures { IfOk result (λ clone. clone ≡ self.now) }
+    {
+        Ok(Node {
+            kind: self.kind,
+            owner: self.owner,
+            group: self.group,
+            acl: self.acl.try_clone(alloc)?,
+        })
+    }
+
     /// What is shown of it at this path, with copies of its lists. It fails only if memory runs
     /// out.
     pub fn view(&self, alloc: Global, path: &Path) -> Result<View, AllocError>

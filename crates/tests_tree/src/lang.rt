@@ -1,4 +1,5 @@
 //! Worked examples.
+mod commands;
 mod examples;
 mod fixture;
 mod hostile;

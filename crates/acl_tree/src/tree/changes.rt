@@ -99,7 +99,7 @@ impl Tree {
             group,
             acl,
         };
-        self.insert(alloc, path, node)?;
+        self.insert(alloc, path.as_bytes(), node)?;
         Ok(())
     }
 }

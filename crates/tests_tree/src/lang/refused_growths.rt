@@ -6,7 +6,7 @@
 //! asks for, and none from then on.
 use crate::lang::fixture::{Shown, boxed};
 use crate::lists::Lists;
-use acl_lang::{Answer, Line, Numbered, Requests, read_line, read_text, render};
+use acl_lang::{Answer, Line, Numbered, Requests, push_command, read_line, read_text, render};
 use acl_names::{Directory, Uid};
 use acl_nfs4::{Ace, AceType, Acl4, Flags as AceFlags, Kind, Mask, Who};
 use acl_posix::{Acl, Entry, Perms, Tag};
@@ -275,6 +275,47 @@ fn told_by_render(alloc: Global) -> Option<u32> {
 #[test]
 fn render_under_a_refused_growth(rt: HostRuntime) -> Result<(), Fail> {
     let refusals = told_by_render(rt.alloc()).ok_or("another end")?;
+    println!(rt; "refusals: {refusals}")?;
+    Ok(())
+}
+
+/// What LINE asks for, printed.
+const COMMAND: &[u8] =
+    b"set /a default u::rw-,u:1:r--,u:2:r--,u:3:r--,u:4:r--,u:5:r--,u:6:r--,u:7:r--,u:1001:rw-,g::r--,m::r--,o::---";
+
+/// What LINE asks for.
+fn request(alloc: Global, names: &Directory) -> Option<Request> {
+    match read_line(alloc, LINE, names).ok()? {
+        Line::Command(request) => Some(request),
+        Line::Nothing => None,
+    }
+}
+
+/// Whether the command is printed, at the second attempt if the first is refused, which prints
+/// nothing.
+fn is_put(alloc: Global, request: &Request, refusals: &mut Refusals) -> Option<bool> {
+    let mut out = Vec::new(alloc);
+    if push_command(request, &mut out).is_err() {
+        refusals.one_more();
+        if !out.is_empty() {
+            return Some(false);
+        }
+        push_command(request, &mut out).ok()?;
+    }
+    Some(out.as_slice() == COMMAND)
+}
+
+fn told_by_push_command(alloc: Global) -> Option<u32> {
+    let mut refusals = Refusals::new();
+    let names = names(alloc, &mut refusals)?;
+    let request = refusals.again(|| request(alloc, &names))?;
+    let right = is_put(alloc, &request, &mut refusals);
+    told(refusals, right)
+}
+
+#[test]
+fn push_command_under_a_refused_growth(rt: HostRuntime) -> Result<(), Fail> {
+    let refusals = told_by_push_command(rt.alloc()).ok_or("another end")?;
     println!(rt; "refusals: {refusals}")?;
     Ok(())
 }

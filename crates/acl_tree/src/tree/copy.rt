@@ -1,0 +1,25 @@
+//! Copies of trees.
+ghost use Rattle.std.specs.Prelude.{◌≡◌, IfOk};
+
+use super::Tree;
+use indexmap::IndexMap;
+use std::alloc::{AllocError, Global};
+
+impl Tree {
+    /// A copy of the tree, with copies of its lists. It fails only if memory runs out.
+    pub fn try_clone(&self, alloc: Global) -> Result<Tree, AllocError>
+        ensures { IfOk result (λ clone. clone ≡ self.now) }
+    {
+        let entries = self.entries(alloc)?;
+        let mut clone = Tree {
+            umask: self.umask,
+            nodes: IndexMap::new(alloc),
+        };
+        // From the last path to the first, as the finite map of a list is built from its end.
+        for copied in 0..entries.len() {
+            let (path, node) = entries[entries.len() - 1 - copied];
+            clone.insert(alloc, path, node.try_clone(alloc)?)?;
+        }
+        Ok(clone)
+    }
+}
