@@ -2,6 +2,7 @@
 //! anybody at all.
 ghost use Rattle.std.specs.Prelude.{◌≡◌, All, IfOk, MatchOption, Some};
 ghost use Rattle.std.specs.FinMap as map;
+ghost use Rattle.std.specs.Option.{option_copied};
 ghost use Rattle.acl_audit.specs.Changes.{IsAlikeTo, file_of};
 ghost use Rattle.acl_audit.specs.Impact.{IsFirstChanged, IsImpact, IsImpactOn, requesters_of};
 ghost use Rattle.acl_audit.specs.Steps.{impact_of_somebody};
@@ -91,6 +92,22 @@ pub fn impact_of(
     Ok(of_somebody(change_for_anybody(alloc, before, after)?))
 }
 
+/// What it means for access that there is this node, where there was the other one, if there was
+/// any. It fails only if memory runs out.
+pub fn impact_on(
+    alloc: Global,
+    before: Option<&Node>,
+    after: &Node,
+    users: &[Requester],
+) -> Result<Option<Impact>, AllocError>
+    ensures { IfOk result (IsImpactOn users.now (option_copied before.entry) (Some after.now)) }
+{
+    match before {
+        None => Ok(Some(Impact::New)),
+        Some(before) => impact_of(alloc, before, after, users),
+    }
+}
+
 /// What it means for access to the node at the path that one tree becomes another; none if the
 /// other has no node there. It fails only if memory runs out.
 pub fn impact_at(
@@ -106,8 +123,5 @@ pub fn impact_at(
     let Some(new) = after.node(path) else {
         return Ok(None);
     };
-    match before.node(path) {
-        None => Ok(Some(Impact::New)),
-        Some(old) => impact_of(alloc, old, new, users),
-    }
+    impact_on(alloc, before.node(path), new, users)
 }

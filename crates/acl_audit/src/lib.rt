@@ -14,7 +14,7 @@ mod who;
 
 pub use changes::{Change, change_for, change_for_anybody};
 pub use dump::{close, push_creation, push_lists};
-pub use impact::{Impact, impact_at, impact_of, requesters_of};
+pub use impact::{Impact, impact_at, impact_of, impact_on, requesters_of};
 pub use laws::{dump_laws, impact_laws, letter_laws, saved_laws};
 pub use letters::effective;
 pub use saved::push_listing;

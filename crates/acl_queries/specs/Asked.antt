@@ -56,6 +56,16 @@ gids_in rows = gids_of (first_of (codes "gids") rows)
 abbrev pub perms_in : List Row → Result ℕ FieldFault
 perms_in rows = or_fault BadPerms (first_of (codes "perms") rows) >>= perms_of
 
+-- the same, if the words tell
+abbrev pub perms_given : Option Text → Result (Option ℕ) FieldFault
+perms_given None = Ok None
+perms_given (Some text) = do
+  perms ← perms_of text
+  Ok (Some perms)
+
+abbrev pub optional_perms_in : List Row → Result (Option ℕ) FieldFault
+optional_perms_in rows = perms_given (first_of (codes "perms") rows)
+
 abbrev pub acl_in : List Row → Result (List EntryValue) FieldFault
 acl_in rows = or_fault BadAcl (first_of (codes "text") rows) >>= acl_of
 

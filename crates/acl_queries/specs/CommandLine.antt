@@ -14,9 +14,12 @@ required_option name = record (optional_option name) { required = true }
 abbrev pub flag : Text → Rule
 flag name = record (new_rule name) { long = Some name; action = Some SetTrue }
 
--- a word that belongs to no option, which must be given
+-- a word that belongs to no option, which may be given; and which must be
+abbrev pub optional_word : Text → Rule
+optional_word name = record (new_rule name) { value_names = 1 }
+
 abbrev pub required_word : Text → Rule
-required_word name = record (new_rule name) { value_names = 1; required = true }
+required_word name = record (optional_word name) { required = true }
 
 -- `decide [--nfs4] --owner N --group N --uid N [--gids N,N..] --perms P TEXT`
 unfoldable pub decide_line : App

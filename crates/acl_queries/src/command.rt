@@ -3,6 +3,7 @@
 
 pub(crate) mod acl;
 pub(crate) mod answer;
+pub(crate) mod change_text;
 mod command_fault;
 mod error_output;
 pub(crate) mod ids;
@@ -16,9 +17,12 @@ mod run_fault;
 mod usage;
 mod words;
 
+pub use change_text::{push_bits, push_gids};
 pub use command_fault::{CommandFault, report};
 pub use error_output::ErrorOutput;
 pub use input::{CapFault, read_capped};
 pub use output::write_text;
+pub use perms::optional_perms_field;
+pub use query_fault::{FieldFault, QueryFault};
 pub use run_fault::RunFault;
 pub use words::{WordsFault, words_of};

@@ -1,12 +1,12 @@
 -- What is said of runs that come to nothing.
-use Rattle.std.proofs.Common.{◌≤◌, ◌≡◌, ℕ, List, Option, arith, refl, subst, sym}
+use Rattle.std.proofs.Common.{◌≤◌, ◌≡◌, ℕ, arith, refl, subst, sym}
 use Rattle.std.specs.Prelude.{IfSome}
 use Rattle.acl_queries.specs.ErrorOutput.{ErrorText, Reports, SaysFault, Tells}
 use Rattle.acl_queries.proofs.ErrorLemmas.{Reports-line}
 use Rattle.acl_service.specs.FilesFaults.{files_line, files_status}
 use Rattle.acl_service.specs.TextsFaults.{texts_line, texts_status}
-use Rattle.acl_service.specs.declared.run_command.files.FilesFault.{FilesFault}
-use Rattle.acl_service.specs.declared.run_command.files.FilesFault.TheVariants.{SessionCount, InputTwice, CannotRead, Memory}
+use Rattle.acl_service.specs.declared.files.FilesFault.{FilesFault}
+use Rattle.acl_service.specs.declared.files.FilesFault.TheVariants.{SessionCount, InputTwice, CannotRead, Memory}
 use Rattle.acl_service.specs.declared.run_command.fault.TextsFault.{TextsFault}
 use Rattle.acl_service.specs.declared.run_command.fault.TextsFault.TheVariants.{TooManySessions, Setup, Run}
 

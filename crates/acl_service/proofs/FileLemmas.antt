@@ -9,8 +9,8 @@ use Rattle.std.specs.declared.alloc.Global.{Global}
 use Rattle.clap.specs.Words.{Text}
 use Rattle.acl_service.specs.FilesFaults.{IsFilesFault, IsReadFault, IsReadFaultAmong}
 use Rattle.acl_service.specs.RunWords.{AreTold, CanRun, IsTold, input_count, session_told}
-use Rattle.acl_service.specs.declared.run_command.files.FilesFault.{FilesFault}
-use Rattle.acl_service.specs.declared.run_command.files.FilesFault.TheVariants.{SessionCount, InputTwice, CannotRead, Memory}
+use Rattle.acl_service.specs.declared.files.FilesFault.{FilesFault}
+use Rattle.acl_service.specs.declared.files.FilesFault.TheVariants.{SessionCount, InputTwice, CannotRead, Memory}
 
 pub AreTold-more : (bytes_of : Text → Option (List ℕ)) (input : Option (List ℕ)) (names : List Text) (texts : List (Vec ℕ Global)) (name : Text) (text : Vec ℕ Global)
     → AreTold bytes_of input names texts → IsTold (session_told bytes_of input name) text.items → AreTold bytes_of input (names ++ name ∷ []) (texts ++ text ∷ [])

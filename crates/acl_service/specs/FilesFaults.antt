@@ -10,10 +10,10 @@ use Rattle.acl_queries.specs.declared.command.run_fault.RunFault.TheVariants as 
 use Rattle.acl_service.specs.RunWords.{CanRun, IsTold, RunTakes, input_count, run_rows, sessions_in}
 use Rattle.acl_service.specs.RunWords.{setup_in}
 use Rattle.acl_service.specs.TextsFaults.{SaysTexts}
-use Rattle.acl_service.specs.declared.run_command.files.FilesFault.{FilesFault}
-use Rattle.acl_service.specs.declared.run_command.files.FilesFault.TheVariants.{SessionCount}
-use Rattle.acl_service.specs.declared.run_command.files.FilesFault.TheVariants.{InputTwice}
-use Rattle.acl_service.specs.declared.run_command.files.FilesFault.TheVariants.{CannotRead, Memory}
+use Rattle.acl_service.specs.declared.files.FilesFault.{FilesFault}
+use Rattle.acl_service.specs.declared.files.FilesFault.TheVariants.{SessionCount}
+use Rattle.acl_service.specs.declared.files.FilesFault.TheVariants.{InputTwice}
+use Rattle.acl_service.specs.declared.files.FilesFault.TheVariants.{CannotRead, Memory}
 
 abbrev pub files_fault_words : FilesFault → List ℕ
 files_fault_words SessionCount = codes "at most 64 sessions"

@@ -50,17 +50,20 @@ fault_of_serve serve.ThreadRefused = Run run.NoThread
 abbrev pub lost_output : TextsFault
 lost_output = Run run.Output
 
--- the setup is refused, and not because memory ran out
-pub record RefusesSetup (bytes : List ℕ) : Type 0 where
-  pub error : SetupError
+-- the setup is refused for this, and not because memory ran out
+pub record IsRefusedBy (bytes : List ℕ) (error : SetupError) : Type 0 where
   pub refused : IsRefusedSetup bytes error
   pub because : error ≢ setup.Memory
+
+-- for anything
+abbrev pub RefusesSetup : List ℕ → Type 0
+RefusesSetup bytes = (error : SetupError) × IsRefusedBy bytes error
 
 -- so many sessions with this setup are refused for this: there are too many, or else for the setup;
 -- of a run that lacked something nothing is said but that there weren't too many
 abbrev pub IsTextsFault : List ℕ → ℕ → TextsFault → Type 0
 IsTextsFault bytes sessions TooManySessions = SESSIONS < sessions
-IsTextsFault bytes sessions (Setup error) = (sessions ≤ SESSIONS) × RefusesSetup bytes
+IsTextsFault bytes sessions (Setup error) = (sessions ≤ SESSIONS) × IsRefusedBy bytes error
 IsTextsFault bytes sessions (Run fault) = sessions ≤ SESSIONS
 
 -- a run that was begun lacked something

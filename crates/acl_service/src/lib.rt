@@ -3,6 +3,7 @@
 //! are those of `acl_queries`.
 #![tactic(auto)]
 
+mod files;
 mod headline;
 mod one;
 mod run_command;
@@ -15,9 +16,10 @@ pub use acl_queries::{
     compare, decide, explain, read_capped, report, words_ask_what_they_give, words_of, write_text,
 };
 pub use acl_runs::{Gate, OpenGate, ServeFault};
+pub use files::{FilesFault, OpenFiles, count_inputs, read_file, read_sessions};
 pub use headline::{journal_explains_every_answer, one_session_is_served_as_alone};
-pub use one::{OneFault, run_one};
-pub use run_command::{OpenFiles, run, run_texts};
+pub use one::{OneFault, apply_text, run_one};
+pub use run_command::{run, run_texts};
 pub use served::Served;
 pub(crate) use served::ServedInPrint;
 pub use sessions::{Report, serve, serve_rounds};

@@ -72,6 +72,26 @@ fn answer_one(
     render(&answer, directory, printed)
 }
 
+/// Applies the commands of a text to the tree, line by line, and drops their answers. The text has
+/// at most 1,048,576 bytes. It fails only if memory runs out; the tree is then what the commands
+/// before left.
+pub fn apply_text(
+    alloc: Global,
+    directory: &Directory,
+    tree: &mut Tree,
+    text: &[u8],
+) -> Result<(), AllocError>
+    requires { length text.now ≤ MAX_TEXT_LEN }
+    ensures { OnOk result (tree.new ≡ tree_after directory.now tree.old
+        (requests_of directory.now text.now)) }
+{
+    let mut requests = Requests::new(text, directory);
+    while let Some(numbered) = requests.next(alloc)? {
+        tree.apply(alloc, &numbered.request, directory)?;
+    }
+    Ok(())
+}
+
 /// Applies the commands of a text to the tree, line by line, and answers with the tree that they
 /// leave. Their answers go to `out`: all of them are made first and then written at once. The text
 /// has at most 1,048,576 bytes. On a fault the tree is dropped. `Memory`: nothing was written.

@@ -14,17 +14,15 @@ ghost use Rattle.acl_service.specs.RunWords.{input_count, run_rows, sessions_in}
 
 mod command_line;
 mod fault;
-mod files;
 mod printing;
 mod texts;
 
+use crate::files::{FilesFault, OpenFiles, read_texts};
 use acl_queries::options::flag_field;
 use acl_queries::{ErrorOutput, report};
 use acl_runs::{Gate, OpenGate};
 use clap::ArgMatches;
 use command_line::{limit_field, parse, session_fields, setup_field};
-pub use files::OpenFiles;
-use files::{FilesFault, read_texts};
 use std::alloc::Global;
 use std::convert::AsStr;
 use std::io::{Read, Write};

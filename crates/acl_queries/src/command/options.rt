@@ -3,7 +3,7 @@ ghost use Rattle.std.specs.Prelude.{◌≡◌, codes, false, option_map};
 ghost use Rattle.clap.specs.Words.{first_of, found_of, rows_of, rule_of};
 ghost use Rattle.acl_queries.specs.Asked.{flag_in};
 ghost use Rattle.acl_queries.specs.CommandLine.{flag, optional_option, required_option};
-ghost use Rattle.acl_queries.specs.CommandLine.{required_word};
+ghost use Rattle.acl_queries.specs.CommandLine.{optional_word, required_word};
 
 use clap::{Arg, ArgAction, ArgMatches};
 use std::alloc::Global;
@@ -51,17 +51,25 @@ pub(crate) fn gids_option<'a>(alloc: Global) -> Arg<'a>
     optional_option(alloc, "gids", "N,N..", help)
 }
 
-/// The option `--perms`: what is asked for.
-pub(crate) fn perms_option<'a>(alloc: Global) -> Arg<'a>
-    ensures rule { rule_of result ≡ required_option (codes "perms") }
+/// The option `--perms`, which may be left out: what is asked for.
+pub fn optional_perms_option<'a>(alloc: Global) -> Arg<'a>
+    ensures rule { rule_of result ≡ optional_option (codes "perms") }
     ensures local { result.global ≡ false }
 {
-    required_option(
+    optional_option(
         alloc,
         "perms",
         "P",
         "What is asked for: 1 to 3 of r, w, x and -. One that begins with - follows a =, as --perms=-w-",
     )
+}
+
+/// The option `--perms`.
+pub(crate) fn perms_option<'a>(alloc: Global) -> Arg<'a>
+    ensures rule { rule_of result ≡ required_option (codes "perms") }
+    ensures local { result.global ≡ false }
+{
+    optional_perms_option(alloc).required(true)
 }
 
 /// An option that may be left out, with what help calls its value.
@@ -86,15 +94,20 @@ pub fn flag<'a>(alloc: Global, name: &'a str, help: &'a str) -> Arg<'a>
         .help(help)
 }
 
+/// A word that belongs to no option and may be left out, with what help calls it.
+pub fn optional_word<'a>(alloc: Global, name: &'a str, value: &'a str, help: &'a str) -> Arg<'a>
+    ensures rule { rule_of result ≡ optional_word name.entry.now }
+    ensures local { result.global ≡ false }
+{
+    Arg::new(alloc, name).value_name(value).help(help)
+}
+
 /// A word that belongs to no option and has to be given, with what help calls it.
 pub fn required_word<'a>(alloc: Global, name: &'a str, value: &'a str, help: &'a str) -> Arg<'a>
     ensures rule { rule_of result ≡ required_word name.entry.now }
     ensures local { result.global ≡ false }
 {
-    Arg::new(alloc, name)
-        .required(true)
-        .value_name(value)
-        .help(help)
+    optional_word(alloc, name, value, help).required(true)
 }
 
 /// The text that the words give for a name.

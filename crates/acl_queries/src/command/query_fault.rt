@@ -10,7 +10,7 @@ use std::io::Write;
 
 /// A field of the words that doesn't read.
 #[derive(Clone, Copy, Debug, PartialEq, Eq)]
-pub(crate) enum FieldFault {
+pub enum FieldFault {
     /// An id is no decimal.
     BadId,
     /// There are more than 32 groups, or more than 64 entries.
@@ -47,9 +47,9 @@ impl FieldFault {
     }
 }
 
-/// Why there is no answer.
+/// Why a query gives no answer.
 #[derive(Debug, Drop)]
-pub(crate) enum QueryFault {
+pub enum QueryFault {
     /// A field doesn't read.
     Field(FieldFault),
     /// The parser of command lines refuses the words, or was asked for help.

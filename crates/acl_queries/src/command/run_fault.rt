@@ -2,8 +2,9 @@
 ghost use Rattle.std.specs.Prelude.{◌≡◌, Some};
 
 use crate::{CommandFault, ErrorOutput};
+use std::alloc::AllocError;
 use std::fmt;
-use std::io::Write;
+use std::io::{self, Write};
 use thiserror::Error;
 
 /// What a run lacked. It is shown by the words that follow `aclctl: run: ` on the fault line.
@@ -58,5 +59,25 @@ impl CommandFault for RunFault {
 
     fn tell<E: Write + Drop>(&self, err: &mut ErrorOutput<E>) {
         err.write_line("run: ", self.words());
+    }
+}
+
+impl From<AllocError> for RunFault {
+    ghost use Rattle.acl_queries.specs.declared.command.run_fault.RunFault.TheVariants.{Memory};
+
+    ghost from_gives = { λ _ becomes. becomes ≡ Memory };
+
+    fn from(_refused: AllocError) -> RunFault {
+        RunFault::Memory
+    }
+}
+
+impl From<io::Error> for RunFault {
+    ghost use Rattle.acl_queries.specs.declared.command.run_fault.RunFault.TheVariants.{Output};
+
+    ghost from_gives = { λ _ becomes. becomes ≡ Output };
+
+    fn from(_failed: io::Error) -> RunFault {
+        RunFault::Output
     }
 }

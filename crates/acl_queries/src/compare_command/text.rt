@@ -1,45 +1,13 @@
 //! The text that `compare` answers with.
 ghost use Rattle.std.specs.Prelude.{◌≡◌, ◌++◌, IfOk, OnOk};
-ghost use Rattle.acl_nfs4.specs.Mask.{mask_bits};
 ghost use Rattle.acl_queries.specs.Comparing.{compared};
-ghost use Rattle.acl_queries.specs.Differences.{Answers, bits_text, difference_text, gids_text};
-ghost use Rattle.acl_queries.specs.Differences.{told_text};
+ghost use Rattle.acl_queries.specs.Differences.{Answers, difference_text, told_text};
 
 use super::comparison::Comparison;
-use acl_names::{Gid, push_id};
-use acl_nfs4::{Difference, Mask, push_mask};
-use bitflags::Flags;
+use crate::command::change_text::{push_bits, push_gids};
+use acl_names::push_id;
+use acl_nfs4::Difference;
 use std::alloc::{AllocError, Global};
-
-/// Appends the groups of who asks.
-fn push_gids(gid: Option<Gid>, other_gid: Option<Gid>, out: &mut Vec<u8>) -> Result<(), AllocError>
-    ensures { OnOk result (out.new.items ≡ out.old.items ++ gids_text gid other_gid) }
-{
-    match (gid, other_gid) {
-        (None, None) => out.push(b'-')?,
-        (Some(gid), None) => push_id(None, gid.value(), out)?,
-        (None, Some(gid)) => push_id(None, gid.value(), out)?,
-        (Some(gid), Some(other)) => {
-            push_id(None, gid.value(), out)?;
-            if gid != other {
-                out.push(b',')?;
-                push_id(None, other.value(), out)?;
-            }
-        }
-    }
-    Ok(())
-}
-
-/// Appends the letters of the bits.
-fn push_bits(bits: Mask, out: &mut Vec<u8>) -> Result<(), AllocError>
-    ensures { OnOk result (out.new.items ≡ out.old.items ++ bits_text (mask_bits bits)) }
-{
-    if bits.is_empty() {
-        out.push(b'-')?;
-        return Ok(());
-    }
-    push_mask(bits, out)
-}
 
 /// Appends the lines that tell of a difference.
 fn push_difference(difference: &Difference, out: &mut Vec<u8>) -> Result<(), AllocError>

@@ -35,7 +35,7 @@ impl SetupError {
     ghost use Rattle.acl_service.specs.SetupFaults.{setup_error_words};
 
     /// What follows `aclctl: setup: ` on the fault line.
-    pub(crate) fn words(&self) -> &'static str
+    pub fn words(&self) -> &'static str
         ensures { result.now ≡ setup_error_words self.now }
     {
         match self {

@@ -1,9 +1,9 @@
-use Rattle.std.proofs.Common.{◌≤◌, ℕ, List, Option, ap, arith, inl, inr, map, refl, subst, sym}
+use Rattle.std.proofs.Common.{◌≤◌, ℕ, List, arith, inl, inr, map, refl, subst, sym}
 use Rattle.clap.specs.Words.{Row, found_of, rows_of}
-use Rattle.acl_queries.specs.Faults.{SaysUsage, usage_line, usage_status}
+use Rattle.acl_queries.specs.Faults.{SaysUsage, usage_line}
 use Rattle.acl_queries.proofs.ErrorLemmas.{Reports-line, Reports-map, usage_bounds}
 use Rattle.acl_service.specs.FilesFaults.{SaysFiles, SaysRun}
-use Rattle.acl_service.specs.RunWords.{RunTakes, run_rows}
+use Rattle.acl_service.specs.RunWords.{RunTakes}
 use Rattle.acl_service.proofs.run_command.run.Goals as goal
 
 pub returns-in-Ok-clause-told : goal.returns-in-Ok-clause-told

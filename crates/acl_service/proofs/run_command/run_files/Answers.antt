@@ -7,8 +7,8 @@ use Rattle.acl_queries.proofs.ErrorLemmas.{Reports-map}
 use Rattle.acl_service.specs.FilesFaults.{IsFilesFault, SaysFiles, files_status}
 use Rattle.acl_service.specs.RunWords.{AreTold, CanRun, IsSessionFault, IsTold, RunsWords, input_count, sessions_in, setup_in}
 use Rattle.acl_service.specs.TextsFaults.{SaysTexts}
-use Rattle.acl_service.specs.declared.run_command.files.FilesFault.{FilesFault}
-use Rattle.acl_service.specs.declared.run_command.files.FilesFault.TheVariants.{SessionCount, InputTwice, CannotRead, Memory}
+use Rattle.acl_service.specs.declared.files.FilesFault.{FilesFault}
+use Rattle.acl_service.specs.declared.files.FilesFault.TheVariants.{SessionCount, InputTwice, CannotRead, Memory}
 use Rattle.acl_service.proofs.FaultLemmas.{Reports-files}
 use Rattle.acl_service.proofs.FileLemmas.{shown}
 use Rattle.acl_service.proofs.run_command.run_files.Given as given

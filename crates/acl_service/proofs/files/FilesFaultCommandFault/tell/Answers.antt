@@ -1,8 +1,8 @@
 use Rattle.std.proofs.Common.{subst, sym}
 use Rattle.acl_queries.specs.ErrorOutput.{Tells}
 use Rattle.acl_service.specs.FilesFaults.{files_fault_line}
-use Rattle.acl_service.specs.declared.run_command.files.FilesFault.{FilesFault}
-use Rattle.acl_service.proofs.run_command.files.FilesFaultCommandFault.tell.Goals as goal
+use Rattle.acl_service.specs.declared.files.FilesFault.{FilesFault}
+use Rattle.acl_service.proofs.files.FilesFaultCommandFault.tell.Goals as goal
 
 pub returns-in-SessionCount : goal.returns-in-SessionCount
 returns-in-SessionCount g c =

@@ -1,7 +1,7 @@
-use Rattle.std.proofs.Common.{◌≡◌, ◌≤◌, ℕ, All, length, map, take}
+use Rattle.std.proofs.Common.{◌≡◌, ◌≤◌, All, length, map, take}
 use Rattle.acl_lang.specs.declared.limits.TheConstants.{MAX_TEXT_LEN}
 use Rattle.acl_service.specs.RunWords.{AreTold, input_count}
-use Rattle.acl_service.proofs.run_command.files.read_sessions.Given as goal
+use Rattle.acl_service.proofs.files.read_sessions.Given as goal
 
 -- there is a text for each name so far, of the bytes that are told of it; and standard input is as it was, unless one was it
 abbrev pub invariant-loop-name : goal.invariant-loop-name

@@ -1,11 +1,11 @@
-use Rattle.std.proofs.Common.{rules, ◌≡◌, ◌≤◌, ◌<◌, ◌+◌, ◌++◌, ◌∷◌, ◌∙◌, [], ℕ, List, ap, arith, bytes_eq, codes, get_or, length, map, subst, sym, take, true, Bor, Vec, Global}
+use Rattle.std.proofs.Common.{rules, ◌≡◌, ◌≤◌, ◌+◌, ◌++◌, ◌∷◌, ◌∙◌, [], ℕ, List, ap, arith, get_or, length, subst, sym, take, Bor, Vec, Global}
 use Rattle.clap.specs.Words.{Text}
 use Rattle.acl_lang.specs.declared.limits.TheConstants.{MAX_TEXT_LEN}
 use Rattle.acl_service.specs.FilesFaults.{IsReadFaultAmong}
 use Rattle.acl_service.specs.RunWords.{AreTold, input_count}
 use Rattle.acl_service.proofs.FileLemmas.{AreTold-more, input_count-next, input_count-take, map-take_more, none_so_far, refused_among, shown, told_before}
 use Rattle.acl_runs.proofs.PlaceLemmas.{each_after_push}
-use Rattle.acl_service.proofs.run_command.files.read_sessions.Goals as goal
+use Rattle.acl_service.proofs.files.read_sessions.Goals as goal
 
 abbrev no_name : Bor (List ℕ)
 no_name = record { ref_ptr = (0, 0); now = [] }

@@ -1,4 +1,4 @@
-//! The files of a run.
+//! The files of a setup and of sessions.
 ghost use Rattle.std.specs.Prelude.{◌≡◌, ◌≤◌, ℕ, All, IfErr, IfOk, List, OnOk, Option, Some};
 ghost use Rattle.std.specs.Prelude.{bytes_eq, codes, false, length, map};
 ghost use Rattle.std.specs.Io.KnownBytes.{Appends};
@@ -29,9 +29,9 @@ pub trait OpenFiles {
         ensures { IfOk result (λ file. Self.File.remaining file ≡ bytes_of self.now name.now) };
 }
 
-/// Why a run's files give no texts.
+/// Why files give no texts.
 #[derive(Clone, Copy, Debug, PartialEq, Eq)]
-pub(super) enum FilesFault<'a> {
+pub enum FilesFault<'a> {
     /// There are more sessions than there may be; or none, which the parser of command lines
     /// doesn't let through.
     SessionCount,
@@ -69,7 +69,7 @@ impl<'a> CommandFault for FilesFault<'a> {
 
 /// What a run works on.
 #[derive(Drop)]
-pub(super) struct Texts {
+pub(crate) struct Texts {
     pub setup: Vec<u8>,
     pub sessions: Vec<Vec<u8>>,
 }
@@ -91,8 +91,8 @@ fn read_all<'a, I: Read>(
     }
 }
 
-/// The bytes of the file of this name.
-fn read_file<'a, F: OpenFiles>(
+/// The bytes of the file of this name, of which there may be 1,048,576.
+pub fn read_file<'a, F: OpenFiles>(
     alloc: Global,
     files: &F,
     name: &'a str,
@@ -129,9 +129,9 @@ fn read_session<'a, F: OpenFiles, I: Read>(
     }
 }
 
-/// The texts of the sessions of these names, read in this order. One of them may be that of
-/// `input`, of which else nothing is read.
-fn read_sessions<'a, F: OpenFiles, I: Read>(
+/// The texts of the sessions of these names, read in this order, each of at most 1,048,576 bytes.
+/// One of the names may be `-`, whose text is what `input` has; else nothing of `input` is read.
+pub fn read_sessions<'a, F: OpenFiles, I: Read>(
     alloc: Global,
     files: &F,
     input: &mut I,
@@ -157,7 +157,7 @@ fn read_sessions<'a, F: OpenFiles, I: Read>(
 }
 
 /// How many of the names are that of standard input.
-fn count_inputs(names: &[&str]) -> usize
+pub fn count_inputs(names: &[&str]) -> usize
     ensures { result ≡ input_count (map (λ name. name.now) names.now) }
 {
     names.iter().filter(|name| **name == INPUT).count()
@@ -165,7 +165,7 @@ fn count_inputs(names: &[&str]) -> usize
 
 /// Reads the setup of one name and then the sessions of the others, in their order. One of these
 /// may be that of `input`, of which else nothing is read.
-pub(super) fn read_texts<'a, F: OpenFiles, I: Read>(
+pub(crate) fn read_texts<'a, F: OpenFiles, I: Read>(
     alloc: Global,
     files: &F,
     input: &mut I,

@@ -4,7 +4,7 @@ use Rattle.acl_broker.specs.declared.limits.TheConstants.{SESSIONS}
 use Rattle.acl_service.specs.FilesFaults.{IsFilesFault}
 use Rattle.acl_service.specs.RunWords.{CanRun}
 use Rattle.acl_service.proofs.FileLemmas.{refused_for_session, refused_for_setup, shown}
-use Rattle.acl_service.proofs.run_command.files.read_texts.Goals as goal
+use Rattle.acl_service.proofs.files.read_texts.Goals as goal
 
 pub returns-in_err-setup-clause-refused : goal.returns-in_err-setup-clause-refused
 returns-in_err-setup-clause-refused g c =

@@ -1,6 +1,6 @@
 use Rattle.std.proofs.Common.{rules, ◌≡◌, ◌∙◌, Bor, List, ℕ, bytes_eq, codes, count_by, sym}
 use Rattle.acl_service.proofs.FileLemmas.{input_count-counts}
-use Rattle.acl_service.proofs.run_command.files.count_inputs.Goals as goal
+use Rattle.acl_service.proofs.files.count_inputs.Goals as goal
 
 pub returns : goal.returns
 returns c =

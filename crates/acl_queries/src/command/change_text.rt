@@ -1,0 +1,44 @@
+//! How it is told who loses or gains what.
+ghost use Rattle.std.specs.Prelude.{◌≡◌, ◌++◌, OnOk};
+ghost use Rattle.acl_nfs4.specs.Mask.{mask_bits};
+ghost use Rattle.acl_queries.specs.Differences.{bits_text, gids_text};
+
+use acl_names::{Gid, push_id};
+use acl_nfs4::{Mask, push_mask};
+use bitflags::Flags;
+use std::alloc::AllocError;
+
+/// Appends the groups of one who is in at most two: their gids between commas, each once, or `-` if
+/// there is none.
+pub fn push_gids(
+    gid: Option<Gid>,
+    other_gid: Option<Gid>,
+    out: &mut Vec<u8>,
+) -> Result<(), AllocError>
+    ensures { OnOk result (out.new.items ≡ out.old.items ++ gids_text gid other_gid) }
+{
+    match (gid, other_gid) {
+        (None, None) => out.push(b'-')?,
+        (Some(gid), None) => push_id(None, gid.value(), out)?,
+        (None, Some(gid)) => push_id(None, gid.value(), out)?,
+        (Some(gid), Some(other)) => {
+            push_id(None, gid.value(), out)?;
+            if gid != other {
+                out.push(b',')?;
+                push_id(None, other.value(), out)?;
+            }
+        }
+    }
+    Ok(())
+}
+
+/// Appends the letters of what is lost or gained, or `-` if it is nothing.
+pub fn push_bits(bits: Mask, out: &mut Vec<u8>) -> Result<(), AllocError>
+    ensures { OnOk result (out.new.items ≡ out.old.items ++ bits_text (mask_bits bits)) }
+{
+    if bits.is_empty() {
+        out.push(b'-')?;
+        return Ok(());
+    }
+    push_mask(bits, out)
+}
