@@ -14,6 +14,10 @@ use Rattle.acl_queries.specs.RunFaults.{run_fault_line}
 use Rattle.acl_queries.specs.declared.command.run_fault.RunFault.TheVariants.{Output}
 use Rattle.acl_service.specs.FilesFaults.{SaysRun}
 use Rattle.acl_service.specs.RunWords.{RunsWords, input_count, run_rows, sessions_in}
+use Rattle.acl_tree_queries.specs.DumpAnswer.{AnswersDump, BeginsDump, SaysDump, dump_inputs}
+use Rattle.acl_tree_queries.specs.ImpactAnswer.{AnswersImpact, BeginsImpact, SaysImpact}
+use Rattle.acl_tree_queries.specs.ImpactAnswer.{impact_inputs}
+use Rattle.acl_tree_queries.specs.WhoAnswer.{AnswersWho, BeginsWho, SaysWho, who_inputs}
 use Rattle.aclctl.specs.Fault.{fault_line, program_line, status_of}
 use Rattle.aclctl.specs.Input.{AreWordsOf, IsInputFault}
 use Rattle.aclctl.specs.declared.fault.ProgramFault.{ProgramFault}
@@ -34,6 +38,9 @@ pub data Command : Type 0 where
   Explain : Command
   Compare : Command
   Run : Command
+  Who : Command
+  Impact : Command
+  Dump : Command
   Help : Command
   Version : Command
 
@@ -44,8 +51,11 @@ command_of name =
     else (if bytes_eq name (codes "explain") then Some Explain
     else (if bytes_eq name (codes "compare") then Some Compare
     else (if bytes_eq name (codes "run") then Some Run
+    else (if bytes_eq name (codes "who") then Some Who
+    else (if bytes_eq name (codes "impact") then Some Impact
+    else (if bytes_eq name (codes "dump") then Some Dump
     else (if bytes_eq name (codes "--help") then Some Help
-    else (if bytes_eq name (codes "--version") then Some Version else None)))))
+    else (if bytes_eq name (codes "--version") then Some Version else None))))))))
 
 -- what `--version` prints
 abbrev pub version_text : List ℕ
@@ -54,6 +64,9 @@ version_text = codes "aclctl 0.1.0" ++ newline ∷ []
 -- how many sessions of these words of the command are standard input
 abbrev pub inputs_of : Option Command → List (List ℕ) → ℕ
 inputs_of (Some Run) words = input_count (sessions_in (run_rows words))
+inputs_of (Some Who) words = who_inputs words
+inputs_of (Some Impact) words = impact_inputs words
+inputs_of (Some Dump) words = dump_inputs words
 inputs_of (Some Decide) words = 0
 inputs_of (Some Explain) words = 0
 inputs_of (Some Compare) words = 0
@@ -66,10 +79,11 @@ abbrev pub inputs_named : List (List ℕ) → ℕ
 inputs_named [] = 0
 inputs_named (first ∷ more) = inputs_of (command_of first) (first ∷ more)
 
--- sessions ended so: with their outputs, or with nothing written if they were refused
-pub record EndsAsRun (files : Files) (input : Option (List ℕ)) (words : List (List ℕ))
-    (old new : Option (List ℕ)) (status : ℕ) : Type 0 where
-  pub printed : status ≡ 0 → RunsWords files input (run_rows words) (Appends old new)
+-- words ended so of which this goes out: with all of it, or with nothing written if they were
+-- refused
+pub record EndsWith (GoesOut : (List ℕ → Type 0) → Type 0) (old new : Option (List ℕ)) (status : ℕ)
+    : Type 0 where
+  pub printed : status ≡ 0 → GoesOut (Appends old new)
   pub silent : 1 ≤ status → status ≤ 2 → Keeps old new
 
 -- with these files and this standard input, a run ended as these words of the command come to
@@ -80,7 +94,13 @@ EndsAsCommand files input (Some Decide) words old new status =
 EndsAsCommand files input (Some Explain) words old new status = EndsAsExplained words old new status
 EndsAsCommand files input (Some Compare) words old new status = EndsAsCompared words old new status
 EndsAsCommand files input (Some Run) words old new status =
-    EndsAsRun files input words old new status
+    EndsWith (RunsWords files input (run_rows words)) old new status
+EndsAsCommand files input (Some Who) words old new status =
+    EndsWith (AnswersWho files input words) old new status
+EndsAsCommand files input (Some Impact) words old new status =
+    EndsWith (AnswersImpact files input words) old new status
+EndsAsCommand files input (Some Dump) words old new status =
+    EndsWith (AnswersDump files input words) old new status
 EndsAsCommand files input (Some Help) words old new status =
     EndsAs (record { status = 0; text = HELP.now }) old new status
 EndsAsCommand files input (Some Version) words old new status =
@@ -112,6 +132,12 @@ IsCommandCutShort files input (Some Explain) words old new = IsExplanationCutSho
 IsCommandCutShort files input (Some Compare) words old new = IsCutShort words old new
 IsCommandCutShort files input (Some Run) words old new = Keeps old new
     ⊎ RunsWords files input (run_rows words) (AppendsFront old new)
+IsCommandCutShort files input (Some Who) words old new = Keeps old new
+    ⊎ BeginsWho files input words (AppendsFront old new)
+IsCommandCutShort files input (Some Impact) words old new = Keeps old new
+    ⊎ BeginsImpact files input words (AppendsFront old new)
+IsCommandCutShort files input (Some Dump) words old new = Keeps old new
+    ⊎ BeginsDump files input words (AppendsFront old new)
 IsCommandCutShort files input (Some Help) words old new = AppendsFront old new HELP.now
 IsCommandCutShort files input (Some Version) words old new = AppendsFront old new version_text
 IsCommandCutShort files input None words old new = ⊥
@@ -138,24 +164,30 @@ abbrev pub SaysNoCommand : ℕ → Option (List ℕ) → Type 0
 SaysNoCommand status line = (status ≡ status_of NoCommand)
     × ((more : List ℕ) × (line ≡ Some (fault_line NoCommand ++ more)))
 
--- what is said of these words of the command
-abbrev pub SaysCommand : Files → Option Command → List (List ℕ) → ℕ → Option (List ℕ) → Type 0
-SaysCommand files (Some Decide) words = SaysQueryFault (IsFaultOf words)
-SaysCommand files (Some Explain) words = SaysQueryFault (IsExplainFaultOf words)
-SaysCommand files (Some Compare) words = SaysQueryFault (IsCompareFaultOf words)
-SaysCommand files (Some Run) words = SaysRun files words
-SaysCommand files (Some Help) words = SaysLostOutput
-SaysCommand files (Some Version) words = SaysLostOutput
-SaysCommand files None words = SaysNoCommand
+-- with this standard input, what is said of these words of the command
+abbrev pub SaysCommand : Files → Option (List ℕ) → Option Command → List (List ℕ) → ℕ
+    → Option (List ℕ) → Type 0
+SaysCommand files input (Some Decide) words = SaysQueryFault (IsFaultOf words)
+SaysCommand files input (Some Explain) words = SaysQueryFault (IsExplainFaultOf words)
+SaysCommand files input (Some Compare) words = SaysQueryFault (IsCompareFaultOf words)
+SaysCommand files input (Some Run) words = SaysRun files words
+SaysCommand files input (Some Who) words = SaysWho files input words
+SaysCommand files input (Some Impact) words = SaysImpact files input words
+SaysCommand files input (Some Dump) words = SaysDump files input words
+SaysCommand files input (Some Help) words = SaysLostOutput
+SaysCommand files input (Some Version) words = SaysLostOutput
+SaysCommand files input None words = SaysNoCommand
 
 -- by the command that the first of the words names
-abbrev pub SaysWords : Files → List (List ℕ) → ℕ → Option (List ℕ) → Type 0
-SaysWords files [] = SaysNoCommand
-SaysWords files (first ∷ more) = SaysCommand files (command_of first) (first ∷ more)
+abbrev pub SaysWords : Files → Option (List ℕ) → List (List ℕ) → ℕ → Option (List ℕ) → Type 0
+SaysWords files input [] = SaysNoCommand
+SaysWords files input (first ∷ more) =
+    SaysCommand files input (command_of first) (first ∷ more)
 
--- with these bytes on standard input: what is said of their words, or of a fault of the bytes or of
--- reading them
+-- with these bytes on standard input: what is said of their words, with nothing left there, or of a
+-- fault of the bytes or of reading them
 abbrev pub SaysFrom : Files → List ℕ → ℕ → Option (List ℕ) → Type 0
 SaysFrom files bytes status line =
-    ((words : List (List ℕ)) × AreWordsOf bytes words × SaysWords files words status line)
+    ((words : List (List ℕ)) × (rest : Option (List ℕ)) × IsAtEnd rest × AreWordsOf bytes words
+    × SaysWords files rest words status line)
     ⊎ SaysFault status_of program_line (λ fault. IsInputFault fault bytes) status line

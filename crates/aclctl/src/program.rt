@@ -8,6 +8,7 @@ ghost use Rattle.aclctl.specs.Program.{SaysFrom, SaysWords, inputs_named};
 use crate::help::{print_help, print_version, report_no_command};
 use crate::input::command_words;
 use acl_service::{ErrorOutput, OpenFiles, compare, decide, explain, report};
+use acl_tree_queries::{dump, impact, who};
 use std::alloc::Global;
 use std::convert::AsStr;
 use std::io::{Read, Write};
@@ -15,7 +16,8 @@ use std::sync::Wait;
 use std::thread::Threads;
 use std::time::Clock;
 
-/// Runs the command that the first word names (`decide`, `compare`, `run`, `--help`, `--version`).
+/// Runs the command that the first word names (`decide`, `explain`, `compare`, `run`, `who`,
+/// `impact`, `dump`, `--help`, `--version`).
 /// It returns the exit status: that of the command; 2 if the first word names none, and the
 /// commands go to `err`. At 3 (out of memory, a thread refused, a write failed, or the run stopped)
 /// nothing or a front of the output went out.
@@ -48,10 +50,10 @@ where
         (W.contents out.old) (W.contents out.new) }
 
     // Nothing is told beside an answer. Else the whole line of a fault is, unless a write fails.
-    ensures told { Reports (SaysWords (F.bytes_of files.now) (map S.text words.now)) result err.old
-        err.new }
+    ensures told { Reports (SaysWords (F.bytes_of files.now) (I.remaining input.old)
+        (map S.text words.now)) result err.old err.new }
 
-    // Standard input is left as it is, unless it is a session of `run`.
+    // Standard input is left as it is, unless it is a session.
     ensures untouched { inputs_named (map S.text words.now) ≡ 0 → input.new ≡ input.old }
 {
     match words.first() {
@@ -61,6 +63,11 @@ where
         Some(first) if first.as_str() == "run" => {
             acl_service::run(rt, alloc, files, words, input, out, err)
         }
+        Some(first) if first.as_str() == "who" => who(alloc, files, words, input, out, err),
+        Some(first) if first.as_str() == "impact" => {
+            impact(alloc, files, words, input, out, err)
+        }
+        Some(first) if first.as_str() == "dump" => dump(alloc, files, words, input, out, err),
         Some(first) if first.as_str() == "--help" => print_help(out, err),
         Some(first) if first.as_str() == "--version" => print_version(out, err),
         Some(first) => report_no_command(alloc, Some(first.as_str()), err),
@@ -69,8 +76,8 @@ where
 }
 
 /// Runs the command of the words given, or if there are none of those that the reader has, and
-/// returns the exit status. Of words that are given only those of `run` that name the reader as a
-/// session let it be read.
+/// returns the exit status. Of words that are given only those that name the reader as a session
+/// let it be read.
 pub fn run<R, F, I, W, E>(
     rt: &R,
     alloc: Global,
@@ -107,7 +114,8 @@ where
 
     // Nothing is told beside an answer. Else the whole line of a fault is, unless a write fails.
     ensures told_given { given.items ≢ [] → Reports
-        (SaysWords (F.bytes_of files.now) (map string_bytes given.items)) result err.old err.new }
+        (SaysWords (F.bytes_of files.now) (I.remaining reader.old) (map string_bytes given.items))
+        result err.old err.new }
     ensures told_read { given.items ≡ [] → IfSome (I.remaining reader.old)
         (λ bytes. Reports (SaysFrom (F.bytes_of files.now) bytes) result err.old err.new) }
     ensures untouched { given.items ≢ [] → inputs_named (map string_bytes given.items) ≡ 0

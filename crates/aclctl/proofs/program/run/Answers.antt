@@ -47,17 +47,20 @@ returns-in-Ok-clause-untouched g c some none =
 
 pub returns-in-Ok-clause-told_given : goal.returns-in-Ok-clause-told_given
 returns-in-Ok-clause-told_given g c some =
-    let Told = λ (words : List (String Global)).
-    Reports (SaysWords (g.F.OpenFiles.bytes_of c.args.files.now) (map string_bytes words)) c.run_command.result c.args.err.now c.run_command.new.err in
-    subst Told (c.in-Ok.ensures.given some) (subst Told c.as_slice.ensures.value c.run_command.ensures.told)
+    let Told = λ (input : Option (List ℕ)) (words : List (String Global)).
+    Reports (SaysWords (g.F.OpenFiles.bytes_of c.args.files.now) input (map string_bytes words)) c.run_command.result c.args.err.now c.run_command.new.err in
+    let rest = g.I.Read.remaining c.command_words.new.reader in
+    let of_given = subst (Told rest) (c.in-Ok.ensures.given some) (subst (Told rest) c.as_slice.ensures.value c.run_command.ensures.told) in
+    subst (λ (input : Option (List ℕ)). Told input c.args.given.items) (ap g.I.Read.remaining (c.in-Ok.ensures.untouched some)) of_given
 
 pub returns-in-Ok-clause-told_read : goal.returns-in-Ok-clause-told_read
 returns-in-Ok-clause-told_read g c none =
     let files = g.F.OpenFiles.bytes_of c.args.files.now in
-    let Told = λ (words : List (String Global)). Reports (SaysWords files (map string_bytes words)) c.run_command.result c.args.err.now c.run_command.new.err in
+    let rest = g.I.Read.remaining c.command_words.new.reader in
+    let Told = λ (words : List (String Global)). Reports (SaysWords files rest (map string_bytes words)) c.run_command.result c.args.err.now c.run_command.new.err in
     let told : Told c.in-Ok.words.items = subst Told c.as_slice.ensures.value c.run_command.ensures.told in
     IfSome_then _ (c.in-Ok.ensures.read none)
-    (λ bytes are_words. Reports-map _ (SaysFrom files bytes) _ _ _ (λ line says. inl (map string_bytes c.in-Ok.words.items, are_words, says)) told)
+    (λ bytes are_words. Reports-map _ (SaysFrom files bytes) _ _ _ (λ line says. inl (map string_bytes c.in-Ok.words.items, rest, c.in-Ok.ensures.ended none, are_words, says)) told)
 
 pub returns-in-Err-clause-told_read : goal.returns-in-Err-clause-told_read
 returns-in-Err-clause-told_read g c none =

@@ -1,0 +1,110 @@
+-- What words come to that ask of trees, and what is said of them.
+use Rattle.std.proofs.Common.{◌≡◌, ◌≢◌, ◌∙◌, ◌≤◌, ◌⊎◌, IfErr, IsOk, ap, ℕ, List, Option, Result, Ok, Err, OnErr, arith, inr, refl, subst, sym}
+use Rattle.std.specs.Prelude.{IfSome}
+use Rattle.clap.specs.Words.{App, Row, Text, matches_of}
+use Rattle.acl_queries.specs.ErrorOutput.{ErrorText, Reports, Tells}
+use Rattle.acl_queries.specs.Faults.{status_of}
+use Rattle.acl_queries.specs.declared.command.query_fault.FieldFault.{FieldFault}
+use Rattle.acl_queries.specs.declared.command.query_fault.QueryFault.{QueryFault}
+use Rattle.acl_queries.specs.declared.command.query_fault.QueryFault.TheVariants as query
+use Rattle.acl_queries.proofs.ErrorLemmas.{Reports-line}
+use Rattle.acl_service.specs.FilesFaults.{files_status}
+use Rattle.acl_service.specs.declared.files.FilesFault.{FilesFault}
+use Rattle.acl_service.specs.declared.files.FilesFault.TheVariants as files
+use Rattle.acl_tree_queries.specs.AnswerFaults.{IsAnswerFault, answer_status}
+use Rattle.acl_tree_queries.specs.QuestionFaults.{Asks, IsQuestionFault, SaysQuestion, fault_of_answer, question_line, question_status}
+use Rattle.acl_tree_queries.specs.Questions.{Answers, Takes}
+use Rattle.acl_tree_queries.specs.Trees.{AreTreesOf}
+use Rattle.acl_tree_queries.specs.declared.question.answer_fault.AnswerFault.{AnswerFault}
+use Rattle.acl_tree_queries.specs.declared.question.answer_fault.AnswerFault.TheVariants as answer
+use Rattle.acl_tree_queries.specs.declared.question.fault.QuestionFault.{QuestionFault}
+use Rattle.acl_tree_queries.specs.declared.question.fault.QuestionFault.TheVariants.{Words, Files, Setup, LineTooLong, Run}
+use Rattle.acl_tree_queries.specs.declared.trees.Trees.{Trees}
+
+module _ {Q : Type 0} (line : App) (asked_in : List Row → Result Q FieldFault) (bytes_of : Text → Option (List ℕ)) (words : List Text) where
+  -- words that are taken, and ask a question of trees, are answered by what went out
+  pub answered : (IsAnswer : Q → Trees → List ℕ → Type 0) (input : Option (List ℕ)) (WentOut : List ℕ → Type 0) (rows : List Row) → rows ≡ matches_of line words
+      → Takes line words → (question : Q) → asked_in rows ≡ Ok question → (trees : Trees) → AreTreesOf bytes_of input rows trees
+      → (text : List ℕ) × IsAnswer question trees text × WentOut text → Answers line asked_in IsAnswer bytes_of input words WentOut
+  answered IsAnswer input WentOut rows are taken question asked trees trees_are (text, answers, out) = record {
+    taken = taken;
+    question = question;
+    asked = subst (λ rows. asked_in rows ≡ Ok question) are asked;
+    trees = trees;
+    trees_are = subst (λ rows. AreTreesOf bytes_of input rows trees) are trees_are;
+    text = text;
+    answers = answers;
+    out = out;
+  }
+
+  some_query : (fault : QueryFault) → 1 ≤ status_of fault
+  some_query (query.Field fault) = omega arith
+  some_query (query.Usage error) = omega arith
+  some_query (query.Run fault) = omega arith
+
+  some_files : (fault : FilesFault) → 1 ≤ files_status fault
+  some_files files.SessionCount = omega arith
+  some_files files.InputTwice = omega arith
+  some_files (files.CannotRead name) = omega arith
+  some_files files.Memory = omega arith
+
+  some_status : (fault : QuestionFault) → 1 ≤ question_status fault
+  some_status (Words fault) = some_query fault
+  some_status (Files fault) = some_files fault
+  some_status (Setup error) = omega arith
+  some_status LineTooLong = omega arith
+  some_status (Run fault) = omega arith
+
+  -- what is told of a fault is what is said of the words
+  pub Reports-question : (IsRefused : Q → Trees → Type 0) (input : Option (List ℕ)) (fault : QuestionFault) (status : ℕ) (old new : ErrorText)
+      → IsQuestionFault line asked_in IsRefused bytes_of input words fault
+      → status ≡ question_status fault → IfSome (question_line fault) (λ text. Tells text old new)
+      → Reports (SaysQuestion line asked_in IsRefused bytes_of input words) status old new
+  Reports-question IsRefused input fault status old new is is_status told =
+      Reports-line (SaysQuestion line asked_in IsRefused bytes_of input words) status (question_line fault) old new
+      (subst (λ (n : ℕ). 1 ≤ n) (sym is_status) (some_status fault)) (fault, is, is_status, refl) told
+
+-- what is so of a fault of an answer is so of the fault that it becomes
+module _ {T : Type 0} (result : Result T QuestionFault) (fault : AnswerFault) (became : QuestionFault) (is : result ≡ Err became) (from : became ≡ fault_of_answer fault) where
+  statuses : (fault : AnswerFault) → question_status (fault_of_answer fault) ≡ answer_status fault
+  statuses answer.LineTooLong = refl
+  statuses (answer.Run fault) = refl
+
+  status_is : question_status became ≡ answer_status fault
+  status_is = ap question_status from ∙ statuses fault
+
+  pub silent_of : (K : Type 0) → (answer_status fault ≤ 2 → K) → IfErr result (λ fault. question_status fault ≤ 2 → K)
+  silent_of K silent = subst (λ r. IfErr r (λ fault. question_status fault ≤ 2 → K)) (sym is) (λ low. silent (subst (λ (n : ℕ). n ≤ 2) status_is low))
+
+  not_two : (fault : AnswerFault) → answer_status fault ≢ 2
+  not_two answer.LineTooLong same = absurd (omega (arith, same))
+  not_two (answer.Run fault) same = absurd (omega (arith, same))
+
+  pub unread_of : (K : Type 0) → IfErr result (λ fault. question_status fault ≡ 2 → K)
+  unread_of K = subst (λ r. IfErr r (λ fault. question_status fault ≡ 2 → K)) (sym is) (λ two. absurd (not_two fault (sym status_is ∙ two)))
+
+  module _ {Q : Type 0} (line : App) (asked_in : List Row → Result Q FieldFault) (IsRefused : Q → Trees → Type 0) (bytes_of : Text → Option (List ℕ))
+      (input : Option (List ℕ)) (words : List Text) (rows : List Row) (are : rows ≡ matches_of line words) (taken : Takes line words) (question : Q)
+      (asked : asked_in rows ≡ Ok question) (trees : Trees) (trees_are : AreTreesOf bytes_of input rows trees) where
+    asks : Asks line asked_in words
+    asks = record { taken = taken; read = subst (λ reading. IsOk reading) (sym asked ∙ ap asked_in are) refl }
+
+    fault_is : (fault : AnswerFault) → IsAnswerFault (IsRefused question trees) fault → IsQuestionFault line asked_in IsRefused bytes_of input words (fault_of_answer fault)
+    fault_is answer.LineTooLong refused = record {
+      taken = taken;
+      question = question;
+      asked = subst (λ rows. asked_in rows ≡ Ok question) are asked;
+      trees = trees;
+      trees_are = subst (λ rows. AreTreesOf bytes_of input rows trees) are trees_are;
+      refused = refused;
+    }
+    fault_is (answer.Run fault) lack = (asks, lack)
+
+    pub refused_of : IsAnswerFault (IsRefused question trees) fault → IfErr result (IsQuestionFault line asked_in IsRefused bytes_of input words)
+    refused_of refused = subst (λ r. IfErr r (IsQuestionFault line asked_in IsRefused bytes_of input words)) (sym is)
+        (subst (IsQuestionFault line asked_in IsRefused bytes_of input words) (sym from) (fault_is fault refused))
+
+-- what is so of a run that failed
+pub of_failed : {T E : Type 0} (result : Result T E) (P R : Type 0) → R → OnErr result (P ⊎ R)
+of_failed (Ok value) P R is = tt
+of_failed (Err fault) P R is = inr is

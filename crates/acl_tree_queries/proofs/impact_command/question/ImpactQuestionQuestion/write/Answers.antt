@@ -1,0 +1,13 @@
+use Rattle.std.proofs.Common.{rules, [], refl}
+use Rattle.std.specs.FinMap as map
+use Rattle.std.specs.Io.KnownBytes.{Keeps}
+use Rattle.acl_queries.proofs.OutcomeLemmas.{front_of_none}
+use Rattle.acl_tree_queries.specs.ImpactAnswer.{TellsImpactOn}
+use Rattle.acl_tree_queries.proofs.NodesLemmas.{cut_short}
+use Rattle.acl_tree_queries.proofs.impact_command.question.ImpactQuestionQuestion.write.Goals as goal
+
+pub returns-in_err-users-clause-cut : goal.returns-in_err-users-clause-cut
+returns-in_err-users-clause-cut g c =
+    let out = g.W.Write.contents c.args.out.now in
+    let kept : Keeps out out = search rules in
+    cut_short (TellsImpactOn c.args.trees.now) _ (map.entries c.args.trees.now.after.nodes) out out 0 [] refl (front_of_none out out [] kept)

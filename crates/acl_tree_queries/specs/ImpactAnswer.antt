@@ -1,0 +1,62 @@
+-- What `impact` answers.
+use Rattle.std.specs.Prelude.{◌≡◌, ℕ, List, Option, Some, Result, Ok}
+use Rattle.std.specs.FinMap as map
+use Rattle.clap.specs.Words.{Row, Text, matches_of}
+use Rattle.acl_names.specs.Directory.{Known}
+use Rattle.acl_names.specs.Requester.{Identity}
+use Rattle.acl_tree.specs.Entries.{Entry}
+use Rattle.acl_tree.specs.Tree.{NodesUnderUmask}
+use Rattle.acl_audit.specs.Impact.{IsImpactOn, requesters_of}
+use Rattle.acl_audit.specs.declared.impact.Impact.{Impact}
+use Rattle.acl_queries.specs.declared.command.query_fault.FieldFault.{FieldFault}
+use Rattle.acl_tree_queries.specs.ImpactText.{impact_text}
+use Rattle.acl_tree_queries.specs.ImpactLine.{impact_line}
+use Rattle.acl_tree_queries.specs.Nodes.{TellsOfEach, TellsOfFirst}
+use Rattle.acl_tree_queries.specs.QuestionFaults.{IsNeverRefused, SaysQuestion}
+use Rattle.acl_tree_queries.specs.Questions.{Answers}
+use Rattle.acl_tree_queries.specs.Trees.{inputs_in}
+use Rattle.acl_tree_queries.specs.declared.impact_command.question.ImpactQuestion.{ImpactQuestion}
+use Rattle.acl_tree_queries.specs.declared.trees.Trees.{Trees}
+
+-- what is told of a node that is there after: what it means for access that it became so, for these
+-- users and for anybody at all
+abbrev pub TellsImpact : Known → List Identity → NodesUnderUmask → Entry → List ℕ → Type 0
+TellsImpact known users before entry text = (found : Option Impact)
+    × IsImpactOn users (map.get before.nodes entry.0) (Some entry.1) found
+    × (text ≡ impact_text known users entry.0 found)
+
+-- by the setup's users, in the order of their names, and the tree before
+abbrev pub TellsImpactOn : Trees → Entry → List ℕ → Type 0
+TellsImpactOn trees = TellsImpact trees.directory (requesters_of trees.directory) trees.before
+
+-- what is told of each node after the sessions, in the order of their paths
+abbrev pub IsImpactAnswer : ImpactQuestion → Trees → List ℕ → Type 0
+IsImpactAnswer question trees text =
+    TellsOfEach (TellsImpactOn trees) (map.entries trees.after.nodes) text
+
+-- of the first of them
+abbrev pub IsImpactBegun : ImpactQuestion → Trees → List ℕ → Type 0
+IsImpactBegun question trees text =
+    TellsOfFirst (TellsImpactOn trees) (map.entries trees.after.nodes) text
+
+-- the words ask nothing but of the files that they name
+abbrev pub asks_impact : List Row → Result ImpactQuestion FieldFault
+asks_impact rows = Ok (record {})
+
+-- the words of `impact` are answered, and that went out so: all of it, or of the first nodes
+abbrev pub AnswersImpact : (Text → Option (List ℕ)) → Option (List ℕ) → List Text
+    → (List ℕ → Type 0) → Type 0
+AnswersImpact = Answers impact_line asks_impact IsImpactAnswer
+
+abbrev pub BeginsImpact : (Text → Option (List ℕ)) → Option (List ℕ) → List Text
+    → (List ℕ → Type 0) → Type 0
+BeginsImpact = Answers impact_line asks_impact IsImpactBegun
+
+-- what is said of words of `impact` that have no answer
+abbrev pub SaysImpact : (Text → Option (List ℕ)) → Option (List ℕ) → List Text → ℕ
+    → Option (List ℕ) → Type 0
+SaysImpact = SaysQuestion impact_line asks_impact IsNeverRefused
+
+-- how many sessions of the words are standard input
+abbrev pub impact_inputs : List Text → ℕ
+impact_inputs words = inputs_in (matches_of impact_line words)

@@ -1,0 +1,14 @@
+pub mod Trees
+pub mod Questions
+pub mod AnswerFaults
+pub mod QuestionFaults
+pub mod Nodes
+pub mod WhoLine
+pub mod WhoAnswer
+pub mod ImpactLine
+pub mod ImpactText
+pub mod ImpactAnswer
+pub mod DumpLine
+pub mod DumpText
+pub mod DumpAnswer
+pub mod DumpLaws

@@ -1,0 +1,62 @@
+-- The trees that a question is about.
+use Rattle.std.specs.Borrow.{Bor}
+use Rattle.std.specs.Prelude.{◌≡◌, ℕ, ◌+◌, List, [], ◌∷◌, Option, Vec, codes, map}
+use Rattle.std.specs.Prelude.{unwrap_or}
+use Rattle.std.specs.Cmp.Lexicographic.{slice_cmp}
+use Rattle.std.specs.Ordering.{nat_cmp}
+use Rattle.std.specs.declared.alloc.Global.{Global}
+use Rattle.clap.specs.Words.{Row, Text, all_of}
+use Rattle.acl_names.specs.Ascending.{IsAscending}
+use Rattle.acl_names.specs.Directory.{Known}
+use Rattle.acl_tree.specs.Tree.{NodesUnderUmask}
+use Rattle.acl_lang.specs.Texts.{requests_of}
+use Rattle.acl_service.specs.Opened.{Opens}
+use Rattle.acl_service.specs.Runs.{tree_after}
+use Rattle.acl_service.specs.RunWords.{AreTold, IsTold, input_count, setup_in}
+use Rattle.acl_tree_queries.specs.declared.trees.Trees.{Trees}
+
+-- the names that there are, if any
+abbrev pub all_names : Option (List Text) → List Text
+all_names names = unwrap_or names []
+
+-- the names themselves, where they are lent
+abbrev pub shown_names : Bor (List (Bor (List ℕ))) → List Text
+shown_names names = map (λ name. name.now) names.now
+
+-- the names of files that the words give for an option or a word
+abbrev pub names_in : Text → List Row → List Text
+names_in name rows = all_names (all_of name rows)
+
+-- those of the sessions that come before, and of those after
+abbrev pub before_in : List Row → List Text
+before_in rows = names_in (codes "before") rows
+
+abbrev pub after_in : List Row → List Text
+after_in rows = names_in (codes "session") rows
+
+-- how many of all sessions are standard input
+abbrev pub inputs_in : List Row → ℕ
+inputs_in rows = input_count (before_in rows) + input_count (after_in rows)
+
+-- the tree that sessions with these texts leave, one after the other
+abbrev pub tree_left : Known → NodesUnderUmask → List (Vec ℕ Global) → NodesUnderUmask
+tree_left known tree [] = tree
+tree_left known tree (text ∷ texts) =
+    tree_left known (tree_after known tree (requests_of known text.items)) texts
+
+-- The files that the words name give these trees: the sessions before leave the one on what the
+-- setup opens, and those after them leave the other on that. The users stand in the order of their
+-- names.
+pub record AreTreesOf (bytes_of : Text → Option (List ℕ)) (input : Option (List ℕ))
+    (rows : List Row) (trees : Trees) : Type 0 where
+  pub setup : List ℕ
+  pub earlier : List (Vec ℕ Global)
+  pub later : List (Vec ℕ Global)
+  pub setup_is : IsTold (bytes_of (setup_in rows)) setup
+  pub earlier_are : AreTold bytes_of input (before_in rows) earlier
+  pub later_are : AreTold bytes_of input (after_in rows) later
+  pub tree : NodesUnderUmask
+  pub opened : Opens setup trees.directory tree
+  pub users : IsAscending (slice_cmp nat_cmp) (λ user. user.name) trees.directory.users
+  pub before : trees.before ≡ tree_left trees.directory tree earlier
+  pub after : trees.after ≡ tree_left trees.directory trees.before later

@@ -1,0 +1,20 @@
+-- The command line of `who`, as the parser of command lines sees it, and what its fields ask.
+use Rattle.std.specs.Prelude.{◌≡◌, [], ◌∷◌, codes, fold, refl, true}
+use Rattle.clap.specs.Words.{App, is_simple, is_simple_and_free, new_app, with_rule}
+use Rattle.clap.proofs.OnLiterals.{clap_on_literals}
+use Rattle.acl_queries.specs.CommandLine.{optional_option, optional_word, required_option}
+
+-- `who --setup FILE [--perms P] [SESSION]`
+unfoldable pub who_line : App
+who_line = fold with_rule (new_app (codes "who"))
+    (required_option (codes "setup") ∷ optional_option (codes "perms")
+    ∷ optional_word (codes "session") ∷ [])
+
+-- its parser is known
+pub who_line-simple : is_simple who_line ≡ true
+unfolding clap_on_literals who_line
+who_line-simple = refl
+
+pub who_line-free : is_simple_and_free who_line ≡ true
+unfolding clap_on_literals who_line
+who_line-free = refl

@@ -1,0 +1,73 @@
+//! The command `impact`.
+ghost use Rattle.std.specs.Prelude.{◌≡◌, ◌≤◌, ◌⊎◌, map};
+ghost use Rattle.std.specs.Io.KnownBytes.{Appends, Keeps};
+ghost use Rattle.acl_queries.specs.ErrorOutput.{Reports};
+ghost use Rattle.acl_queries.specs.Output.{AppendsFront};
+ghost use Rattle.acl_tree_queries.specs.ImpactAnswer.{AnswersImpact, BeginsImpact, SaysImpact};
+ghost use Rattle.acl_tree_queries.specs.ImpactAnswer.{impact_inputs};
+
+mod question;
+mod text;
+
+use crate::question::ask;
+use acl_queries::ErrorOutput;
+use acl_service::OpenFiles;
+use question::ImpactQuestion;
+use std::alloc::Global;
+use std::convert::AsStr;
+use std::io::{Read, Write};
+
+/// Tells what a session changes, for anybody at all. The words are those of the command, its name
+/// first: `impact --setup FILE [--before SESSION] SESSION`. It compares the tree that the setup
+/// opens, or what the session of `--before` leaves on it, with what SESSION leaves on that. One
+/// session may be `-`, which is what `input` has; else nothing of `input` is read. `files` opens
+/// the others: the setup first, then the session before, then the other, each of at most 1,048,576
+/// bytes.
+///
+/// To `out` goes a line for each node that is new, `new PATH`, and for each where somebody is
+/// decided about otherwise, in the order of their paths: `differ NAME UID GIDS LOST GAINED PATH`.
+/// NAME is the first of the setup's users, in the order of their names, whom it concerns; else it
+/// is `-`, and UID and GIDS are somebody in at most two groups. LOST and GAINED are letters, and
+/// `-` is none. A node of which everybody is decided about alike, of whatever uid and groups, has
+/// no line. It is written in pieces of some 64 KiB. What is wrong goes to `err`, and so does help;
+/// a fault while writing there changes nothing.
+///
+/// It returns the exit status: 0 with the answer; 1 if a file can't be opened or read or is too
+/// long, or the setup is refused; 2 if the parser of command lines refuses the words or both
+/// sessions are `-`, before any file is opened; and 3 if memory runs out or `out` can't be written.
+/// At 1 and 2 nothing was written, and at 3 nothing or a front of the answer.
+pub fn impact<F, S, I, W, E>(
+    alloc: Global,
+    files: &F,
+    words: &[S],
+    input: &mut I,
+    out: &mut W,
+    err: &mut ErrorOutput<E>,
+) -> u8
+where
+    F: OpenFiles,
+    S: AsStr,
+    I: Read,
+    W: Write,
+    E: Write + Drop,
+    ensures statuses { result ≤ 3 }
+    ensures answered { result ≡ 0 → AnswersImpact (F.bytes_of files.now) (I.remaining input.old)
+        (map S.text words.now) (Appends (W.contents out.old) (W.contents out.new)) }
+
+    // Nothing is written if the words, a file or the setup are refused.
+    ensures silent { 1 ≤ result → result ≤ 2 → Keeps (W.contents out.old) (W.contents out.new) }
+
+    // If memory runs out or a write fails, nothing went out or a front of what is told of the first
+    // nodes.
+    ensures cut { result ≡ 3 → Keeps (W.contents out.old) (W.contents out.new)
+        ⊎ BeginsImpact (F.bytes_of files.now) (I.remaining input.old) (map S.text words.now)
+        (AppendsFront (W.contents out.old) (W.contents out.new)) }
+
+    // Standard input is left as it is if no session is `-`, and if the words are refused.
+    ensures untouched { impact_inputs (map S.text words.now) ≡ 0 → input.new ≡ input.old }
+    ensures unread { result ≡ 2 → input.new ≡ input.old }
+    ensures told { Reports (SaysImpact (F.bytes_of files.now) (I.remaining input.old)
+        (map S.text words.now)) result err.old err.new }
+{
+    ask::<ImpactQuestion, F, S, I, W, E>(alloc, files, words, input, out, err)
+}

@@ -1,0 +1,17 @@
+//! Queries of whole trees, from the words of a command line to what is printed: who may do what
+//! (`who`), who gains or loses what by a session (`impact`), and the session that makes a tree
+//! again (`dump`). A tree is that of a setup, or what sessions leave on it.
+#![tactic(auto)]
+
+mod dump_command;
+mod impact_command;
+mod laws;
+mod nodes;
+mod question;
+mod trees;
+mod who_command;
+
+pub use dump_command::dump;
+pub use impact_command::impact;
+pub use laws::dump_laws;
+pub use who_command::who;

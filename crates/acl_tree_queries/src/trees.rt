@@ -1,0 +1,192 @@
+//! The trees that a question is about.
+ghost use Rattle.std.specs.Prelude.{◌≡◌, ◌+◌, ◌≤◌, All, IfErr, IfOk, OnOk, length, option_map};
+ghost use Rattle.std.specs.Cmp.Lexicographic.{slice_cmp};
+ghost use Rattle.std.specs.Ordering.{nat_cmp};
+ghost use Rattle.clap.specs.Words.{all_of, found_of, rows_of};
+ghost use Rattle.acl_names.specs.Ascending.{IsAscending};
+ghost use Rattle.acl_lang.specs.declared.limits.TheConstants.{MAX_TEXT_LEN};
+ghost use Rattle.acl_service.specs.FilesFaults.{IsReadFaultAmong, files_status};
+ghost use Rattle.acl_service.specs.RunWords.{AreTold, IsTold, input_count, setup_in};
+ghost use Rattle.acl_tree_queries.specs.QuestionFaults.{IsNamesFault, IsTreesFault};
+ghost use Rattle.acl_tree_queries.specs.QuestionFaults.{question_status};
+ghost use Rattle.acl_tree_queries.specs.Trees.{AreTreesOf, after_in, before_in, inputs_in};
+ghost use Rattle.acl_tree_queries.specs.Trees.{all_names, shown_names, tree_left};
+
+use crate::question::QuestionFault;
+use acl_names::Directory;
+use acl_queries::options::text_field;
+use acl_service::{
+    FilesFault, OpenFiles, apply_text, count_inputs, read_file, read_sessions, read_setup,
+};
+use acl_tree::Tree;
+use clap::ArgMatches;
+use std::alloc::{AllocError, Global};
+use std::io::Read;
+
+/// Who there is, and two trees: what the sessions before leave on the setup's, and what the
+/// sessions after them leave on that.
+#[derive(Drop)]
+pub(crate) struct Trees {
+    pub directory: Directory,
+    pub before: Tree,
+    pub after: Tree,
+}
+
+/// The texts of files.
+#[derive(Drop)]
+struct Texts {
+    setup: Vec<u8>,
+    before: Vec<Vec<u8>>,
+    after: Vec<Vec<u8>>,
+}
+
+/// The names of files that the words give for an option or a word, if they give any.
+fn names_field<'m, 'a>(matches: &'m ArgMatches<'a>, name: &str) -> Option<&'m [&'a str]>
+    ensures { option_map shown_names result ≡ all_of name.now (rows_of (found_of matches.now)) }
+{
+    matches.get_strs(name)
+}
+
+/// How many of the names are that of standard input, if there are names.
+fn inputs_among(names: Option<&[&str]>) -> usize
+    ensures { result ≡ input_count (all_names (option_map shown_names names.entry)) }
+{
+    match names {
+        Some(names) => count_inputs(names),
+        None => 0,
+    }
+}
+
+/// The texts of the sessions of these names, if there are names.
+fn read_named<'a, F: OpenFiles, I: Read>(
+    alloc: Global,
+    files: &F,
+    input: &mut I,
+    names: Option<&[&'a str]>,
+) -> Result<Vec<Vec<u8>>, FilesFault<'a>>
+    requires { input_count (all_names (option_map shown_names names)) ≤ 1 }
+    ensures short { IfOk result (λ texts. All (λ text. length text.items ≤ MAX_TEXT_LEN)
+        texts.items) }
+    ensures told { IfOk result (λ texts. AreTold (F.bytes_of files.now) (I.remaining input.old)
+        (all_names (option_map shown_names names.entry)) texts.items) }
+    ensures untouched { input_count (all_names (option_map shown_names names.entry)) ≡ 0
+        → input.new ≡ input.old }
+    ensures refused { IfErr result
+        (IsReadFaultAmong (all_names (option_map shown_names names.entry))) }
+{
+    match names {
+        Some(names) => read_sessions(alloc, files, input, names),
+        None => Ok(Vec::new(alloc)),
+    }
+}
+
+/// The name of the setup's file.
+#[tactic(auto, unfolding(acl_service::specs::RunWords::setup_in))]
+fn setup_field<'a>(matches: &ArgMatches<'a>) -> &'a str
+    ensures { result.now ≡ setup_in (rows_of (found_of matches.now)) }
+{
+    text_field(matches, "setup").unwrap_or("")
+}
+
+/// Reads the files that the words name: the setup, then the sessions before, then those after. One
+/// of the sessions may be `-`, whose text is what `input` has; else nothing of `input` is read.
+fn read_texts<'a, F: OpenFiles, I: Read>(
+    alloc: Global,
+    files: &F,
+    matches: &ArgMatches<'a>,
+    input: &mut I,
+) -> Result<Texts, FilesFault<'a>>
+    ensures short_before { IfOk result (λ texts. All (λ text. length text.items ≤ MAX_TEXT_LEN)
+        texts.before.items) }
+    ensures short_after { IfOk result (λ texts. All (λ text. length text.items ≤ MAX_TEXT_LEN)
+        texts.after.items) }
+    ensures setup { IfOk result (λ texts.
+        IsTold (F.bytes_of files.now (setup_in (rows_of (found_of matches.now))))
+        texts.setup.items) }
+    ensures before { IfOk result (λ texts. AreTold (F.bytes_of files.now) (I.remaining input.old)
+        (before_in (rows_of (found_of matches.now))) texts.before.items) }
+    ensures after { IfOk result (λ texts. AreTold (F.bytes_of files.now) (I.remaining input.old)
+        (after_in (rows_of (found_of matches.now))) texts.after.items) }
+    ensures untouched { inputs_in (rows_of (found_of matches.now)) ≡ 0 → input.new ≡ input.old }
+    ensures unread { IfErr result (λ fault. files_status fault ≡ 2 → input.new ≡ input.old) }
+    ensures refused { IfErr result (IsNamesFault (rows_of (found_of matches.now))) }
+{
+    let before = names_field(matches, "before");
+    let after = names_field(matches, "session");
+    if inputs_among(before).saturating_add(inputs_among(after)) > 1 {
+        return Err(FilesFault::InputTwice);
+    }
+    let setup = read_file(alloc, files, setup_field(matches))?;
+    let before = read_named(alloc, files, input, before)?;
+    let after = read_named(alloc, files, input, after)?;
+    Ok(Texts {
+        setup,
+        before,
+        after,
+    })
+}
+
+/// Applies the commands of the texts to the tree, one text after the other.
+fn apply_texts(
+    alloc: Global,
+    directory: &Directory,
+    tree: &mut Tree,
+    texts: &[Vec<u8>],
+) -> Result<(), AllocError>
+    requires { All (λ text. length text.items ≤ MAX_TEXT_LEN) texts.now }
+    ensures { OnOk result (tree.new ≡ tree_left directory.now tree.old texts.now) }
+{
+    for text in texts {
+        apply_text(alloc, directory, tree, text.as_slice())?;
+    }
+    Ok(())
+}
+
+/// The trees that sessions with these texts leave on the one that a setup opened.
+fn leave_trees(
+    alloc: Global,
+    directory: Directory,
+    tree: Tree,
+    texts: &Texts,
+) -> Result<Trees, AllocError>
+    requires before { All (λ text. length text.items ≤ MAX_TEXT_LEN) texts.now.before.items }
+    requires after { All (λ text. length text.items ≤ MAX_TEXT_LEN) texts.now.after.items }
+    ensures directory { IfOk result (λ trees. trees.directory ≡ directory) }
+    ensures users { OnOk result (IsAscending (slice_cmp nat_cmp) (λ user. user.name)
+        directory.users) }
+    ensures before { IfOk result (λ trees. trees.before
+        ≡ tree_left directory tree texts.now.before.items) }
+    ensures after { IfOk result (λ trees. trees.after
+        ≡ tree_left directory trees.before texts.now.after.items) }
+{
+    // That they stand in the order of their names is known to the proof only of users asked for.
+    let _users = directory.users();
+    let mut before = tree;
+    apply_texts(alloc, &directory, &mut before, texts.before.as_slice())?;
+    let mut after = before.try_clone(alloc)?;
+    apply_texts(alloc, &directory, &mut after, texts.after.as_slice())?;
+    Ok(Trees {
+        directory,
+        before,
+        after,
+    })
+}
+
+/// The trees that the files give which the words name.
+pub(crate) fn open_trees<'a, F: OpenFiles, I: Read>(
+    alloc: Global,
+    files: &F,
+    matches: &ArgMatches<'a>,
+    input: &mut I,
+) -> Result<Trees, QuestionFault<'a>>
+    ensures opened { IfOk result (AreTreesOf (F.bytes_of files.now) (I.remaining input.old)
+        (rows_of (found_of matches.now))) }
+    ensures untouched { inputs_in (rows_of (found_of matches.now)) ≡ 0 → input.new ≡ input.old }
+    ensures unread { IfErr result (λ fault. question_status fault ≡ 2 → input.new ≡ input.old) }
+    ensures refused { IfErr result (IsTreesFault (F.bytes_of files.now)
+        (rows_of (found_of matches.now))) }
+{
+    let texts = read_texts(alloc, files, matches, input)?;
+    let (directory, tree) = read_setup(alloc, texts.setup.as_slice())?;
+    Ok(leave_trees(alloc, directory, tree, &texts)?)
+}

@@ -1,0 +1,70 @@
+//! The command `who`.
+ghost use Rattle.std.specs.Prelude.{◌≡◌, ◌≤◌, ◌⊎◌, map};
+ghost use Rattle.std.specs.Io.KnownBytes.{Appends, Keeps};
+ghost use Rattle.acl_queries.specs.ErrorOutput.{Reports};
+ghost use Rattle.acl_queries.specs.Output.{AppendsFront};
+ghost use Rattle.acl_tree_queries.specs.WhoAnswer.{AnswersWho, BeginsWho, SaysWho};
+ghost use Rattle.acl_tree_queries.specs.WhoAnswer.{who_inputs};
+
+mod question;
+mod text;
+
+use crate::question::ask;
+use acl_queries::ErrorOutput;
+use acl_service::OpenFiles;
+use question::WhoQuestion;
+use std::alloc::Global;
+use std::convert::AsStr;
+use std::io::{Read, Write};
+
+/// Tells who may do what with each node of a tree. The words are those of the command, its name
+/// first: `who --setup FILE [--perms P] [SESSION]`. The tree is the one that the setup opens, or
+/// what the session leaves on it. A session `-` is what `input` has; else nothing of `input` is
+/// read. `files` opens the others, the setup first, each of at most 1,048,576 bytes.
+///
+/// To `out` goes a line for each node, in the order of their paths, and each user of the setup, in
+/// the order of their names: `LETTERS NAME PATH`, where LETTERS is `rwx` with `-` for each letter
+/// that a check by itself denies. With `--perms` only `NAME PATH`, of those users who are granted
+/// all of P at once. Directories above a node play no part, and uid 0 has no right of its own. It
+/// is written in pieces of some 64 KiB. What is wrong goes to `err`, and so does help; a fault
+/// while writing there changes nothing.
+///
+/// It returns the exit status: 0 with the answer; 1 if P doesn't read, a file can't be opened or
+/// read or is too long, or the setup is refused; 2 if the parser of command lines refuses the
+/// words; and 3 if memory runs out or `out` can't be written. At 1 and 2 nothing was written, and
+/// at 3 nothing or a front of the answer.
+pub fn who<F, S, I, W, E>(
+    alloc: Global,
+    files: &F,
+    words: &[S],
+    input: &mut I,
+    out: &mut W,
+    err: &mut ErrorOutput<E>,
+) -> u8
+where
+    F: OpenFiles,
+    S: AsStr,
+    I: Read,
+    W: Write,
+    E: Write + Drop,
+    ensures statuses { result ≤ 3 }
+    ensures answered { result ≡ 0 → AnswersWho (F.bytes_of files.now) (I.remaining input.old)
+        (map S.text words.now) (Appends (W.contents out.old) (W.contents out.new)) }
+
+    // Nothing is written if the words, a file or the setup are refused.
+    ensures silent { 1 ≤ result → result ≤ 2 → Keeps (W.contents out.old) (W.contents out.new) }
+
+    // If memory runs out or a write fails, nothing went out or a front of what is told of the first
+    // nodes.
+    ensures cut { result ≡ 3 → Keeps (W.contents out.old) (W.contents out.new)
+        ⊎ BeginsWho (F.bytes_of files.now) (I.remaining input.old) (map S.text words.now)
+        (AppendsFront (W.contents out.old) (W.contents out.new)) }
+
+    // Standard input is left as it is if no session is `-`, and if the words are refused.
+    ensures untouched { who_inputs (map S.text words.now) ≡ 0 → input.new ≡ input.old }
+    ensures unread { result ≡ 2 → input.new ≡ input.old }
+    ensures told { Reports (SaysWho (F.bytes_of files.now) (I.remaining input.old)
+        (map S.text words.now)) result err.old err.new }
+{
+    ask::<WhoQuestion, F, S, I, W, E>(alloc, files, words, input, out, err)
+}

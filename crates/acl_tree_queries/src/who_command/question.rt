@@ -1,0 +1,100 @@
+//! What the words of `who` ask.
+ghost use Rattle.std.specs.Prelude.{◌≡◌, IfOk};
+ghost use Rattle.clap.specs.Words.{app_of};
+
+use super::text::WhoText;
+use crate::nodes::write_nodes;
+use crate::question::{AnswerFault, Question};
+use crate::trees::Trees;
+use acl_posix::Perms;
+use acl_queries::options::{optional_perms_option, optional_word, required_option};
+use acl_queries::{FieldFault, optional_perms_field};
+use clap::{ArgMatches, Command};
+use std::alloc::{AllocError, Global};
+use std::io::Write;
+use std::marker::Model;
+
+/// What is told, and what the exit statuses are.
+const ANSWERS: &str = "A line for each file and each user: LETTERS NAME PATH, where - is a letter \
+that is denied by itself.
+With --perms P only NAME PATH, of those who are granted all of P at once. Directories above a file \
+are not
+searched, and root has no right of its own.
+Exit status: 0 with an answer; 1 if a field or a file doesn't read; 2 if the words are wrong, and \
+with this help; 3 if
+memory runs out or the answer can't be written.";
+
+/// Which letters each user has; or, with permissions, who is granted these at once.
+#[derive(Drop)]
+pub(super) struct WhoQuestion {
+    perms: Option<Perms>,
+}
+
+impl Model for WhoQuestion {
+    ghost use Rattle.std.specs.Prelude.{ℕ, Option, option_map};
+    ghost use Rattle.acl_posix.specs.Perms.{bits_of};
+
+    ghost Value = { Option ℕ };
+
+    ghost view = { λ question. option_map bits_of question.perms };
+}
+
+impl Question for WhoQuestion {
+    ghost use Rattle.acl_tree_queries.specs.QuestionFaults.{IsNeverRefused};
+    ghost use Rattle.acl_queries.specs.Asked.{optional_perms_in};
+    ghost use Rattle.acl_tree_queries.specs.WhoAnswer.{IsWho, IsWhoBegun};
+    ghost use Rattle.acl_tree_queries.specs.WhoLine.{who_line, who_line-free, who_line-simple};
+
+    ghost line = { who_line };
+
+    ghost asked_in = { optional_perms_in };
+
+    ghost IsAnswer = { IsWho };
+
+    ghost IsBegun = { IsWhoBegun };
+
+    ghost IsRefused = { IsNeverRefused };
+
+    ghost line_simple = { who_line-simple };
+
+    ghost line_free = { who_line-free };
+
+    fn command<'a>(alloc: Global) -> Result<Command<'a>, AllocError> {
+        Command::new(alloc, "who")
+            .bin_name("aclctl who")?
+            .about("Tells who may do what with each file of a tree.")
+            .after_help(ANSWERS)
+            .arg(required_option(
+                alloc,
+                "setup",
+                "FILE",
+                "The file that says who there is, and with which root the tree starts",
+            ))?
+            .arg(optional_perms_option(alloc))?
+            .arg(optional_word(
+                alloc,
+                "session",
+                "SESSION",
+                "A file with a session's commands, which come first, or - for standard input",
+            ))
+    }
+
+    fn read(matches: &ArgMatches<'_>) -> Result<WhoQuestion, FieldFault> {
+        Ok(WhoQuestion {
+            perms: optional_perms_field(matches)?,
+        })
+    }
+
+    fn write<W: Write>(
+        &self,
+        alloc: Global,
+        trees: &Trees,
+        out: &mut W,
+    ) -> Result<(), AnswerFault> {
+        let teller = WhoText {
+            directory: &trees.directory,
+            perms: self.perms,
+        };
+        Ok(write_nodes(alloc, &teller, &trees.after, out)?)
+    }
+}

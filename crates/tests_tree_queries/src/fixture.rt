@@ -1,0 +1,125 @@
+//! The office of the examples and its sessions, as files at hand.
+use acl_service::{ErrorOutput, OpenFiles};
+use acl_tree_queries::{dump, impact, who};
+use std::alloc::Global;
+use std::io::{self, Read};
+
+const OFFICE: &str =
+    "domain = \"example.org\"\numask = \"022\"\nroot = { owner = \"root\", group = \"root\", mode = \"755\", style = \"posix\" }\nuser = [ { name = \"root\", uid = 0, groups = [\"root\"] }, { name = \"alice\", uid = 1000, groups = [\"staff\"] }, { name = \"bob\", uid = 1001, groups = [\"staff\", \"ops\"] }, { name = \"carol\", uid = 1002, groups = [\"guest\"] } ]\ngroup = [ { name = \"root\", gid = 0 }, { name = \"staff\", gid = 50 }, { name = \"ops\", gid = 60 }, { name = \"guest\", gid = 70 } ]\n";
+
+/// Alice shares a directory with Bob.
+const ALICE: &str =
+    "create dir /plans alice 700\nset /plans access u::rwx,u:bob:rwx,g::-,m::rwx,o::-\nset /plans default u::rwx,u:bob:rwx,g::-,m::rwx,o::-\ncreate file /plans/budget alice 660\n";
+
+/// What is there before a change.
+const BEFORE: &str =
+    "create dir /plans alice 700\ncreate file /plans/budget alice 640\ncreate file /motd root 644\n";
+
+/// Bob may look into the directory, and the group no longer into the budget; of the message of the
+/// day everybody is decided about alike.
+const CHANGE: &str =
+    "set /plans access u::rwx,u:bob:rx,g::-,m::rx,o::-\nset /plans/budget access u::rw,g::-,o::-\ncreate file /plans/next alice 600\nset /motd nfs4 A::OWNER@:rwa,D::OWNER@:x,A::GROUP@:r,A::EVERYONE@:r\n";
+
+/// A file that one user may write by one group and read by another, and that those may write who
+/// are in no group of the setup.
+const GROUPS: &str =
+    "create file /log alice 600\nset /log access u::rw,g::-,g:staff:r,g:ops:w,m::rw,o::-\n";
+
+/// The members of a group that no user of the setup is in gain a letter.
+const STRANGERS: &str = "set / access u::rwx,g::rx,g:80:rw,m::rwx,o::rx\n";
+
+/// The root directory is closed to all but its owner.
+const CLOSED: &str = "chmod / 700\n";
+
+/// What `dump` prints of the tree that Alice's session leaves.
+pub const ALICE_AGAIN: &str =
+    "set / access u::---,g::---,o::---\ncreate dir /plans 1000 000\ncreate file /plans/budget 1000 000\nset / access u::rwx,g::r-x,o::r-x\nset /plans access u::rwx,u:1001:rwx,g::---,m::rwx,o::---\nset /plans default u::rwx,u:1001:rwx,g::---,m::rwx,o::---\nset /plans/budget access u::rw-,u:1001:rwx,g::---,m::rw-,o::---\n";
+
+/// A file with an NFSv4 list, and one whose list grants nobody anything.
+const ACES: &str =
+    "create file /motd root 644\nset /motd nfs4 A::OWNER@:rwa,A::bob@example.org:r,A::EVERYONE@:r\ncreate file /shut root 600\nset /shut nfs4 #\n";
+
+/// A list whose line is short enough as it stands here, and too long with each permission's place.
+const LONG: &str =
+    "create file /log root 600\nset /log access u::rw,g::-,m::r,o::-,u:4000000000:r,u:4000000001:r,u:4000000002:r,u:4000000003:r,u:4000000004:r,u:4000000005:r,u:4000000006:r,u:4000000007:r,u:4000000008:r,u:4000000009:r,u:4000000010:r,u:4000000011:r,u:4000000012:r,u:4000000013:r,u:4000000014:r,u:4000000015:r,u:4000000016:r,u:4000000017:r,u:4000000018:r,u:4000000019:r,u:4000000020:r,u:4000000021:r,u:4000000022:r,u:4000000023:r,u:4000000024:r,u:4000000025:r,u:4000000026:r,u:4000000027:r,u:4000000028:r,u:4000000029:r,u:4000000030:r,u:4000000031:r,u:4000000032:r,u:4000000033:r,u:4000000034:r,u:4000000035:r,u:4000000036:r,u:4000000037:r,u:4000000038:r,u:4000000039:r,u:4000000040:r,u:4000000041:r,u:4000000042:r,u:4000000043:r,u:4000000044:r,u:4000000045:r,u:4000000046:r,u:4000000047:r,u:4000000048:r,u:4000000049:r,u:4000000050:r,u:4000000051:r,u:4000000052:r,u:4000000053:r,u:4000000054:r,u:4000000055:r,u:4000000056:r,u:4000000057:r,u:4000000058:r,u:4000000059:r\n";
+
+const FILES: [(&str, &str); 12] = [
+    ("office", OFFICE),
+    ("alice", ALICE),
+    ("before", BEFORE),
+    ("change", CHANGE),
+    ("groups", GROUPS),
+    ("strangers", STRANGERS),
+    ("closed", CLOSED),
+    ("empty", ""),
+    ("bad", "domain = 1\n"),
+    ("again", ALICE_AGAIN),
+    ("aces", ACES),
+    ("long", LONG),
+];
+
+/// Bytes at hand.
+#[derive(Drop)]
+pub struct Sheet {
+    left: &'static [u8],
+}
+
+impl Sheet {
+    pub fn new(text: &'static str) -> Sheet {
+        Sheet {
+            left: text.as_bytes(),
+        }
+    }
+
+    /// How many bytes were not read.
+    pub fn left(&self) -> usize {
+        self.left.len()
+    }
+}
+
+impl Read for Sheet {
+    fn read(&mut self, buffer: &mut [u8]) -> io::Result<usize> {
+        self.left.read(buffer)
+    }
+}
+
+/// The files of these names.
+#[derive(Clone, Copy)]
+pub struct Shelf;
+
+impl OpenFiles for Shelf {
+    ghost use Rattle.std.specs.Prelude.{None};
+
+    type File = Sheet;
+
+    ghost bytes_of = { λ _ _. None };
+
+    fn open(&self, name: &str) -> io::Result<Sheet> {
+        for (file, text) in FILES {
+            if file == name {
+                return Ok(Sheet::new(text));
+            }
+        }
+        Err(io::Error::from(io::ErrorKind::NotFound))
+    }
+}
+
+/// The command of these words, over the files, with this standard input and this output. Its
+/// status, and what standard error has.
+pub fn ask(alloc: Global, words: &[&str], input: &mut Sheet, out: &mut Vec<u8>) -> (u8, Vec<u8>) {
+    let mut err = Vec::new(alloc);
+    let mut told = ErrorOutput::new(&mut err);
+    let status = match words.first() {
+        Some(first) if *first == "impact" => impact(alloc, &Shelf, words, input, out, &mut told),
+        Some(first) if *first == "dump" => dump(alloc, &Shelf, words, input, out, &mut told),
+        _ => who(alloc, &Shelf, words, input, out, &mut told),
+    };
+    (status, err)
+}
+
+/// Whether the words end so: with this status, and with these texts on the output and for faults.
+pub fn ends(alloc: Global, words: &[&str], status: u8, text: &str, fault: &str) -> bool {
+    let mut out = Vec::new(alloc);
+    let (ended, err) = ask(alloc, words, &mut Sheet::new(""), &mut out);
+    ended == status && out.as_slice() == text.as_bytes() && err.as_slice() == fault.as_bytes()
+}

@@ -1,0 +1,125 @@
+"""What access control lists decide, worked out from the standards' sentences, apart from the code: the model that the scripts
+beside the program look at its answers with. Lists are random, over the ids of a small universe.
+"""
+import itertools
+
+UIDS = (1000, 1, 2, 3, 65534)
+# whom no list names, if it names all others
+STRANGER = 4
+GIDS = (50, 60, 70, 80)
+REQUESTERS = [(uid, gids) for uid in (*UIDS, STRANGER) for count in range(5) for gids in itertools.combinations(GIDS, count)]
+REQUESTS = [set(it) for count in (1, 2, 3) for it in itertools.combinations("rwx", count)]
+LETTERS = "rwaxdDtTnNcCoy"
+# the permission of a POSIX list that each bit of a mode stands for
+MODE_BITS = {"r": "r", "w": "w", "a": "w", "x": "x"}
+
+
+def posix_list(rng):
+    """A valid list as entries (tag, id, permissions), in any order."""
+    perms = lambda: "".join(it for it in "rwx" if rng.random() < 0.5) or "-"
+    entries = [("u", "", perms()), ("g", "", perms()), ("o", "", perms())]
+    named = [("u", uid, perms()) for uid in UIDS if rng.random() < 0.3] + [("g", gid, perms()) for gid in GIDS if rng.random() < 0.4]
+    if named or rng.random() < 0.2:
+        entries += named + [("m", "", perms())]
+    rng.shuffle(entries)
+    return entries
+
+
+def posix_text(entries):
+    return ",".join(f"{tag}:{name}:{perms}" for tag, name, perms in entries)
+
+
+def posix_grants(entries, owner, group, uid, gids, asked):
+    """1003.1e draft 17, section 23: the first kind of entry that speaks of the requester decides."""
+    masked = [set(perms) for tag, _, perms in entries if tag == "m"]
+    effective = lambda perms: set(perms) & masked[0] if masked else set(perms)
+    of = lambda tag, name: [perms for its_tag, its_name, perms in entries if (its_tag, its_name) == (tag, name)]
+    if uid == owner:
+        return asked <= set(of("u", "")[0])
+    if of("u", uid):
+        return asked <= effective(of("u", uid)[0])
+    groups = [perms for tag, name, perms in entries if tag == "g" and (group if name == "" else name) in gids]
+    if groups:
+        return any(asked <= effective(perms) for perms in groups)
+    return asked <= set(of("o", "")[0])
+
+
+def with_group_split(entries, group, rng):
+    """The same list, the permissions of the file's group in two entries: each alone is granted alike, and a request of both isn't."""
+    entries = [it for it in entries if it[:2] != ("g", group)]
+    if not any(tag == "m" for tag, _, _ in entries):
+        entries = [*entries, ("m", "", "rwx")]
+    whole = next(it for it in entries if it[:2] == ("g", ""))
+    letters = whole[2].replace("-", "")
+    cut = rng.randint(0, len(letters))
+    split = [it for it in entries if it != whole] + [("g", "", letters[:cut] or "-"), ("g", group, letters[cut:] or "-")]
+    return entries, split
+
+
+def nfs4_list(rng):
+    """Entries (type, flags, who, letters), of which some have no effect on access."""
+    whos = ["OWNER@", "GROUP@", "EVERYONE@", *UIDS, *(("g", gid) for gid in GIDS)]
+    letters = lambda: "".join(it for it in LETTERS if rng.random() < 0.3) or rng.choice(LETTERS)
+    flags = lambda: rng.choice(["", "", "", "f", "d", "fd", "fi", "di", "n"])
+    return [(rng.choice("AADDU"), flags(), rng.choice(whos), letters()) for _ in range(rng.randint(0, 7))]
+
+
+def nfs4_text(aces):
+    return ",".join(f"{kind}:{flags}{'g' if isinstance(who, tuple) else ''}:{who[1] if isinstance(who, tuple) else who}:{letters}" for kind, flags, who, letters in aces)
+
+
+def nfs4_allows(aces, owner, group, uid, gids, letter):
+    """RFC 8881, section 6.2.1: the first entry for the requester that names the bit decides, and no entry refuses."""
+    speaks = {"OWNER@": uid == owner, "GROUP@": group in gids, "EVERYONE@": True}
+    for kind, flags, who, letters in aces:
+        is_asked = who[1] in gids if isinstance(who, tuple) else speaks.get(who, who == uid)
+        if kind in "AD" and "i" not in flags and is_asked and letter in letters:
+            return kind == "A"
+    return False
+
+
+class File:
+    """Whose it is, its group, and its list."""
+
+    def __init__(self, kind, entries, owner=1000, group=50):
+        self.kind, self.entries, self.owner, self.group = kind, entries, owner, group
+        self.text = posix_text(entries) if kind == "posix" else nfs4_text(entries)
+
+    def allows(self, uid, gids, letter):
+        if self.kind == "posix":
+            return self.grants(uid, gids, {MODE_BITS[letter]})
+        return nfs4_allows(self.entries, self.owner, self.group, uid, gids, letter)
+
+    def grants(self, uid, gids, asked):
+        """Whether permissions are granted at once: of an NFSv4 list each of the bits that they stand for."""
+        if self.kind == "posix":
+            return posix_grants(self.entries, self.owner, self.group, uid, gids, asked)
+        return all(self.allows(uid, gids, letter) for letter, permission in MODE_BITS.items() if permission in asked)
+
+
+def letters_of(first, second):
+    kinds = {first.kind, second.kind}
+    return "rwx" if kinds == {"posix"} else LETTERS if kinds == {"nfs4"} else "rwax"
+
+
+def decided(first, second, uid, gids):
+    """The letters that the requester loses and gains, each by itself."""
+    both = [(it, first.allows(uid, gids, it), second.allows(uid, gids, it)) for it in letters_of(first, second)]
+    return "".join(it for it, old, new in both if old and not new), "".join(it for it, old, new in both if new and not old)
+
+
+def change_for(first, second, uid, gids):
+    """What the requester loses and gains: letters by themselves, or else, between POSIX lists, the first whole request."""
+    singly = decided(first, second, uid, gids)
+    if singly != ("", "") or {first.kind, second.kind} != {"posix"}:
+        return singly
+    for asked in ("rw", "rx", "wx", "rwx"):
+        old, new = (it.grants(uid, gids, set(asked)) for it in (first, second))
+        if old != new:
+            return (asked, "") if old else ("", asked)
+    return "", ""
+
+
+def is_alike(first, second):
+    """Whether nobody in the universe loses or gains anything."""
+    return all(change_for(first, second, *it) == ("", "") for it in REQUESTERS)
