@@ -1,5 +1,5 @@
 """scripts/aclctl and scripts/build-aclctl over a kit that is a stand-in: the order of the proofs,
-what is said of them, and failures."""
+what is said of them, what is left, and failures."""
 
 import os
 import shutil
@@ -95,6 +95,17 @@ class Build(unittest.TestCase):
         os.utime(self.room / "crates/low/src/lib.rt", (later, later))
         self.aclctl("x")
         self.assertGreater(len(self.calls()), count)
+
+    def test_the_checksum_of_what_was_built_is_left(self):
+        left = self.room / "out/build/aclctl.sha256"
+        (self.room / "bad-aclctl").touch()
+        self.aclctl()
+        self.assertFalse(left.exists())
+        (self.room / "bad-aclctl").unlink()
+        self.aclctl()
+        how = {"cwd": self.room, "capture_output": True, "text": True}
+        ran = subprocess.run(["sha256sum", "-c", left], **how)
+        self.assertEqual(ran.stdout, "crates/aclctl/out/aclctl: OK\n")
 
     def test_a_failure_names_the_log_and_shows_its_end(self):
         (self.room / "bad-middle").touch()

@@ -310,9 +310,12 @@ class InTime(unittest.TestCase):
     def test_those_of_checks_that_ended_in_time_are_counted_and_no_other(self):
         for checks in range(5):
             self.assertEqual(self.tried(checks), (checks, checks))
+            self.assertEqual(self.prover.failures, [])
 
     def test_a_neutral_edit_that_is_refused_fails(self):
         self.assertEqual(self.tried(4, is_neutral=True), (4, 0))
+        self.assertEqual(len(self.prover.failures), 4)
+        self.assertTrue(self.prover.failures[0].startswith("neutral edit "))
 
     def test_a_crate_comes_before_the_first_check_that_needs_it_and_after_earlier_ones(self):
         below = {"low": [], "high": ["low", "itoa"]}

@@ -1,0 +1,64 @@
+"""A checkout that is small: the scripts that build and install, and what they install, of a
+program and over a kit that are stand-ins."""
+
+import os
+import re
+import shutil
+import subprocess
+from pathlib import Path
+
+TOP = Path(__file__).resolve().parent.parent.parent
+# How many seconds a stand-in may take on the slowest machine.
+SLOW = 600
+SCRIPTS = ("aclctl", "build-aclctl", "install", "release", "host-setup")
+FILES = (*(f"scripts/{it}" for it in SCRIPTS), "docs/aclctl.1", "completions/aclctl.bash")
+FILES += ("completions/_aclctl", "README.md", "LICENSE-APACHE", "LICENSE-MIT", "CHANGELOG.md")
+# It builds the program, unless it is told not to, and writes down that it was called.
+KIT = """#!/bin/sh
+echo "$*" >> "$ROOM/calls"
+[ ! -e "$ROOM/bad" ] || exit 1
+mkdir -p out
+cp "$ROOM/program" out/aclctl
+"""
+VERSION = re.search(r"^## (\S+)", (TOP / "CHANGELOG.md").read_text(), re.M)[1]
+
+
+class SmallCheckout:
+    """Such a checkout, in a folder of its own in `room`."""
+
+    def __init__(self, room):
+        self.room, self.top = room, room / "checkout"
+        self.program = self.top / "crates/aclctl/out/aclctl"
+        for name in FILES:
+            (self.top / name).parent.mkdir(parents=True, exist_ok=True)
+            shutil.copy(TOP / name, self.top / name)
+        for part in ("src", "specs", "proofs"):
+            (self.top / "crates/aclctl" / part).mkdir(parents=True)
+        (self.top / "crates.txt").write_text("aclctl: thiserror\n")
+        (self.top / ".gitignore").write_text("out/\n")
+        (self.top / "crates/aclctl/src/main.rt").write_text("")
+        (room / "bin").mkdir()
+        self.write("bin/rt", KIT)
+        self.write("program", f'#!/bin/sh\necho "aclctl {VERSION}"\n')
+        path = f"{room}/bin:{os.environ['PATH']}"
+        self.env = {**os.environ, "PATH": path, "ROOM": str(room), "GIT_CONFIG_GLOBAL": "/dev/null"}
+        self.env.pop("DESTDIR", None)
+
+    def write(self, name, text):
+        """Writes a program of the room."""
+        (self.room / name).write_text(text)
+        (self.room / name).chmod(0o755)
+
+    def run(self, *words, **env):
+        """Runs a command at the top of the checkout, under a mask that would hide what it makes."""
+        how = {"capture_output": True, "text": True, "timeout": SLOW, "cwd": self.top}
+        return subprocess.run(words, env={**self.env, **env}, umask=0o077, **how)
+
+    def script(self, name, *words, **env):
+        """Runs a script of the checkout."""
+        return self.run(self.top / "scripts" / name, *words, **env)
+
+    def builds(self):
+        """How often the kit was called."""
+        calls = self.room / "calls"
+        return len(calls.read_text().splitlines()) if calls.exists() else 0

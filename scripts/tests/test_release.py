@@ -1,0 +1,121 @@
+"""scripts/release in a small checkout under git: what it makes, the same bytes each time, and what
+it refuses."""
+
+import hashlib
+import re
+import shutil
+import tarfile
+import tempfile
+import unittest
+from pathlib import Path
+
+from small_checkout import TOP, VERSION, SmallCheckout
+
+NAME = f"aclctl-{VERSION}-x86_64-linux"
+# The time of the commit, which is none of those at which files are made.
+SECONDS = 1_700_000_000
+PLACES = ("bin/aclctl", "bin/aclctl-host-setup", "share/man/man1/aclctl.1")
+PLACES += ("share/bash-completion/completions/aclctl", "share/zsh/site-functions/_aclctl")
+BESIDE = ("LICENSE-APACHE", "LICENSE-MIT", "README.md")
+
+
+class Release(unittest.TestCase):
+    def setUp(self):
+        self.room = Path(tempfile.mkdtemp(prefix="test-release-")).resolve()
+        self.addCleanup(shutil.rmtree, self.room)
+        self.checkout = SmallCheckout(self.room)
+        self.out = self.checkout.top / "out"
+        self.git("init", "-q")
+        self.commit()
+
+    def git(self, *words):
+        """Runs git as somebody at a time of long ago."""
+        date = f"{SECONDS} +0000"
+        who = ("-c", "user.name=n", "-c", "user.email=n@example.org")
+        ran = self.checkout.run("git", *who, *words, GIT_AUTHOR_DATE=date, GIT_COMMITTER_DATE=date)
+        self.assertEqual(ran.returncode, 0, ran.stderr)
+
+    def commit(self):
+        """Commits what there is."""
+        self.git("add", "-A")
+        self.git("commit", "-q", "-m", "what there is")
+
+    def release(self):
+        """Runs the script. Returns its status, its lines, and its last lines on standard error."""
+        ran = self.checkout.script("release")
+        errors = [it for it in ran.stderr.splitlines() if not it.startswith("scripts/aclctl: ")]
+        return ran.returncode, ran.stdout.splitlines(), errors
+
+    def refused(self, *why):
+        """That the script refuses, and ends standard error with these lines."""
+        status, lines, errors = self.release()
+        self.assertEqual((status, lines, errors[-len(why) :]), (1, [], [*why]))
+        self.assertEqual([*self.out.glob("*.tar.gz"), *self.out.glob("SHA256SUMS")], [])
+
+    def test_the_archive_has_what_is_installed_and_a_checksum(self):
+        made = [str(self.out / it) for it in (f"{NAME}.tar.gz", "SHA256SUMS")]
+        self.assertEqual(self.release(), (0, made, []))
+        with tarfile.open(made[0]) as tar:
+            entries = tar.getmembers()
+            program = tar.extractfile(f"{NAME}/bin/aclctl").read()
+        names = [it.name for it in entries]
+        self.assertEqual(names, sorted(names))
+        files = {it.name for it in entries if it.isfile()}
+        self.assertEqual(files, {f"{NAME}/{it}" for it in (*PLACES, *BESIDE)})
+        self.assertEqual(program, self.checkout.program.read_bytes())
+        for it in entries:
+            may_run = it.isdir() or "/bin/" in it.name
+            self.assertEqual(it.mode, 0o755 if may_run else 0o644, it.name)
+            self.assertEqual((it.uid, it.gid, it.uname, it.gname), (0, 0, "root", "root"))
+            self.assertEqual(it.mtime, SECONDS)
+        ran = self.checkout.run("sh", "-c", "cd out && sha256sum -c SHA256SUMS")
+        self.assertEqual((ran.returncode, ran.stdout), (0, f"{NAME}.tar.gz: OK\n"))
+
+    def test_the_bytes_are_the_same_each_time(self):
+        self.release()
+        first = (self.out / f"{NAME}.tar.gz").read_bytes()
+        shutil.rmtree(self.out)
+        shutil.rmtree(self.checkout.program.parent)
+        later = self.checkout.top / "docs/aclctl.1"
+        later.touch()
+        self.assertEqual(self.release()[0], 0)
+        second = (self.out / f"{NAME}.tar.gz").read_bytes()
+        self.assertEqual(hashlib.sha256(first).hexdigest(), hashlib.sha256(second).hexdigest())
+        # No name and no time in the head of the compressed file.
+        self.assertEqual(first[3:8], bytes(5))
+
+    def test_a_checkout_that_is_not_its_commit_is_refused(self):
+        for name in ("README.md", "crates/aclctl/src/more.rt"):
+            (self.checkout.top / name).write_text("more")
+            mark = " M README.md" if name == "README.md" else "?? crates/aclctl/src/more.rt"
+            self.refused("scripts/release: the checkout is not its commit:", mark)
+            self.commit()
+        self.assertEqual(self.release()[0], 0)
+
+    def test_a_program_that_is_not_proved_is_refused(self):
+        program = self.checkout.program
+        program.parent.mkdir()
+        shutil.copy(self.room / "program", program)
+        self.refused("scripts/release: there is nothing to release")
+
+    def test_another_version_in_changelog_or_manual_is_refused(self):
+        for name, text in (("CHANGELOG.md", "# Changes\n\n## 9.9.9\n"), ("docs/aclctl.1", ".TH X")):
+            kept = (self.checkout.top / name).read_text()
+            (self.checkout.top / name).write_text(text)
+            self.commit()
+            why = f"the program is version {VERSION}, and {name} names another"
+            self.refused(f"scripts/release: {why}")
+            (self.checkout.top / name).write_text(kept)
+            self.commit()
+
+
+class Version(unittest.TestCase):
+    def test_program_changelog_and_manual_name_one_version(self):
+        text = (TOP / "crates/aclctl/src/help.rt").read_text()
+        self.assertEqual(re.search(r'VERSION: &str = "aclctl (\S+)\\n"', text)[1], VERSION)
+        head = (TOP / "docs/aclctl.1").read_text().splitlines()[0]
+        self.assertIn(f'"aclctl {VERSION}"', head)
+
+
+if __name__ == "__main__":
+    unittest.main()
