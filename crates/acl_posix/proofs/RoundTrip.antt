@@ -155,10 +155,10 @@ mark_is None entry = nothing
 mark_is (Some mask) entry = mark_if (is_under_mask entry.tag && not (has_all mask entry.perms)) (entry.perms ∩ mask)
 
 -- what a printed line is made of
-abbrev IsLine : Known → Option ℕ → EntryValue → Type 0
+abbrev pub IsLine : Known → Option ℕ → EntryValue → Type 0
 IsLine known mask entry = (0 < length (entry_text known entry)) × IsPlain (entry_text known entry) × IsMark (effective_mark mask entry)
 
-line_is : (known : Known) (mask : Option ℕ) (entry : EntryValue) → TellsNamesApart known → HasId entry.tag → IsLine known mask entry
+pub line_is : (known : Known) (mask : Option ℕ) (entry : EntryValue) → TellsNamesApart known → HasId entry.tag → IsLine known mask entry
 line_is known mask entry is has =
     let rest = qualifier_text known entry.tag ∷ perms_text entry.perms ∷ [] in (
       omega (arith, length-append (word_text entry.tag) (colon ∷ join_with_byte colon rest)),

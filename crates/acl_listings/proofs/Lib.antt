@@ -1,0 +1,9 @@
+pub mod AccessLemmas
+pub mod ExtentLemmas
+pub mod ListingLemmas
+pub mod WindowLemmas
+pub mod StepsLemmas
+pub mod CursorLemmas
+pub mod LineLemmas
+pub mod HandedLemmas
+pub mod PrintedLemmas

@@ -1,0 +1,43 @@
+-- The lines at the front of a block: those of the file, its owner and its group.
+use Rattle.std.specs.Prelude.{ℕ, List, [], ◌∷◌, length, drop, take, Option, Some, None, codes}
+use Rattle.std.specs.Prelude.{if◌then◌else◌, bytes_eq}
+use Rattle.std.specs.Option.{option_and_then}
+use Rattle.acl_names.specs.Ids.{Written, written_id}
+use Rattle.acl_listings.specs.Lines.{after_line, first_line}
+
+-- what a block's first three lines say, and its other lines as a text
+pub record Header : Type 0 where
+  pub path : List ℕ
+  pub owner : Written
+  pub group : Written
+  pub list : List ℕ
+
+-- what stands behind a word, if the line begins with it
+abbrev pub behind : List ℕ → List ℕ → Option (List ℕ)
+behind word line = if bytes_eq (take (length word) line) word then Some (drop (length word) line)
+    else None
+
+abbrev pub one_byte_at_least : List ℕ → Option (List ℕ)
+one_byte_at_least [] = None
+one_byte_at_least (byte ∷ bytes) = Some (byte ∷ bytes)
+
+-- `# file: NAME`: the name as it stands
+abbrev pub path_in : List ℕ → Option (List ℕ)
+path_in line = option_and_then one_byte_at_least (behind (codes "# file: ") line)
+
+-- a word, and an id: a decimal, or a name
+abbrev pub id_of : List ℕ → List ℕ → Option Written
+id_of word line = option_and_then written_id (behind word line)
+
+abbrev pub as_header : Option (List ℕ) → Option Written → Option Written → List ℕ → Option Header
+as_header (Some path) (Some owner) (Some group) list =
+    Some (record { path = path; owner = owner; group = group; list = list })
+as_header _ _ _ list = None
+
+-- the file's line, the owner's and the group's
+abbrev pub header_of : List ℕ → Option Header
+header_of text =
+    let second = after_line text in
+    let third = after_line second in
+    as_header (path_in (first_line text)) (id_of (codes "# owner: ") (first_line second))
+    (id_of (codes "# group: ") (first_line third)) (after_line third)

@@ -1,0 +1,13 @@
+pub mod Lines
+pub mod Listing
+pub mod Header
+pub mod Access
+pub mod Block
+pub mod Faults
+pub mod Views
+pub mod Extent
+pub mod Window
+pub mod Source
+pub mod Cursor
+pub mod Steps
+pub mod Printed

@@ -1,0 +1,41 @@
+-- How `getfacl` prints files.
+use Rattle.std.specs.Prelude.{◌≡◌, ℕ, ◌+◌, ◌<◌, ◌≤◌, ◌==◌, false, List, [], ◌∷◌, ◌++◌, length}
+use Rattle.std.specs.Prelude.{codes}
+use Rattle.std.specs.List.{All, flat_map}
+use Rattle.acl_names.specs.Bytes.{newline}
+use Rattle.acl_names.specs.Directory.{Known, group_name, user_name}
+use Rattle.acl_names.specs.Ids.{id_text}
+use Rattle.acl_names.specs.declared.limits.TheConstants.{MAX_ID}
+use Rattle.acl_posix.specs.Canonical.{IsAcl}
+use Rattle.acl_posix.specs.Entry.{perms_of}
+use Rattle.acl_posix.specs.PrintedText.{HaveIds, effective_text}
+use Rattle.acl_posix.specs.declared.entry.Tag.TheVariants.{Mask}
+use Rattle.acl_listings.specs.Block.{FileValue}
+use Rattle.acl_listings.specs.declared.limits.TheConstants.{MAX_BLOCK}
+
+-- a word, a text, and a newline
+abbrev pub line_text : List ℕ → List ℕ → List ℕ
+line_text word text = word ++ (text ++ newline ∷ [])
+
+-- the lines of the file, its owner and its group, those of its access list with their marks, and an
+-- empty line
+abbrev pub block_text : Known → FileValue → List ℕ
+block_text known file = line_text (codes "# file: ") file.path
+    ++ (line_text (codes "# owner: ") (id_text (user_name known) file.owner)
+    ++ (line_text (codes "# group: ") (id_text (group_name known) file.group)
+    ++ (effective_text known (perms_of Mask file.access) file.access ++ newline ∷ [])))
+
+-- a block for each
+abbrev pub listing_text : Known → List FileValue → List ℕ
+listing_text known = flat_map (block_text known)
+
+-- the path is one line and not empty, ids are ids, the list is one, and the block, which ends with
+-- two newlines, is no longer than one may be
+pub record IsPrintable (known : Known) (file : FileValue) : Type 0 where
+  pub path : 0 < length file.path
+  pub one_line : All (λ byte. (byte == newline) ≡ false) file.path
+  pub owner : file.owner ≤ MAX_ID
+  pub group : file.group ≤ MAX_ID
+  pub access : IsAcl file.access
+  pub ids : HaveIds file.access
+  pub short : length (block_text known file) ≤ MAX_BLOCK + 2

@@ -1,0 +1,18 @@
+-- The bytes of a reader that are still to come. Private steps, which no public clause cites.
+use Rattle.std.specs.Prelude.{ℕ, Bool, List, Option, drop}
+use Rattle.std.specs.Io.KnownBytes.{prepend_known}
+
+-- those that are at hand, those that the reader has left if it tells them, and whether its end was
+-- seen
+pub record SourceValue : Type 0 where
+  pub shown : List ℕ
+  pub left : Option (List ℕ)
+  pub has_ended : Bool
+
+-- all that are still to come
+abbrev pub told : SourceValue → Option (List ℕ)
+told source = prepend_known source.shown source.left
+
+-- all but the first ones, which are at hand
+abbrev pub told_behind : ℕ → SourceValue → Option (List ℕ)
+told_behind count source = prepend_known (drop count source.shown) source.left

@@ -1,0 +1,100 @@
+//! Why a block is no file.
+
+ghost use Rattle.std.specs.Prelude.{◌≡◌};
+ghost use Rattle.acl_listings.specs.Faults.{invalid_fault, out_of_memory, text_fault};
+ghost use Rattle.acl_listings.specs.declared.fault.FileFault.TheVariants.{Block};
+
+use acl_posix::{Invalid, TextFault};
+use std::alloc::AllocError;
+
+/// What is wrong with a block, in the order in which it is told.
+#[derive(Clone, Copy, Debug, PartialEq, Eq)]
+pub enum BlockFault {
+    /// It has more than 65,536 bytes.
+    TooLong,
+    /// Its first three lines aren't those of a file, its owner and its group.
+    BadHeader,
+    /// The owner's name is one that the directory lacks.
+    UnknownOwner,
+    /// The group's name is one that the directory lacks.
+    UnknownGroup,
+    /// A line of the list is no entry.
+    BadAcl,
+    /// An entry names someone whom the directory lacks.
+    UnknownName,
+    /// The list has more than 64 entries.
+    TooMany,
+    /// The entries are no access control list.
+    InvalidAcl,
+}
+
+impl BlockFault {
+    ghost use Rattle.acl_listings.specs.Faults.{fault_word};
+
+    /// The word that tells it.
+    pub fn word(self) -> &'static str
+        ensures { result.now ≡ fault_word self }
+    {
+        match self {
+            BlockFault::TooLong => "too-long",
+            BlockFault::BadHeader => "bad-header",
+            BlockFault::UnknownOwner => "unknown-name",
+            BlockFault::UnknownGroup => "unknown-name",
+            BlockFault::BadAcl => "bad-acl",
+            BlockFault::UnknownName => "unknown-name",
+            BlockFault::TooMany => "too-many",
+            BlockFault::InvalidAcl => "invalid-acl",
+        }
+    }
+}
+
+/// Why a block gives no file.
+#[derive(Clone, Copy, Debug, PartialEq, Eq)]
+pub enum FileFault {
+    /// The block says none.
+    Block(BlockFault),
+    /// Memory ran out, which says nothing of the block.
+    Memory,
+}
+
+impl From<AllocError> for FileFault {
+    ghost from_gives = { λ _ fault. fault ≡ out_of_memory };
+
+    fn from(_error: AllocError) -> FileFault {
+        FileFault::Memory
+    }
+}
+
+impl From<BlockFault> for FileFault {
+    ghost from_gives = { λ error fault. fault ≡ Block error };
+
+    fn from(error: BlockFault) -> FileFault {
+        FileFault::Block(error)
+    }
+}
+
+impl From<TextFault> for FileFault {
+    ghost from_gives = { λ error fault. fault ≡ text_fault error };
+
+    fn from(error: TextFault) -> FileFault {
+        match error {
+            TextFault::Syntax => FileFault::Block(BlockFault::BadAcl),
+            TextFault::UnknownName => FileFault::Block(BlockFault::UnknownName),
+            TextFault::TooMany => FileFault::Block(BlockFault::TooMany),
+            TextFault::Memory => FileFault::Memory,
+        }
+    }
+}
+
+impl From<Invalid> for FileFault {
+    ghost from_gives = { λ error fault. fault ≡ invalid_fault error };
+
+    fn from(error: Invalid) -> FileFault {
+        match error {
+            Invalid::Missing | Invalid::Repeated | Invalid::NoMask => {
+                FileFault::Block(BlockFault::InvalidAcl)
+            }
+            Invalid::Memory => FileFault::Memory,
+        }
+    }
+}

@@ -1,0 +1,63 @@
+//! What a block says of a file.
+
+ghost use Rattle.std.specs.Prelude.{◌≡◌, Ok, IfErr, IfOk, option_map};
+ghost use Rattle.acl_listings.specs.Block.{file_of, path_of};
+ghost use Rattle.acl_listings.specs.Faults.{IsFaultOf};
+ghost use Rattle.acl_listings.specs.Views.{view_file};
+
+use crate::access::read_access;
+use crate::fault::{BlockFault, FileFault};
+use crate::header::{read_header, read_path, split_line};
+use crate::limits::MAX_BLOCK;
+use acl_names::{Directory, Gid, Uid};
+use acl_posix::Acl;
+use std::alloc::Global;
+
+/// A file of a listing.
+#[derive(Debug, Drop)]
+pub struct File<'t> {
+    /// Its path, as the listing writes it.
+    pub path: &'t [u8],
+    pub owner: Uid,
+    pub group: Gid,
+    /// Its access list. A default list decides no access.
+    pub access: Acl,
+}
+
+/// The file of which a block speaks, for a directory that knows the names in it. A block without a
+/// file is refused for the first thing that is wrong with it; `Memory` comes only if memory runs
+/// out.
+pub fn read_file<'t>(
+    alloc: Global,
+    text: &'t [u8],
+    directory: &Directory,
+) -> Result<File<'t>, FileFault>
+    ensures read { IfOk result (λ file. file_of directory.now text.now ≡ Ok (view_file file)) }
+    ensures refused { IfErr result (IsFaultOf (file_of directory.now text.now)) }
+{
+    if text.len() > MAX_BLOCK {
+        return Err(FileFault::Block(BlockFault::TooLong));
+    }
+    let header = read_header(text).ok_or(BlockFault::BadHeader)?;
+    let owner = directory.uid(header.owner).ok_or(BlockFault::UnknownOwner)?;
+    let group = directory.gid(header.group).ok_or(BlockFault::UnknownGroup)?;
+    let access = read_access(alloc, header.list, directory)?;
+    Ok(File {
+        path: header.path,
+        owner,
+        group,
+        access,
+    })
+}
+
+/// The path in a block's first line, by which a fault of the block is told. `None` if that line is
+/// no file's, or is longer than a block may be.
+pub fn path_of(text: &[u8]) -> Option<&[u8]>
+    ensures { option_map (λ path. path.now) result ≡ path_of text.now }
+{
+    let (line, _) = split_line(text);
+    if line.len() > MAX_BLOCK {
+        return None;
+    }
+    read_path(line)
+}

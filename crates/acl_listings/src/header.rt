@@ -1,0 +1,85 @@
+//! The lines at the front of a block: those of the file, its owner and its group.
+
+ghost use Rattle.std.specs.Prelude.{◌≡◌, option_map};
+ghost use Rattle.acl_listings.specs.Header.{behind, header_of, id_of, path_in};
+ghost use Rattle.acl_listings.specs.Lines.{after_line, first_line};
+ghost use Rattle.acl_listings.specs.Views.{view_header};
+ghost use Rattle.acl_names.specs.Views.{view_written};
+
+use acl_names::{WrittenId, before_byte};
+
+/// What stands at the front of a block, and its list.
+#[derive(Clone, Copy, Debug)]
+pub(crate) struct Header<'t> {
+    pub path: &'t [u8],
+    pub owner: WrittenId<'t>,
+    pub group: WrittenId<'t>,
+    /// The lines behind the group's.
+    pub list: &'t [u8],
+}
+
+/// The header of a block, and its list. `None` if the first three lines aren't those of a file, its
+/// owner and its group.
+pub(crate) fn read_header(text: &[u8]) -> Option<Header<'_>>
+    ensures { option_map view_header result ≡ header_of text.now }
+{
+    let (file_line, behind_file) = split_line(text);
+    let (owner_line, behind_owner) = split_line(behind_file);
+    let (group_line, list) = split_line(behind_owner);
+    match (
+        read_path(file_line),
+        read_id(b"# owner: ", owner_line),
+        read_id(b"# group: ", group_line),
+    ) {
+        (Some(path), Some(owner), Some(group)) => Some(Header {
+            path,
+            owner,
+            group,
+            list,
+        }),
+        _ => None,
+    }
+}
+
+/// The path in a file's line: what stands behind `# file: `, as it stands, if that is anything.
+pub(crate) fn read_path(line: &[u8]) -> Option<&[u8]>
+    ensures { option_map (λ path. path.now) result ≡ path_in line.now }
+{
+    match behind(b"# file: ", line) {
+        Some([]) | None => None,
+        Some(path) => Some(path),
+    }
+}
+
+/// The id that is written behind a word, if the line begins with it.
+fn read_id<'t>(word: &[u8], line: &'t [u8]) -> Option<WrittenId<'t>>
+    ensures { option_map view_written result ≡ id_of word.now line.now }
+{
+    match behind(word, line) {
+        Some(text) => WrittenId::read(text),
+        None => None,
+    }
+}
+
+/// What stands behind a word, if the line begins with it.
+pub(crate) fn behind<'t>(word: &[u8], line: &'t [u8]) -> Option<&'t [u8]>
+    ensures { option_map (λ rest. rest.now) result ≡ behind word.now line.now }
+{
+    match line.strip_prefix(word) {
+        Some(rest) => Some(rest),
+        None => None,
+    }
+}
+
+/// The first line of a text, and what stands behind its newline.
+pub(crate) fn split_line(text: &[u8]) -> (&[u8], &[u8])
+    ensures line { result.0.now ≡ first_line text.now }
+    ensures rest { result.1.now ≡ after_line text.now }
+{
+    let line = before_byte(b'\n', text);
+    if line.len() < text.len() {
+        (line, &text[line.len() + 1..])
+    } else {
+        (line, &[])
+    }
+}

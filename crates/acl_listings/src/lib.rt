@@ -1,0 +1,22 @@
+//! Listings of real files, as `getfacl -R` prints them: blocks parted by empty lines, and what each
+//! of them says of a file.
+#![tactic(auto)]
+
+mod access;
+mod blocks;
+mod extent;
+mod fault;
+mod file;
+mod header;
+mod laws;
+mod limits;
+mod source;
+mod steps;
+mod window;
+
+pub use blocks::Blocks;
+pub use fault::{BlockFault, FileFault};
+pub use file::{File, path_of, read_file};
+pub use laws::{handed_blocks_tell_the_same, printed_files_are_read_again};
+pub use limits::{MAX_BLOCK, limits_in_numbers};
+pub use window::ReadFault;

@@ -1,0 +1,91 @@
+//! The steps of a cursor over the bytes of a listing.
+
+ghost use Rattle.std.specs.Prelude.{◌≡◌, ◌≤◌, ◌+◌, [], IfNone, IfOk, IfSome, OnOk};
+ghost use Rattle.std.specs.Io.KnownBytes.{IsAtEnd, Keeps};
+ghost use Rattle.acl_listings.specs.Cursor.{coming, IsOver, Stays};
+ghost use Rattle.acl_listings.specs.Extent.{BeginsLine, IsExtent};
+ghost use Rattle.acl_listings.specs.Source.{told};
+ghost use Rattle.acl_listings.specs.Steps.{GoesOn};
+
+use crate::extent::{Extent, extent_of, extent_of_rest};
+use crate::limits::MAX_BLOCK;
+use crate::source::Source;
+use crate::window::ReadFault;
+use std::io::Read;
+
+/// The number of a line so many lines further on. A listing has fewer than 2^64 of them.
+pub(crate) fn further(line: u64, lines: u64) -> Result<u64, ReadFault>
+    ensures { IfOk result (λ next. next ≡ line + lines) }
+{
+    line.checked_add(lines).ok_or(ReadFault::Read)
+}
+
+/// Takes empty lines, of which the first has this number, up to a line with a byte, whose number
+/// this is. `None` if there is none.
+pub(crate) fn skip_empty_lines<R: Read + Drop>(
+    source: &mut Source<R>,
+    line: u64,
+) -> Result<Option<u64>, ReadFault>
+    ensures none { IfOk result (λ found. IfNone found (IsOver (coming line (told source.old))
+        × (source.new.shown ≡ []) × IsAtEnd source.new.left)) }
+    ensures some { IfOk result (λ found. IfSome found (λ next.
+        Stays (coming line (told source.old)) (coming next (told source.new)))) }
+    ensures begins { IfOk result (λ found. IfSome found (λ _. BeginsLine source.new.shown)) }
+{
+    let mut line = line;
+    for _ in 0..u64::MAX {
+        let has_ended = source.has_ended();
+        match source.shown() {
+            [] if has_ended => return Ok(None),
+            [] => source.read()?,
+            [b'\n', ..] => {
+                source.skip(1);
+                line = further(line, 1)?;
+            }
+            _ => return Ok(Some(line)),
+        }
+    }
+    Err(ReadFault::Read)
+}
+
+/// How far the block at the front reaches, whatever follows the bytes at hand; of one that is too
+/// long, how far it does at the least.
+pub(crate) fn find_extent<R: Read + Drop>(source: &mut Source<R>) -> Result<Extent, ReadFault>
+    requires { BeginsLine source.old.shown }
+    ensures told { OnOk result (Keeps (told source.old) (told source.new)) }
+    ensures shown { IfOk result (λ extent. IsExtent source.new.shown extent.len extent.newlines) }
+    ensures whole { IfOk result (λ extent. extent.len ≤ MAX_BLOCK
+        → IfSome (told source.new) (λ text. IsExtent text extent.len extent.newlines)) }
+{
+    for _ in 0..u64::MAX {
+        let shown = source.shown();
+        let extent = extent_of(shown);
+        let is_closed = shown.len() >= extent.len + 2;
+        if is_closed || extent.len > MAX_BLOCK || source.has_ended() {
+            return Ok(extent);
+        }
+        source.read()?;
+    }
+    Err(ReadFault::Read)
+}
+
+/// Takes what is left of a block of which some was taken, up to the end of its last line. The line
+/// that was begun has this number, and the result is that of the last line.
+pub(crate) fn skip_rest<R: Read + Drop>(source: &mut Source<R>, line: u64) -> Result<u64, ReadFault>
+    ensures { IfOk result (λ last. GoesOn (told source.old) (told source.new) line last) }
+{
+    let mut line = line;
+    for _ in 0..u64::MAX {
+        let shown = source.shown();
+        let extent = extent_of_rest(shown);
+        if extent.len > 0 {
+            source.skip(extent.len);
+            line = further(line, extent.newlines as u64)?;
+        } else if shown.len() >= 2 || source.has_ended() {
+            return Ok(line);
+        } else {
+            source.read()?;
+        }
+    }
+    Err(ReadFault::Read)
+}

@@ -1,0 +1,71 @@
+//! Calls that may run out of memory: one refused growth, wherever it falls, is told by the call in
+//! which it falls, and the call may be made again.
+//!
+//! `rt try --test --fail-alloc N` refuses the growth N of a test. Each test here passes whichever
+//! growth that is, and prints how many refusals it was told of: one up to the last growth that it
+//! asks for, and none from then on.
+use acl_listings::{Blocks, ReadFault, read_file};
+use std::alloc::Global;
+use std::test::Fail;
+use tests_common::{Refusals, directory};
+
+/// A list with nine users, and lines of a default list between its entries.
+const LONG: &[u8] = b"# file: x
+# owner: 0
+# group: 0
+user::rwx
+user:1:r--
+user:2:r--
+default:user::rwx
+user:4:r--
+user:3:r--
+user:5:r--
+user:6:r--
+user:7:r--
+user:8:r--
+user:9:r--
+group::r-x
+mask::rwx
+other::---";
+
+fn count_of(alloc: Global, text: &[u8]) -> Option<usize> {
+    let names = directory(alloc)?;
+    let file = read_file(alloc, text, &names).ok()?;
+    Some(file.access.entries().len())
+}
+
+#[test]
+fn read_file_under_a_refused_growth(rt: HostRuntime) -> Result<(), Fail> {
+    let alloc = rt.alloc();
+    let mut refusals = Refusals::new();
+    let count = refusals.again(|| count_of(alloc, LONG));
+    assert_eq!(rt; count, Some(13));
+    println!(rt; "refusals: {}", refusals.told())?;
+    Ok(())
+}
+
+/// A block that is too long, in memory that no one refuses.
+static TOO_LONG: [u8; 65_538] = [b'x'; 65_538];
+
+/// How many blocks the listing has, of which one is too long.
+fn blocks_of(alloc: Global) -> Option<u32> {
+    let mut blocks = Blocks::new(alloc, TOO_LONG.as_slice()).ok()?;
+    for count in 0..u32::MAX {
+        match blocks.advance() {
+            Ok(true) => {}
+            Ok(false) => return Some(count),
+            Err(ReadFault::Memory) | Err(ReadFault::Read) => return None,
+        }
+    }
+    None
+}
+
+#[test]
+fn blocks_under_a_refused_growth(rt: HostRuntime) -> Result<(), Fail> {
+    let alloc = rt.alloc();
+    let mut refusals = Refusals::new();
+    let count = refusals.again(|| blocks_of(alloc));
+    assert_eq!(rt; count, Some(1));
+    println!(rt; "refusals: {}", refusals.told())?;
+    Ok(())
+}
