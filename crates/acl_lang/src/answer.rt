@@ -202,7 +202,8 @@ fn tree_fault_word(fault: TreeFault) -> &'static [u8]
     }
 }
 
-fn line_fault_word(fault: LineFault) -> &'static [u8]
+/// The word by which an answer tells a line's fault.
+pub fn line_fault_word(fault: LineFault) -> &'static [u8]
     ensures { result.now ≡ line_fault_word fault }
 {
     match fault {

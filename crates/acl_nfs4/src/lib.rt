@@ -37,6 +37,6 @@ pub use mask::{Mask, mask_of, rest_of};
 pub use mode_change::Fault4;
 pub use owners::Owners;
 pub use printing::push_ace;
-pub use reading::{PieceFault, faults_of_pieces, pieces_have_shapes, read_aces};
+pub use reading::{AceReader, PieceFault, faults_of_pieces, pieces_have_shapes, read_aces};
 pub use subject::Subject;
 pub use who::Who;

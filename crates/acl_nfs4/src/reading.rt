@@ -56,8 +56,8 @@ enum WrittenWho<'a> {
 
 /// Reads entries whose names a directory knows.
 #[derive(Drop)]
-struct AceReader<'a> {
-    directory: &'a Directory,
+pub struct AceReader<'a> {
+    pub directory: &'a Directory,
 }
 
 impl<'a> PieceReader for AceReader<'a> {

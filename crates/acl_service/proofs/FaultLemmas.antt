@@ -15,7 +15,7 @@ texts_some TooManySessions = omega arith
 texts_some (Setup error) = omega arith
 texts_some (Run fault) = omega arith
 
-files_some : (fault : FilesFault) → 1 ≤ files_status fault
+pub files_some : (fault : FilesFault) → 1 ≤ files_status fault
 files_some SessionCount = omega arith
 files_some InputTwice = omega arith
 files_some (CannotRead name) = omega arith

@@ -1,4 +1,4 @@
--- Private steps, which no public clause cites: what the structs of a setup's reader stand for.
+-- What the structs of a setup's reader stand for.
 use Rattle.std.specs.Prelude.{ℕ, List, String, Vec, map, string_bytes}
 use Rattle.std.specs.declared.alloc.Global.{Global}
 use Rattle.acl_service.specs.Setup as setup

@@ -67,9 +67,9 @@ impl<'a> CommandFault for FilesFault<'a> {
     }
 }
 
-/// What a run works on.
+/// What sessions work on: the bytes of the setup, and of each session in the order of their names.
 #[derive(Drop)]
-pub(crate) struct Texts {
+pub struct Texts {
     pub setup: Vec<u8>,
     pub sessions: Vec<Vec<u8>>,
 }
@@ -163,9 +163,10 @@ pub fn count_inputs(names: &[&str]) -> usize
     names.iter().filter(|name| **name == INPUT).count()
 }
 
-/// Reads the setup of one name and then the sessions of the others, in their order. One of these
-/// may be that of `input`, of which else nothing is read.
-pub(crate) fn read_texts<'a, F: OpenFiles, I: Read>(
+/// Reads the setup of one name and then the sessions of the others, in their order, each of at most
+/// 1,048,576 bytes. There are 1 to 64 sessions. One of them may be that of `input`, of which else
+/// nothing is read.
+pub fn read_texts<'a, F: OpenFiles, I: Read>(
     alloc: Global,
     files: &F,
     input: &mut I,

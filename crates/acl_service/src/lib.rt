@@ -16,11 +16,14 @@ pub use acl_queries::{
     compare, decide, explain, read_capped, report, words_ask_what_they_give, words_of, write_text,
 };
 pub use acl_runs::{Gate, OpenGate, ServeFault};
-pub use files::{FilesFault, OpenFiles, count_inputs, read_file, read_sessions};
+pub use files::{FilesFault, OpenFiles, Texts, count_inputs, read_file, read_sessions, read_texts};
 pub use headline::{journal_explains_every_answer, one_session_is_served_as_alone};
 pub use one::{OneFault, apply_text, run_one};
-pub use run_command::{run, run_texts};
+pub use run_command::{run, run_texts, session_fields, session_words, setup_field};
 pub use served::Served;
 pub(crate) use served::ServedInPrint;
 pub use sessions::{Report, serve, serve_rounds};
-pub use setup::{SetupError, read_setup};
+pub use setup::{
+    Root, Setup, SetupError, id_at, read_mode, read_setup, read_style, read_table, table_at,
+    text_at, value_at,
+};

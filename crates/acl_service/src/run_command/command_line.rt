@@ -5,7 +5,7 @@ ghost use Rattle.clap.specs.Words.{all_of, app_of, found_of, kind_of, rows_of, r
 ghost use Rattle.acl_service.specs.RunWords.{HasLimit, IsLimit, RunTakes, limit_option, run_line};
 ghost use Rattle.acl_service.specs.RunWords.{run_rows, session_words, setup_in};
 
-use acl_queries::options::{flag, optional_option, required_option, required_word, text_field};
+use acl_queries::options::{flag, optional_option, required_word, setup_option, text_field};
 use clap::builder::ValueParser;
 use clap::error::ErrorKind;
 use clap::{Arg, ArgMatches, Command, Error};
@@ -33,12 +33,7 @@ fn command<'a>(alloc: Global) -> Result<Command<'a>, AllocError>
         .bin_name("aclctl run")?
         .about("Lets sessions work on one tree at the same time, and prints their answers.")
         .after_help(FILES)
-        .arg(required_option(
-            alloc,
-            "setup",
-            "FILE",
-            "The file that says who there is, and with which root the tree starts",
-        ))?
+        .arg(setup_option(alloc))?
         .arg(flag(
             alloc,
             "journal",
@@ -56,7 +51,8 @@ fn limit_option<'a>(alloc: Global) -> Arg<'a>
     optional_option(alloc, "max-errors", "K", help).value_parser(ValueParser::Unsigned(1, 65_535))
 }
 
-fn session_words<'a>(alloc: Global) -> Arg<'a>
+/// The words that name the sessions' files, one or more.
+pub fn session_words<'a>(alloc: Global) -> Arg<'a>
     ensures rule { rule_of result ≡ session_words }
     ensures local { result.global ≡ false }
 {
@@ -77,14 +73,14 @@ pub(super) fn parse<'a, S: AsStr>(alloc: Global, words: &'a [S]) -> Result<ArgMa
 
 /// The name of the setup's file.
 #[tactic(auto, unfolding(crate::specs::RunWords::setup_in))]
-pub(super) fn setup_field<'a>(matches: &ArgMatches<'a>) -> &'a str
+pub fn setup_field<'a>(matches: &ArgMatches<'a>) -> &'a str
     ensures { result.now ≡ setup_in (rows_of (found_of matches.now)) }
 {
     text_field(matches, "setup").unwrap_or("")
 }
 
-/// The names of the sessions' files.
-pub(super) fn session_fields<'m, 'a>(matches: &'m ArgMatches<'a>) -> Option<&'m [&'a str]>
+/// The names of the sessions' files, if the words give any.
+pub fn session_fields<'m, 'a>(matches: &'m ArgMatches<'a>) -> Option<&'m [&'a str]>
     ensures { option_map (λ names. map (λ name. name.now) names.now) result
         ≡ all_of (codes "session") (rows_of (found_of matches.now)) }
 {

@@ -16,16 +16,16 @@ use toml::{Table, Value};
 
 /// What is said of the root directory.
 #[derive(Drop)]
-pub(super) struct Root {
+pub struct Root {
     pub owner: String,
     pub group: String,
     pub mode: Mode,
     pub style: Style,
 }
 
-/// What a setup says.
+/// What a setup says. Nothing is known yet of whether its users and groups make a directory.
 #[derive(Drop)]
-pub(super) struct Setup {
+pub struct Setup {
     pub umask: Mode,
     pub root: Root,
     pub domain: String,
@@ -70,7 +70,7 @@ impl FromValue for Group {
 }
 
 /// Three octal digits.
-fn read_mode(text: &str) -> Option<Mode>
+pub fn read_mode(text: &str) -> Option<Mode>
     ensures { result ≡ mode_of text.now }
 {
     match text.as_bytes() {
@@ -83,7 +83,8 @@ fn read_mode(text: &str) -> Option<Mode>
     }
 }
 
-fn read_style(text: &str) -> Option<Style>
+/// `posix` or `nfs4`.
+pub fn read_style(text: &str) -> Option<Style>
     ensures { result ≡ style_of text.now }
 {
     match text {
@@ -113,9 +114,10 @@ fn read_root(alloc: Global, table: &Table) -> Result<Root, SetupError>
     })
 }
 
-/// What a table says as a setup.
+/// What a table says as a setup. `BadField` if a key is absent, or its value has another type or
+/// isn't one that it may have; `Memory` if memory runs out; and no other fault.
 #[tactic(auto, unfolding(crate::specs::Setup::setup_in))]
-pub(super) fn read_table(alloc: Global, table: &Table) -> Result<Setup, SetupError>
+pub fn read_table(alloc: Global, table: &Table) -> Result<Setup, SetupError>
     ensures { Answers setup_shown (setup_in (table_view table.now)) result }
 {
     let domain = text_at(table, "domain").ok_or(SetupError::BadField)?;

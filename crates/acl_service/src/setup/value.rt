@@ -21,7 +21,7 @@ pub(super) trait FromValue: Drop {
 }
 
 /// The value at a key.
-fn value_at<'a>(table: &'a Table, key: &str) -> Option<&'a Value>
+pub fn value_at<'a>(table: &'a Table, key: &str) -> Option<&'a Value>
     ensures { option_map (λ value. view value.now) result
         ≡ get_member key.now (table_view table.now) }
 {
@@ -30,7 +30,7 @@ fn value_at<'a>(table: &'a Table, key: &str) -> Option<&'a Value>
 
 /// The text at a key.
 #[tactic(auto, unfolding(crate::specs::SetupTable::text_at))]
-pub(super) fn text_at<'a>(table: &'a Table, key: &str) -> Option<&'a str>
+pub fn text_at<'a>(table: &'a Table, key: &str) -> Option<&'a str>
     ensures { option_map (λ text. text.now) result ≡ text_at key.now (table_view table.now) }
 {
     match value_at(table, key) {
@@ -41,7 +41,7 @@ pub(super) fn text_at<'a>(table: &'a Table, key: &str) -> Option<&'a str>
 
 /// The table at a key.
 #[tactic(auto, unfolding(crate::specs::SetupTable::table_at))]
-pub(super) fn table_at<'a>(table: &'a Table, key: &str) -> Option<&'a Table>
+pub fn table_at<'a>(table: &'a Table, key: &str) -> Option<&'a Table>
     ensures { option_map (λ inner. table_view inner.now) result
         ≡ table_at key.now (table_view table.now) }
 {
@@ -65,7 +65,7 @@ fn read_id(number: i64) -> Option<u32>
 
 /// The number of the id at a key.
 #[tactic(auto, unfolding(crate::specs::SetupTable::id_at))]
-fn id_at(table: &Table, key: &str) -> Option<u32>
+pub fn id_at(table: &Table, key: &str) -> Option<u32>
     ensures value { result ≡ id_at key.now (table_view table.now) }
     ensures in_range { IfSome result (λ id. id ≤ MAX_ID) }
 {

@@ -1,0 +1,68 @@
+-- What `lint` answers.
+use Rattle.std.specs.Prelude.{◌≡◌, ◌⊎◌, ℕ, ◌==◌, List, [], ◌∷◌, ◌++◌, Option, Vec, map}
+use Rattle.std.specs.Prelude.{codes, if◌then◌else◌}
+use Rattle.std.specs.declared.alloc.Global.{Global}
+use Rattle.clap.specs.Words.{Row, Text}
+use Rattle.acl_names.specs.Bytes.{hyphen, newline, space}
+use Rattle.acl_names.specs.Directory.{Known}
+use Rattle.acl_tree.specs.Tree.{NodesUnderUmask}
+use Rattle.acl_service.specs.Opened.{Opens}
+use Rattle.acl_service.specs.RunWords.{AreTold, CanRun, IsTold, input_count, sessions_in, setup_in}
+use Rattle.acl_service.specs.SetupFaults.{setup_error_words}
+use Rattle.acl_service.specs.TextsFaults.{IsRefusedBy}
+use Rattle.acl_service.specs.declared.setup.fault.SetupError.{SetupError}
+use Rattle.acl_lint.specs.LintLine.{LintTakes, lint_rows}
+use Rattle.acl_lint.specs.LintText.{sessions_text}
+use Rattle.acl_lint.specs.SetupPlace.{IsPlace}
+
+-- words with `-` between them
+abbrev pub joined : List ℕ → List ℕ
+joined words = map (λ byte. if byte == space then hyphen else byte) words
+
+-- `NAME: WORD PLACE`
+abbrev pub setup_text : Text → SetupError → List ℕ → List ℕ
+setup_text name error place =
+    name ++ codes ": " ++ joined (setup_error_words error) ++ space ∷ place ++ newline ∷ []
+
+-- the setup opens, and that is told of sessions of these names, with these texts
+pub record IsOfSessions (setup : List ℕ) (names : List Text) (texts : List (Vec ℕ Global))
+    (text : List ℕ) : Type 0 where
+  pub known : Known
+  pub tree : NodesUnderUmask
+  pub opened : Opens setup known tree
+  pub is : text ≡ sessions_text known names texts
+
+-- the setup of this name is refused, and that is told of it
+pub record IsOfSetup (name : Text) (setup text : List ℕ) : Type 0 where
+  pub error : SetupError
+  pub refused : IsRefusedBy setup error
+  pub place : List ℕ
+  pub is_place : IsPlace setup error place
+  pub is : text ≡ setup_text name error place
+
+-- that is told of the setup of this name, or of the sessions of these names
+abbrev pub IsLint : Text → List ℕ → List Text → List (Vec ℕ Global) → List ℕ → Type 0
+IsLint name setup names texts text =
+    IsOfSessions setup names texts text ⊎ IsOfSetup name setup text
+
+-- what is told of the files that the words name went out so: all of it, or a front
+pub record AnswersRows (bytes_of : Text → Option (List ℕ)) (input : Option (List ℕ))
+    (rows : List Row) (WentOut : List ℕ → Type 0) : Type 0 where
+  pub can_run : CanRun (sessions_in rows)
+  pub setup : List ℕ
+  pub texts : List (Vec ℕ Global)
+  pub setup_is : IsTold (bytes_of (setup_in rows)) setup
+  pub texts_are : AreTold bytes_of input (sessions_in rows) texts
+  pub text : List ℕ
+  pub answers : IsLint (setup_in rows) setup (sessions_in rows) texts text
+  pub out : WentOut text
+
+-- the words of `lint` are answered
+pub record AnswersLint (bytes_of : Text → Option (List ℕ)) (input : Option (List ℕ))
+    (words : List Text) (WentOut : List ℕ → Type 0) : Type 0 where
+  pub taken : LintTakes words
+  pub of_rows : AnswersRows bytes_of input (lint_rows words) WentOut
+
+-- how many sessions of the words are standard input
+abbrev pub lint_inputs : List Text → ℕ
+lint_inputs words = input_count (sessions_in (lint_rows words))

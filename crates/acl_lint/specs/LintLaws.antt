@@ -1,0 +1,105 @@
+-- What is told of sessions, beside what `run` answers and what the pieces of a list say; and of a
+-- setup, beside what its reading says.
+use Rattle.std.specs.Prelude.{◌≡◌, ◌≢◌, ◌++◌, ◌+◌, ℕ, All, List, [], ◌∷◌, Option, Some, None, Ok}
+use Rattle.std.specs.Prelude.{Err, IsSome, IsSomeAnd, bytes_eq, codes, if◌then◌else◌, length}
+use Rattle.std.specs.Prelude.{map, true}
+use Rattle.std.specs.List.{flat_map}
+use Rattle.acl_names.specs.Directory.{Known}
+use Rattle.acl_names.specs.Directory.{fault_of as parts_fault}
+use Rattle.acl_names.specs.declared.directory.SetupFault.{SetupFault}
+use Rattle.acl_names.specs.Pieces.{after_word, first_word, pieces, trim}
+use Rattle.acl_nfs4.specs.AceText.{piece_value}
+use Rattle.acl_posix.specs.EntryText.{entry_of}
+use Rattle.acl_lang.specs.Fields.{as_ace, as_entry}
+use Rattle.acl_lang.specs.Lines.{line_of}
+use Rattle.acl_lang.specs.Refusals.{Asked}
+use Rattle.acl_lang.specs.Texts.{requests_of}
+use Rattle.acl_lang.specs.declared.answer.Answer.{Answer}
+use Rattle.acl_lang.specs.declared.line.Line.TheVariants.{Command}
+use Rattle.acl_service.specs.Opened.{opened_in}
+use Rattle.acl_service.specs.Runs.{answers_of}
+use Rattle.acl_service.specs.Setup.{setup_in}
+use Rattle.acl_service.specs.declared.setup.fault.SetupError.{SetupError}
+use Rattle.acl_tree.specs.Tree.{NodesUnderUmask}
+use Rattle.acl_tree.specs.declared.faults.LineFault.{LineFault}
+use Rattle.acl_tree.specs.declared.reply.Reply.{Reply}
+use Rattle.acl_tree.specs.declared.reply.Reply.TheVariants.{Fault}
+use Rattle.acl_tree.specs.declared.request.Request.TheVariants.{Bad}
+use Rattle.toml.specs.Data.{Members}
+use Rattle.acl_lint.specs.FieldKeys.{key_of_fields}
+use Rattle.acl_lint.specs.LintText.{Found, found_in, place_text}
+use Rattle.acl_lint.specs.PartsKeys.{key_of_parts}
+use Rattle.acl_lint.specs.Places.{Piece, is_of_piece, piece_at_fault}
+use Rattle.acl_lint.specs.SetupPlace.{IsPlace, key_of_table_for}
+
+-- the number of a line, and its fault
+abbrev pub told_of : Found → ℕ × LineFault
+told_of found = (found.line, found.fault)
+
+-- the same of an answer, if it is that the line has a fault
+abbrev pub fault_replied : ℕ → Reply → List (ℕ × LineFault)
+fault_replied line (Fault fault) = (line, fault) ∷ []
+fault_replied line reply = []
+
+abbrev pub faults_answered : List Answer → List (ℕ × LineFault)
+faults_answered = flat_map (λ answer. fault_replied answer.line answer.reply)
+
+-- Of every text, over whatever tree it runs: those lines are told, with those faults, of which the
+-- session's answers say so, in their order.
+abbrev pub TellsWhatIsAnswered : Type 0
+TellsWhatIsAnswered = (known : Known) (tree : NodesUnderUmask) (text : List ℕ)
+    → map told_of (found_in known text)
+    ≡ faults_answered (answers_of known tree (requests_of known text))
+
+-- the fault of a piece of a list of this kind, if it doesn't read
+abbrev pub fault_of : {A : Type 0} → Asked A → Option LineFault
+fault_of (Ok value) = None
+fault_of (Err fault) = Some fault
+
+abbrev pub fault_of_piece : Known → List ℕ → List ℕ → Option LineFault
+fault_of_piece known kind piece = if bytes_eq kind (codes "nfs4")
+    then fault_of (as_ace (piece_value known piece)) else fault_of (as_entry (entry_of known piece))
+
+-- a piece of TEXT has the fault, and those before it read
+pub record IsFirstAtFault (known : Known) (kind text : List ℕ) (fault : LineFault) (piece : Piece) :
+    Type 0 where
+  pub before : List (List ℕ)
+  pub behind : List (List ℕ)
+  pub pieces_are : pieces text ≡ before ++ piece.text ∷ behind
+  pub number_is : piece.number ≡ length before + 1
+  pub earlier_read : All (λ earlier. fault_of_piece known kind earlier ≡ None) before
+  pub at_fault : fault_of_piece known kind piece.text ≡ Some fault
+
+-- of the fields `PATH KIND TEXT`
+abbrev pub IsFirstOfFields : Known → List ℕ → LineFault → Piece → Type 0
+IsFirstOfFields known fields fault =
+    IsFirstAtFault known (first_word (after_word fields)) (after_word (after_word fields)) fault
+
+-- Where a line sets a list, and has a fault that a piece may have, there is a piece at fault: the
+-- first that doesn't read, and it has that very fault.
+abbrev pub TellsThePiece : Type 0
+TellsThePiece = (known : Known) (bytes : List ℕ) (fault : LineFault)
+    → line_of known bytes ≡ Command (Bad fault) → is_of_piece fault ≡ true
+    → first_word (trim bytes) ≡ codes "set"
+    → IsSomeAnd (piece_at_fault known fault bytes)
+    (IsFirstOfFields known (after_word (trim bytes)) fault)
+
+-- If a table says no setup, a key is told at which its reading has no value.
+abbrev pub TellsAKey : Type 0
+TellsAKey = (table : Members) → setup_in table ≡ None → IsSome (key_of_fields table)
+
+-- If users and groups are no directory, one of them is told, or what of them is at fault.
+abbrev pub TellsAPart : Type 0
+TellsAPart = (known : Known) (fault : SetupFault) → parts_fault known ≡ Some fault
+    → IsSome (key_of_parts known.domain known.users known.groups fault)
+
+-- Of each setup that is refused for what its table says, a key is told.
+abbrev pub TellsWhere : Type 0
+TellsWhere = (table : Members) (error : SetupError) → opened_in table ≡ Err error
+    → IsSome (key_of_table_for table error)
+
+-- No place that is told is empty: of a setup, and of a line.
+pub record TellsAPlace : Type 0 where
+  pub of_setup : (bytes : List ℕ) (error : SetupError) (place : List ℕ)
+      → IsPlace bytes error place → place ≢ []
+  pub of_line : (piece : Option Piece) → place_text piece ≢ []

@@ -1,0 +1,65 @@
+//! What is told of a setup.
+ghost use Rattle.std.specs.Prelude.{◌≡◌, ◌++◌, ◌⊎◌, ℕ, IfErr, IfOk, List, OnErr, OnOk};
+ghost use Rattle.std.specs.Io.KnownBytes.{Appends, Keeps};
+ghost use Rattle.acl_queries.specs.Output.{AppendsFront};
+ghost use Rattle.acl_service.specs.TextsFaults.{IsRefusedBy};
+ghost use Rattle.acl_lint.specs.LintAnswer.{IsOfSetup, joined, setup_text};
+ghost use Rattle.acl_lint.specs.LintFaults.{IsLack};
+
+use crate::setup_place::setup_place;
+use acl_queries::{RunFault, write_text};
+use acl_service::SetupError;
+use std::alloc::{AllocError, Global};
+use std::io::Write;
+
+/// Appends words with `-` between them.
+fn push_joined(words: &[u8], out: &mut Vec<u8>) -> Result<(), AllocError>
+    ensures { OnOk result (out.new.items ≡ out.old.items ++ joined words.now) }
+{
+    for byte in words {
+        out.push(if *byte == b' ' { b'-' } else { *byte })?;
+    }
+    Ok(())
+}
+
+/// The line that tells of a setup.
+fn setup_line(
+    alloc: Global,
+    name: &str,
+    error: SetupError,
+    place: &[u8],
+) -> Result<Vec<u8>, AllocError>
+    ensures { IfOk result (λ line. line.items ≡ setup_text name.now error place.now) }
+{
+    let mut line = Vec::new(alloc);
+    line.extend_from_slice(name.as_bytes())?;
+    line.extend_from_slice(b": ")?;
+    push_joined(error.words().as_bytes(), &mut line)?;
+    line.push(b' ')?;
+    line.extend_from_slice(place)?;
+    line.push(b'\n')?;
+    Ok(line)
+}
+
+/// Writes what is told of the setup of this name, which is refused for this. If memory runs out,
+/// nothing went out, and if a write fails, a front of it.
+pub(crate) fn write_setup<W: Write>(
+    alloc: Global,
+    name: &str,
+    setup: &[u8],
+    error: SetupError,
+    out: &mut W,
+) -> Result<(), RunFault>
+    requires { IsRefusedBy setup.now error }
+    ensures written { OnOk result ((text : List ℕ) × IsOfSetup name.now setup.now text
+        × Appends (W.contents out.old) (W.contents out.new) text) }
+    ensures cut { OnErr result (Keeps (W.contents out.old) (W.contents out.new)
+        ⊎ ((text : List ℕ) × IsOfSetup name.now setup.now text
+        × AppendsFront (W.contents out.old) (W.contents out.new) text)) }
+    ensures lack { IfErr result IsLack }
+{
+    let place = setup_place(alloc, setup, error)?;
+    let line = setup_line(alloc, name, error, place.as_slice())?;
+    write_text(line.as_slice(), out)?;
+    Ok(())
+}

@@ -1,0 +1,180 @@
+//! An office and sessions over it, as files at hand.
+use acl_lint::lint;
+use acl_service::{ErrorOutput, OpenFiles};
+use std::alloc::Global;
+use std::io::{self, Read};
+
+const OFFICE: &str =
+    "domain = \"example.org\"\numask = \"022\"\nroot = { owner = \"root\", group = \"root\", mode = \"755\", style = \"posix\" }\nuser = [ { name = \"root\", uid = 0, groups = [\"root\"] }, { name = \"alice\", uid = 1000, groups = [\"staff\"] }, { name = \"bob\", uid = 1001, groups = [\"staff\", \"ops\"] } ]\ngroup = [ { name = \"root\", gid = 0 }, { name = \"staff\", gid = 50 }, { name = \"ops\", gid = 60 } ]\n";
+
+/// Nothing is wrong here: not even a path that isn't there.
+const GOOD: &str =
+    "# what is there\n\ncreate dir /plans alice 750\n  # and who may\nset /plans access u::rwx,u:bob:rx,g::-,m::rx,o::-\nset /plans default none\nset / nfs4 A::OWNER@:rwa,A::EVERYONE@:r\nget /nowhere\n";
+
+/// Faults that are no list's. The last line has no newline.
+const FAULTY: &str =
+    "# a comment\n\ncreate dir /plans alice 750\nfrobnicate /plans\ncreate file /plans/x eve 640\nchmod /plans 9\n \t \nget plans\ncheck /plans alice z\nget /plans";
+
+const POSIX: &str =
+    "set /a access user:bob:rwz,u::rw,g::r,o::-\nset /a access u::rw,g::r,user:bob:rwz,o::-\nset /a default u::rw,g::r,o::x,u:eve:r\nset /a access u::rw,,o::-\nset /a access u::rw,g::r\n  set /a access  u::rw , user : bob : rwz ,o::- # the second\nset a access u::rwz\nset /a default none\nset /a access\nset /a other u::rw\n";
+
+const ACES: &str =
+    "set /a nfs4 X::OWNER@:r,A::EVERYONE@:r\nset /a nfs4 A::OWNER@:rwa,A::bob@elsewhere.org:r,A::EVERYONE@:r\nset /a nfs4 A::OWNER@:r,A:i:EVERYONE@:r\nset /a nfs4 A::OWNER@:r,A::EVERYONE@:r\nset /a nfs4 A::OWNER@:r,A::eve:r,A::OWNER@:q\n";
+
+/// One entry too many; so, and one that doesn't read behind that; the last that may be, which
+/// doesn't read; and the first that is too many, which doesn't read either.
+const MANY: &str =
+    "set /a access o::-,o::-,o::-,o::-,o::-,o::-,o::-,o::-,o::-,o::-,o::-,o::-,o::-,o::-,o::-,o::-,o::-,o::-,o::-,o::-,o::-,o::-,o::-,o::-,o::-,o::-,o::-,o::-,o::-,o::-,o::-,o::-,o::-,o::-,o::-,o::-,o::-,o::-,o::-,o::-,o::-,o::-,o::-,o::-,o::-,o::-,o::-,o::-,o::-,o::-,o::-,o::-,o::-,o::-,o::-,o::-,o::-,o::-,o::-,o::-,o::-,o::-,o::-,o::-,o::-\nset /a access o::-,o::-,o::-,o::-,o::-,o::-,o::-,o::-,o::-,o::-,o::-,o::-,o::-,o::-,o::-,o::-,o::-,o::-,o::-,o::-,o::-,o::-,o::-,o::-,o::-,o::-,o::-,o::-,o::-,o::-,o::-,o::-,o::-,o::-,o::-,o::-,o::-,o::-,o::-,o::-,o::-,o::-,o::-,o::-,o::-,o::-,o::-,o::-,o::-,o::-,o::-,o::-,o::-,o::-,o::-,o::-,o::-,o::-,o::-,o::-,o::-,o::-,o::-,o::-,o::-,o::-,o::-,o::-,o::-,o::z\nset /a access o::-,o::-,o::-,o::-,o::-,o::-,o::-,o::-,o::-,o::-,o::-,o::-,o::-,o::-,o::-,o::-,o::-,o::-,o::-,o::-,o::-,o::-,o::-,o::-,o::-,o::-,o::-,o::-,o::-,o::-,o::-,o::-,o::-,o::-,o::-,o::-,o::-,o::-,o::-,o::-,o::-,o::-,o::-,o::-,o::-,o::-,o::-,o::-,o::-,o::-,o::-,o::-,o::-,o::-,o::-,o::-,o::-,o::-,o::-,o::-,o::-,o::-,o::-,o::z\nset /a access o::-,o::-,o::-,o::-,o::-,o::-,o::-,o::-,o::-,o::-,o::-,o::-,o::-,o::-,o::-,o::-,o::-,o::-,o::-,o::-,o::-,o::-,o::-,o::-,o::-,o::-,o::-,o::-,o::-,o::-,o::-,o::-,o::-,o::-,o::-,o::-,o::-,o::-,o::-,o::-,o::-,o::-,o::-,o::-,o::-,o::-,o::-,o::-,o::-,o::-,o::-,o::-,o::-,o::-,o::-,o::-,o::-,o::-,o::-,o::-,o::-,o::-,o::-,o::-,o::z\n";
+
+/// A line of 1024 bytes, and one of 1025.
+const LONG: &str =
+    "#xxxxxxxxxxxxxxxxxxxxxxxxxxxxxxxxxxxxxxxxxxxxxxxxxxxxxxxxxxxxxxxxxxxxxxxxxxxxxxxxxxxxxxxxxxxxxxxxxxxxxxxxxxxxxxxxxxxxxxxxxxxxxxxxxxxxxxxxxxxxxxxxxxxxxxxxxxxxxxxxxxxxxxxxxxxxxxxxxxxxxxxxxxxxxxxxxxxxxxxxxxxxxxxxxxxxxxxxxxxxxxxxxxxxxxxxxxxxxxxxxxxxxxxxxxxxxxxxxxxxxxxxxxxxxxxxxxxxxxxxxxxxxxxxxxxxxxxxxxxxxxxxxxxxxxxxxxxxxxxxxxxxxxxxxxxxxxxxxxxxxxxxxxxxxxxxxxxxxxxxxxxxxxxxxxxxxxxxxxxxxxxxxxxxxxxxxxxxxxxxxxxxxxxxxxxxxxxxxxxxxxxxxxxxxxxxxxxxxxxxxxxxxxxxxxxxxxxxxxxxxxxxxxxxxxxxxxxxxxxxxxxxxxxxxxxxxxxxxxxxxxxxxxxxxxxxxxxxxxxxxxxxxxxxxxxxxxxxxxxxxxxxxxxxxxxxxxxxxxxxxxxxxxxxxxxxxxxxxxxxxxxxxxxxxxxxxxxxxxxxxxxxxxxxxxxxxxxxxxxxxxxxxxxxxxxxxxxxxxxxxxxxxxxxxxxxxxxxxxxxxxxxxxxxxxxxxxxxxxxxxxxxxxxxxxxxxxxxxxxxxxxxxxxxxxxxxxxxxxxxxxxxxxxxxxxxxxxxxxxxxxxxxxxxxxxxxxxxxxxxxxxxxxxxxxxxxxxxxxxxxxxxxxxxxxxxxxxxxxxxxxxxxxxxxxxxxxxxxxxxxxxxxxxxxxxxxxxxxxxxxxxxxxxxxxxxxxxxxxxxxxxxxxxxxxxxxxxxxxxxxxxxxxxxxxxxxxxxxxxxxxxxxxxxxxxxxxxxxxxxxxxxxxxxxxxxxxxxxxxxxxxxxxxxxxxxxxxxxxxxxxxxxxxxxxxxxxxxxxxxxxxxxxxxxxxxxxxxxxxxxxxxxxxxxxxxxxxxxxxxxxx\n#xxxxxxxxxxxxxxxxxxxxxxxxxxxxxxxxxxxxxxxxxxxxxxxxxxxxxxxxxxxxxxxxxxxxxxxxxxxxxxxxxxxxxxxxxxxxxxxxxxxxxxxxxxxxxxxxxxxxxxxxxxxxxxxxxxxxxxxxxxxxxxxxxxxxxxxxxxxxxxxxxxxxxxxxxxxxxxxxxxxxxxxxxxxxxxxxxxxxxxxxxxxxxxxxxxxxxxxxxxxxxxxxxxxxxxxxxxxxxxxxxxxxxxxxxxxxxxxxxxxxxxxxxxxxxxxxxxxxxxxxxxxxxxxxxxxxxxxxxxxxxxxxxxxxxxxxxxxxxxxxxxxxxxxxxxxxxxxxxxxxxxxxxxxxxxxxxxxxxxxxxxxxxxxxxxxxxxxxxxxxxxxxxxxxxxxxxxxxxxxxxxxxxxxxxxxxxxxxxxxxxxxxxxxxxxxxxxxxxxxxxxxxxxxxxxxxxxxxxxxxxxxxxxxxxxxxxxxxxxxxxxxxxxxxxxxxxxxxxxxxxxxxxxxxxxxxxxxxxxxxxxxxxxxxxxxxxxxxxxxxxxxxxxxxxxxxxxxxxxxxxxxxxxxxxxxxxxxxxxxxxxxxxxxxxxxxxxxxxxxxxxxxxxxxxxxxxxxxxxxxxxxxxxxxxxxxxxxxxxxxxxxxxxxxxxxxxxxxxxxxxxxxxxxxxxxxxxxxxxxxxxxxxxxxxxxxxxxxxxxxxxxxxxxxxxxxxxxxxxxxxxxxxxxxxxxxxxxxxxxxxxxxxxxxxxxxxxxxxxxxxxxxxxxxxxxxxxxxxxxxxxxxxxxxxxxxxxxxxxxxxxxxxxxxxxxxxxxxxxxxxxxxxxxxxxxxxxxxxxxxxxxxxxxxxxxxxxxxxxxxxxxxxxxxxxxxxxxxxxxxxxxxxxxxxxxxxxxxxxxxxxxxxxxxxxxxxxxxxxxxxxxxxxxxxxxxxxxxxxxxxxxxxxxxxxxxxxxxxxxxxxxxxxxxxxxxxxxxxxxxxxxxxxxxxxxxxxxxxxxxxxxxxxxxxxxxxxxxxxxxxxxx\nget /\n";
+
+const FILES: [(&str, &str); 30] = [
+    ("office", OFFICE),
+    ("good", GOOD),
+    ("faulty", FAULTY),
+    ("posix", POSIX),
+    ("aces", ACES),
+    ("many", MANY),
+    ("long", LONG),
+    ("empty", ""),
+    ("no-toml", "# a setup\ndomain = \"x\n"),
+    ("no-domain", "domain = 1\n"),
+    ("no-umask", "domain = \"example.org\"\numask = \"088\"\n"),
+    (
+        "no-owner",
+        "domain = \"example.org\"\numask = \"022\"\nroot = { group = \"root\" }\n",
+    ),
+    (
+        "no-uid",
+        "domain = \"example.org\"\numask = \"022\"\nroot = { owner = \"root\", group = \"root\", mode = \"755\", style = \"posix\" }\nuser = [ { name = \"root\", uid = 0, groups = [\"root\"] }, { name = \"alice\", uid = 1, groups = [] }, { name = \"bob\", uid = -1, groups = [] } ]\ngroup = [ { name = \"root\", gid = 0 } ]\n",
+    ),
+    (
+        "no-name",
+        "domain = \"example.org\"\numask = \"022\"\nroot = { owner = \"root\", group = \"root\", mode = \"755\", style = \"posix\" }\nuser = [ { name = \"root\", uid = 0, groups = [\"root\"] } ]\ngroup = [ { gid = 0 } ]\n",
+    ),
+    (
+        "no-group",
+        "domain = \"example.org\"\numask = \"022\"\nroot = { owner = \"root\", group = \"root\", mode = \"755\", style = \"posix\" }\nuser = [ { name = \"root\", uid = 0, groups = [\"root\", 7] } ]\ngroup = [ { name = \"root\", gid = 0 } ]\n",
+    ),
+    (
+        "strange-owner",
+        "domain = \"example.org\"\numask = \"022\"\nroot = { owner = \"eve\", group = \"root\", mode = \"755\", style = \"posix\" }\nuser = [ { name = \"root\", uid = 0, groups = [\"root\"] } ]\ngroup = [ { name = \"root\", gid = 0 } ]\n",
+    ),
+    (
+        "twice-an-id",
+        "domain = \"example.org\"\numask = \"022\"\nroot = { owner = \"root\", group = \"root\", mode = \"755\", style = \"posix\" }\nuser = [ { name = \"root\", uid = 0, groups = [\"root\"] }, { name = \"alice\", uid = 0, groups = [] } ]\ngroup = [ { name = \"root\", gid = 0 } ]\n",
+    ),
+    (
+        "bad-name",
+        "domain = \"example.org\"\numask = \"022\"\nroot = { owner = \"root\", group = \"root\", mode = \"755\", style = \"posix\" }\nuser = [ { name = \"Root!\", uid = 0, groups = [\"root\"] } ]\ngroup = [ { name = \"root\", gid = 0 } ]\n",
+    ),
+    (
+        "unknown-group",
+        "domain = \"example.org\"\numask = \"022\"\nroot = { owner = \"root\", group = \"root\", mode = \"755\", style = \"posix\" }\nuser = [ { name = \"root\", uid = 0, groups = [\"root\", \"staff\"] } ]\ngroup = [ { name = \"root\", gid = 0 } ]\n",
+    ),
+    ("no-value", "umask = \"022\" # ü\né = 1\n"),
+    (
+        "no-root",
+        "domain = \"example.org\"\numask = \"022\"\nroot = \"root\"\n",
+    ),
+    (
+        "no-style",
+        "domain = \"example.org\"\numask = \"022\"\nroot = { owner = \"root\", group = \"root\", mode = \"755\", style = \"unix\" }\ngroup = [ { name = \"root\", gid = 0 } ]\n",
+    ),
+    (
+        "no-user",
+        "domain = \"example.org\"\numask = \"022\"\nroot = { owner = \"root\", group = \"root\", mode = \"755\", style = \"posix\" }\nuser = \"root\"\ngroup = [ { name = \"root\", gid = 0 } ]\n",
+    ),
+    (
+        "no-table",
+        "domain = \"example.org\"\numask = \"022\"\nroot = { owner = \"root\", group = \"root\", mode = \"755\", style = \"posix\" }\nuser = [ { name = \"root\", uid = 0, groups = [\"root\"] }, 7 ]\ngroup = [ { name = \"root\", gid = 0 } ]\n",
+    ),
+    (
+        "strange-group",
+        "domain = \"example.org\"\numask = \"022\"\nroot = { owner = \"root\", group = \"staff\", mode = \"755\", style = \"posix\" }\nuser = [ { name = \"root\", uid = 0, groups = [\"root\"] } ]\ngroup = [ { name = \"root\", gid = 0 } ]\n",
+    ),
+    (
+        "bad-domain",
+        "domain = \"an office\"\numask = \"022\"\nroot = { owner = \"root\", group = \"root\", mode = \"755\", style = \"posix\" }\nuser = [ { name = \"root\", uid = 0, groups = [\"root\"] } ]\ngroup = [ { name = \"root\", gid = 0 } ]\n",
+    ),
+    (
+        "twice-a-name",
+        "domain = \"example.org\"\numask = \"022\"\nroot = { owner = \"root\", group = \"root\", mode = \"755\", style = \"posix\" }\nuser = [ { name = \"root\", uid = 0, groups = [\"root\"] } ]\ngroup = [ { name = \"root\", gid = 0 }, { name = \"ops\", gid = 1 }, { name = \"root\", gid = 2 } ]\n",
+    ),
+    (
+        "twice-in-a-group",
+        "domain = \"example.org\"\numask = \"022\"\nroot = { owner = \"root\", group = \"root\", mode = \"755\", style = \"posix\" }\nuser = [ { name = \"root\", uid = 0, groups = [\"root\", \"ops\", \"root\"] } ]\ngroup = [ { name = \"root\", gid = 0 }, { name = \"ops\", gid = 1 } ]\n",
+    ),
+    (
+        "twice-a-gid",
+        "domain = \"example.org\"\numask = \"022\"\nroot = { owner = \"root\", group = \"root\", mode = \"755\", style = \"posix\" }\nuser = [ { name = \"root\", uid = 0, groups = [\"root\"] } ]\ngroup = [ { name = \"root\", gid = 0 }, { name = \"ops\", gid = 0 } ]\n",
+    ),
+    (
+        "many-groups",
+        "domain = \"example.org\"\numask = \"022\"\nroot = { owner = \"root\", group = \"root\", mode = \"755\", style = \"posix\" }\nuser = [ { name = \"root\", uid = 0, groups = [\"root\"] }, { name = \"alice\", uid = 1, groups = [\"root\", \"root\", \"root\", \"root\", \"root\", \"root\", \"root\", \"root\", \"root\", \"root\", \"root\", \"root\", \"root\", \"root\", \"root\", \"root\", \"root\", \"root\", \"root\", \"root\", \"root\", \"root\", \"root\", \"root\", \"root\", \"root\", \"root\", \"root\", \"root\", \"root\", \"root\", \"root\", \"root\"] } ]\ngroup = [ { name = \"root\", gid = 0 } ]\n",
+    ),
+];
+
+/// Bytes at hand.
+#[derive(Drop)]
+pub struct Sheet {
+    left: &'static [u8],
+}
+
+impl Sheet {
+    pub fn new(text: &'static str) -> Sheet {
+        Sheet {
+            left: text.as_bytes(),
+        }
+    }
+
+    /// How many bytes were not read.
+    pub fn left(&self) -> usize {
+        self.left.len()
+    }
+}
+
+impl Read for Sheet {
+    fn read(&mut self, buffer: &mut [u8]) -> io::Result<usize> {
+        self.left.read(buffer)
+    }
+}
+
+/// The files of these names.
+#[derive(Clone, Copy)]
+pub struct Shelf;
+
+impl OpenFiles for Shelf {
+    ghost use Rattle.std.specs.Prelude.{None};
+
+    type File = Sheet;
+
+    ghost bytes_of = { λ _ _. None };
+
+    fn open(&self, name: &str) -> io::Result<Sheet> {
+        for (file, text) in FILES {
+            if file == name {
+                return Ok(Sheet::new(text));
+            }
+        }
+        Err(io::Error::from(io::ErrorKind::NotFound))
+    }
+}
+
+/// `lint` of these words, over the files, with this standard input and this output. Its status, and
+/// what standard error has.
+pub fn ask(alloc: Global, words: &[&str], input: &mut Sheet, out: &mut Vec<u8>) -> (u8, Vec<u8>) {
+    let mut err = Vec::new(alloc);
+    let mut told = ErrorOutput::new(&mut err);
+    let status = lint(alloc, &Shelf, words, input, out, &mut told);
+    (status, err)
+}
+
+/// Whether the words end so: with this status, and with these texts on the output and for faults.
+pub fn ends(alloc: Global, words: &[&str], status: u8, text: &str, fault: &str) -> bool {
+    let mut out = Vec::new(alloc);
+    let (ended, err) = ask(alloc, words, &mut Sheet::new(""), &mut out);
+    ended == status && out.as_slice() == text.as_bytes() && err.as_slice() == fault.as_bytes()
+}

@@ -1,0 +1,16 @@
+//! Tests of `lint`.
+//!
+//! They stand in a crate of their own, as callers of the public surface: what is tested is what any
+//! caller may rest on, and the gate needn't prove each crate a second time beside its tests.
+#![tactic(auto)]
+
+#[cfg(test)]
+mod faults;
+#[cfg(test)]
+mod fixture;
+#[cfg(test)]
+mod refused_growths;
+#[cfg(test)]
+mod sessions;
+#[cfg(test)]
+mod setups;
