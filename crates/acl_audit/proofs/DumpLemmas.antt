@@ -39,7 +39,7 @@ use Rattle.acl_tree.specs.declared.request.Request.TheVariants.{SetDefault}
 use Rattle.acl_tree.specs.declared.request.Request.TheVariants as request
 use Rattle.acl_tree.proofs.CommandLaws.{keeps_the_umask}
 use Rattle.acl_tree.proofs.TreeLaws.{files_never_have_a_default, nodes_stay, parents_are_directories, the_umask_stays, trees_are_within_the_limit, trees_have_paths_alone}
-use Rattle.acl_audit.specs.Dump.{DumpsMakeTheTree, closed, closing, creation, dump, dump_of, listing, no_mode, root, set_lists}
+use Rattle.acl_audit.specs.Dump.{DumpsMakeTheTree, closed, closing, creation, dump, dump_of, setting, no_mode, root, set_lists}
 use Rattle.acl_audit.proofs.GroupsLemmas.{IsGroupBelow, groups_are_given}
 use Rattle.acl_audit.proofs.ParentLemmas.{parent_before, root_first}
 use Rattle.acl_audit.proofs.QuietLemmas.{files_inherit_nothing}
@@ -197,11 +197,11 @@ module _ (directory : Known) (tree : NodesUnderUmask) where
         subst (IsPut t path node) (sym (changed-at t path (with_nfs4 aces) (base Dir) node there refl)) (put-is t path node)
 
   one_listed : (t : NodesUnderUmask) (e : Entry) (rest : List Entry) → map.get tree.nodes e.0 ≡ Some e.1 → IsReady e.1 → below_all e.0 rest ≡ true
-      → IsListed t (e ∷ rest) → IsListed (after_all directory t (listing e)) rest
+      → IsListed t (e ∷ rest) → IsListed (after_all directory t (setting e)) rest
   one_listed t e rest there ready below now =
       let here : map.get t.nodes e.0 ≡ Some (closed_of e.1) =
       now.at e.0 ∙ ap₂ (λ (b : Bool) (o : Option Node). cond b (option_map closed_of o) o) (first_left e rest) there in
-      let is : IsPut t e.0 e.1 (after_all directory t (listing e)) = listed t e.0 e.1.owner e.1.group e.1.kind e.1.acl here ready in
+      let is : IsPut t e.0 e.1 (after_all directory t (setting e)) = listed t e.0 e.1.owner e.1.group e.1.kind e.1.acl here ready in
       record { at = λ q. is.at q ∙ by q (same q e.0) refl }
     where
       by : (q : List ℕ) (b : Bool) → same q e.0 ≡ b
@@ -214,11 +214,11 @@ module _ (directory : Known) (tree : NodesUnderUmask) where
           now.at q ∙ ap (λ b. cond b (option_map closed_of (map.get tree.nodes q)) (map.get tree.nodes q)) (others_left q e rest is)
 
   all_listed : (es : List Entry) (t : NodesUnderUmask) → ascend es ≡ true → AllByRecursion (λ e. map.get tree.nodes e.0 ≡ Some e.1) es
-      → AllByRecursion (λ e. IsReady e.1) es → IsListed t es → IsListed (after_all directory t (flat_map listing es)) []
+      → AllByRecursion (λ e. IsReady e.1) es → IsListed t es → IsListed (after_all directory t (flat_map setting es)) []
   all_listed [] t up there ready now = now
   all_listed (e ∷ es) t up (here, there) (is_ready, ready) now =
-      subst (λ (t' : NodesUnderUmask). IsListed t' []) (sym (fold-append (next directory) t (listing e) (flat_map listing es)))
-      (all_listed es (after_all directory t (listing e)) (and_right _ _ up) there ready (one_listed t e es here is_ready (and_left _ _ up) now))
+      subst (λ (t' : NodesUnderUmask). IsListed t' []) (sym (fold-append (next directory) t (setting e) (flat_map setting es)))
+      (all_listed es (after_all directory t (setting e)) (and_right _ _ up) there ready (one_listed t e es here is_ready (and_left _ _ up) now))
 
 -- ---- the whole
 
@@ -331,7 +331,7 @@ module _ (directory : Known) (tree : NodesUnderUmask) (made : IsMadeByCommands d
     made_again up (there, others) =
         let es : List Entry = (root, r) ∷ rest in
         let second : NodesUnderUmask = after_all directory first (flat_map creation rest) in
-        let third : NodesUnderUmask = after_all directory second (flat_map listing es) in
+        let third : NodesUnderUmask = after_all directory second (flat_map setting es) in
         let created : IsCreated directory tree second [] =
         all_created directory tree rest first (and_right _ _ up) (all_sound rest below others) (trees_are_within_the_limit directory tree made) started in
         let as_left : (o : Option Node) → option_map closed_of o ≡ cond (is_some o) (option_map closed_of o) o =
@@ -345,7 +345,7 @@ module _ (directory : Known) (tree : NodesUnderUmask) (made : IsMadeByCommands d
         let done : IsListed directory tree third [] =
         all_listed directory tree es second up all_there (weaker Found (λ e. IsReady e.1) ready_of es all_there) listed_yet in
         let whole : after_all directory new (dump_of es) ≡ third =
-        fold-append (next directory) first (flat_map creation es) (flat_map listing es) in
+        fold-append (next directory) first (flat_map creation es) (flat_map setting es) in
         let nodes_are : third.nodes ≡ tree.nodes =
         same_map nat_list_cmp_total (slice_cmp-IsAntisymmetric nat_cmp-IsAntisymmetric) third.nodes tree.nodes (λ q. done.at q) in
         let umask_is : third.umask ≡ tree.umask =

@@ -46,15 +46,22 @@ abbrev pub set_lists : List ℕ → NodeAcl → List Request
 set_lists path (Posix access default) = SetAccess path access ∷ set_default path default
 set_lists path (Nfs4 acl) = SetNfs4 path acl ∷ []
 
-abbrev pub listing : Entry → List Request
-listing entry = set_lists entry.0 entry.1.acl
+abbrev pub setting : Entry → List Request
+setting entry = set_lists entry.0 entry.1.acl
 
--- the root closed, then each node created, then each given its lists, in the order of the paths
+-- each node created, then each given its lists, in the order of the paths
+abbrev pub making_of : List Entry → List Request
+making_of entries = flat_map creation entries ++ flat_map setting entries
+
+abbrev pub making : NodesUnderUmask → List Request
+making tree = making_of (map.entries tree.nodes)
+
+-- the root closed, and then the nodes made
 abbrev pub dump_of : List Entry → List Request
-dump_of entries = closing ∷ (flat_map creation entries ++ flat_map listing entries)
+dump_of entries = closing ∷ making_of entries
 
 abbrev pub dump : NodesUnderUmask → List Request
-dump tree = dump_of (map.entries tree.nodes)
+dump tree = closing ∷ making tree
 
 -- Over the tree that commands began with, the dump of the tree that they made makes it again.
 abbrev pub DumpsMakeTheTree : Type 0

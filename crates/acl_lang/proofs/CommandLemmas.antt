@@ -15,6 +15,7 @@ use Rattle.acl_names.specs.Steps.{or_fault}
 use Rattle.acl_names.specs.declared.limits.TheConstants.{MAX_ID}
 use Rattle.acl_names.proofs.DecimalIds.{decimal_again}
 use Rattle.acl_names.proofs.LettersAgain.{letters_again}
+use Rattle.acl_names.proofs.PlainLines.{Lacks}
 use Rattle.acl_nfs4.specs.Ace.{Nfsace4}
 use Rattle.acl_nfs4.specs.Acl.{AreAces}
 use Rattle.acl_nfs4.specs.AceText.{piece_value}
@@ -227,18 +228,19 @@ some_words (Check4 path user mask) is = omega arith
 some_words (Translate path) is = omega arith
 some_words (Bad fault) is = absurd is
 
+-- the lines of a text that begins with this one
+first_line : (line rest : List ℕ) → 0 < length line → Lacks newline line → lines_of (line ++ newline ∷ rest) ≡ line ∷ lines_of rest
+first_line line rest some lacks =
+    ap without_empty_last (slice_split_at (λ x. x == newline) line newline rest lacks refl) ∙ kept_line line (parts newline rest) some
+
 lines_again : (known : Known) (requests : List Request) → All ReadsAgain requests → lines_of (session_text requests) ≡ map command_text requests
 lines_again known [] are = refl
 lines_again known (request ∷ more) are =
     let is : IsPrintable request = (All-head ReadsAgain request more are).0 in
     let text = command_text request in
     let words = are_words known request is in
-    let regrouped : session_text (request ∷ more) ≡ text ++ newline ∷ session_text more = append_assoc text (newline ∷ []) (session_text more) in
-    let cut : parts newline (text ++ newline ∷ session_text more) ≡ text ∷ parts newline (session_text more) =
-    slice_split_at (λ x. x == newline) text newline (session_text more) (line-lacks_newline (words_of request) words) refl in
-    ap lines_of regrouped
-    ∙ ap without_empty_last cut
-    ∙ kept_line text (parts newline (session_text more)) (line_filled (words_of request) (some_words request is) words)
+    ap lines_of (append_assoc text (newline ∷ []) (session_text more))
+    ∙ first_line text (session_text more) (line_filled (words_of request) (some_words request is) words) (line-lacks_newline (words_of request) words)
     ∙ ap (λ lines. text ∷ lines) (lines_again known more (All-tail ReadsAgain request more are))
 
 requests_again : (known : Known) (before : ℕ) (requests : List Request) → All ReadsAgain requests → requests_from known before (map command_text requests) ≡ numbered_from before requests
@@ -249,3 +251,14 @@ requests_again known before (request ∷ more) are =
 
 pub session_again : (known : Known) (requests : List Request) → All ReadsAgain requests → requests_of known (session_text requests) ≡ numbered_from 0 requests
 session_again known requests are = ap (requests_from known 0) (lines_again known requests are) ∙ requests_again known 0 requests are
+
+-- a session whose first line is another's way to write a request
+pub session_behind : (known : Known) (line : List ℕ) (first : Request) → 0 < length line → Lacks newline line → line_of known line ≡ Command first
+    → (requests : List Request) → All ReadsAgain requests
+    → requests_of known ((line ++ newline ∷ []) ++ session_text requests) ≡ numbered_from 0 (first ∷ requests)
+session_behind known line first some lacks is requests are =
+    let lines : List (List ℕ) = map command_text requests in
+    let begun : requests_from known 0 (line ∷ lines) ≡ numbered_from 0 (first ∷ requests) = rw (is, requests_again known 1 requests are) refl in
+    ap (λ text. requests_from known 0 (lines_of text)) (append_assoc line (newline ∷ []) (session_text requests))
+    ∙ ap (requests_from known 0) (first_line line (session_text requests) some lacks ∙ ap (λ lines. line ∷ lines) (lines_again known requests are))
+    ∙ begun

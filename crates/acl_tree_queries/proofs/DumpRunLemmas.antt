@@ -1,16 +1,20 @@
 -- The session that a dump prints makes the tree again.
-use Rattle.std.proofs.Common.{◌≡◌, ◌∙◌, ◌++◌, ◌+◌, ℕ, Bool, true, false, cond, List, [], ◌∷◌, All, Option, Some, None, Ok, Err, Vec, Global, ap, map as each, refl, sym, bytes_eq, length, nat_lt, ◌==◌}
+use Rattle.std.proofs.Common.{◌≡◌, ◌∙◌, ◌++◌, ◌+◌, ℕ, Bool, true, false, cond, not, List, [], ◌∷◌, All, Option, Some, None, Ok, Err, Vec, Global, ap, map as each, refl, sym, arith, bytes_eq, length, nat_lt, ◌==◌}
 use Rattle.std.specs.FinMap as map
 use Rattle.std.specs.FinMap.{get-entries, entries_sorted}
-use Rattle.std.specs.List.{AllByRecursion, flat_map}
+use Rattle.std.specs.List.{AllByRecursion, flat_map, list_all}
+use Rattle.std.proofs.lemmas.Bool.{not-true}
 use Rattle.std.proofs.lemmas.List.Elements.{All-append, All-cons, All-head, All-nil, All-tail}
 use Rattle.std.proofs.lemmas.List.Sums.{fold-append}
-use Rattle.acl_names.specs.Bytes.{hash}
+use Rattle.acl_names.specs.Bytes.{hash, newline}
 use Rattle.acl_names.specs.Directory.{Known}
 use Rattle.acl_names.specs.Pieces.{lines_of, trim}
+use Rattle.acl_names.proofs.PlainLines.{Lacks}
+use Rattle.acl_names.specs.ReadList.{at_most_read}
 use Rattle.acl_posix.specs.Entry.{EntryValue}
+use Rattle.acl_posix.specs.EntryText.{entry_of}
+use Rattle.acl_posix.specs.PermsText.{perms_of_text}
 use Rattle.acl_tree.specs.Apply.{next}
-use Rattle.acl_tree.specs.Commands.{root_alone}
 use Rattle.acl_tree.specs.Entries.{Entry}
 use Rattle.acl_tree.specs.Path.{is_path}
 use Rattle.acl_tree.specs.Requests.{NamesAPath}
@@ -22,11 +26,11 @@ use Rattle.acl_tree.specs.declared.node_acl.NodeAcl.TheVariants.{Posix, Nfs4}
 use Rattle.acl_tree.specs.declared.request.Request.{Request}
 use Rattle.acl_tree.specs.declared.request.Request.TheVariants.{Get, SetAccess, SetDefault, SetNfs4, Chmod, Create, Check, Check4, Translate, Bad}
 use Rattle.acl_tree.proofs.TreeLaws.{trees_have_paths_alone}
-use Rattle.acl_audit.specs.Dump.{closing, creation, dump, listing, no_mode, root, set_default, set_lists}
+use Rattle.acl_audit.specs.Dump.{closing, creation, dump, making, setting, no_mode, root, set_default, set_lists}
 use Rattle.acl_audit.proofs.DumpLemmas.{dumps_make_the_tree}
-use Rattle.acl_audit.proofs.SavedLemmas.{ascend, found_each, found_in, truth, weaker}
+use Rattle.acl_audit.proofs.SavedLemmas.{and_left, and_right, ascend, found_each, found_in, truth, weaker}
 use Rattle.acl_lang.specs.CommandText.{ReadsAgain, numbered_from}
-use Rattle.acl_lang.specs.Commands.{asked_by}
+use Rattle.acl_lang.specs.Commands.{asked_by, command, set_access}
 use Rattle.acl_lang.specs.Lines.{line_of, line_of_trimmed, request_of}
 use Rattle.acl_lang.specs.Refusals.{Asked}
 use Rattle.acl_lang.specs.Shapes.{Asks}
@@ -35,12 +39,16 @@ use Rattle.acl_lang.specs.declared.limits.TheConstants.{MAX_LINE_LEN}
 use Rattle.acl_lang.specs.declared.line.Line.{Line}
 use Rattle.acl_lang.specs.declared.line.Line.TheVariants.{Nothing, Command}
 use Rattle.acl_lang.specs.declared.text.Numbered.{Numbered}
-use Rattle.acl_lang.proofs.CommandLemmas.{session_again}
+use Rattle.acl_lang.proofs.CommandLemmas.{session_behind}
 use Rattle.acl_lang.proofs.ShapeLemmas.{asked_by-asks}
 use Rattle.acl_service.specs.Runs.{tree_after}
-use Rattle.acl_tree_queries.specs.DumpLaws.{DumpsAreRunAgain}
-use Rattle.acl_tree_queries.specs.DumpText.{IsDumped}
+use Rattle.acl_tree_queries.specs.DumpAnswer.{IsDump}
+use Rattle.acl_tree_queries.specs.DumpLaws.{DumpsMakeTheTreeAgain}
+use Rattle.acl_tree_queries.specs.DumpText.{IsDumped, closing_line}
 use Rattle.acl_tree_queries.specs.Trees.{tree_left}
+use Rattle.acl_tree_queries.specs.declared.dump_command.question.DumpQuestion.{DumpQuestion}
+use Rattle.acl_tree_queries.specs.declared.trees.Trees.{Trees}
+use Rattle.acl_tree_queries.proofs.OpenedLemmas.{IsRootAlone, left_by_both, opens_a_root_alone}
 
 -- ---- the requests of a text name paths
 
@@ -155,33 +163,53 @@ after_numbered_from : (known : Known) (tree : NodesUnderUmask) (before : ℕ) (r
 after_numbered_from known tree before [] = refl
 after_numbered_from known tree before (request ∷ more) = after_numbered_from known (next known tree request) (before + 1) more
 
-dump_names_paths : (known : Known) (tree : NodesUnderUmask) (made : IsMadeByCommands known tree) → All NamesAPath made.requests → All NamesAPath (dump tree)
-dump_names_paths known tree made names =
+making_names_paths : (known : Known) (tree : NodesUnderUmask) (made : IsMadeByCommands known tree) → All NamesAPath made.requests → All NamesAPath (making tree)
+making_names_paths known tree made names =
     let es : List Entry = map.entries tree.nodes in
     let up : ascend es ≡ true = truth (ascend es) (entries_sorted tree.nodes) in
     let are : AllByRecursion (λ (e : Entry). is_path e.0 ≡ true) es =
     weaker (λ e. found_in e.0 es ≡ Some e.1) (λ e. is_path e.0 ≡ true) (λ e found. trees_have_paths_alone known tree made names e.0 e.1 (get-entries tree.nodes e.0 ∙ found)) es
     (found_each es es (λ q node found. found) up) in
-    All-cons NamesAPath closing (flat_map creation es ++ flat_map listing es) refl
-    (All-append NamesAPath (flat_map creation es) (flat_map listing es) (each_names_a_path creation creation_names_a_path es are)
-    (each_names_a_path listing (λ entry is. lists_name_a_path entry.0 entry.1.acl is) es are))
+    All-append NamesAPath (flat_map creation es) (flat_map setting es) (each_names_a_path creation creation_names_a_path es are)
+    (each_names_a_path setting (λ entry is. lists_name_a_path entry.0 entry.1.acl is) es are)
 
-pub dumps_are_run_again : DumpsAreRunAgain
-dumps_are_run_again known owner group mode style umask sessions question trees text left is =
+-- the first line, in another way to write it than that of the others, closes the root
+closing_again : (known : Known) → line_of known closing_line ≡ Command closing
+unfolding command set_access at_most_read entry_of perms_of_text
+closing_again known = refl
+
+lacks_newline : (text : List ℕ) → list_all (λ byte. not (byte == newline)) text ≡ true → Lacks newline text
+lacks_newline [] none = All-nil (λ byte. (byte == newline) ≡ false)
+lacks_newline (byte ∷ bytes) none =
+    All-cons (λ one. (one == newline) ≡ false) byte bytes (not-true (byte == newline) (and_left _ _ none)) (lacks_newline bytes (and_right _ _ none))
+
+closing_lacks_newline : Lacks newline closing_line
+closing_lacks_newline = lacks_newline closing_line refl
+
+-- over the tree of a root alone
+run_again : (known : Known) (new : NodesUnderUmask) → IsRootAlone new → (sessions : List (Vec ℕ Global)) (question : DumpQuestion) (trees : Trees) (text : List ℕ)
+    → trees.after ≡ tree_left known new sessions → IsDump question trees text → tree_after known new (requests_of known text) ≡ trees.after
+run_again known new alone sessions question trees text left is =
     let tree : NodesUnderUmask = trees.after in
-    let new : NodesUnderUmask = root_alone owner group mode style umask in
     let made : IsMadeByCommands known tree = record {
-      owner = owner;
-      group = group;
-      mode = mode;
-      style = style;
-      umask = umask;
+      owner = alone.owner;
+      group = alone.group;
+      mode = alone.mode;
+      style = alone.style;
+      umask = alone.umask;
       requests = requests_in known sessions;
-      made = left ∙ left_is known new sessions;
+      made = left ∙ left_is known new sessions ∙ ap (λ (t : NodesUnderUmask). after_all known t (requests_in known sessions)) alone.is;
     } in
     let names : All NamesAPath made.requests = all_name_paths known sessions in
-    let again : All ReadsAgain (dump tree) = all_read_again (dump tree) is.dumped (dump_names_paths known tree made names) in
+    let again : All ReadsAgain (making tree) = all_read_again (making tree) is.dumped (making_names_paths known tree made names) in
     ap (λ bytes. tree_after known new (requests_of known bytes)) is.text_is
-    ∙ ap (tree_after known new) (session_again known (dump tree) again)
+    ∙ ap (tree_after known new) (session_behind known closing_line closing (omega arith) closing_lacks_newline (closing_again known) (making tree) again)
     ∙ after_numbered_from known new 0 (dump tree)
+    ∙ ap (λ (t : NodesUnderUmask). after_all known t (dump tree)) alone.is
     ∙ dumps_make_the_tree known tree made names
+
+pub dumps_make_the_tree_again : DumpsMakeTheTreeAgain
+dumps_make_the_tree_again bytes_of input rows question trees text files is =
+    let known = trees.directory in
+    run_again known files.tree (opens_a_root_alone files.setup known files.tree files.opened) (files.earlier ++ files.later) question trees text
+    (files.after ∙ ap (λ (t : NodesUnderUmask). tree_left known t files.later) files.before ∙ left_by_both known files.tree files.earlier files.later) is

@@ -1,5 +1,10 @@
+pub mod BlocksLemmas
 pub mod DumpLemmas
 pub mod DumpRunLemmas
+pub mod ListedLemmas
+pub mod ListingFaultLemmas
+pub mod ListingWordsLemmas
 pub mod NodesLemmas
+pub mod OpenedLemmas
 pub mod QuestionsLemmas
 pub mod TreesLemmas

@@ -2,23 +2,22 @@
 use Rattle.std.proofs.Common.{◌≡◌, ◌<◌, ◌+◌, ◌∙◌, ◌++◌, ℕ, List, [], ◌∷◌, Result, Ok, Err, OnErr, Option, ap, append_assoc, append-nil, get_or, length, map as each, refl, subst, sym, take}
 use Rattle.std.proofs.lemmas.List.{get_or-map, length-map, take_more}
 use Rattle.acl_queries.specs.Output.{AppendsFront}
-use Rattle.acl_tree.specs.Entries.{Entry}
 use Rattle.acl_tree_queries.specs.Nodes.{TellsOfEach, TellsOfFirst}
 
 -- what is written and kept, with a text more
 pub more_kept : (sent kept told text new : List ℕ) → sent ++ kept ≡ told → new ≡ kept ++ text → sent ++ new ≡ told ++ text
 more_kept sent kept told text new is is_new = ap (λ bytes. sent ++ bytes) is_new ∙ sym (append_assoc sent kept text) ∙ ap (λ bytes. bytes ++ text) is
 
-module _ (Tells : Entry → List ℕ → Type 0) where
+module _ {B : Type 0} (Tells : B → List ℕ → Type 0) where
   -- what is told of one node after the others
-  pub one_more : (entries : List Entry) (told : List ℕ) → TellsOfEach Tells entries told → (entry : Entry) (text : List ℕ) → Tells entry text
+  pub one_more : (entries : List B) (told : List ℕ) → TellsOfEach Tells entries told → (entry : B) (text : List ℕ) → Tells entry text
       → TellsOfEach Tells (entries ++ entry ∷ []) (told ++ text)
   one_more [] told is entry text tells = (text, [], tells, refl, ap (λ bytes. bytes ++ text) is ∙ sym (append-nil text))
   one_more (before ∷ entries) told (first, rest, is_first, is_rest, is) entry text tells =
       (first, rest ++ text, is_first, one_more entries rest is_rest entry text tells, ap (λ bytes. bytes ++ text) is ∙ append_assoc first rest text)
 
   -- of the node at the next place
-  pub next_told : {A : Type 0} (shown : A → Entry) (items : List A) (entries : List Entry) → each shown items ≡ entries
+  pub next_told : {A : Type 0} (shown : A → B) (items : List A) (entries : List B) → each shown items ≡ entries
       → (at : ℕ) (item : A) → at < length items → get_or items at item ≡ item
       → (told : List ℕ) → TellsOfEach Tells (take at entries) told → (text : List ℕ) → Tells (shown item) text
       → TellsOfEach Tells (take (at + 1) entries) (told ++ text)
@@ -31,7 +30,7 @@ module _ (Tells : Entry → List ℕ → Type 0) where
       subst (λ es. TellsOfEach Tells es (told ++ text)) (sym next) (one_more (take at entries) told so_far entry text tells)
 
   -- a front of what is told of some nodes is what a run that failed wrote
-  pub cut_short : {T E : Type 0} (result : Result T E) (entries : List Entry) (old new : Option (List ℕ)) (count : ℕ) (text : List ℕ)
+  pub cut_short : {T E : Type 0} (result : Result T E) (entries : List B) (old new : Option (List ℕ)) (count : ℕ) (text : List ℕ)
       → TellsOfEach Tells (take count entries) text → AppendsFront old new text
       → OnErr result ((text : List ℕ) × TellsOfFirst Tells entries text × AppendsFront old new text)
   cut_short (Ok value) entries old new count text each front = tt

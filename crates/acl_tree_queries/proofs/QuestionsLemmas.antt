@@ -2,67 +2,60 @@
 use Rattle.std.proofs.Common.{◌≡◌, ◌≢◌, ◌∙◌, ◌≤◌, ◌⊎◌, IfErr, IsOk, ap, ℕ, List, Option, Result, Ok, Err, OnErr, arith, inr, refl, subst, sym}
 use Rattle.std.specs.Prelude.{IfSome}
 use Rattle.clap.specs.Words.{App, Row, Text, matches_of}
-use Rattle.acl_queries.specs.ErrorOutput.{ErrorText, Reports, Tells}
+use Rattle.acl_queries.specs.ErrorOutput.{ErrorText, Reports, SaysFault, Tells}
 use Rattle.acl_queries.specs.Faults.{status_of}
 use Rattle.acl_queries.specs.declared.command.query_fault.FieldFault.{FieldFault}
 use Rattle.acl_queries.specs.declared.command.query_fault.QueryFault.{QueryFault}
 use Rattle.acl_queries.specs.declared.command.query_fault.QueryFault.TheVariants as query
 use Rattle.acl_queries.proofs.ErrorLemmas.{Reports-line}
-use Rattle.acl_service.specs.FilesFaults.{files_status}
-use Rattle.acl_service.specs.declared.files.FilesFault.{FilesFault}
-use Rattle.acl_service.specs.declared.files.FilesFault.TheVariants as files
+use Rattle.acl_service.proofs.FaultLemmas.{files_some}
 use Rattle.acl_tree_queries.specs.AnswerFaults.{IsAnswerFault, answer_status}
-use Rattle.acl_tree_queries.specs.QuestionFaults.{Asks, IsQuestionFault, SaysQuestion, fault_of_answer, question_line, question_status}
+use Rattle.acl_tree_queries.specs.QuestionFaults.{Asks, IsQuestionFault, fault_of_answer, question_line, question_status}
 use Rattle.acl_tree_queries.specs.Questions.{Answers, Takes}
 use Rattle.acl_tree_queries.specs.Trees.{AreTreesOf}
 use Rattle.acl_tree_queries.specs.declared.question.answer_fault.AnswerFault.{AnswerFault}
 use Rattle.acl_tree_queries.specs.declared.question.answer_fault.AnswerFault.TheVariants as answer
 use Rattle.acl_tree_queries.specs.declared.question.fault.QuestionFault.{QuestionFault}
-use Rattle.acl_tree_queries.specs.declared.question.fault.QuestionFault.TheVariants.{Words, Files, Setup, LineTooLong, Run}
+use Rattle.acl_tree_queries.specs.declared.question.fault.QuestionFault.TheVariants.{Words, Files, Setup, LineTooLong, Unread, Run}
 use Rattle.acl_tree_queries.specs.declared.trees.Trees.{Trees}
 
 module _ {Q : Type 0} (line : App) (asked_in : List Row → Result Q FieldFault) (bytes_of : Text → Option (List ℕ)) (words : List Text) where
-  -- words that are taken, and ask a question of trees, are answered by what went out
-  pub answered : (IsAnswer : Q → Trees → List ℕ → Type 0) (input : Option (List ℕ)) (WentOut : List ℕ → Type 0) (rows : List Row) → rows ≡ matches_of line words
-      → Takes line words → (question : Q) → asked_in rows ≡ Ok question → (trees : Trees) → AreTreesOf bytes_of input rows trees
-      → (text : List ℕ) × IsAnswer question trees text × WentOut text → Answers line asked_in IsAnswer bytes_of input words WentOut
-  answered IsAnswer input WentOut rows are taken question asked trees trees_are (text, answers, out) = record {
+  -- words that are taken, and ask a question of what the files give, are answered by what went out
+  pub answered : {T : Type 0} (Gives : (Text → Option (List ℕ)) → Option (List ℕ) → List Row → T → Type 0) (IsAnswer : Q → T → List ℕ → Type 0)
+      (input : Option (List ℕ)) (WentOut : List ℕ → Type 0) (rows : List Row) → rows ≡ matches_of line words
+      → Takes line words → (question : Q) → asked_in rows ≡ Ok question → (subject : T) → Gives bytes_of input rows subject
+      → (text : List ℕ) × IsAnswer question subject text × WentOut text → Answers line asked_in Gives IsAnswer bytes_of input words WentOut
+  answered Gives IsAnswer input WentOut rows are taken question asked subject given (text, answers, out) = record {
     taken = taken;
     question = question;
     asked = subst (λ rows. asked_in rows ≡ Ok question) are asked;
-    trees = trees;
-    trees_are = subst (λ rows. AreTreesOf bytes_of input rows trees) are trees_are;
+    subject = subject;
+    given = subst (λ rows. Gives bytes_of input rows subject) are given;
     text = text;
     answers = answers;
     out = out;
   }
 
-  some_query : (fault : QueryFault) → 1 ≤ status_of fault
-  some_query (query.Field fault) = omega arith
-  some_query (query.Usage error) = omega arith
-  some_query (query.Run fault) = omega arith
+some_query : (fault : QueryFault) → 1 ≤ status_of fault
+some_query (query.Field fault) = omega arith
+some_query (query.Usage error) = omega arith
+some_query (query.Run fault) = omega arith
 
-  some_files : (fault : FilesFault) → 1 ≤ files_status fault
-  some_files files.SessionCount = omega arith
-  some_files files.InputTwice = omega arith
-  some_files (files.CannotRead name) = omega arith
-  some_files files.Memory = omega arith
+some_status : (fault : QuestionFault) → 1 ≤ question_status fault
+some_status (Words fault) = some_query fault
+some_status (Files fault) = files_some fault
+some_status (Setup error) = omega arith
+some_status LineTooLong = omega arith
+some_status (Unread name) = omega arith
+some_status (Run fault) = omega arith
 
-  some_status : (fault : QuestionFault) → 1 ≤ question_status fault
-  some_status (Words fault) = some_query fault
-  some_status (Files fault) = some_files fault
-  some_status (Setup error) = omega arith
-  some_status LineTooLong = omega arith
-  some_status (Run fault) = omega arith
-
-  -- what is told of a fault is what is said of the words
-  pub Reports-question : (IsRefused : Q → Trees → Type 0) (input : Option (List ℕ)) (fault : QuestionFault) (status : ℕ) (old new : ErrorText)
-      → IsQuestionFault line asked_in IsRefused bytes_of input words fault
-      → status ≡ question_status fault → IfSome (question_line fault) (λ text. Tells text old new)
-      → Reports (SaysQuestion line asked_in IsRefused bytes_of input words) status old new
-  Reports-question IsRefused input fault status old new is is_status told =
-      Reports-line (SaysQuestion line asked_in IsRefused bytes_of input words) status (question_line fault) old new
-      (subst (λ (n : ℕ). 1 ≤ n) (sym is_status) (some_status fault)) (fault, is, is_status, refl) told
+-- what is told of a fault is what is said
+pub Reports-fault : (IsFault : QuestionFault → Type 0) (fault : QuestionFault) (status : ℕ) (old new : ErrorText) → IsFault fault
+    → status ≡ question_status fault → IfSome (question_line fault) (λ text. Tells text old new)
+    → Reports (SaysFault question_status question_line IsFault) status old new
+Reports-fault IsFault fault status old new is is_status told =
+    Reports-line (SaysFault question_status question_line IsFault) status (question_line fault) old new
+    (subst (λ (n : ℕ). 1 ≤ n) (sym is_status) (some_status fault)) (fault, is, is_status, refl) told
 
 -- what is so of a fault of an answer is so of the fault that it becomes
 module _ {T : Type 0} (result : Result T QuestionFault) (fault : AnswerFault) (became : QuestionFault) (is : result ≡ Err became) (from : became ≡ fault_of_answer fault) where

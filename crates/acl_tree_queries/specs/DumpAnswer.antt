@@ -1,29 +1,28 @@
 -- What `dump` answers.
 use Rattle.std.specs.Prelude.{◌≡◌, ℕ, List, All, Option, Result, Ok}
 use Rattle.clap.specs.Words.{Row, Text, matches_of}
-use Rattle.acl_audit.specs.Dump.{dump}
-use Rattle.acl_lang.specs.CommandText.{session_text}
+use Rattle.acl_audit.specs.Dump.{making}
 use Rattle.acl_queries.specs.declared.command.query_fault.FieldFault.{FieldFault}
 use Rattle.acl_tree_queries.specs.DumpLine.{dump_line}
-use Rattle.acl_tree_queries.specs.DumpText.{HasLongLine, IsDumped}
+use Rattle.acl_tree_queries.specs.DumpText.{HasLongLine, IsDumped, dump_text}
 use Rattle.acl_tree_queries.specs.QuestionFaults.{SaysQuestion}
 use Rattle.acl_tree_queries.specs.Questions.{Answers}
-use Rattle.acl_tree_queries.specs.Trees.{inputs_in}
+use Rattle.acl_tree_queries.specs.Trees.{AreTreesOf, inputs_in}
 use Rattle.acl_tree_queries.specs.declared.dump_command.question.DumpQuestion.{DumpQuestion}
 use Rattle.acl_tree_queries.specs.declared.trees.Trees.{Trees}
 
 -- the session that makes the tree again which the sessions leave, no line of which is too long
 pub record IsDump (question : DumpQuestion) (trees : Trees) (text : List ℕ) : Type 0 where
-  pub text_is : text ≡ session_text (dump trees.after)
-  pub dumped : All IsDumped (dump trees.after)
+  pub text_is : text ≡ dump_text trees.after
+  pub dumped : All IsDumped (making trees.after)
 
 -- that session, of which a front may have gone out
 abbrev pub IsDumpBegun : DumpQuestion → Trees → List ℕ → Type 0
-IsDumpBegun question trees text = text ≡ session_text (dump trees.after)
+IsDumpBegun question trees text = text ≡ dump_text trees.after
 
 -- the tree has no dump: a line would be longer than lines may be
 abbrev pub HasNoDump : DumpQuestion → Trees → Type 0
-HasNoDump question trees = HasLongLine (dump trees.after)
+HasNoDump question trees = HasLongLine (making trees.after)
 
 -- the words ask nothing but of the files that they name
 abbrev pub asks_dump : List Row → Result DumpQuestion FieldFault
@@ -32,11 +31,11 @@ asks_dump rows = Ok (record {})
 -- the words of `dump` are answered, and that went out so: all of it, or it was begun
 abbrev pub AnswersDump : (Text → Option (List ℕ)) → Option (List ℕ) → List Text
     → (List ℕ → Type 0) → Type 0
-AnswersDump = Answers dump_line asks_dump IsDump
+AnswersDump = Answers dump_line asks_dump AreTreesOf IsDump
 
 abbrev pub BeginsDump : (Text → Option (List ℕ)) → Option (List ℕ) → List Text
     → (List ℕ → Type 0) → Type 0
-BeginsDump = Answers dump_line asks_dump IsDumpBegun
+BeginsDump = Answers dump_line asks_dump AreTreesOf IsDumpBegun
 
 -- what is said of words of `dump` that have no answer
 abbrev pub SaysDump : (Text → Option (List ℕ)) → Option (List ℕ) → List Text → ℕ

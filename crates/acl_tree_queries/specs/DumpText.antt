@@ -1,6 +1,9 @@
 -- The lines of a dump.
-use Rattle.std.specs.Prelude.{◌≡◌, ◌<◌, ◌++◌, ℕ, List, All, Contains, length}
+use Rattle.std.specs.Prelude.{◌≡◌, ◌<◌, ◌++◌, ℕ, List, [], ◌∷◌, All, Contains, codes, length}
+use Rattle.acl_names.specs.Bytes.{newline}
+use Rattle.acl_audit.specs.Dump.{making}
 use Rattle.acl_tree.specs.Requests.{NamesAPath}
+use Rattle.acl_tree.specs.Tree.{NodesUnderUmask}
 use Rattle.acl_tree.specs.declared.request.Request.{Request}
 use Rattle.acl_lang.specs.CommandText.{HasShortLine, IsPrintable, command_text, session_text}
 use Rattle.acl_lang.specs.declared.limits.TheConstants.{MAX_LINE_LEN}
@@ -12,6 +15,14 @@ SaysAgain request = NamesAPath request → IsPrintable request
 -- its line is no longer than lines may be, and says it again
 abbrev pub IsDumped : Request → Type 0
 IsDumped request = HasShortLine request × SaysAgain request
+
+-- the line that closes the root, and the text of a dump: this line, and then one for each request
+-- that makes the nodes
+abbrev pub closing_line : List ℕ
+closing_line = codes "set / access u::-,g::-,o::-"
+
+abbrev pub dump_text : NodesUnderUmask → List ℕ
+dump_text tree = (closing_line ++ newline ∷ []) ++ session_text (making tree)
 
 -- a text grew by the lines of these requests
 pub record AddsLines (requests : List Request) (old new : List ℕ) : Type 0 where

@@ -14,7 +14,7 @@ use Rattle.acl_tree_queries.specs.ImpactLine.{impact_line}
 use Rattle.acl_tree_queries.specs.Nodes.{TellsOfEach, TellsOfFirst}
 use Rattle.acl_tree_queries.specs.QuestionFaults.{IsNeverRefused, SaysQuestion}
 use Rattle.acl_tree_queries.specs.Questions.{Answers}
-use Rattle.acl_tree_queries.specs.Trees.{inputs_in}
+use Rattle.acl_tree_queries.specs.Trees.{AreTreesOf, inputs_in}
 use Rattle.acl_tree_queries.specs.declared.impact_command.question.ImpactQuestion.{ImpactQuestion}
 use Rattle.acl_tree_queries.specs.declared.trees.Trees.{Trees}
 
@@ -46,11 +46,11 @@ asks_impact rows = Ok (record {})
 -- the words of `impact` are answered, and that went out so: all of it, or of the first nodes
 abbrev pub AnswersImpact : (Text → Option (List ℕ)) → Option (List ℕ) → List Text
     → (List ℕ → Type 0) → Type 0
-AnswersImpact = Answers impact_line asks_impact IsImpactAnswer
+AnswersImpact = Answers impact_line asks_impact AreTreesOf IsImpactAnswer
 
 abbrev pub BeginsImpact : (Text → Option (List ℕ)) → Option (List ℕ) → List Text
     → (List ℕ → Type 0) → Type 0
-BeginsImpact = Answers impact_line asks_impact IsImpactBegun
+BeginsImpact = Answers impact_line asks_impact AreTreesOf IsImpactBegun
 
 -- what is said of words of `impact` that have no answer
 abbrev pub SaysImpact : (Text → Option (List ℕ)) → Option (List ℕ) → List Text → ℕ

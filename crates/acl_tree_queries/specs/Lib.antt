@@ -5,6 +5,12 @@ pub mod QuestionFaults
 pub mod Nodes
 pub mod WhoLine
 pub mod WhoAnswer
+pub mod Listings
+pub mod ListingText
+pub mod ListingFaults
+pub mod WhoListingLine
+pub mod WhoListing
+pub mod WhoWords
 pub mod ImpactLine
 pub mod ImpactText
 pub mod ImpactAnswer

@@ -27,6 +27,7 @@ use Rattle.acl_tree_queries.specs.declared.question.fault.QuestionFault.{Questio
 use Rattle.acl_tree_queries.specs.declared.question.fault.QuestionFault.TheVariants.{Words, Files}
 use Rattle.acl_tree_queries.specs.declared.question.fault.QuestionFault.TheVariants.{Setup, Run}
 use Rattle.acl_tree_queries.specs.declared.question.fault.QuestionFault.TheVariants.{LineTooLong}
+use Rattle.acl_tree_queries.specs.declared.question.fault.QuestionFault.TheVariants.{Unread}
 use Rattle.acl_tree_queries.specs.declared.trees.Trees.{Trees}
 
 -- the exit status of a fault
@@ -35,6 +36,7 @@ question_status (Words fault) = status_of fault
 question_status (Files fault) = files_status fault
 question_status (Setup error) = 1
 question_status LineTooLong = 1
+question_status (Unread name) = 3
 question_status (Run fault) = 3
 
 -- its line, if it isn't the parser's
@@ -43,6 +45,7 @@ question_line (Words fault) = fault_line fault
 question_line (Files fault) = files_line fault
 question_line (Setup error) = Some (line_of_words (codes "setup: " ++ setup_error_words error))
 question_line LineTooLong = Some (line_of_words (codes "dump: line too long"))
+question_line (Unread name) = Some (line_of_words (codes "cannot read " ++ name.now))
 question_line (Run fault) = Some (run_fault_line fault)
 
 abbrev pub out_of_memory : QuestionFault
@@ -85,6 +88,7 @@ IsTreesFault bytes_of rows (Files fault) = IsNamesFault rows fault
 IsTreesFault bytes_of rows (Setup error) =
     (bytes : List ℕ) × IsTold (bytes_of (setup_in rows)) bytes × IsRefusedBy bytes error
 IsTreesFault bytes_of rows LineTooLong = ⊥
+IsTreesFault bytes_of rows (Unread name) = ⊥
 IsTreesFault bytes_of rows (Run fault) = fault ≡ run.Memory
 
 -- the words ask a question
@@ -117,6 +121,7 @@ IsQuestionFault line asked_in IsRefused bytes_of input words (Setup error) =
     Asks line asked_in words × IsTreesFault bytes_of (matches_of line words) (Setup error)
 IsQuestionFault line asked_in IsRefused bytes_of input words LineTooLong =
     IsRefusedOfTrees line asked_in IsRefused bytes_of input words
+IsQuestionFault line asked_in IsRefused bytes_of input words (Unread name) = ⊥
 IsQuestionFault line asked_in IsRefused bytes_of input words (Run fault) =
     Asks line asked_in words × IsLack fault
 

@@ -1,7 +1,7 @@
--- What `who` asks and what it answers.
+-- What `who` asks of a tree, and what it answers.
 use Rattle.std.specs.Prelude.{◌≡◌, ℕ, List, Option, Some, None}
 use Rattle.std.specs.FinMap as map
-use Rattle.clap.specs.Words.{Text, matches_of}
+use Rattle.clap.specs.Words.{Text}
 use Rattle.acl_names.specs.Directory.{Known}
 use Rattle.acl_tree.specs.Entries.{Entry}
 use Rattle.acl_audit.specs.Who.{node_lines, node_lines_of_those_who_may}
@@ -9,7 +9,7 @@ use Rattle.acl_queries.specs.Asked.{optional_perms_in}
 use Rattle.acl_tree_queries.specs.Nodes.{TellsOfEach, TellsOfFirst}
 use Rattle.acl_tree_queries.specs.QuestionFaults.{IsNeverRefused, SaysQuestion}
 use Rattle.acl_tree_queries.specs.Questions.{Answers}
-use Rattle.acl_tree_queries.specs.Trees.{inputs_in}
+use Rattle.acl_tree_queries.specs.Trees.{AreTreesOf}
 use Rattle.acl_tree_queries.specs.WhoLine.{who_line}
 use Rattle.acl_tree_queries.specs.declared.trees.Trees.{Trees}
 
@@ -33,19 +33,15 @@ IsWhoBegun perms trees text =
     TellsOfFirst (TellsWho trees.directory perms) (map.entries trees.after.nodes) text
 
 -- the words of `who` are answered, and that went out so: all of it, or of the first nodes
-abbrev pub AnswersWho : (Text → Option (List ℕ)) → Option (List ℕ) → List Text
+abbrev pub AnswersWhoOfTree : (Text → Option (List ℕ)) → Option (List ℕ) → List Text
     → (List ℕ → Type 0) → Type 0
-AnswersWho = Answers who_line optional_perms_in IsWho
+AnswersWhoOfTree = Answers who_line optional_perms_in AreTreesOf IsWho
 
-abbrev pub BeginsWho : (Text → Option (List ℕ)) → Option (List ℕ) → List Text
+abbrev pub BeginsWhoOfTree : (Text → Option (List ℕ)) → Option (List ℕ) → List Text
     → (List ℕ → Type 0) → Type 0
-BeginsWho = Answers who_line optional_perms_in IsWhoBegun
+BeginsWhoOfTree = Answers who_line optional_perms_in AreTreesOf IsWhoBegun
 
 -- what is said of words of `who` that have no answer
-abbrev pub SaysWho : (Text → Option (List ℕ)) → Option (List ℕ) → List Text → ℕ
+abbrev pub SaysWhoOfTree : (Text → Option (List ℕ)) → Option (List ℕ) → List Text → ℕ
     → Option (List ℕ) → Type 0
-SaysWho = SaysQuestion who_line optional_perms_in IsNeverRefused
-
--- how many sessions of the words are standard input
-abbrev pub who_inputs : List Text → ℕ
-who_inputs words = inputs_in (matches_of who_line words)
+SaysWhoOfTree = SaysQuestion who_line optional_perms_in IsNeverRefused

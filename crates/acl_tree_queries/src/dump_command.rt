@@ -23,7 +23,7 @@ use std::io::{Read, Write};
 /// opens, or what the session leaves on it. A session `-` is what `input` has; else nothing of
 /// `input` is read. `files` opens the others, the setup first, each of at most 1,048,576 bytes.
 ///
-/// To `out` goes first `set / access u::---,g::---,o::---`, so that nothing that is created
+/// To `out` goes first `set / access u::-,g::-,o::-`, so that nothing that is created
 /// inherits; then `create KIND PATH UID 000` for each node but the root, in the order of their
 /// paths; then for each node `set PATH access TEXT`, with `set PATH default TEXT` where it has a
 /// default list, or `set PATH nfs4 TEXT`. Ids are decimal, and lists are in the short text form.

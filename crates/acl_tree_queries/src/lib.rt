@@ -3,9 +3,12 @@
 //! again (`dump`). A tree is that of a setup, or what sessions leave on it.
 #![tactic(auto)]
 
+mod blocks;
+mod command_line;
 mod dump_command;
 mod impact_command;
 mod laws;
+mod listing;
 mod nodes;
 mod question;
 mod trees;

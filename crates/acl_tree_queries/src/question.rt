@@ -1,38 +1,34 @@
 //! Questions of trees: from the words of a command to what is written.
 ghost use Rattle.std.specs.Prelude.{◌≡◌, ◌≤◌, ◌⊎◌, ℕ, List, Result, IfErr, IfOk, OnErr, OnOk};
-ghost use Rattle.std.specs.Prelude.{map, true};
+ghost use Rattle.std.specs.Prelude.{map};
 ghost use Rattle.std.specs.Io.KnownBytes.{Appends, Keeps};
-ghost use Rattle.clap.specs.Words.{App, Row, app_of, found_of, is_simple, is_simple_and_free};
-ghost use Rattle.clap.specs.Words.{kind_of, matches_of, rows_of};
+ghost use Rattle.clap.specs.Words.{Row, found_of, matches_of, rows_of};
 ghost use Rattle.acl_queries.specs.ErrorOutput.{Reports};
 ghost use Rattle.acl_queries.specs.Output.{AppendsFront};
 ghost use Rattle.acl_queries.specs.declared.command.query_fault.FieldFault.{FieldFault as Fault};
 ghost use Rattle.acl_tree_queries.specs.AnswerFaults.{IsAnswerFault, answer_status};
 ghost use Rattle.acl_tree_queries.specs.QuestionFaults.{IsQuestionFault, SaysQuestion};
 ghost use Rattle.acl_tree_queries.specs.QuestionFaults.{question_status};
-ghost use Rattle.acl_tree_queries.specs.Questions.{Answers, Takes};
-ghost use Rattle.acl_tree_queries.specs.Trees.{inputs_in};
+ghost use Rattle.acl_tree_queries.specs.Questions.{Answers};
+ghost use Rattle.acl_tree_queries.specs.Trees.{AreTreesOf, inputs_in};
 ghost use Rattle.acl_tree_queries.specs.declared.trees.Trees.{Trees as TreesValue};
 
 mod answer_fault;
 mod fault;
 
+use crate::command_line::{CommandLine, parse};
 use crate::trees::{Trees, open_trees};
 use acl_queries::{ErrorOutput, FieldFault, report};
 use acl_service::OpenFiles;
 pub(crate) use answer_fault::AnswerFault;
-use clap::error::ErrorKind;
-use clap::{ArgMatches, Command, Error};
+use clap::ArgMatches;
 pub(crate) use fault::QuestionFault;
-use std::alloc::{AllocError, Global};
+use std::alloc::Global;
 use std::convert::AsStr;
 use std::io::{Read, Write};
 
 /// What a command asks of trees.
-pub(crate) trait Question {
-    /// The command line.
-    ghost line: { App };
-
+pub(crate) trait Question: CommandLine {
     /// What its fields ask.
     ghost asked_in: { List Row → Result Self Fault };
 
@@ -44,10 +40,6 @@ pub(crate) trait Question {
 
     /// The trees are such that the question is refused.
     ghost IsRefused: { Self → TreesValue → Type 0 };
-
-    /// The command line.
-    fn command<'a>(alloc: Global) -> Result<Command<'a>, AllocError>
-        ensures { IfOk result (λ command. app_of command ≡ line) };
 
     /// What the fields ask that the parser of command lines found.
     fn read(matches: &ArgMatches<'_>) -> Result<Self, FieldFault>
@@ -63,22 +55,6 @@ pub(crate) trait Question {
         ensures silent { IfErr result (λ fault. answer_status fault ≤ 2
             → Keeps (W.contents out.old) (W.contents out.new)) }
         ensures refused { IfErr result (IsAnswerFault (IsRefused self.now trees.now)) };
-
-    /// The command line is one whose parser is known.
-    ghost line_simple: { is_simple line ≡ true };
-
-    ghost line_free: { is_simple_and_free line ≡ true };
-}
-
-/// What the parser finds in the words, of which the first is the command's name.
-fn parse<'a, Q: Question, S: AsStr>(alloc: Global, words: &'a [S]) -> Result<ArgMatches<'a>, Error>
-    ensures taken { OnOk result (Takes Q.line (map S.text words.entry.now)) }
-    ensures fields { IfOk result (λ matches. rows_of (found_of matches)
-        ≡ matches_of Q.line (map S.text words.entry.now)) }
-    ensures refused { IfErr result (λ error. Takes Q.line (map S.text words.entry.now)
-        → kind_of error ≡ ErrorKind.OutOfMemory) }
-{
-    Q::command(alloc)?.try_get_matches_from(words)
 }
 
 /// Writes the answer to what the words ask.
@@ -95,14 +71,15 @@ where
     S: AsStr,
     I: Read,
     W: Write,
-    ensures answered { OnOk result (Answers Q.line Q.asked_in Q.IsAnswer (F.bytes_of files.now)
-        (I.remaining input.old) (map S.text words.entry.now)
+    ensures answered { OnOk result (Answers Q.line Q.asked_in AreTreesOf Q.IsAnswer
+        (F.bytes_of files.now) (I.remaining input.old) (map S.text words.entry.now)
         (Appends (W.contents out.old) (W.contents out.new))) }
     ensures silent { IfErr result (λ fault. question_status fault ≤ 2
         → Keeps (W.contents out.old) (W.contents out.new)) }
     ensures cut { OnErr result (Keeps (W.contents out.old) (W.contents out.new)
-        ⊎ Answers Q.line Q.asked_in Q.IsBegun (F.bytes_of files.now) (I.remaining input.old)
-        (map S.text words.entry.now) (AppendsFront (W.contents out.old) (W.contents out.new))) }
+        ⊎ Answers Q.line Q.asked_in AreTreesOf Q.IsBegun (F.bytes_of files.now)
+        (I.remaining input.old) (map S.text words.entry.now)
+        (AppendsFront (W.contents out.old) (W.contents out.new))) }
     ensures untouched { inputs_in (matches_of Q.line (map S.text words.entry.now)) ≡ 0
         → input.new ≡ input.old }
     ensures unread { IfErr result (λ fault. question_status fault ≡ 2 → input.new ≡ input.old) }
@@ -133,13 +110,14 @@ where
     W: Write,
     E: Write + Drop,
     ensures statuses { result ≤ 3 }
-    ensures answered { result ≡ 0 → Answers Q.line Q.asked_in Q.IsAnswer (F.bytes_of files.now)
-        (I.remaining input.old) (map S.text words.now)
+    ensures answered { result ≡ 0 → Answers Q.line Q.asked_in AreTreesOf Q.IsAnswer
+        (F.bytes_of files.now) (I.remaining input.old) (map S.text words.now)
         (Appends (W.contents out.old) (W.contents out.new)) }
     ensures silent { 1 ≤ result → result ≤ 2 → Keeps (W.contents out.old) (W.contents out.new) }
     ensures cut { result ≡ 3 → Keeps (W.contents out.old) (W.contents out.new)
-        ⊎ Answers Q.line Q.asked_in Q.IsBegun (F.bytes_of files.now) (I.remaining input.old)
-        (map S.text words.now) (AppendsFront (W.contents out.old) (W.contents out.new)) }
+        ⊎ Answers Q.line Q.asked_in AreTreesOf Q.IsBegun (F.bytes_of files.now)
+        (I.remaining input.old) (map S.text words.now)
+        (AppendsFront (W.contents out.old) (W.contents out.new)) }
     ensures untouched { inputs_in (matches_of Q.line (map S.text words.now)) ≡ 0
         → input.new ≡ input.old }
     ensures unread { result ≡ 2 → input.new ≡ input.old }

@@ -14,9 +14,9 @@ ghost use Rattle.acl_tree_queries.specs.Trees.{all_names, shown_names, tree_left
 
 use crate::question::QuestionFault;
 use acl_names::Directory;
-use acl_queries::options::text_field;
 use acl_service::{
     FilesFault, OpenFiles, apply_text, count_inputs, read_file, read_sessions, read_setup,
+    setup_field,
 };
 use acl_tree::Tree;
 use clap::ArgMatches;
@@ -78,14 +78,6 @@ fn read_named<'a, F: OpenFiles, I: Read>(
         Some(names) => read_sessions(alloc, files, input, names),
         None => Ok(Vec::new(alloc)),
     }
-}
-
-/// The name of the setup's file.
-#[tactic(auto, unfolding(acl_service::specs::RunWords::setup_in))]
-fn setup_field<'a>(matches: &ArgMatches<'a>) -> &'a str
-    ensures { result.now ≡ setup_in (rows_of (found_of matches.now)) }
-{
-    text_field(matches, "setup").unwrap_or("")
 }
 
 /// Reads the files that the words name: the setup, then the sessions before, then those after. One

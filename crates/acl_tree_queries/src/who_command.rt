@@ -3,36 +3,43 @@ ghost use Rattle.std.specs.Prelude.{◌≡◌, ◌≤◌, ◌⊎◌, map};
 ghost use Rattle.std.specs.Io.KnownBytes.{Appends, Keeps};
 ghost use Rattle.acl_queries.specs.ErrorOutput.{Reports};
 ghost use Rattle.acl_queries.specs.Output.{AppendsFront};
-ghost use Rattle.acl_tree_queries.specs.WhoAnswer.{AnswersWho, BeginsWho, SaysWho};
-ghost use Rattle.acl_tree_queries.specs.WhoAnswer.{who_inputs};
+ghost use Rattle.acl_tree_queries.specs.WhoWords.{AnswersWho, BeginsWho, SaysWho, who_inputs};
 
+mod listing;
 mod question;
 mod text;
 
+use crate::listing::asks_of_listing;
 use crate::question::ask;
 use acl_queries::ErrorOutput;
 use acl_service::OpenFiles;
+use listing::ask_of_listing;
 use question::WhoQuestion;
 use std::alloc::Global;
 use std::convert::AsStr;
 use std::io::{Read, Write};
 
-/// Tells who may do what with each node of a tree. The words are those of the command, its name
-/// first: `who --setup FILE [--perms P] [SESSION]`. The tree is the one that the setup opens, or
-/// what the session leaves on it. A session `-` is what `input` has; else nothing of `input` is
-/// read. `files` opens the others, the setup first, each of at most 1,048,576 bytes.
+/// Tells who may do what with each node of a tree, or with each file of a listing. The words are
+/// those of the command, its name first: `who --setup FILE [--perms P] [SESSION]`, or
+/// `who --setup FILE [--perms P] --listing LISTING` if one of them is that option. The tree is the
+/// one that the setup opens, or what the session leaves on it; a listing is what `getfacl -R`
+/// prints, of any length. A session or listing `-` is what `input` has; else nothing of `input` is
+/// read. `files` opens the others, the setup first; setup and session have at most 1,048,576 bytes.
 ///
-/// To `out` goes a line for each node, in the order of their paths, and each user of the setup, in
-/// the order of their names: `LETTERS NAME PATH`, where LETTERS is `rwx` with `-` for each letter
-/// that a check by itself denies. With `--perms` only `NAME PATH`, of those users who are granted
-/// all of P at once. Directories above a node play no part, and uid 0 has no right of its own. It
-/// is written in pieces of some 64 KiB. What is wrong goes to `err`, and so does help; a fault
-/// while writing there changes nothing.
+/// To `out` goes a line for each node, in the order of their paths, or each file, in the order of
+/// the listing, and each user of the setup, in the order of their names: `LETTERS NAME PATH`, where
+/// LETTERS is `rwx` with `-` for each letter that a check by itself denies. With `--perms` only
+/// `NAME PATH`, of those users who are granted all of P at once. A block of the listing that
+/// doesn't read is told in its place by `fault WORD LINE PATH`. Directories above a file play no
+/// part, and uid 0 has no right of its own. It is written in pieces of some 64 KiB, as the listing
+/// is read. What is wrong goes to `err`, and so does help; a fault while writing there changes
+/// nothing.
 ///
-/// It returns the exit status: 0 with the answer; 1 if P doesn't read, a file can't be opened or
-/// read or is too long, or the setup is refused; 2 if the parser of command lines refuses the
-/// words; and 3 if memory runs out or `out` can't be written. At 1 and 2 nothing was written, and
-/// at 3 nothing or a front of the answer.
+/// It returns the exit status: 0 with the answer; 1 if P doesn't read, a file can't be opened, the
+/// setup or the session can't be read or is too long, or the setup is refused; 2 if the parser of
+/// command lines refuses the words; and 3 if memory runs out, the listing fails while it is read,
+/// or `out` can't be written. At 1 and 2 nothing was written, and at 3 nothing or a front of the
+/// answer.
 pub fn who<F, S, I, W, E>(
     alloc: Global,
     files: &F,
@@ -66,5 +73,9 @@ where
     ensures told { Reports (SaysWho (F.bytes_of files.now) (I.remaining input.old)
         (map S.text words.now)) result err.old err.new }
 {
-    ask::<WhoQuestion, F, S, I, W, E>(alloc, files, words, input, out, err)
+    if asks_of_listing(words) {
+        ask_of_listing(alloc, files, words, input, out, err)
+    } else {
+        ask::<WhoQuestion, F, S, I, W, E>(alloc, files, words, input, out, err)
+    }
 }

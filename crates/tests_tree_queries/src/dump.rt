@@ -25,7 +25,7 @@ fn the_tree_that_it_makes(rt: HostRuntime) {
 #[test]
 fn a_setup_alone(rt: HostRuntime) {
     let words = ["dump", "--setup", "office"];
-    let text = "set / access u::---,g::---,o::---\nset / access u::rwx,g::r-x,o::r-x\n";
+    let text = "set / access u::-,g::-,o::-\nset / access u::rwx,g::r-x,o::r-x\n";
     assert!(rt; ends(rt.alloc(), &words, 0, text, ""));
 }
 
@@ -34,7 +34,7 @@ fn a_setup_alone(rt: HostRuntime) {
 fn lists_of_either_style(rt: HostRuntime) {
     let words = ["dump", "--setup", "office", "aces"];
     let text =
-        "set / access u::---,g::---,o::---\ncreate file /motd 0 000\ncreate file /shut 0 000\nset / access u::rwx,g::r-x,o::r-x\nset /motd nfs4 A::OWNER@:rwa,A::1001:r,A::EVERYONE@:r\nset /shut nfs4 #\n";
+        "set / access u::-,g::-,o::-\ncreate file /motd 0 000\ncreate file /shut 0 000\nset / access u::rwx,g::r-x,o::r-x\nset /motd nfs4 A::OWNER@:rwa,A::1001:r,A::EVERYONE@:r\nset /shut nfs4 #\n";
     assert!(rt; ends(rt.alloc(), &words, 0, text, ""));
 }
 
@@ -52,7 +52,7 @@ fn a_session_from_standard_input(rt: HostRuntime) -> Result<(), Fail> {
     let mut input = Sheet::new("chmod / 700\n");
     let words = ["dump", "--setup", "office", "-"];
     let (status, err) = ask(rt.alloc(), &words, &mut input, &mut out);
-    let text = "set / access u::---,g::---,o::---\nset / access u::rwx,g::---,o::---\n";
+    let text = "set / access u::-,g::-,o::-\nset / access u::rwx,g::---,o::---\n";
     assert_eq!(rt; status, 0);
     assert!(rt; out.as_slice() == text.as_bytes());
     assert!(rt; err.is_empty());

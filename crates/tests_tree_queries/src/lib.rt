@@ -16,3 +16,5 @@ mod impact;
 mod refused_growths;
 #[cfg(test)]
 mod who;
+#[cfg(test)]
+mod who_listing;

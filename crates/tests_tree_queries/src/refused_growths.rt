@@ -24,109 +24,85 @@ fn ran_out(status: u8, out: &[u8], answer: &[u8], err: &[u8]) -> Option<bool> {
     None
 }
 
-/// What `who` comes to, on writers that take no memory.
-fn ask_who(alloc: Global) -> Option<bool> {
-    let answer =
-        b"r-x alice /\nr-x bob /\nr-x carol /\nrwx root /\nrw- alice /log\nrw- bob /log\n--- carol /log\n--- root /log\n";
-    let mut room = [0; 256];
-    let mut lines = [0; 256];
-    let mut out = room.as_mut_slice();
-    let mut err = lines.as_mut_slice();
-    let status = who(
-        alloc,
-        &Shelf,
-        &["who", "--setup", "office", "groups"],
-        &mut Sheet::new(""),
-        &mut out,
-        &mut ErrorOutput::new(&mut err),
-    );
-    let written = 256usize.saturating_sub(out.len());
-    let told = 256usize.saturating_sub(err.len());
-    ran_out(status, &room[..written], answer.as_slice(), &lines[..told])
-}
-
-/// What `impact` comes to.
-fn ask_impact(alloc: Global) -> Option<bool> {
-    let answer =
-        b"differ bob 1001 50,60 - rx /plans\ndiffer bob 1001 50,60 r - /plans/budget\nnew /plans/next\n";
-    let mut room = [0; 256];
-    let mut lines = [0; 256];
-    let mut out = room.as_mut_slice();
-    let mut err = lines.as_mut_slice();
-    let status = impact(
-        alloc,
-        &Shelf,
-        &[
-            "impact", "--setup", "office", "--before", "before", "change",
-        ],
-        &mut Sheet::new(""),
-        &mut out,
-        &mut ErrorOutput::new(&mut err),
-    );
-    let written = 256usize.saturating_sub(out.len());
-    let told = 256usize.saturating_sub(err.len());
-    ran_out(status, &room[..written], answer.as_slice(), &lines[..told])
-}
-
-/// What `dump` comes to.
-fn ask_dump(alloc: Global) -> Option<bool> {
+/// Whether memory ran out in the command of these words, on writers that take no memory.
+fn ending(alloc: Global, words: &[&str], answer: &[u8]) -> Option<bool> {
     let mut room = [0; 512];
     let mut lines = [0; 256];
     let mut out = room.as_mut_slice();
     let mut err = lines.as_mut_slice();
-    let status = dump(
-        alloc,
-        &Shelf,
-        &["dump", "--setup", "office", "alice"],
-        &mut Sheet::new(""),
-        &mut out,
-        &mut ErrorOutput::new(&mut err),
-    );
+    let input = &mut Sheet::new("");
+    let told = &mut ErrorOutput::new(&mut err);
+    let status = match words.first() {
+        Some(first) if *first == "impact" => impact(alloc, &Shelf, words, input, &mut out, told),
+        Some(first) if *first == "dump" => dump(alloc, &Shelf, words, input, &mut out, told),
+        _ => who(alloc, &Shelf, words, input, &mut out, told),
+    };
     let written = 512usize.saturating_sub(out.len());
     let told = 256usize.saturating_sub(err.len());
-    ran_out(
-        status,
-        &room[..written],
-        ALICE_AGAIN.as_bytes(),
-        &lines[..told],
-    )
+    ran_out(status, &room[..written], answer, &lines[..told])
+}
+
+/// How often memory ran out before the command ended with its answer: it is run once more after
+/// that. None if it ended in any other way.
+fn refusals(alloc: Global, words: &[&str], answer: &[u8]) -> Option<usize> {
+    match ending(alloc, words, answer) {
+        Some(true) => match ending(alloc, words, answer) {
+            Some(false) => Some(1),
+            _ => None,
+        },
+        Some(false) => Some(0),
+        None => None,
+    }
 }
 
 #[test]
 fn dump_under_a_refused_growth(rt: HostRuntime) -> Result<(), Fail> {
-    let mut refusals = 0;
-    let mut ended = ask_dump(rt.alloc());
-    if ended == Some(true) {
-        refusals = 1;
-        ended = ask_dump(rt.alloc());
-    }
-    assert_eq!(rt; ended, Some(false));
-    println!(rt; "refusals: {refusals}")?;
+    let words = ["dump", "--setup", "office", "alice"];
+    let told = refusals(rt.alloc(), &words, ALICE_AGAIN.as_bytes());
+    assert!(rt; told.is_some());
+    println!(rt; "refusals: {}", told.unwrap_or(0))?;
     Ok(())
 }
 
 #[test]
 fn who_under_a_refused_growth(rt: HostRuntime) -> Result<(), Fail> {
-    let mut refusals = 0;
-    let mut ended = ask_who(rt.alloc());
-    if ended == Some(true) {
-        refusals = 1;
-        ended = ask_who(rt.alloc());
-    }
-    assert_eq!(rt; ended, Some(false));
-    println!(rt; "refusals: {refusals}")?;
+    let words = ["who", "--setup", "office", "groups"];
+    let answer =
+        b"r-x alice /\nr-x bob /\nr-x carol /\nrwx root /\nrw- alice /log\nrw- bob /log\n--- carol /log\n--- root /log\n";
+    let told = refusals(rt.alloc(), &words, answer.as_slice());
+    assert!(rt; told.is_some());
+    println!(rt; "refusals: {}", told.unwrap_or(0))?;
     Ok(())
 }
 
 #[test]
 fn impact_under_a_refused_growth(rt: HostRuntime) -> Result<(), Fail> {
-    let mut refusals = 0;
-    let mut ended = ask_impact(rt.alloc());
-    if ended == Some(true) {
-        refusals = 1;
-        ended = ask_impact(rt.alloc());
-    }
-    assert_eq!(rt; ended, Some(false));
-    println!(rt; "refusals: {refusals}")?;
+    let words = [
+        "impact", "--setup", "office", "--before", "before", "change",
+    ];
+    let answer =
+        b"differ bob 1001 50,60 - rx /plans\ndiffer bob 1001 50,60 r - /plans/budget\nnew /plans/next\n";
+    let told = refusals(rt.alloc(), &words, answer.as_slice());
+    assert!(rt; told.is_some());
+    println!(rt; "refusals: {}", told.unwrap_or(0))?;
+    Ok(())
+}
+
+#[test]
+fn who_of_a_listing_under_a_refused_growth(rt: HostRuntime) -> Result<(), Fail> {
+    let words = [
+        "who",
+        "--setup",
+        "office",
+        "--perms",
+        "w",
+        "--listing",
+        "listing",
+    ];
+    let answer =
+        b"alice srv/share/plan\nbob srv/share/plan\nfault unknown-name 10 srv/share/lost\nfault bad-acl 18 srv/share/bent\nfault bad-header 25 -\nbob srv/share/a dir\n";
+    let told = refusals(rt.alloc(), &words, answer.as_slice());
+    assert!(rt; told.is_some());
+    println!(rt; "refusals: {}", told.unwrap_or(0))?;
     Ok(())
 }

@@ -16,6 +16,15 @@ pub fn required_option<'a>(alloc: Global, name: &'a str, value: &'a str, help: &
     optional_option(alloc, name, value, help).required(true)
 }
 
+/// The option `--setup`: the file that says who there is.
+pub fn setup_option<'a>(alloc: Global) -> Arg<'a>
+    ensures rule { rule_of result ≡ required_option (codes "setup") }
+    ensures local { result.global ≡ false }
+{
+    let help = "The file that says who there is, and with which root the tree starts";
+    required_option(alloc, "setup", "FILE", help)
+}
+
 /// The option `--owner`: whose the file is.
 pub(crate) fn owner_option<'a>(alloc: Global) -> Arg<'a>
     ensures rule { rule_of result ≡ required_option (codes "owner") }

@@ -4,7 +4,7 @@ ghost use Rattle.std.specs.Prelude.{codes, length};
 ghost use Rattle.acl_names.specs.Bytes.{newline};
 ghost use Rattle.acl_tree.specs.declared.request.Request.TheVariants.{Create, SetAccess};
 ghost use Rattle.acl_tree.specs.declared.request.Request.TheVariants.{SetDefault, SetNfs4};
-ghost use Rattle.acl_audit.specs.Dump.{closing, creation, no_mode, set_default, set_lists};
+ghost use Rattle.acl_audit.specs.Dump.{creation, no_mode, set_default, set_lists};
 ghost use Rattle.acl_lang.specs.CommandText.{command_text};
 ghost use Rattle.acl_lang.specs.declared.limits.TheConstants.{MAX_LINE_LEN};
 ghost use Rattle.acl_tree_queries.specs.AnswerFaults.{IsAnswerFault};
@@ -14,10 +14,9 @@ use crate::question::AnswerFault;
 use acl_lang::MAX_LINE_LEN;
 use acl_names::{Uid, push_id};
 use acl_nfs4::{Acl4, Kind};
-use acl_posix::{Acl, Mode, Perms};
+use acl_posix::Acl;
 use acl_tree::{Node, NodeAcl};
-use bitflags::Flags;
-use std::alloc::{AllocError, Global};
+use std::alloc::AllocError;
 
 /// Ends the line that began at the place, unless it is longer than lines may be.
 fn end_line(start: usize, out: &mut Vec<u8>) -> Result<(), AnswerFault>
@@ -152,20 +151,6 @@ fn push_nfs4_line(path: &[u8], acl: &Acl4, out: &mut Vec<u8>) -> Result<(), Answ
     let start = out.len();
     push_nfs4(path, acl, out)?;
     end_line(start, out)
-}
-
-/// Appends the line that closes the root, so that nothing that is created in it inherits.
-pub(super) fn push_closing(alloc: Global, out: &mut Vec<u8>) -> Result<(), AnswerFault>
-    ensures lines { OnOk result (AddsLines (closing ∷ []) out.old.items out.new.items) }
-    ensures refused { IfErr result (IsAnswerFault (HasLongLine (closing ∷ []))) }
-{
-    let mode = Mode {
-        user: Perms::empty(),
-        group: Perms::empty(),
-        other: Perms::empty(),
-    };
-    let closed = Acl::of_mode(alloc, mode)?;
-    push_access_line(b"/", &closed, out)
 }
 
 /// Appends the line that creates a node at the path, of which nobody may do anything yet.

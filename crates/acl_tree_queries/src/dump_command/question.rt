@@ -3,9 +3,10 @@ ghost use Rattle.std.specs.Prelude.{◌≡◌, IfOk};
 ghost use Rattle.clap.specs.Words.{app_of};
 
 use super::text::push_dump;
+use crate::command_line::CommandLine;
 use crate::question::{AnswerFault, Question};
 use crate::trees::Trees;
-use acl_queries::options::{optional_word, required_option};
+use acl_queries::options::{optional_word, setup_option};
 use acl_queries::{FieldFault, write_text};
 use clap::{ArgMatches, Command};
 use std::alloc::{AllocError, Global};
@@ -23,19 +24,10 @@ with this help; 3 if memory runs out or the answer can't be written.";
 #[derive(Clone, Copy, Drop)]
 pub(super) struct DumpQuestion;
 
-impl Question for DumpQuestion {
-    ghost use Rattle.acl_tree_queries.specs.DumpAnswer.{HasNoDump, IsDump, IsDumpBegun, asks_dump};
+impl CommandLine for DumpQuestion {
     ghost use Rattle.acl_tree_queries.specs.DumpLine.{dump_line, dump_line-free, dump_line-simple};
 
     ghost line = { dump_line };
-
-    ghost asked_in = { asks_dump };
-
-    ghost IsAnswer = { IsDump };
-
-    ghost IsBegun = { IsDumpBegun };
-
-    ghost IsRefused = { HasNoDump };
 
     ghost line_simple = { dump_line-simple };
 
@@ -46,12 +38,7 @@ impl Question for DumpQuestion {
             .bin_name("aclctl dump")?
             .about("Prints a tree as a session that makes it again.")
             .after_help(ANSWERS)
-            .arg(required_option(
-                alloc,
-                "setup",
-                "FILE",
-                "The file that says who there is, and with which root the tree starts",
-            ))?
+            .arg(setup_option(alloc))?
             .arg(optional_word(
                 alloc,
                 "session",
@@ -59,6 +46,18 @@ impl Question for DumpQuestion {
                 "A file with a session's commands, which come first, or - for standard input",
             ))
     }
+}
+
+impl Question for DumpQuestion {
+    ghost use Rattle.acl_tree_queries.specs.DumpAnswer.{HasNoDump, IsDump, IsDumpBegun, asks_dump};
+
+    ghost asked_in = { asks_dump };
+
+    ghost IsAnswer = { IsDump };
+
+    ghost IsBegun = { IsDumpBegun };
+
+    ghost IsRefused = { HasNoDump };
 
     fn read(_matches: &ArgMatches<'_>) -> Result<DumpQuestion, FieldFault> {
         Ok(DumpQuestion)

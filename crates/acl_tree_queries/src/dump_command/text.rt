@@ -1,14 +1,15 @@
 //! The session that makes a tree again.
-ghost use Rattle.std.specs.Prelude.{◌≡◌, ℕ, IfErr, List, OnOk, map as each};
+ghost use Rattle.std.specs.Prelude.{◌≡◌, ◌++◌, ◌∷◌, [], ℕ, IfErr, List, OnOk, map as each};
 ghost use Rattle.std.specs.FinMap as map;
 ghost use Rattle.std.specs.List.{flat_map};
 ghost use Rattle.std.specs.Map.Iter.{deref_pair};
+ghost use Rattle.acl_names.specs.Bytes.{newline};
 ghost use Rattle.acl_tree.specs.declared.node.Node.{Node as NodeValue};
-ghost use Rattle.acl_audit.specs.Dump.{creation, dump, listing};
+ghost use Rattle.acl_audit.specs.Dump.{creation, making, setting};
 ghost use Rattle.acl_tree_queries.specs.AnswerFaults.{IsAnswerFault};
-ghost use Rattle.acl_tree_queries.specs.DumpText.{AddsLines, HasLongLine};
+ghost use Rattle.acl_tree_queries.specs.DumpText.{AddsLines, HasLongLine, closing_line};
 
-use super::lines::{push_closing, push_creation, push_lists};
+use super::lines::{push_creation, push_lists};
 use crate::question::AnswerFault;
 use acl_tree::{Node, Tree};
 use std::alloc::Global;
@@ -28,12 +29,12 @@ fn push_creations(entries: &[(&[u8], &Node)], out: &mut Vec<u8>) -> Result<(), A
 }
 
 /// Appends the lines that give the nodes their lists.
-fn push_listings(entries: &[(&[u8], &Node)], out: &mut Vec<u8>) -> Result<(), AnswerFault>
+fn push_settings(entries: &[(&[u8], &Node)], out: &mut Vec<u8>) -> Result<(), AnswerFault>
     ensures lines { OnOk result (AddsLines
-        (flat_map listing (each (deref_pair {K = List ℕ} {X = NodeValue}) entries.now))
+        (flat_map setting (each (deref_pair {K = List ℕ} {X = NodeValue}) entries.now))
         out.old.items out.new.items) }
     ensures refused { IfErr result (IsAnswerFault (HasLongLine
-        (flat_map listing (each (deref_pair {K = List ℕ} {X = NodeValue}) entries.now)))) }
+        (flat_map setting (each (deref_pair {K = List ℕ} {X = NodeValue}) entries.now)))) }
 {
     for (path, node) in entries {
         push_lists(path, &node.acl, out)?;
@@ -41,15 +42,19 @@ fn push_listings(entries: &[(&[u8], &Node)], out: &mut Vec<u8>) -> Result<(), An
     Ok(())
 }
 
+/// The line that closes the root, so that nothing that is created in it inherits.
+const CLOSING: &[u8] = b"set / access u::-,g::-,o::-\n";
+
 /// Appends the session that makes the tree again over the tree that it began as: the root is
 /// closed, each node created, and then each given its lists. It is refused exactly if a line is
 /// longer than lines may be.
 pub(super) fn push_dump(alloc: Global, tree: &Tree, out: &mut Vec<u8>) -> Result<(), AnswerFault>
-    ensures lines { OnOk result (AddsLines (dump tree.now) out.old.items out.new.items) }
-    ensures refused { IfErr result (IsAnswerFault (HasLongLine (dump tree.now))) }
+    ensures lines { OnOk result (AddsLines (making tree.now)
+        (out.old.items ++ (closing_line ++ newline ∷ [])) out.new.items) }
+    ensures refused { IfErr result (IsAnswerFault (HasLongLine (making tree.now))) }
 {
     let entries = tree.entries(alloc)?;
-    push_closing(alloc, out)?;
+    out.extend_from_slice(CLOSING)?;
     push_creations(entries.as_slice(), out)?;
-    push_listings(entries.as_slice(), out)
+    push_settings(entries.as_slice(), out)
 }

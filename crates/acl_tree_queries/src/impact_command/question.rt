@@ -3,12 +3,13 @@ ghost use Rattle.std.specs.Prelude.{◌≡◌, IfOk};
 ghost use Rattle.clap.specs.Words.{app_of};
 
 use super::text::ImpactText;
+use crate::command_line::CommandLine;
 use crate::nodes::write_nodes;
 use crate::question::{AnswerFault, Question};
 use crate::trees::Trees;
 use acl_audit::requesters_of;
 use acl_queries::FieldFault;
-use acl_queries::options::{optional_option, required_option, required_word};
+use acl_queries::options::{optional_option, required_word, setup_option};
 use clap::{ArgMatches, Command};
 use std::alloc::{AllocError, Global};
 use std::io::Write;
@@ -26,22 +27,11 @@ memory runs out or the answer can't be written.";
 #[derive(Clone, Copy, Drop)]
 pub(super) struct ImpactQuestion;
 
-impl Question for ImpactQuestion {
-    ghost use Rattle.acl_tree_queries.specs.QuestionFaults.{IsNeverRefused};
-    ghost use Rattle.acl_tree_queries.specs.ImpactAnswer.{IsImpactAnswer, IsImpactBegun};
-    ghost use Rattle.acl_tree_queries.specs.ImpactAnswer.{asks_impact};
+impl CommandLine for ImpactQuestion {
     ghost use Rattle.acl_tree_queries.specs.ImpactLine.{impact_line, impact_line-free};
     ghost use Rattle.acl_tree_queries.specs.ImpactLine.{impact_line-simple};
 
     ghost line = { impact_line };
-
-    ghost asked_in = { asks_impact };
-
-    ghost IsAnswer = { IsImpactAnswer };
-
-    ghost IsBegun = { IsImpactBegun };
-
-    ghost IsRefused = { IsNeverRefused };
 
     ghost line_simple = { impact_line-simple };
 
@@ -52,12 +42,7 @@ impl Question for ImpactQuestion {
             .bin_name("aclctl impact")?
             .about("Tells who gains or loses what by a session: for anybody at all.")
             .after_help(ANSWERS)
-            .arg(required_option(
-                alloc,
-                "setup",
-                "FILE",
-                "The file that says who there is, and with which root the tree starts",
-            ))?
+            .arg(setup_option(alloc))?
             .arg(optional_option(
                 alloc,
                 "before",
@@ -71,6 +56,20 @@ impl Question for ImpactQuestion {
                 "The session: a file with its commands, or - for standard input",
             ))
     }
+}
+
+impl Question for ImpactQuestion {
+    ghost use Rattle.acl_tree_queries.specs.QuestionFaults.{IsNeverRefused};
+    ghost use Rattle.acl_tree_queries.specs.ImpactAnswer.{IsImpactAnswer, IsImpactBegun};
+    ghost use Rattle.acl_tree_queries.specs.ImpactAnswer.{asks_impact};
+
+    ghost asked_in = { asks_impact };
+
+    ghost IsAnswer = { IsImpactAnswer };
+
+    ghost IsBegun = { IsImpactBegun };
+
+    ghost IsRefused = { IsNeverRefused };
 
     fn read(_matches: &ArgMatches<'_>) -> Result<ImpactQuestion, FieldFault> {
         Ok(ImpactQuestion)

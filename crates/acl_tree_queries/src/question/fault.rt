@@ -18,6 +18,8 @@ pub(crate) enum QuestionFault<'a> {
     Setup(SetupError),
     /// A line of the answer is longer than lines may be.
     LineTooLong,
+    /// What has this name failed while it was read, and part of the answer may be written.
+    Unread(&'a str),
     Run(RunFault),
 }
 
@@ -34,6 +36,7 @@ impl<'a> CommandFault for QuestionFault<'a> {
             QuestionFault::Files(fault) => fault.status(),
             QuestionFault::Setup(_) => 1,
             QuestionFault::LineTooLong => 1,
+            QuestionFault::Unread(_) => 3,
             QuestionFault::Run(fault) => fault.status(),
         }
     }
@@ -44,6 +47,7 @@ impl<'a> CommandFault for QuestionFault<'a> {
             QuestionFault::Files(fault) => fault.tell(err),
             QuestionFault::Setup(error) => err.write_line("setup: ", error.words()),
             QuestionFault::LineTooLong => err.write_line("dump: ", "line too long"),
+            QuestionFault::Unread(name) => err.write_line("cannot read ", name),
             QuestionFault::Run(fault) => fault.tell(err),
         }
     }

@@ -3,11 +3,12 @@ ghost use Rattle.std.specs.Prelude.{◌≡◌, IfOk};
 ghost use Rattle.clap.specs.Words.{app_of};
 
 use super::text::WhoText;
+use crate::command_line::CommandLine;
 use crate::nodes::write_nodes;
 use crate::question::{AnswerFault, Question};
 use crate::trees::Trees;
 use acl_posix::Perms;
-use acl_queries::options::{optional_perms_option, optional_word, required_option};
+use acl_queries::options::{optional_perms_option, optional_word, setup_option};
 use acl_queries::{FieldFault, optional_perms_field};
 use clap::{ArgMatches, Command};
 use std::alloc::{AllocError, Global};
@@ -20,6 +21,9 @@ that is denied by itself.
 With --perms P only NAME PATH, of those who are granted all of P at once. Directories above a file \
 are not
 searched, and root has no right of its own.
+With --listing LISTING in the place of SESSION it tells the same of real files, as getfacl -R \
+lists them:
+aclctl who --listing - --help tells more.
 Exit status: 0 with an answer; 1 if a field or a file doesn't read; 2 if the words are wrong, and \
 with this help; 3 if
 memory runs out or the answer can't be written.";
@@ -39,21 +43,10 @@ impl Model for WhoQuestion {
     ghost view = { λ question. option_map bits_of question.perms };
 }
 
-impl Question for WhoQuestion {
-    ghost use Rattle.acl_tree_queries.specs.QuestionFaults.{IsNeverRefused};
-    ghost use Rattle.acl_queries.specs.Asked.{optional_perms_in};
-    ghost use Rattle.acl_tree_queries.specs.WhoAnswer.{IsWho, IsWhoBegun};
+impl CommandLine for WhoQuestion {
     ghost use Rattle.acl_tree_queries.specs.WhoLine.{who_line, who_line-free, who_line-simple};
 
     ghost line = { who_line };
-
-    ghost asked_in = { optional_perms_in };
-
-    ghost IsAnswer = { IsWho };
-
-    ghost IsBegun = { IsWhoBegun };
-
-    ghost IsRefused = { IsNeverRefused };
 
     ghost line_simple = { who_line-simple };
 
@@ -64,12 +57,7 @@ impl Question for WhoQuestion {
             .bin_name("aclctl who")?
             .about("Tells who may do what with each file of a tree.")
             .after_help(ANSWERS)
-            .arg(required_option(
-                alloc,
-                "setup",
-                "FILE",
-                "The file that says who there is, and with which root the tree starts",
-            ))?
+            .arg(setup_option(alloc))?
             .arg(optional_perms_option(alloc))?
             .arg(optional_word(
                 alloc,
@@ -78,6 +66,20 @@ impl Question for WhoQuestion {
                 "A file with a session's commands, which come first, or - for standard input",
             ))
     }
+}
+
+impl Question for WhoQuestion {
+    ghost use Rattle.acl_tree_queries.specs.QuestionFaults.{IsNeverRefused};
+    ghost use Rattle.acl_queries.specs.Asked.{optional_perms_in};
+    ghost use Rattle.acl_tree_queries.specs.WhoAnswer.{IsWho, IsWhoBegun};
+
+    ghost asked_in = { optional_perms_in };
+
+    ghost IsAnswer = { IsWho };
+
+    ghost IsBegun = { IsWhoBegun };
+
+    ghost IsRefused = { IsNeverRefused };
 
     fn read(matches: &ArgMatches<'_>) -> Result<WhoQuestion, FieldFault> {
         Ok(WhoQuestion {

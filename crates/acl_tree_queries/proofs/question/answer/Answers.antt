@@ -3,6 +3,7 @@ use Rattle.std.specs.Io.KnownBytes.{Appends, Keeps}
 use Rattle.std.proofs.lemmas.Result.{err_from_is_err_and}
 use Rattle.clap.specs.Words.{found_of, rows_of}
 use Rattle.acl_queries.specs.Output.{AppendsFront}
+use Rattle.acl_tree_queries.specs.Trees.{AreTreesOf}
 use Rattle.acl_tree_queries.proofs.QuestionsLemmas.{answered, of_failed, refused_of, silent_of, unread_of}
 use Rattle.acl_tree_queries.proofs.question.answer.Goals as goal
 
@@ -11,7 +12,7 @@ returns-in_err-write-clause-cut g c =
     let old = g.W.Write.contents c.args.out.now in
     let new = g.W.Write.contents c.write.new.out in
     of_failed _ (Keeps old new) _
-    (answered g.Q.Question.line g.Q.Question.asked_in (g.F.OpenFiles.bytes_of c.args.files.now) (map g.S.AsStr.text c.args.words.now) g.Q.Question.IsBegun
+    (answered g.Q.CommandLine.line g.Q.Question.asked_in (g.F.OpenFiles.bytes_of c.args.files.now) (map g.S.AsStr.text c.args.words.now) AreTreesOf g.Q.Question.IsBegun
     (g.I.Read.remaining c.args.input.now) (AppendsFront old new) (rows_of (found_of c.in_ok-matches.matches)) c.in_ok-matches.ensures.fields c.in_ok-matches.ensures.taken
     c.in_ok-question.question (sym c.read.ensures ∙ c.in_ok-question.was) c.in_ok-trees.trees c.in_ok-trees.ensures.opened c.in_err-write.ensures.cut)
 
@@ -19,7 +20,7 @@ pub returns-clause-answered : goal.returns-clause-answered
 returns-clause-answered g c =
     let old = g.W.Write.contents c.args.out.now in
     let new = g.W.Write.contents c.write.new.out in
-    answered g.Q.Question.line g.Q.Question.asked_in (g.F.OpenFiles.bytes_of c.args.files.now) (map g.S.AsStr.text c.args.words.now) g.Q.Question.IsAnswer
+    answered g.Q.CommandLine.line g.Q.Question.asked_in (g.F.OpenFiles.bytes_of c.args.files.now) (map g.S.AsStr.text c.args.words.now) AreTreesOf g.Q.Question.IsAnswer
     (g.I.Read.remaining c.args.input.now) (Appends old new) (rows_of (found_of c.in_ok-matches.matches)) c.in_ok-matches.ensures.fields c.in_ok-matches.ensures.taken
     c.in_ok-question.question (sym c.read.ensures ∙ c.in_ok-question.was) c.in_ok-trees.trees c.in_ok-trees.ensures.opened c.in_ok-write.ensures.written
 
@@ -37,6 +38,6 @@ pub returns-in_err-write-clause-refused : goal.returns-in_err-write-clause-refus
 returns-in_err-write-clause-refused g c =
     let p = err_from_is_err_and c.from_residual-in_err-write.result c.from_residual-in_err-write.ensures.1 in
     refused_of c.from_residual-in_err-write.result c.in_err-write.field-0.0 p.0 p.1 p.2
-    g.Q.Question.line g.Q.Question.asked_in g.Q.Question.IsRefused (g.F.OpenFiles.bytes_of c.args.files.now) (g.I.Read.remaining c.args.input.now)
+    g.Q.CommandLine.line g.Q.Question.asked_in g.Q.Question.IsRefused (g.F.OpenFiles.bytes_of c.args.files.now) (g.I.Read.remaining c.args.input.now)
     (map g.S.AsStr.text c.args.words.now) (rows_of (found_of c.in_ok-matches.matches)) c.in_ok-matches.ensures.fields c.in_ok-matches.ensures.taken
     c.in_ok-question.question (sym c.read.ensures ∙ c.in_ok-question.was) c.in_ok-trees.trees c.in_ok-trees.ensures.opened c.in_err-write.ensures.refused

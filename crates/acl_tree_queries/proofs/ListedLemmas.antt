@@ -1,0 +1,44 @@
+-- A block is told alike as it is handed out, where one that is too long is cut, and as it stands.
+use Rattle.std.proofs.Common.{◌≡◌, ◌∙◌, ℕ, List, [], ◌∷◌, Option, Some, None, Result, Ok, Err, ap, map as each, refl, subst, take}
+use Rattle.std.proofs.lemmas.List.{take-map}
+use Rattle.acl_names.specs.Directory.{Known}
+use Rattle.acl_listings.specs.Block.{FileValue, file_of}
+use Rattle.acl_listings.specs.Cursor.{coming, handed}
+use Rattle.acl_listings.specs.Listing.{Block, blocks_of}
+use Rattle.acl_listings.specs.declared.fault.BlockFault.{BlockFault}
+use Rattle.acl_listings.proofs.HandedLemmas.{file-handed, path-handed}
+use Rattle.acl_tree_queries.specs.ListingText.{TellsOfBlocks, TellsOfFirstBlocks, TellsOfFront, TellsOfListing, fault_text}
+use Rattle.acl_tree_queries.specs.Nodes.{TellsOfEach, TellsOfFirst}
+use Rattle.acl_tree_queries.specs.WhoListing.{TellsBlock, text_of_file}
+
+module _ {A B : Type 0} (shown : B → A) (Tells : A → List ℕ → Type 0) (Means : B → List ℕ → Type 0)
+    (means : (item : B) (text : List ℕ) → Tells (shown item) text → Means item text) where
+  -- what is told of each as it is shown is told of each
+  each_means : (items : List B) (text : List ℕ) → TellsOfEach Tells (each shown items) text → TellsOfEach Means items text
+  each_means [] text tells = tells
+  each_means (item ∷ items) text (first, rest, here, more, is) = (first, rest, means item first here, each_means items rest more, is)
+
+  first_means : (items : List B) (text : List ℕ) → TellsOfFirst Tells (each shown items) text → TellsOfFirst Means items text
+  first_means items text (count, tells) =
+      (count, each_means (take count items) text (subst (λ some. TellsOfEach Tells some text) (take-map shown count items) tells))
+
+module _ (known : Known) (perms : Option ℕ) where
+  abbrev Tells : Block → List ℕ → Type 0
+  Tells = TellsBlock known perms
+
+  -- what is told of what is handed out of a block is told of the block
+  told_handed : (block : Block) (text : List ℕ) → Tells (handed block) text → Tells block text
+  told_handed block text tells =
+      tells ∙ ap (text_of_file known perms (handed block)) (file-handed known block.text) ∙ by (file_of known block.text)
+    where
+      by : (reading : Result FileValue BlockFault) → text_of_file known perms (handed block) reading ≡ text_of_file known perms block reading
+      by (Ok file) = refl
+      by (Err fault) = ap (fault_text fault block.line) (path-handed block.text)
+
+  pub told_of_listing : (told : Option (List ℕ)) (text : List ℕ) → TellsOfBlocks Tells (coming 1 told) text → TellsOfListing Tells told text
+  told_of_listing None text tells = tt
+  told_of_listing (Some listing) text tells = each_means handed Tells Tells told_handed (blocks_of listing) text tells
+
+  pub told_of_front : (told : Option (List ℕ)) (text : List ℕ) → TellsOfFirstBlocks Tells (coming 1 told) text → TellsOfFront Tells told text
+  told_of_front None text tells = tt
+  told_of_front (Some listing) text tells = first_means handed Tells Tells told_handed (blocks_of listing) text tells

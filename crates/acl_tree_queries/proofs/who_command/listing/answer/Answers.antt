@@ -1,0 +1,96 @@
+use Rattle.std.proofs.Common.{◌≡◌, ◌∙◌, ℕ, List, Option, ap, bytes_eq, codes, inr, map, option_map, refl, subst}
+use Rattle.std.specs.Io.KnownBytes.{Appends}
+use Rattle.std.proofs.lemmas.Result.{IfErr-weaker, on_err_weaker, on_ok_weaker}
+use Rattle.clap.specs.Words.{found_of, rows_of}
+use Rattle.acl_posix.specs.Perms.{bits_of}
+use Rattle.acl_queries.specs.Asked.{optional_perms_in}
+use Rattle.acl_queries.specs.Output.{AppendsFront}
+use Rattle.acl_service.specs.RunWords.{IsTold, session_told}
+use Rattle.acl_tree_queries.specs.Listings.{AreListed, Listed, listing_in, listing_inputs}
+use Rattle.acl_tree_queries.specs.ListingFaults.{IsNamedFault}
+use Rattle.acl_tree_queries.specs.QuestionFaults.{Asks}
+use Rattle.acl_tree_queries.specs.ListingText.{TellsOfFront, TellsOfListing}
+use Rattle.acl_tree_queries.specs.WhoListing.{IsWhoListed, IsWhoListedBegun, TellsBlock}
+use Rattle.acl_tree_queries.specs.WhoListingLine.{who_listing_line}
+use Rattle.acl_tree_queries.proofs.ListedLemmas.{told_of_front, told_of_listing}
+use Rattle.acl_tree_queries.proofs.ListingFaultLemmas.{asks_of, named_not_two, no_input, refused_for_listing}
+use Rattle.acl_tree_queries.proofs.QuestionsLemmas.{answered}
+use Rattle.acl_tree_queries.proofs.who_command.listing.answer.Goals as goal
+
+pub returns-clause-answered : goal.returns-clause-answered
+returns-clause-answered g c =
+    let input = g.I.Read.remaining c.args.input.now in
+    let bytes_of = g.F.OpenFiles.bytes_of c.args.files.now in
+    let words = map g.S.AsStr.text c.args.words.now in
+    let rows = rows_of (found_of c.in_ok-matches.matches) in
+    let directory = c.in_ok-directory.directory in
+    let perms = option_map bits_of c.in_ok-perms.perms in
+    let opened = c.in_ok-directory.ensures.opened in
+    let told : Option (List ℕ) = session_told bytes_of input (listing_in rows) in
+    let listed : Listed = record { directory = directory; listing = told } in
+    let are : AreListed bytes_of input rows listed = record {
+      setup = opened.0;
+      setup_is = subst (λ name. IsTold (bytes_of name) opened.0) c.setup_field.ensures opened.2;
+      tree = opened.1;
+      opened = opened.3;
+      users = c.in_ok-directory.ensures.users;
+      listing_is = refl;
+    } in
+    let old = g.W.Write.contents c.args.out.now in
+    let new = g.W.Write.contents c.write_listing.new.out in
+    let same : session_told bytes_of input c.listing_field.result.now ≡ told = ap (session_told bytes_of input) c.listing_field.ensures in
+    on_ok_weaker c.write_listing.result
+    (λ written. answered who_listing_line optional_perms_in bytes_of words AreListed IsWhoListed input (Appends old new) rows c.in_ok-matches.ensures.fields
+    c.in_ok-matches.ensures.taken perms c.in_ok-perms.ensures.read listed are
+    (written.0, subst (λ bytes. TellsOfListing (TellsBlock directory perms) bytes written.0) same (told_of_listing directory perms (session_told bytes_of input c.listing_field.result.now) written.0 written.1), written.2))
+    c.write_listing.ensures.written
+
+pub returns-clause-cut : goal.returns-clause-cut
+returns-clause-cut g c =
+    let input = g.I.Read.remaining c.args.input.now in
+    let bytes_of = g.F.OpenFiles.bytes_of c.args.files.now in
+    let words = map g.S.AsStr.text c.args.words.now in
+    let rows = rows_of (found_of c.in_ok-matches.matches) in
+    let directory = c.in_ok-directory.directory in
+    let perms = option_map bits_of c.in_ok-perms.perms in
+    let opened = c.in_ok-directory.ensures.opened in
+    let told : Option (List ℕ) = session_told bytes_of input (listing_in rows) in
+    let listed : Listed = record { directory = directory; listing = told } in
+    let are : AreListed bytes_of input rows listed = record {
+      setup = opened.0;
+      setup_is = subst (λ name. IsTold (bytes_of name) opened.0) c.setup_field.ensures opened.2;
+      tree = opened.1;
+      opened = opened.3;
+      users = c.in_ok-directory.ensures.users;
+      listing_is = refl;
+    } in
+    let old = g.W.Write.contents c.args.out.now in
+    let new = g.W.Write.contents c.write_listing.new.out in
+    let same : session_told bytes_of input c.listing_field.result.now ≡ told = ap (session_told bytes_of input) c.listing_field.ensures in
+    on_err_weaker c.write_listing.result
+    (λ cut. inr (answered who_listing_line optional_perms_in bytes_of words AreListed IsWhoListedBegun input (AppendsFront old new) rows c.in_ok-matches.ensures.fields
+    c.in_ok-matches.ensures.taken perms c.in_ok-perms.ensures.read listed are
+    (cut.0, subst (λ bytes. TellsOfFront (TellsBlock directory perms) bytes cut.0) same (told_of_front directory perms (session_told bytes_of input c.listing_field.result.now) cut.0 cut.1), cut.2)))
+    c.write_listing.ensures.cut
+
+pub returns-clause-untouched : goal.returns-clause-untouched
+returns-clause-untouched g c none =
+    let rows = rows_of (found_of c.in_ok-matches.matches) in
+    c.write_listing.ensures.untouched
+    (ap (λ name. bytes_eq name (codes "-")) c.listing_field.ensures ∙ no_input rows (ap listing_inputs c.in_ok-matches.ensures.fields ∙ none))
+
+pub returns-clause-unread : goal.returns-clause-unread
+returns-clause-unread g c =
+    IfErr-weaker c.write_listing.result (IsNamedFault c.listing_field.result.now) _
+    (λ fault is two. absurd (named_not_two c.listing_field.result.now fault is two)) c.write_listing.ensures.refused
+
+pub returns-clause-refused : goal.returns-clause-refused
+returns-clause-refused g c =
+    let rows = rows_of (found_of c.in_ok-matches.matches) in
+    let words = map g.S.AsStr.text c.args.words.now in
+    let asks : Asks who_listing_line optional_perms_in words =
+    asks_of who_listing_line optional_perms_in words rows c.in_ok-matches.ensures.fields c.in_ok-matches.ensures.taken (option_map bits_of c.in_ok-perms.perms) c.in_ok-perms.ensures.read in
+    IfErr-weaker c.write_listing.result (IsNamedFault c.listing_field.result.now) _
+    (λ fault is. refused_for_listing who_listing_line optional_perms_in (g.F.OpenFiles.bytes_of c.args.files.now) words asks rows c.in_ok-matches.ensures.fields fault
+    (subst (λ name. IsNamedFault name fault) c.listing_field.ensures is))
+    c.write_listing.ensures.refused

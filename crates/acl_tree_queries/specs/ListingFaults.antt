@@ -1,0 +1,94 @@
+-- What is said of words that ask of a listing, and have no answer, or not all of it.
+use Rattle.std.specs.Prelude.{◌≡◌, ⊤, ℕ, List, [], ◌∷◌, Option, Result, Contains}
+use Rattle.clap.specs.Words.{App, Row, Text, fault_of, matches_of}
+use Rattle.std.specs.Borrow.{Bor}
+use Rattle.acl_listings.specs.declared.window.ReadFault.{ReadFault}
+use Rattle.acl_listings.specs.declared.window.ReadFault.TheVariants as read
+use Rattle.acl_queries.specs.ErrorOutput.{SaysFault}
+use Rattle.acl_queries.specs.Faults.{IsRefusedFor}
+use Rattle.acl_queries.specs.declared.command.query_fault.FieldFault.{FieldFault}
+use Rattle.acl_queries.specs.declared.command.run_fault.RunFault.TheVariants as run
+use Rattle.acl_service.specs.FilesFaults.{IsReadFault}
+use Rattle.acl_service.specs.RunWords.{IsTold, setup_in}
+use Rattle.acl_service.specs.TextsFaults.{IsRefusedBy}
+use Rattle.acl_service.specs.declared.files.FilesFault.{FilesFault}
+use Rattle.acl_service.specs.declared.files.FilesFault.TheVariants as files
+use Rattle.acl_tree_queries.specs.AnswerFaults.{IsLack}
+use Rattle.acl_tree_queries.specs.Listings.{listing_in}
+use Rattle.acl_tree_queries.specs.QuestionFaults.{Asks, IsTreesFault, question_line}
+use Rattle.acl_tree_queries.specs.QuestionFaults.{question_status}
+use Rattle.acl_tree_queries.specs.declared.blocks.BlocksFault.{BlocksFault}
+use Rattle.acl_tree_queries.specs.declared.blocks.BlocksFault.TheVariants as blocks
+use Rattle.acl_tree_queries.specs.declared.question.fault.QuestionFault.{QuestionFault}
+use Rattle.acl_tree_queries.specs.declared.question.fault.QuestionFault.TheVariants.{Words, Files}
+use Rattle.acl_tree_queries.specs.declared.question.fault.QuestionFault.TheVariants.{Setup, Run}
+use Rattle.acl_tree_queries.specs.declared.question.fault.QuestionFault.TheVariants.{LineTooLong}
+use Rattle.acl_tree_queries.specs.declared.question.fault.QuestionFault.TheVariants.{Unread}
+
+-- the setup or the listing is refused for this before anything is told: it can't be opened or read,
+-- or memory ran out
+abbrev pub IsListedFault : List Row → FilesFault → Type 0
+IsListedFault rows files.SessionCount = ⊥
+IsListedFault rows files.InputTwice = ⊥
+IsListedFault rows (files.CannotRead refused) =
+    Contains (setup_in rows ∷ listing_in rows ∷ []) refused.now
+IsListedFault rows files.Memory = ⊤
+
+-- what stops the answer about a listing
+abbrev pub blocks_fault_of_read : ReadFault → BlocksFault
+blocks_fault_of_read read.Read = blocks.Unread
+blocks_fault_of_read read.Memory = blocks.Run run.Memory
+
+abbrev pub blocks_lack_memory : BlocksFault
+blocks_lack_memory = blocks.Run run.Memory
+
+abbrev pub blocks_lack_output : BlocksFault
+blocks_lack_output = blocks.Run run.Output
+
+-- a read failed, or something lacks
+abbrev pub IsBlocksFault : BlocksFault → Type 0
+IsBlocksFault blocks.Unread = ⊤
+IsBlocksFault (blocks.Run fault) = IsLack fault
+
+-- as a fault of the words, where the listing has this name
+abbrev pub fault_of_blocks : Bor (List ℕ) → BlocksFault → QuestionFault
+fault_of_blocks name blocks.Unread = Unread name
+fault_of_blocks name (blocks.Run fault) = Run fault
+
+-- the setup of this name gives no directory for this: it can't be read, it opens nothing, or memory
+-- ran out
+abbrev pub IsDirectoryFault : (Text → Option (List ℕ)) → Text → QuestionFault → Type 0
+IsDirectoryFault bytes_of name (Files fault) = IsReadFault name fault
+IsDirectoryFault bytes_of name (Setup error) =
+    (bytes : List ℕ) × IsTold (bytes_of name) bytes × IsRefusedBy bytes error
+IsDirectoryFault bytes_of name (Run fault) = fault ≡ run.Memory
+IsDirectoryFault bytes_of name _ = ⊥
+
+-- what has this name is refused for this: it can't be opened, or fails while it is read, or
+-- something lacks
+abbrev pub IsNamedFault : Text → QuestionFault → Type 0
+IsNamedFault name (Files (files.CannotRead refused)) = refused.now ≡ name
+IsNamedFault name (Unread refused) = refused.now ≡ name
+IsNamedFault name (Run fault) = IsLack fault
+IsNamedFault name _ = ⊥
+
+-- the words have no answer for this: they are refused, or they ask, and a file can't be read, the
+-- setup opens nothing, the listing fails while it is read, or something lacks
+abbrev pub IsListingFault : {Q : Type 0} → App → (List Row → Result Q FieldFault)
+    → (Text → Option (List ℕ)) → List Text → QuestionFault → Type 0
+IsListingFault line asked_in bytes_of words (Words fault) =
+    IsRefusedFor (fault_of line words) (asked_in (matches_of line words)) fault
+IsListingFault line asked_in bytes_of words (Files fault) =
+    Asks line asked_in words × IsListedFault (matches_of line words) fault
+IsListingFault line asked_in bytes_of words (Setup error) =
+    Asks line asked_in words × IsTreesFault bytes_of (matches_of line words) (Setup error)
+IsListingFault line asked_in bytes_of words LineTooLong = ⊥
+IsListingFault line asked_in bytes_of words (Unread name) =
+    Asks line asked_in words × (name.now ≡ listing_in (matches_of line words))
+IsListingFault line asked_in bytes_of words (Run fault) = Asks line asked_in words × IsLack fault
+
+-- what is said of the words
+abbrev pub SaysOfListing : {Q : Type 0} → App → (List Row → Result Q FieldFault)
+    → (Text → Option (List ℕ)) → List Text → ℕ → Option (List ℕ) → Type 0
+SaysOfListing line asked_in bytes_of words =
+    SaysFault question_status question_line (IsListingFault line asked_in bytes_of words)

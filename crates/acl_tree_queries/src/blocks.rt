@@ -1,0 +1,173 @@
+//! What is told of each block of a listing, written piece by piece.
+ghost use Rattle.std.specs.Prelude.{◌≡◌, ◌++◌, ℕ, IfErr, List, OnErr, OnOk};
+ghost use Rattle.std.specs.Io.KnownBytes.{Appends, Keeps};
+ghost use Rattle.acl_listings.specs.Block.{path_of};
+ghost use Rattle.acl_listings.specs.Cursor.{coming};
+ghost use Rattle.acl_listings.specs.Listing.{Block as BlockValue};
+ghost use Rattle.acl_listings.specs.Views.{view_file};
+ghost use Rattle.acl_queries.specs.Output.{AppendsFront};
+ghost use Rattle.acl_tree_queries.specs.ListingFaults.{IsBlocksFault};
+ghost use Rattle.acl_tree_queries.specs.ListingText.{TellsOfBlocks, TellsOfFirstBlocks, fault_text};
+ghost use Rattle.acl_tree_queries.specs.ListingText.{node_of};
+
+use acl_listings::{BlockFault, Blocks, File, ReadFault, path_of};
+use acl_nfs4::Kind;
+use acl_queries::{RunFault, write_text};
+use acl_tree::{Node, NodeAcl};
+use itoa::Buffer;
+use std::alloc::{AllocError, Global};
+use std::io::{self, Read, Write};
+
+/// How many bytes are kept before they are written.
+const PIECE: usize = 65_536;
+
+/// What is told of a block.
+pub(crate) trait BlockText {
+    /// The text is what is told of the block.
+    ghost Tells: { Self → BlockValue → List ℕ → Type 0 };
+
+    /// Appends what is told of the block with this text, whose first line has this number. It fails
+    /// only if memory runs out.
+    fn push(
+        &self,
+        alloc: Global,
+        line: u64,
+        text: &[u8],
+        out: &mut Vec<u8>,
+    ) -> Result<(), AllocError>
+        ensures { OnOk result ((more : List ℕ)
+            × Tells self.now (record { line = line; text = text.now }) more
+            × (out.new.items ≡ out.old.items ++ more)) };
+}
+
+/// Why not all that is told of a listing is written.
+#[derive(Clone, Copy, Debug, PartialEq, Eq)]
+pub(crate) enum BlocksFault {
+    /// A read failed.
+    Unread,
+    /// Memory ran out, or a write failed.
+    Run(RunFault),
+}
+
+impl From<ReadFault> for BlocksFault {
+    ghost use Rattle.acl_tree_queries.specs.ListingFaults.{blocks_fault_of_read};
+
+    ghost from_gives = { λ fault becomes. becomes ≡ blocks_fault_of_read fault };
+
+    fn from(fault: ReadFault) -> BlocksFault {
+        match fault {
+            ReadFault::Read => BlocksFault::Unread,
+            ReadFault::Memory => BlocksFault::Run(RunFault::Memory),
+        }
+    }
+}
+
+impl From<AllocError> for BlocksFault {
+    ghost use Rattle.acl_tree_queries.specs.ListingFaults.{blocks_lack_memory};
+
+    ghost from_gives = { λ _ becomes. becomes ≡ blocks_lack_memory };
+
+    fn from(_refused: AllocError) -> BlocksFault {
+        BlocksFault::Run(RunFault::Memory)
+    }
+}
+
+impl From<io::Error> for BlocksFault {
+    ghost use Rattle.acl_tree_queries.specs.ListingFaults.{blocks_lack_output};
+
+    ghost from_gives = { λ _ becomes. becomes ≡ blocks_lack_output };
+
+    fn from(_failed: io::Error) -> BlocksFault {
+        BlocksFault::Run(RunFault::Output)
+    }
+}
+
+/// Writes what is told of each of the blocks to come, in their order and in pieces of some 64 KiB,
+/// as they are read.
+fn write_each<T: BlockText, R: Read + Drop, W: Write>(
+    alloc: Global,
+    teller: &T,
+    blocks: &mut Blocks<R>,
+    out: &mut W,
+) -> Result<(), BlocksFault>
+    ensures written { OnOk result ((text : List ℕ)
+        × TellsOfBlocks (T.Tells teller.now) blocks.old.coming text
+        × Appends (W.contents out.old) (W.contents out.new) text) }
+    ensures cut { OnErr result ((text : List ℕ)
+        × TellsOfFirstBlocks (T.Tells teller.now) blocks.old.coming text
+        × AppendsFront (W.contents out.old) (W.contents out.new) text) }
+    ensures refused { IfErr result IsBlocksFault }
+{
+    let mut text = Vec::new(alloc);
+    for _ in 0..u64::MAX {
+        if !blocks.advance()? {
+            write_text(text.as_slice(), out)?;
+            return Ok(());
+        }
+        teller.push(alloc, blocks.line(), blocks.text(), &mut text)?;
+        if text.len() >= PIECE {
+            write_text(text.as_slice(), out)?;
+            text.clear();
+        }
+    }
+    Err(BlocksFault::Unread)
+}
+
+/// Writes what is told of each block of the listing that the reader reads. If a read fails, memory
+/// runs out or a write fails, a front of what is told of the first blocks went out.
+pub(crate) fn write_blocks<T: BlockText, R: Read + Drop, W: Write>(
+    alloc: Global,
+    teller: &T,
+    reader: R,
+    out: &mut W,
+) -> Result<(), BlocksFault>
+    ensures written { OnOk result ((text : List ℕ)
+        × TellsOfBlocks (T.Tells teller.now) (coming 1 (R.remaining reader)) text
+        × Appends (W.contents out.old) (W.contents out.new) text) }
+    ensures cut { OnErr result ((text : List ℕ)
+        × TellsOfFirstBlocks (T.Tells teller.now) (coming 1 (R.remaining reader)) text
+        × AppendsFront (W.contents out.old) (W.contents out.new) text) }
+    ensures refused { IfErr result IsBlocksFault }
+{
+    let mut blocks = Blocks::new(alloc, reader)?;
+    write_each(alloc, teller, &mut blocks, out)
+}
+
+/// A listed file as a node.
+pub(crate) fn node_of(file: File<'_>) -> Node
+    ensures { result ≡ node_of (view_file file.entry) }
+{
+    Node {
+        kind: Kind::File,
+        owner: file.owner,
+        group: file.group,
+        acl: NodeAcl::Posix {
+            access: file.access,
+            default: None,
+        },
+    }
+}
+
+/// Appends the line of a block that doesn't read. It fails only if memory runs out.
+pub(crate) fn push_fault(
+    fault: BlockFault,
+    line: u64,
+    text: &[u8],
+    out: &mut Vec<u8>,
+) -> Result<(), AllocError>
+    ensures { OnOk result (out.new.items ≡ out.old.items
+        ++ fault_text fault line (path_of text.now)) }
+{
+    let mut buffer = Buffer::new();
+    out.extend_from_slice(b"fault ")?;
+    out.extend_from_slice(fault.word().as_bytes())?;
+    out.push(b' ')?;
+    out.extend_from_slice(buffer.format(line).as_bytes())?;
+    out.push(b' ')?;
+    match path_of(text) {
+        Some(path) => out.extend_from_slice(path)?,
+        None => out.push(b'-')?,
+    }
+    out.push(b'\n')?;
+    Ok(())
+}

@@ -1,0 +1,112 @@
+//! Tests of `who` of a listing.
+use crate::fixture::{Sheet, ask, ends};
+use std::test::Fail;
+
+/// A line for each file and each user, in the listing's order, and in their places the blocks that
+/// don't read.
+#[test]
+fn the_letters_of_each_user_with_each_file(rt: HostRuntime) {
+    let words = ["who", "--setup", "office", "--listing", "listing"];
+    let text =
+        "rw- alice srv/share/plan\nrw- bob srv/share/plan\n--- carol srv/share/plan\n--- root srv/share/plan\nfault unknown-name 10 srv/share/lost\nfault bad-acl 18 srv/share/bent\nfault bad-header 25 -\n--x alice srv/share/a dir\nrwx bob srv/share/a dir\n--x carol srv/share/a dir\n--x root srv/share/a dir\n";
+    assert!(rt; ends(rt.alloc(), &words, 0, text, ""));
+}
+
+#[test]
+fn those_who_may_write(rt: HostRuntime) {
+    let words = [
+        "who",
+        "--listing=listing",
+        "--setup",
+        "office",
+        "--perms",
+        "w",
+    ];
+    let text =
+        "alice srv/share/plan\nbob srv/share/plan\nfault unknown-name 10 srv/share/lost\nfault bad-acl 18 srv/share/bent\nfault bad-header 25 -\nbob srv/share/a dir\n";
+    assert!(rt; ends(rt.alloc(), &words, 0, text, ""));
+}
+
+/// A listing `-` is what standard input has.
+#[test]
+fn a_listing_from_standard_input(rt: HostRuntime) -> Result<(), Fail> {
+    let mut out = Vec::new(rt.alloc());
+    let mut input = Sheet::new(
+        "# file: a\n# owner: 1002\n# group: 70\nuser::r--\ngroup::---\nother::-w-",
+    );
+    let words = ["who", "--setup", "office", "--listing", "-"];
+    let (status, err) = ask(rt.alloc(), &words, &mut input, &mut out);
+    assert_eq!(rt; status, 0);
+    let text = "-w- alice a\n-w- bob a\nr-- carol a\n-w- root a\n";
+    assert!(rt; out.as_slice() == text.as_bytes());
+    assert!(rt; err.is_empty());
+    assert_eq!(rt; input.left(), 0);
+    Ok(())
+}
+
+/// A listing without blocks has no answer to give, and that is one.
+#[test]
+fn an_empty_listing(rt: HostRuntime) {
+    let words = ["who", "--setup", "office", "--listing", "empty"];
+    assert!(rt; ends(rt.alloc(), &words, 0, "", ""));
+}
+
+/// What is refused before the listing is read.
+const FAULTS: [(&[&str], u8, &str); 4] = [
+    (
+        &["who", "--setup", "absent", "--listing", "listing"],
+        1,
+        "aclctl: cannot read absent\n",
+    ),
+    (
+        &["who", "--setup", "office", "--listing", "absent"],
+        1,
+        "aclctl: cannot read absent\n",
+    ),
+    (
+        &["who", "--setup", "bad", "--listing", "listing"],
+        1,
+        "aclctl: setup: bad field\n",
+    ),
+    (
+        &[
+            "who",
+            "--setup",
+            "absent",
+            "--listing",
+            "listing",
+            "--perms",
+            "z",
+        ],
+        1,
+        "aclctl: bad-perms\n",
+    ),
+];
+
+#[test]
+fn faults_of_files_and_fields(rt: HostRuntime) {
+    for (words, status, fault) in FAULTS {
+        assert!(rt; ends(rt.alloc(), words, status, "", fault), "{fault}");
+    }
+}
+
+/// A session besides a listing is refused by the parser of command lines, before anything is read.
+#[test]
+fn a_listing_and_a_session(rt: HostRuntime) -> Result<(), Fail> {
+    let mut out = Vec::new(rt.alloc());
+    let mut input = Sheet::new("# file: a\n");
+    let words = ["who", "--setup", "office", "--listing", "-", "alice"];
+    let (status, err) = ask(rt.alloc(), &words, &mut input, &mut out);
+    assert_eq!(rt; status, 2);
+    assert!(rt; out.is_empty());
+    assert!(rt; !err.is_empty());
+    assert_eq!(rt; input.left(), 10);
+    Ok(())
+}
+
+/// After `--` the option's name is a session's.
+#[test]
+fn a_session_of_that_name(rt: HostRuntime) {
+    let words = ["who", "--setup", "office", "--", "--listing"];
+    assert!(rt; ends(rt.alloc(), &words, 1, "", "aclctl: cannot read --listing\n"));
+}
