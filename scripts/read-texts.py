@@ -16,45 +16,14 @@ import re
 import sys
 from pathlib import Path
 
-USERS, GROUPS, DOMAIN = {"root", "alice", "bob", "carol"}, {"root", "staff", "ops", "guest"}, "example.org"
+from texts import entry, fields, pieces, qualifier
+
+USERS = {"root": 0, "alice": 1000, "bob": 1001, "carol": 1002}
+GROUPS = {"root": 0, "staff": 50, "ops": 60, "guest": 70}
+DOMAIN = "example.org"
 MODE_SET = b"A::OWNER@:rwatTcC,A::bob@example.org:rwa,A:g:ops@example.org:r,A::EVERYONE@:r"
 LONG_FORMS = b"user : : rwx , g::r-x\nmask:rwx # all\nother:r"
 BYTES = (None, 0, ord(":"), ord(","), ord("#"), ord("\n"), 0x80)
-
-
-def pieces(text):
-    for line in text.split(b"\n"):
-        line = line.split(b"#")[0].strip(b" \t")
-        if line:
-            yield from (piece.strip(b" \t") for piece in line.split(b","))
-
-
-def fields(piece):
-    return [field.strip(b" \t") for field in piece.split(b":")]
-
-
-def qualifier(text, names):
-    """None if it is neither a decimal nor a name; else whether it is known."""
-    if re.fullmatch(rb"[0-9]{1,10}", text):
-        return True if int(text) <= 4294967294 else None
-    if re.fullmatch(rb"[A-Za-z_][A-Za-z0-9._-]{0,31}", text):
-        return text.decode() in names
-    return None
-
-
-def entry(piece):
-    tag, *rest = fields(piece)
-    named = {b"user": USERS, b"u": USERS, b"group": GROUPS, b"g": GROUPS}
-    if tag in named and len(rest) == 2:
-        known = True if rest[0] == b"" else qualifier(rest[0], named[tag])
-    elif tag in (b"mask", b"m", b"other", b"o") and (len(rest) == 1 or len(rest) == 2 and rest[0] == b""):
-        known = True
-    else:
-        return "S"
-    perms = rest[-1]
-    if not re.fullmatch(rb"[rwx-]{1,3}", perms) or any(perms.count(it) > 1 for it in b"rwx"):
-        return "S"
-    return "S" if known is None else "" if known else "U"
 
 
 def each_once(letters, table):
@@ -76,12 +45,19 @@ def ace(piece):
         shaped = re.fullmatch(rb"[a-z0-9.-]{1,255}", domain) and re.fullmatch(rb"[A-Za-z_][A-Za-z0-9._-]{0,31}", name)
         known = None if not shaped else domain.decode() == DOMAIN and name.decode() in names
     else:
-        known = qualifier(who, names)
+        found = qualifier(who, names)
+        known = None if found == "S" else found != "U"
     if known is None:
         return "S"
     if not known:
         return "U"
     return "I" if b"i" in flags and b"f" not in flags and b"d" not in flags else ""
+
+
+def entry_fault(piece):
+    """The fault of a piece as a POSIX entry, if it has one."""
+    read = entry(piece, USERS, GROUPS)
+    return read if isinstance(read, str) else ""
 
 
 def outcome(read, text):
@@ -98,7 +74,7 @@ TESTS = Path(__file__).resolve().parent.parent / "crates/tests_lists/src"
 # The readers of both styles: how a piece is read, the folder of the tests, the text of this
 # style, and that of the other.
 STYLES = {
-    "POSIX": (entry, "posix", LONG_FORMS, MODE_SET),
+    "POSIX": (entry_fault, "posix", LONG_FORMS, MODE_SET),
     "NFSv4": (ace, "nfs4", MODE_SET, LONG_FORMS),
 }
 

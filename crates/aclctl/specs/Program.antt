@@ -3,6 +3,8 @@ use Rattle.std.specs.Prelude.{◌≡◌, ◌≤◌, ℕ, ◌⊎◌, ◌++◌, Li
 use Rattle.std.specs.Prelude.{if◌then◌else◌, bytes_eq}
 use Rattle.std.specs.Io.KnownBytes.{Appends, IsAtEnd, Keeps}
 use Rattle.acl_names.specs.Bytes.{newline}
+use Rattle.acl_lint.specs.LintAnswer.{AnswersLint, lint_inputs}
+use Rattle.acl_lint.specs.LintFaults.{SaysLint}
 use Rattle.acl_queries.specs.CompareOutcome.{EndsAsCompared, IsCompareFaultOf, IsCutShort}
 use Rattle.acl_queries.specs.ErrorOutput.{SaysFault}
 use Rattle.acl_queries.specs.ExplainOutcome.{EndsAsExplained, IsExplainFaultOf}
@@ -17,7 +19,7 @@ use Rattle.acl_service.specs.RunWords.{RunsWords, input_count, run_rows, session
 use Rattle.acl_tree_queries.specs.DumpAnswer.{AnswersDump, BeginsDump, SaysDump, dump_inputs}
 use Rattle.acl_tree_queries.specs.ImpactAnswer.{AnswersImpact, BeginsImpact, SaysImpact}
 use Rattle.acl_tree_queries.specs.ImpactAnswer.{impact_inputs}
-use Rattle.acl_tree_queries.specs.WhoAnswer.{AnswersWho, BeginsWho, SaysWho, who_inputs}
+use Rattle.acl_tree_queries.specs.WhoWords.{AnswersWho, BeginsWho, SaysWho, who_inputs}
 use Rattle.aclctl.specs.Fault.{fault_line, program_line, status_of}
 use Rattle.aclctl.specs.Input.{AreWordsOf, IsInputFault}
 use Rattle.aclctl.specs.declared.fault.ProgramFault.{ProgramFault}
@@ -41,6 +43,7 @@ pub data Command : Type 0 where
   Who : Command
   Impact : Command
   Dump : Command
+  Lint : Command
   Help : Command
   Version : Command
 
@@ -54,8 +57,9 @@ command_of name =
     else (if bytes_eq name (codes "who") then Some Who
     else (if bytes_eq name (codes "impact") then Some Impact
     else (if bytes_eq name (codes "dump") then Some Dump
+    else (if bytes_eq name (codes "lint") then Some Lint
     else (if bytes_eq name (codes "--help") then Some Help
-    else (if bytes_eq name (codes "--version") then Some Version else None))))))))
+    else (if bytes_eq name (codes "--version") then Some Version else None)))))))))
 
 -- what `--version` prints
 abbrev pub version_text : List ℕ
@@ -67,6 +71,7 @@ inputs_of (Some Run) words = input_count (sessions_in (run_rows words))
 inputs_of (Some Who) words = who_inputs words
 inputs_of (Some Impact) words = impact_inputs words
 inputs_of (Some Dump) words = dump_inputs words
+inputs_of (Some Lint) words = lint_inputs words
 inputs_of (Some Decide) words = 0
 inputs_of (Some Explain) words = 0
 inputs_of (Some Compare) words = 0
@@ -101,6 +106,8 @@ EndsAsCommand files input (Some Impact) words old new status =
     EndsWith (AnswersImpact files input words) old new status
 EndsAsCommand files input (Some Dump) words old new status =
     EndsWith (AnswersDump files input words) old new status
+EndsAsCommand files input (Some Lint) words old new status =
+    EndsWith (AnswersLint files input words) old new status
 EndsAsCommand files input (Some Help) words old new status =
     EndsAs (record { status = 0; text = HELP.now }) old new status
 EndsAsCommand files input (Some Version) words old new status =
@@ -138,6 +145,8 @@ IsCommandCutShort files input (Some Impact) words old new = Keeps old new
     ⊎ BeginsImpact files input words (AppendsFront old new)
 IsCommandCutShort files input (Some Dump) words old new = Keeps old new
     ⊎ BeginsDump files input words (AppendsFront old new)
+IsCommandCutShort files input (Some Lint) words old new = Keeps old new
+    ⊎ AnswersLint files input words (AppendsFront old new)
 IsCommandCutShort files input (Some Help) words old new = AppendsFront old new HELP.now
 IsCommandCutShort files input (Some Version) words old new = AppendsFront old new version_text
 IsCommandCutShort files input None words old new = ⊥
@@ -174,6 +183,7 @@ SaysCommand files input (Some Run) words = SaysRun files words
 SaysCommand files input (Some Who) words = SaysWho files input words
 SaysCommand files input (Some Impact) words = SaysImpact files input words
 SaysCommand files input (Some Dump) words = SaysDump files input words
+SaysCommand files input (Some Lint) words = SaysLint words
 SaysCommand files input (Some Help) words = SaysLostOutput
 SaysCommand files input (Some Version) words = SaysLostOutput
 SaysCommand files input None words = SaysNoCommand

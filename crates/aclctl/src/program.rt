@@ -7,6 +7,7 @@ ghost use Rattle.aclctl.specs.Program.{SaysFrom, SaysWords, inputs_named};
 
 use crate::help::{print_help, print_version, report_no_command};
 use crate::input::command_words;
+use acl_lint::lint;
 use acl_service::{ErrorOutput, OpenFiles, compare, decide, explain, report};
 use acl_tree_queries::{dump, impact, who};
 use std::alloc::Global;
@@ -17,7 +18,7 @@ use std::thread::Threads;
 use std::time::Clock;
 
 /// Runs the command that the first word names (`decide`, `explain`, `compare`, `run`, `who`,
-/// `impact`, `dump`, `--help`, `--version`).
+/// `impact`, `dump`, `lint`, `--help`, `--version`).
 /// It returns the exit status: that of the command; 2 if the first word names none, and the
 /// commands go to `err`. At 3 (out of memory, a thread refused, a write failed, or the run stopped)
 /// nothing or a front of the output went out.
@@ -68,6 +69,7 @@ where
             impact(alloc, files, words, input, out, err)
         }
         Some(first) if first.as_str() == "dump" => dump(alloc, files, words, input, out, err),
+        Some(first) if first.as_str() == "lint" => lint(alloc, files, words, input, out, err),
         Some(first) if first.as_str() == "--help" => print_help(out, err),
         Some(first) if first.as_str() == "--version" => print_version(out, err),
         Some(first) => report_no_command(alloc, Some(first.as_str()), err),

@@ -1,5 +1,6 @@
 use Rattle.std.proofs.Common.{arith, map}
 use Rattle.std.proofs.lemmas.Grind.{common_steps}
+use Rattle.acl_lint.specs.LintAnswer.{AnswersLint}
 use Rattle.acl_tree_queries.specs.DumpAnswer.{AnswersDump}
 use Rattle.acl_tree_queries.specs.ImpactAnswer.{AnswersImpact}
 use Rattle.aclctl.specs.Program.{EndsWith}
@@ -83,7 +84,14 @@ pub returns-in-Some-7-clause-told : goal.returns-in-Some-7-clause-told
 returns-in-Some-7-clause-told g c = grind (arith, common_steps)
 
 pub returns-in-Some-8-clause-ended : goal.returns-in-Some-8-clause-ended
-returns-in-Some-8-clause-ended g c = grind (arith, common_steps)
+returns-in-Some-8-clause-ended g c ended =
+    let words = map g.S.AsStr.text c.args.words.now in
+    let files = g.F.OpenFiles.bytes_of c.args.files.now in
+    let old = g.W.Write.contents c.args.out.now in
+    let new = g.W.Write.contents c.lint.new.out in
+    let ends : EndsWith (AnswersLint files (g.I.Read.remaining c.args.input.now) words) old new c.lint.result =
+    record { printed = c.lint.ensures.answered; silent = c.lint.ensures.silent } in
+    grind (arith, common_steps, ends)
 
 pub returns-in-Some-8-clause-cut : goal.returns-in-Some-8-clause-cut
 returns-in-Some-8-clause-cut g c = grind (arith, common_steps)
@@ -91,11 +99,26 @@ returns-in-Some-8-clause-cut g c = grind (arith, common_steps)
 pub returns-in-Some-8-clause-told : goal.returns-in-Some-8-clause-told
 returns-in-Some-8-clause-told g c = grind (arith, common_steps)
 
+pub returns-in-Some-9-clause-ended : goal.returns-in-Some-9-clause-ended
+returns-in-Some-9-clause-ended g c = grind (arith, common_steps)
+
+pub returns-in-Some-9-clause-cut : goal.returns-in-Some-9-clause-cut
+returns-in-Some-9-clause-cut g c = grind (arith, common_steps)
+
 pub returns-in-Some-9-clause-told : goal.returns-in-Some-9-clause-told
 returns-in-Some-9-clause-told g c = grind (arith, common_steps)
 
 pub returns-in-Some-10-clause-ended : goal.returns-in-Some-10-clause-ended
 returns-in-Some-10-clause-ended g c = grind (arith, common_steps)
 
+pub returns-in-Some-10-clause-cut : goal.returns-in-Some-10-clause-cut
+returns-in-Some-10-clause-cut g c = grind (arith, common_steps)
+
 pub returns-in-Some-10-clause-told : goal.returns-in-Some-10-clause-told
 returns-in-Some-10-clause-told g c = grind (arith, common_steps)
+
+pub returns-in-Some-11-clause-ended : goal.returns-in-Some-11-clause-ended
+returns-in-Some-11-clause-ended g c = grind (arith, common_steps)
+
+pub returns-in-Some-11-clause-told : goal.returns-in-Some-11-clause-told
+returns-in-Some-11-clause-told g c = grind (arith, common_steps)

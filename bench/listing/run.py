@@ -1,0 +1,98 @@
+#!/usr/bin/env python3
+"""Times `who` of a listing of a million files by one user, by the built program, and tells the most memory that it took.
+
+    bench/listing/run.py [TIMES [FILES]]
+
+The listing is as `getfacl -R` prints it, some 100 bytes a file: files of folders that share a list of their own, as on a share,
+and, as another listing, each file with another list. Before a time is taken the answer is looked at: how many lines it has.
+Each work is done TIMES times in turn (5, unless told), the listing read from a file, and the least and the middle milliseconds
+are printed, the start of the program among them.
+"""
+import os
+import statistics
+import subprocess
+import sys
+import tempfile
+import time
+
+TOP = os.path.dirname(os.path.dirname(os.path.dirname(os.path.realpath(__file__))))
+PROGRAM = f"{TOP}/crates/aclctl/out/aclctl"
+FILES_OF_FOLDER = 50
+SETUP = """\
+domain = "example.org"
+umask = "022"
+root = { owner = "ann", group = "staff", mode = "755", style = "posix" }
+user = [ { name = "ann", uid = 1000, groups = ["staff", "ops"] } ]
+group = [ { name = "staff", gid = 50 }, { name = "ops", gid = 60 } ]
+"""
+
+
+def block(place, variant):
+    """The block of a file, as `getfacl -Rn` prints it: of some 120 bytes."""
+    perms = ("rwx", "rw-", "r--", "r-x", "---")
+    head = f"# file: srv/share/{place // FILES_OF_FOLDER}/report-{place}.txt\n# owner: {1000 + variant % 7}\n# group: 50\n"
+    return f"{head}user::rw-\ngroup::{perms[variant % 5]}\ngroup:60:{perms[variant // 5 % 5]}\nmask::rwx\nother::---\n\n"
+
+
+def write_listing(path, files, variant_of):
+    with open(path, "w") as file:
+        for start in range(0, files, 10_000):
+            places = range(start, min(files, start + 10_000))
+            file.write("".join(block(place, variant_of(place)) for place in places))
+
+
+def milliseconds(words):
+    """How long the program takes."""
+    begun = time.monotonic()
+    subprocess.run([PROGRAM, *words], stdin=subprocess.DEVNULL, stdout=subprocess.DEVNULL, check=True)
+    return (time.monotonic() - begun) * 1000
+
+
+def most_memory(words):
+    """The most memory that the program takes, in MiB, as the system tells it while the program runs."""
+    most = 0
+    asked = subprocess.Popen([PROGRAM, *words], stdin=subprocess.DEVNULL, stdout=subprocess.DEVNULL)
+    while asked.poll() is None:
+        with open(f"/proc/{asked.pid}/status") as status:
+            most = max([most, *(int(it.split()[1]) for it in status if it.startswith("VmHWM:"))])
+        time.sleep(0.01)
+    return most / 1024
+
+
+def lines_of(words):
+    """How many lines the answer has."""
+    asked = subprocess.Popen([PROGRAM, *words], stdin=subprocess.DEVNULL, stdout=subprocess.PIPE)
+    count = sum(piece.count(b"\n") for piece in iter(lambda: asked.stdout.read(1 << 20), b""))
+    return count if asked.wait() == 0 else -1
+
+
+def main():
+    times = int((sys.argv[1:] + ["5"])[0])
+    files = int((sys.argv[2:] + ["1000000"])[0])
+    with tempfile.TemporaryDirectory() as folder:
+        setup, shared, each = (f"{folder}/{it}" for it in ("setup.toml", "shared", "each"))
+        with open(setup, "w") as file:
+            file.write(SETUP)
+        write_listing(shared, files, lambda place: place // FILES_OF_FOLDER)
+        write_listing(each, files, lambda place: place)
+        works = {
+            "files of a folder with one list, letters": ("who", "--setup", setup, "--listing", shared),
+            "the same, --perms w": ("who", "--setup", setup, "--perms", "w", "--listing", shared),
+            "each file with another list than the one before": ("who", "--setup", setup, "--listing", each),
+        }
+        for name in (shared, each):
+            if lines_of(("who", "--setup", setup, "--listing", name)) != files:
+                sys.exit("bench/listing: another number of lines than files")
+        taken = {name: [] for name in works}
+        for _ in range(times):
+            for name, words in works.items():
+                taken[name].append(milliseconds(words))
+        most = max(most_memory(words) for words in works.values())
+        size = os.path.getsize(shared) / 1e6
+        print(f"{files} files, {size:.0f} MB, one user; milliseconds, least and middle of {times}; at most {most:.1f} MiB")
+        for name, its in taken.items():
+            print(f"| {name} | {min(its):.1f} | {statistics.median(its):.1f} |")
+
+
+if __name__ == "__main__":
+    main()
