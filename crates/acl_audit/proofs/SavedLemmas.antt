@@ -33,7 +33,7 @@ use Rattle.acl_tree.specs.declared.request.Request.{Request}
 use Rattle.acl_tree.specs.declared.request.Request.TheVariants.{SetDefault}
 use Rattle.acl_tree.proofs.FileLaws.{keeps_files_without_default}
 use Rattle.acl_tree.proofs.TreeLaws.{files_never_have_a_default, nodes_stay}
-use Rattle.acl_audit.specs.Saved.{FilesInheritNothing, SavedListsComeBack, listing, lists_of, or_else}
+use Rattle.acl_audit.specs.Saved.{FilesInheritNothing, SavedListsComeBack, saved_lists, lists_of, or_else}
 use Rattle.acl_audit.proofs.QuietLemmas.{files_inherit_nothing}
 
 -- ---- paths in their order
@@ -176,7 +176,7 @@ abbrev IsBase : Option Node → Node → Type 0
 IsBase found node = IsSomeAnd found (λ base. KeepsKindAndOwners node base × HasNoDefaultOnFile base)
 
 entry-put : (directory : Known) (tree : NodesUnderUmask) (path : List ℕ) (node : Node) (found : Option Node) → map.get tree.nodes path ≡ found
-    → IsReady node → IsBase found node → IsPut tree path node (after_all directory tree (listing (path, node)))
+    → IsReady node → IsBase found node → IsPut tree path node (after_all directory tree (saved_lists (path, node)))
 entry-put directory tree path node None there ready base = absurd base
 entry-put directory tree path node (Some was) there ready (keeps, none) =
     let as_is : was ≡ node_of node.kind node.owner node.group was.acl =
@@ -207,13 +207,13 @@ module _ (directory : Known) where
 
   all-put : (es : List Entry) (tree : NodesUnderUmask) → ascend es ≡ true → AllByRecursion (λ e. IsReady e.1) es
       → AllByRecursion (λ e. IsBase (map.get tree.nodes e.0) e.1) es → (q : List ℕ)
-      → map.get (after_all directory tree (flat_map listing es)).nodes q ≡ or_else (found_in q es) (map.get tree.nodes q)
+      → map.get (after_all directory tree (flat_map saved_lists es)).nodes q ≡ or_else (found_in q es) (map.get tree.nodes q)
   all-put [] tree up ready bases q = refl
   all-put (e ∷ es) tree up (here, ready) (base, bases) q =
-      let first : NodesUnderUmask = after_all directory tree (listing e) in
+      let first : NodesUnderUmask = after_all directory tree (saved_lists e) in
       let is : IsPut tree e.0 e.1 first = entry-put directory tree e.0 e.1 (map.get tree.nodes e.0) refl here base in
       let below : below_all e.0 es ≡ true = and_left _ _ up in
-      ap (λ (t : NodesUnderUmask). map.get t.nodes q) (fold-append (next directory) tree (listing e) (flat_map listing es))
+      ap (λ (t : NodesUnderUmask). map.get t.nodes q) (fold-append (next directory) tree (saved_lists e) (flat_map saved_lists es))
       ∙ all-put es first (and_right _ _ up) ready (still tree first e.0 e.1 is es below bases) q
       ∙ ap (λ (other : Option Node). or_else (found_in q es) other) (is.at q)
       ∙ last q e es (map.get tree.nodes q) below

@@ -22,12 +22,12 @@ lists_of path Dir (Posix access default) = SetAccess path access ∷ SetDefault 
 lists_of path File (Posix access default) = SetAccess path access ∷ []
 lists_of path _ (Nfs4 acl) = SetNfs4 path acl ∷ []
 
-abbrev pub listing : List ℕ × Node → List Request
-listing entry = lists_of entry.0 entry.1.kind entry.1.acl
+abbrev pub saved_lists : List ℕ × Node → List Request
+saved_lists entry = lists_of entry.0 entry.1.kind entry.1.acl
 
 -- those of each node, in the order of the paths
 abbrev pub saved : NodesUnderUmask → List Request
-saved tree = flat_map listing (map.entries tree.nodes)
+saved tree = flat_map saved_lists (map.entries tree.nodes)
 
 -- no file has a list with an entry that something would inherit
 abbrev pub FilesInheritNothing : NodesUnderUmask → Type 0

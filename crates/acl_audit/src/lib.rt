@@ -17,5 +17,5 @@ pub use dump::{close, push_creation, push_lists};
 pub use impact::{Impact, impact_at, impact_of, impact_on, requesters_of};
 pub use laws::{dump_laws, impact_laws, letter_laws, saved_laws};
 pub use letters::effective;
-pub use saved::push_listing;
+pub use saved::push_saved;
 pub use who::{push_letters, push_those_who_may};

@@ -44,7 +44,7 @@ pub(crate) fn set_nfs4(alloc: Global, path: &Path, acl: &Acl4) -> Result<Request
 
 /// Appends the commands that give the node at the path the lists that it has now, whatever they
 /// become: a directory's default list too, or none. It fails only if memory runs out.
-pub fn push_listing(
+pub fn push_saved(
     alloc: Global,
     path: &Path,
     node: &Node,
