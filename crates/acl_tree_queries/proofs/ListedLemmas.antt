@@ -1,12 +1,20 @@
--- A block is told alike as it is handed out, where one that is too long is cut, and as it stands.
+-- What is told of a listing: of a block alike as it is handed out, where one that is too long is cut, and as it stands.
 use Rattle.std.proofs.Common.{◌≡◌, ◌∙◌, ℕ, List, [], ◌∷◌, Option, Some, None, Result, Ok, Err, ap, map as each, refl, subst, take}
 use Rattle.std.proofs.lemmas.List.{take-map}
+use Rattle.std.specs.Cmp.Lexicographic.{slice_cmp}
+use Rattle.std.specs.Ordering.{nat_cmp}
+use Rattle.clap.specs.Words.{Row, Text}
+use Rattle.acl_names.specs.Ascending.{IsAscending}
 use Rattle.acl_names.specs.Directory.{Known}
 use Rattle.acl_listings.specs.Block.{FileValue, file_of}
 use Rattle.acl_listings.specs.Cursor.{coming, handed}
 use Rattle.acl_listings.specs.Listing.{Block, blocks_of}
 use Rattle.acl_listings.specs.declared.fault.BlockFault.{BlockFault}
 use Rattle.acl_listings.proofs.HandedLemmas.{file-handed, path-handed}
+use Rattle.acl_service.specs.Opened.{Opens}
+use Rattle.acl_service.specs.RunWords.{IsTold, session_told, setup_in}
+use Rattle.acl_tree.specs.Tree.{NodesUnderUmask}
+use Rattle.acl_tree_queries.specs.Listings.{AreListed, listing_in}
 use Rattle.acl_tree_queries.specs.ListingText.{TellsOfBlocks, TellsOfFirstBlocks, TellsOfFront, TellsOfListing, fault_text}
 use Rattle.acl_tree_queries.specs.Nodes.{TellsOfEach, TellsOfFirst}
 use Rattle.acl_tree_queries.specs.WhoListing.{TellsBlock, text_of_file}
@@ -42,3 +50,17 @@ module _ (known : Known) (perms : Option ℕ) where
   pub told_of_front : (told : Option (List ℕ)) (text : List ℕ) → TellsOfFirstBlocks Tells (coming 1 told) text → TellsOfFront Tells told text
   told_of_front None text tells = tt
   told_of_front (Some listing) text tells = first_means handed Tells Tells told_handed (blocks_of listing) text tells
+
+-- what the files give that the words name: who there is, and what is told of the listing
+pub given_by : (bytes_of : Text → Option (List ℕ)) (input : Option (List ℕ)) (rows : List Row) (directory : Known) (name : Text) → name ≡ setup_in rows
+    → (setup : List ℕ) × (tree : NodesUnderUmask) × IsTold (bytes_of name) setup × Opens setup directory tree
+    → IsAscending (slice_cmp nat_cmp) (λ user. user.name) directory.users
+    → AreListed bytes_of input rows (record { directory = directory; listing = session_told bytes_of input (listing_in rows) })
+given_by bytes_of input rows directory name is (setup, tree, told, opened) users = record {
+  setup = setup;
+  setup_is = subst (λ name. IsTold (bytes_of name) setup) is told;
+  tree = tree;
+  opened = opened;
+  users = users;
+  listing_is = refl;
+}

@@ -1,6 +1,7 @@
 //! Queries of whole trees, from the words of a command line to what is printed: who may do what
 //! (`who`), who gains or loses what by a session (`impact`), and the session that makes a tree
-//! again (`dump`). A tree is that of a setup, or what sessions leave on it.
+//! again (`dump`). A tree is that of a setup, or what sessions leave on it. `who` is asked of the
+//! real files of a listing, too.
 #![tactic(auto)]
 
 mod blocks;

@@ -1,18 +1,18 @@
-use Rattle.std.proofs.Common.{◌≡◌, ◌∙◌, ℕ, List, Option, ap, bytes_eq, codes, inr, map, option_map, refl, subst}
+use Rattle.std.proofs.Common.{◌≡◌, ◌∙◌, ℕ, List, Option, ap, bytes_eq, codes, inr, map, option_map, subst}
 use Rattle.std.specs.Io.KnownBytes.{Appends}
 use Rattle.std.proofs.lemmas.Result.{IfErr-weaker, on_err_weaker, on_ok_weaker}
 use Rattle.clap.specs.Words.{found_of, rows_of}
 use Rattle.acl_posix.specs.Perms.{bits_of}
 use Rattle.acl_queries.specs.Asked.{optional_perms_in}
 use Rattle.acl_queries.specs.Output.{AppendsFront}
-use Rattle.acl_service.specs.RunWords.{IsTold, session_told}
+use Rattle.acl_service.specs.RunWords.{session_told}
 use Rattle.acl_tree_queries.specs.Listings.{AreListed, Listed, listing_in, listing_inputs}
 use Rattle.acl_tree_queries.specs.ListingFaults.{IsNamedFault}
 use Rattle.acl_tree_queries.specs.QuestionFaults.{Asks}
 use Rattle.acl_tree_queries.specs.ListingText.{TellsOfFront, TellsOfListing}
 use Rattle.acl_tree_queries.specs.WhoListing.{IsWhoListed, IsWhoListedBegun, TellsBlock}
 use Rattle.acl_tree_queries.specs.WhoListingLine.{who_listing_line}
-use Rattle.acl_tree_queries.proofs.ListedLemmas.{told_of_front, told_of_listing}
+use Rattle.acl_tree_queries.proofs.ListedLemmas.{given_by, told_of_front, told_of_listing}
 use Rattle.acl_tree_queries.proofs.ListingFaultLemmas.{asks_of, named_not_two, no_input, refused_for_listing}
 use Rattle.acl_tree_queries.proofs.QuestionsLemmas.{answered}
 use Rattle.acl_tree_queries.proofs.who_command.listing.answer.Goals as goal
@@ -25,17 +25,10 @@ returns-clause-answered g c =
     let rows = rows_of (found_of c.in_ok-matches.matches) in
     let directory = c.in_ok-directory.directory in
     let perms = option_map bits_of c.in_ok-perms.perms in
-    let opened = c.in_ok-directory.ensures.opened in
     let told : Option (List ℕ) = session_told bytes_of input (listing_in rows) in
     let listed : Listed = record { directory = directory; listing = told } in
-    let are : AreListed bytes_of input rows listed = record {
-      setup = opened.0;
-      setup_is = subst (λ name. IsTold (bytes_of name) opened.0) c.setup_field.ensures opened.2;
-      tree = opened.1;
-      opened = opened.3;
-      users = c.in_ok-directory.ensures.users;
-      listing_is = refl;
-    } in
+    let are : AreListed bytes_of input rows listed =
+    given_by bytes_of input rows directory c.setup_field.result.now c.setup_field.ensures c.in_ok-directory.ensures.opened c.in_ok-directory.ensures.users in
     let old = g.W.Write.contents c.args.out.now in
     let new = g.W.Write.contents c.write_listing.new.out in
     let same : session_told bytes_of input c.listing_field.result.now ≡ told = ap (session_told bytes_of input) c.listing_field.ensures in
@@ -53,17 +46,10 @@ returns-clause-cut g c =
     let rows = rows_of (found_of c.in_ok-matches.matches) in
     let directory = c.in_ok-directory.directory in
     let perms = option_map bits_of c.in_ok-perms.perms in
-    let opened = c.in_ok-directory.ensures.opened in
     let told : Option (List ℕ) = session_told bytes_of input (listing_in rows) in
     let listed : Listed = record { directory = directory; listing = told } in
-    let are : AreListed bytes_of input rows listed = record {
-      setup = opened.0;
-      setup_is = subst (λ name. IsTold (bytes_of name) opened.0) c.setup_field.ensures opened.2;
-      tree = opened.1;
-      opened = opened.3;
-      users = c.in_ok-directory.ensures.users;
-      listing_is = refl;
-    } in
+    let are : AreListed bytes_of input rows listed =
+    given_by bytes_of input rows directory c.setup_field.result.now c.setup_field.ensures c.in_ok-directory.ensures.opened c.in_ok-directory.ensures.users in
     let old = g.W.Write.contents c.args.out.now in
     let new = g.W.Write.contents c.write_listing.new.out in
     let same : session_told bytes_of input c.listing_field.result.now ≡ told = ap (session_told bytes_of input) c.listing_field.ensures in
