@@ -6,4 +6,5 @@ pub mod StepsLemmas
 pub mod CursorLemmas
 pub mod LineLemmas
 pub mod HandedLemmas
+pub mod PathLemmas
 pub mod PrintedLemmas

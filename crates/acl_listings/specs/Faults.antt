@@ -6,6 +6,7 @@ use Rattle.acl_posix.specs.declared.entries.TextFault.{TextFault}
 use Rattle.acl_posix.specs.declared.entries.TextFault.TheVariants as text
 use Rattle.acl_listings.specs.declared.fault.BlockFault.{BlockFault}
 use Rattle.acl_listings.specs.declared.fault.BlockFault.TheVariants.{TooLong, BadHeader}
+use Rattle.acl_listings.specs.declared.fault.BlockFault.TheVariants.{RepeatedPath}
 use Rattle.acl_listings.specs.declared.fault.BlockFault.TheVariants.{UnknownOwner, UnknownGroup}
 use Rattle.acl_listings.specs.declared.fault.BlockFault.TheVariants.{BadAcl, UnknownName, TooMany}
 use Rattle.acl_listings.specs.declared.fault.BlockFault.TheVariants.{InvalidAcl}
@@ -15,6 +16,7 @@ use Rattle.acl_listings.specs.declared.fault.FileFault.TheVariants.{Block, Memor
 abbrev pub fault_word : BlockFault → List ℕ
 fault_word TooLong = codes "too-long"
 fault_word BadHeader = codes "bad-header"
+fault_word RepeatedPath = codes "repeated-path"
 fault_word UnknownOwner = codes "unknown-name"
 fault_word UnknownGroup = codes "unknown-name"
 fault_word BadAcl = codes "bad-acl"

@@ -14,6 +14,8 @@ pub enum BlockFault {
     TooLong,
     /// Its first three lines aren't those of a file, its owner and its group.
     BadHeader,
+    /// A block before it has its path, where a path counts once.
+    RepeatedPath,
     /// The owner's name is one that the directory lacks.
     UnknownOwner,
     /// The group's name is one that the directory lacks.
@@ -38,6 +40,7 @@ impl BlockFault {
         match self {
             BlockFault::TooLong => "too-long",
             BlockFault::BadHeader => "bad-header",
+            BlockFault::RepeatedPath => "repeated-path",
             BlockFault::UnknownOwner => "unknown-name",
             BlockFault::UnknownGroup => "unknown-name",
             BlockFault::BadAcl => "bad-acl",
