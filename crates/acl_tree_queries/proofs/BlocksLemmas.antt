@@ -1,11 +1,9 @@
--- What is told of the blocks of a listing, one more at a time.
-use Rattle.std.proofs.Common.{◌≡◌, ◌∙◌, ◌++◌, ℕ, List, [], ◌∷◌, Option, Some, None, Result, Ok, Err, OnErr, ap, append_assoc, append-nil, length, refl, subst, sym, take}
-use Rattle.std.proofs.Math.Seq.{take-append_seam}
+-- The blocks of a listing that were seen, one more at a time.
+use Rattle.std.proofs.Common.{◌≡◌, ◌∙◌, ◌++◌, ℕ, List, [], ◌∷◌, Option, Some, None, Result, Ok, Err, OnErr, ap, append_assoc, append-nil, refl, sym}
 use Rattle.acl_listings.specs.Cursor.{HandsOut, IsOver}
 use Rattle.acl_listings.specs.Listing.{Block}
 use Rattle.acl_queries.specs.Output.{AppendsFront}
-use Rattle.acl_tree_queries.specs.ListingText.{TellsOfBlocks, TellsOfFirstBlocks}
-use Rattle.acl_tree_queries.specs.Nodes.{TellsOfEach}
+use Rattle.acl_tree_queries.specs.ListingText.{AreAll, AreFirst, TellsInTurn}
 
 -- the blocks that were to come, if they are known, are those that were seen and those that still are
 abbrev pub Splits : Option (List Block) → List Block → Option (List Block) → Type 0
@@ -25,23 +23,21 @@ splits_on (Some blocks) seen (Some left) None block splits hands = absurd hands
 splits_on (Some blocks) seen (Some left) (Some more) block splits hands =
     splits ∙ ap (λ blocks. seen ++ blocks) hands ∙ sym (append_assoc seen (block ∷ []) more)
 
-module _ (Tells : Block → List ℕ → Type 0) (seen : List Block) (text : List ℕ) (each : TellsOfEach Tells seen text) where
-  -- once no block is left, all are told of
-  pub told_of_all : (coming left : Option (List Block)) → Splits coming seen left → IsOver left → TellsOfBlocks Tells coming text
-  told_of_all None left splits over = tt
-  told_of_all (Some blocks) None splits over = absurd splits
-  told_of_all (Some blocks) (Some left) splits over =
-      subst (λ blocks. TellsOfEach Tells blocks text) (sym (splits ∙ ap (λ blocks. seen ++ blocks) over ∙ append-nil seen)) each
+-- once no block is left, all were seen; before that, the first were
 
-  -- before that, the first are
-  pub told_of_first : (coming left : Option (List Block)) → Splits coming seen left → TellsOfFirstBlocks Tells coming text
-  told_of_first None left splits = tt
-  told_of_first (Some blocks) None splits = absurd splits
-  told_of_first (Some blocks) (Some left) splits =
-      (length seen, subst (λ blocks. TellsOfEach Tells blocks text) (sym (ap (take (length seen)) splits ∙ take-append_seam seen left)) each)
+pub seen_all : (coming left : Option (List Block)) (seen : List Block) → Splits coming seen left → IsOver left → AreAll coming seen
+seen_all None left seen splits over = tt
+seen_all (Some blocks) None seen splits over = absurd splits
+seen_all (Some blocks) (Some left) seen splits over = splits ∙ ap (λ blocks. seen ++ blocks) over ∙ append-nil seen
 
-  -- a front of that is what a run that failed wrote
-  pub cut_among_blocks : {T E : Type 0} (result : Result T E) (old new : Option (List ℕ)) (coming left : Option (List Block)) → Splits coming seen left
-      → AppendsFront old new text → OnErr result ((text : List ℕ) × TellsOfFirstBlocks Tells coming text × AppendsFront old new text)
-  cut_among_blocks (Ok value) old new coming left splits front = tt
-  cut_among_blocks (Err fault) old new coming left splits front = (text, told_of_first coming left splits, front)
+pub seen_first : (coming left : Option (List Block)) (seen : List Block) → Splits coming seen left → AreFirst coming seen
+seen_first None left seen splits = tt
+seen_first (Some blocks) None seen splits = absurd splits
+seen_first (Some blocks) (Some left) seen splits = (left, splits)
+
+-- a front of what is told of the blocks that were seen is what a run that failed wrote
+pub cut_among_blocks : {T E : Type 0} (result : Result T E) (Tells : List Block → Block → List ℕ → Type 0) (coming left : Option (List Block)) (old new : Option (List ℕ))
+    (seen : List Block) (text : List ℕ) → Splits coming seen left → TellsInTurn Tells seen text → AppendsFront old new text
+    → OnErr result ((seen : List Block) × (text : List ℕ) × AreFirst coming seen × TellsInTurn Tells seen text × AppendsFront old new text)
+cut_among_blocks (Ok value) Tells coming left old new seen text splits in_turn front = tt
+cut_among_blocks (Err fault) Tells coming left old new seen text splits in_turn front = (seen, text, seen_first coming left seen splits, in_turn, front)

@@ -2,9 +2,14 @@ pub mod BlocksLemmas
 pub mod DumpLemmas
 pub mod DumpRunLemmas
 pub mod ListedLemmas
+pub mod ImpactListedLemmas
 pub mod ListingFaultLemmas
+pub mod PlacedLemmas
+pub mod PlacesLemmas
+pub mod ChangeLemmas
 pub mod ListingWordsLemmas
 pub mod NodesLemmas
+pub mod PiecesLemmas
 pub mod OpenedLemmas
 pub mod QuestionsLemmas
 pub mod TreesLemmas

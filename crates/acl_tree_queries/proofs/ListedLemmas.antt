@@ -1,5 +1,5 @@
 -- What is told of a listing: of a block alike as it is handed out, where one that is too long is cut, and as it stands.
-use Rattle.std.proofs.Common.{◌≡◌, ◌∙◌, ℕ, List, [], ◌∷◌, Option, Some, None, Result, Ok, Err, ap, map as each, refl, subst, take}
+use Rattle.std.proofs.Common.{◌≡◌, ◌∙◌, ℕ, List, [], ◌∷◌, Option, Some, None, Result, Ok, Err, ap, map as each, refl, subst, sym, take}
 use Rattle.std.proofs.lemmas.List.{take-map}
 use Rattle.std.specs.Cmp.Lexicographic.{slice_cmp}
 use Rattle.std.specs.Ordering.{nat_cmp}
@@ -12,12 +12,13 @@ use Rattle.acl_listings.specs.Listing.{Block, blocks_of}
 use Rattle.acl_listings.specs.declared.fault.BlockFault.{BlockFault}
 use Rattle.acl_listings.proofs.HandedLemmas.{file-handed, path-handed}
 use Rattle.acl_service.specs.Opened.{Opens}
-use Rattle.acl_service.specs.RunWords.{IsTold, session_told, setup_in}
+use Rattle.acl_service.specs.RunWords.{IsTold, setup_in}
 use Rattle.acl_tree.specs.Tree.{NodesUnderUmask}
-use Rattle.acl_tree_queries.specs.Listings.{AreListed, listing_in}
-use Rattle.acl_tree_queries.specs.ListingText.{TellsOfBlocks, TellsOfFirstBlocks, TellsOfFront, TellsOfListing, fault_text}
+use Rattle.acl_tree_queries.specs.Listings.{SaysWhoThereIs}
+use Rattle.acl_tree_queries.specs.ListingText.{AreAll, AreFirst, TellsInTurn, TellsOfFront, TellsOfListing, fault_text}
 use Rattle.acl_tree_queries.specs.Nodes.{TellsOfEach, TellsOfFirst}
 use Rattle.acl_tree_queries.specs.WhoListing.{TellsBlock, text_of_file}
+use Rattle.acl_tree_queries.proofs.PlacedLemmas.{each_of_longer, each_of_turn}
 
 module _ {A B : Type 0} (shown : B → A) (Tells : A → List ℕ → Type 0) (Means : B → List ℕ → Type 0)
     (means : (item : B) (text : List ℕ) → Tells (shown item) text → Means item text) where
@@ -43,24 +44,27 @@ module _ (known : Known) (perms : Option ℕ) where
       by (Ok file) = refl
       by (Err fault) = ap (fault_text fault block.line) (path-handed block.text)
 
-  pub told_of_listing : (told : Option (List ℕ)) (text : List ℕ) → TellsOfBlocks Tells (coming 1 told) text → TellsOfListing Tells told text
-  told_of_listing None text tells = tt
-  told_of_listing (Some listing) text tells = each_means handed Tells Tells told_handed (blocks_of listing) text tells
+  -- blocks that were told of in turn are those of the listing, or the first of them
 
-  pub told_of_front : (told : Option (List ℕ)) (text : List ℕ) → TellsOfFirstBlocks Tells (coming 1 told) text → TellsOfFront Tells told text
-  told_of_front None text tells = tt
-  told_of_front (Some listing) text tells = first_means handed Tells Tells told_handed (blocks_of listing) text tells
+  pub told_of_listing : (told : Option (List ℕ)) (seen : List Block) → AreAll (coming 1 told) seen → (text : List ℕ) → TellsInTurn (λ earlier. Tells) seen text → TellsOfListing Tells told text
+  told_of_listing None seen all text tells = tt
+  told_of_listing (Some listing) seen all text tells =
+      each_means handed Tells Tells told_handed (blocks_of listing) text (subst (λ blocks. TellsOfEach Tells blocks text) (sym all) (each_of_turn Tells seen text tells))
 
--- what the files give that the words name: who there is, and what is told of the listing
-pub given_by : (bytes_of : Text → Option (List ℕ)) (input : Option (List ℕ)) (rows : List Row) (directory : Known) (name : Text) → name ≡ setup_in rows
+  pub told_of_front : (told : Option (List ℕ)) (seen : List Block) → AreFirst (coming 1 told) seen → (text : List ℕ) → TellsInTurn (λ earlier. Tells) seen text → TellsOfFront Tells told text
+  told_of_front None seen first text tells = tt
+  told_of_front (Some listing) seen (left, are) text tells =
+      first_means handed Tells Tells told_handed (blocks_of listing) text
+      (subst (λ blocks. TellsOfFirst Tells blocks text) (sym are) (each_of_longer Tells seen left text (each_of_turn Tells seen text tells)))
+
+-- who there is by the setup that the words name
+pub says_who : (bytes_of : Text → Option (List ℕ)) (rows : List Row) (directory : Known) (name : Text) → name ≡ setup_in rows
     → (setup : List ℕ) × (tree : NodesUnderUmask) × IsTold (bytes_of name) setup × Opens setup directory tree
-    → IsAscending (slice_cmp nat_cmp) (λ user. user.name) directory.users
-    → AreListed bytes_of input rows (record { directory = directory; listing = session_told bytes_of input (listing_in rows) })
-given_by bytes_of input rows directory name is (setup, tree, told, opened) users = record {
+    → IsAscending (slice_cmp nat_cmp) (λ user. user.name) directory.users → SaysWhoThereIs bytes_of rows directory
+says_who bytes_of rows directory name is (setup, tree, told, opened) users = record {
   setup = setup;
   setup_is = subst (λ name. IsTold (bytes_of name) setup) is told;
   tree = tree;
   opened = opened;
   users = users;
-  listing_is = refl;
 }

@@ -1,7 +1,7 @@
 -- What `impact` answers.
 use Rattle.std.specs.Prelude.{◌≡◌, ℕ, List, Option, Some, Result, Ok}
 use Rattle.std.specs.FinMap as map
-use Rattle.clap.specs.Words.{Row, Text, matches_of}
+use Rattle.clap.specs.Words.{Row, Text}
 use Rattle.acl_names.specs.Directory.{Known}
 use Rattle.acl_names.specs.Requester.{Identity}
 use Rattle.acl_tree.specs.Entries.{Entry}
@@ -14,7 +14,7 @@ use Rattle.acl_tree_queries.specs.ImpactLine.{impact_line}
 use Rattle.acl_tree_queries.specs.Nodes.{TellsOfEach, TellsOfFirst}
 use Rattle.acl_tree_queries.specs.QuestionFaults.{IsNeverRefused, SaysQuestion}
 use Rattle.acl_tree_queries.specs.Questions.{Answers}
-use Rattle.acl_tree_queries.specs.Trees.{AreTreesOf, inputs_in}
+use Rattle.acl_tree_queries.specs.Trees.{AreTreesOf}
 use Rattle.acl_tree_queries.specs.declared.impact_command.question.ImpactQuestion.{ImpactQuestion}
 use Rattle.acl_tree_queries.specs.declared.trees.Trees.{Trees}
 
@@ -44,19 +44,15 @@ abbrev pub asks_impact : List Row → Result ImpactQuestion FieldFault
 asks_impact rows = Ok (record {})
 
 -- the words of `impact` are answered, and that went out so: all of it, or of the first nodes
-abbrev pub AnswersImpact : (Text → Option (List ℕ)) → Option (List ℕ) → List Text
+abbrev pub AnswersImpactOfTree : (Text → Option (List ℕ)) → Option (List ℕ) → List Text
     → (List ℕ → Type 0) → Type 0
-AnswersImpact = Answers impact_line asks_impact AreTreesOf IsImpactAnswer
+AnswersImpactOfTree = Answers impact_line asks_impact AreTreesOf IsImpactAnswer
 
-abbrev pub BeginsImpact : (Text → Option (List ℕ)) → Option (List ℕ) → List Text
+abbrev pub BeginsImpactOfTree : (Text → Option (List ℕ)) → Option (List ℕ) → List Text
     → (List ℕ → Type 0) → Type 0
-BeginsImpact = Answers impact_line asks_impact AreTreesOf IsImpactBegun
+BeginsImpactOfTree = Answers impact_line asks_impact AreTreesOf IsImpactBegun
 
 -- what is said of words of `impact` that have no answer
-abbrev pub SaysImpact : (Text → Option (List ℕ)) → Option (List ℕ) → List Text → ℕ
+abbrev pub SaysImpactOfTree : (Text → Option (List ℕ)) → Option (List ℕ) → List Text → ℕ
     → Option (List ℕ) → Type 0
-SaysImpact = SaysQuestion impact_line asks_impact IsNeverRefused
-
--- how many sessions of the words are standard input
-abbrev pub impact_inputs : List Text → ℕ
-impact_inputs words = inputs_in (matches_of impact_line words)
+SaysImpactOfTree = SaysQuestion impact_line asks_impact IsNeverRefused

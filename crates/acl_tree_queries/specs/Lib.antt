@@ -3,9 +3,11 @@ pub mod Questions
 pub mod AnswerFaults
 pub mod QuestionFaults
 pub mod Nodes
+pub mod Placed
 pub mod WhoLine
 pub mod WhoAnswer
 pub mod Listings
+pub mod Readings
 pub mod ListingText
 pub mod ListingFaults
 pub mod WhoListingLine
@@ -14,6 +16,11 @@ pub mod WhoWords
 pub mod ImpactLine
 pub mod ImpactText
 pub mod ImpactAnswer
+pub mod ImpactListingLine
+pub mod ImpactListing
+pub mod Kept
+pub mod ChangeSteps
+pub mod ImpactWords
 pub mod DumpLine
 pub mod DumpText
 pub mod DumpAnswer

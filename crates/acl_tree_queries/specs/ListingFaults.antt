@@ -1,5 +1,5 @@
 -- What is said of words that ask of a listing, and have no answer, or not all of it.
-use Rattle.std.specs.Prelude.{◌≡◌, ⊤, ℕ, List, [], ◌∷◌, Option, Result, Contains}
+use Rattle.std.specs.Prelude.{◌≡◌, ◌<◌, ⊤, ℕ, List, [], ◌∷◌, Option, Result, Contains}
 use Rattle.clap.specs.Words.{App, Row, Text, fault_of, matches_of}
 use Rattle.std.specs.Borrow.{Bor}
 use Rattle.acl_listings.specs.declared.window.ReadFault.{ReadFault}
@@ -7,14 +7,14 @@ use Rattle.acl_listings.specs.declared.window.ReadFault.TheVariants as read
 use Rattle.acl_queries.specs.ErrorOutput.{SaysFault}
 use Rattle.acl_queries.specs.Faults.{IsRefusedFor}
 use Rattle.acl_queries.specs.declared.command.query_fault.FieldFault.{FieldFault}
+use Rattle.acl_queries.specs.declared.command.run_fault.RunFault.{RunFault}
 use Rattle.acl_queries.specs.declared.command.run_fault.RunFault.TheVariants as run
 use Rattle.acl_service.specs.FilesFaults.{IsReadFault}
-use Rattle.acl_service.specs.RunWords.{IsTold, setup_in}
+use Rattle.acl_service.specs.RunWords.{IsTold, input_count, setup_in}
 use Rattle.acl_service.specs.TextsFaults.{IsRefusedBy}
 use Rattle.acl_service.specs.declared.files.FilesFault.{FilesFault}
 use Rattle.acl_service.specs.declared.files.FilesFault.TheVariants as files
 use Rattle.acl_tree_queries.specs.AnswerFaults.{IsLack}
-use Rattle.acl_tree_queries.specs.Listings.{listing_in}
 use Rattle.acl_tree_queries.specs.QuestionFaults.{Asks, IsTreesFault, question_line}
 use Rattle.acl_tree_queries.specs.QuestionFaults.{question_status}
 use Rattle.acl_tree_queries.specs.declared.blocks.BlocksFault.{BlocksFault}
@@ -25,19 +25,22 @@ use Rattle.acl_tree_queries.specs.declared.question.fault.QuestionFault.TheVaria
 use Rattle.acl_tree_queries.specs.declared.question.fault.QuestionFault.TheVariants.{LineTooLong}
 use Rattle.acl_tree_queries.specs.declared.question.fault.QuestionFault.TheVariants.{Unread}
 
--- the setup or the listing is refused for this before anything is told: it can't be opened or read,
--- or memory ran out
-abbrev pub IsListedFault : List Row → FilesFault → Type 0
-IsListedFault rows files.SessionCount = ⊥
-IsListedFault rows files.InputTwice = ⊥
-IsListedFault rows (files.CannotRead refused) =
-    Contains (setup_in rows ∷ listing_in rows ∷ []) refused.now
-IsListedFault rows files.Memory = ⊤
+-- the setup or a listing of these names is refused for this before anything is told: standard input
+-- is two of them, or one can't be opened or read, or memory ran out
+abbrev pub IsListedFault : (List Row → List Text) → List Row → FilesFault → Type 0
+IsListedFault listings_in rows files.SessionCount = ⊥
+IsListedFault listings_in rows files.InputTwice = 1 < input_count (listings_in rows)
+IsListedFault listings_in rows (files.CannotRead refused) =
+    Contains (setup_in rows ∷ listings_in rows) refused.now
+IsListedFault listings_in rows files.Memory = ⊤
 
 -- what stops the answer about a listing
 abbrev pub blocks_fault_of_read : ReadFault → BlocksFault
 blocks_fault_of_read read.Read = blocks.Unread
 blocks_fault_of_read read.Memory = blocks.Run run.Memory
+
+abbrev pub blocks_lack : RunFault → BlocksFault
+blocks_lack fault = blocks.Run fault
 
 abbrev pub blocks_lack_memory : BlocksFault
 blocks_lack_memory = blocks.Run run.Memory
@@ -72,23 +75,39 @@ IsNamedFault name (Unread refused) = refused.now ≡ name
 IsNamedFault name (Run fault) = IsLack fault
 IsNamedFault name _ = ⊥
 
+-- two listings of these names are refused for this while they are read
+abbrev pub IsReadingFault : Text → Text → QuestionFault → Type 0
+IsReadingFault before after (Unread refused) = Contains (before ∷ after ∷ []) refused.now
+IsReadingFault before after (Run fault) = IsLack fault
+IsReadingFault before after _ = ⊥
+
+-- or before that, since one of them can't be opened
+abbrev pub IsListingsFault : Text → Text → QuestionFault → Type 0
+IsListingsFault before after (Files (files.CannotRead refused)) =
+    Contains (before ∷ after ∷ []) refused.now
+IsListingsFault before after fault = IsReadingFault before after fault
+
 -- the words have no answer for this: they are refused, or they ask, and a file can't be read, the
--- setup opens nothing, the listing fails while it is read, or something lacks
-abbrev pub IsListingFault : {Q : Type 0} → App → (List Row → Result Q FieldFault)
-    → (Text → Option (List ℕ)) → List Text → QuestionFault → Type 0
-IsListingFault line asked_in bytes_of words (Words fault) =
+-- setup opens nothing, a listing fails while it is read, or something lacks
+abbrev pub IsListingFault : {Q : Type 0} → (List Row → List Text) → App
+    → (List Row → Result Q FieldFault) → (Text → Option (List ℕ)) → List Text → QuestionFault
+    → Type 0
+IsListingFault listings_in line asked_in bytes_of words (Words fault) =
     IsRefusedFor (fault_of line words) (asked_in (matches_of line words)) fault
-IsListingFault line asked_in bytes_of words (Files fault) =
-    Asks line asked_in words × IsListedFault (matches_of line words) fault
-IsListingFault line asked_in bytes_of words (Setup error) =
+IsListingFault listings_in line asked_in bytes_of words (Files fault) =
+    Asks line asked_in words × IsListedFault listings_in (matches_of line words) fault
+IsListingFault listings_in line asked_in bytes_of words (Setup error) =
     Asks line asked_in words × IsTreesFault bytes_of (matches_of line words) (Setup error)
-IsListingFault line asked_in bytes_of words LineTooLong = ⊥
-IsListingFault line asked_in bytes_of words (Unread name) =
-    Asks line asked_in words × (name.now ≡ listing_in (matches_of line words))
-IsListingFault line asked_in bytes_of words (Run fault) = Asks line asked_in words × IsLack fault
+IsListingFault listings_in line asked_in bytes_of words LineTooLong = ⊥
+IsListingFault listings_in line asked_in bytes_of words (Unread name) =
+    Asks line asked_in words × Contains (listings_in (matches_of line words)) name.now
+IsListingFault listings_in line asked_in bytes_of words (Run fault) =
+    Asks line asked_in words × IsLack fault
 
 -- what is said of the words
-abbrev pub SaysOfListing : {Q : Type 0} → App → (List Row → Result Q FieldFault)
-    → (Text → Option (List ℕ)) → List Text → ℕ → Option (List ℕ) → Type 0
-SaysOfListing line asked_in bytes_of words =
-    SaysFault question_status question_line (IsListingFault line asked_in bytes_of words)
+abbrev pub SaysOfListings : {Q : Type 0} → (List Row → List Text) → App
+    → (List Row → Result Q FieldFault) → (Text → Option (List ℕ)) → List Text → ℕ
+    → Option (List ℕ) → Type 0
+SaysOfListings listings_in line asked_in bytes_of words =
+    SaysFault question_status question_line
+    (IsListingFault listings_in line asked_in bytes_of words)

@@ -1,5 +1,5 @@
 -- What is told of the blocks of a listing.
-use Rattle.std.specs.Prelude.{ℕ, List, ◌++◌, IfSome, Option, None, codes, decimal, unwrap_or}
+use Rattle.std.specs.Prelude.{◌≡◌, ℕ, List, ◌++◌, IfSome, Option, None, codes, decimal, unwrap_or}
 use Rattle.acl_nfs4.specs.declared.inheritance.Kind.TheVariants.{File}
 use Rattle.acl_tree.specs.declared.node.Node.{Node}
 use Rattle.acl_tree.specs.declared.node_acl.NodeAcl.TheVariants.{Posix}
@@ -8,6 +8,7 @@ use Rattle.acl_listings.specs.Faults.{fault_word}
 use Rattle.acl_listings.specs.Listing.{Block, blocks_of}
 use Rattle.acl_listings.specs.declared.fault.BlockFault.{BlockFault}
 use Rattle.acl_tree_queries.specs.Nodes.{TellsOfEach, TellsOfFirst}
+use Rattle.acl_tree_queries.specs.Placed.{placed}
 
 -- a listed file as a node: default lists decide no access
 abbrev pub node_of : FileValue → Node
@@ -31,10 +32,15 @@ TellsOfListing Tells told text = IfSome told (λ listing. TellsOfEach Tells (blo
 abbrev pub TellsOfFront : (Block → List ℕ → Type 0) → Option (List ℕ) → List ℕ → Type 0
 TellsOfFront Tells told text = IfSome told (λ listing. TellsOfFirst Tells (blocks_of listing) text)
 
--- a text is what is told of each of these blocks, if they are known
-abbrev pub TellsOfBlocks : (Block → List ℕ → Type 0) → Option (List Block) → List ℕ → Type 0
-TellsOfBlocks Tells coming text = IfSome coming (λ blocks. TellsOfEach Tells blocks text)
+-- a text is what is told of each of these, one after the other, each after those before it
+abbrev pub TellsInTurn : {A : Type 0} → (List A → A → List ℕ → Type 0) → List A → List ℕ → Type 0
+TellsInTurn Tells items text =
+    TellsOfEach (λ item. Tells item.earlier item.here) (placed items) text
 
--- of the first of them
-abbrev pub TellsOfFirstBlocks : (Block → List ℕ → Type 0) → Option (List Block) → List ℕ → Type 0
-TellsOfFirstBlocks Tells coming text = IfSome coming (λ blocks. TellsOfFirst Tells blocks text)
+-- all blocks that were to come were seen, if it is known which
+abbrev pub AreAll : Option (List Block) → List Block → Type 0
+AreAll coming seen = IfSome coming (λ blocks. blocks ≡ seen)
+
+-- the first of them were
+abbrev pub AreFirst : Option (List Block) → List Block → Type 0
+AreFirst coming seen = IfSome coming (λ blocks. (left : List Block) × (blocks ≡ seen ++ left))

@@ -1,6 +1,6 @@
 -- The listing that a question is about.
-use Rattle.std.specs.Prelude.{◌||◌, ◌≡◌, ℕ, Bool, true, false, not, List, [], Option, bytes_eq}
-use Rattle.std.specs.Prelude.{codes, if◌then◌else◌, take, unwrap_or}
+use Rattle.std.specs.Prelude.{◌||◌, ◌≡◌, ℕ, Bool, true, false, not, List, [], ◌∷◌, Option}
+use Rattle.std.specs.Prelude.{bytes_eq, codes, take, unwrap_or}
 use Rattle.std.specs.Cmp.Lexicographic.{slice_cmp}
 use Rattle.std.specs.List.{list_any, take_while}
 use Rattle.std.specs.Ordering.{nat_cmp}
@@ -26,26 +26,48 @@ abbrev pub by_source : Bool → Type 0 → Type 0 → Type 0
 by_source true listed tree = listed
 by_source false listed tree = tree
 
+-- the names of a question's listings: what stands for the option, and for the word behind it
+abbrev pub listing_in : List Row → Text
+listing_in rows = unwrap_or (first_of (codes "listing") rows) []
+
+abbrev pub after_listing_in : List Row → Text
+after_listing_in rows = unwrap_or (first_of (codes "after") rows) []
+
+-- of a question about one listing, and about two
+abbrev pub one_listing_in : List Row → List Text
+one_listing_in rows = listing_in rows ∷ []
+
+abbrev pub two_listings_in : List Row → List Text
+two_listings_in rows = listing_in rows ∷ after_listing_in rows ∷ []
+
+-- the setup says who there is; the users stand in the order of their names
+pub record SaysWhoThereIs (bytes_of : Text → Option (List ℕ)) (rows : List Row)
+    (directory : Known) : Type 0 where
+  pub setup : List ℕ
+  pub setup_is : IsTold (bytes_of (setup_in rows)) setup
+  pub tree : NodesUnderUmask
+  pub opened : Opens setup directory tree
+  pub users : IsAscending (slice_cmp nat_cmp) (λ user. user.name) directory.users
+
 -- who there is, and the bytes of the listing if they are told
 pub record Listed : Type 0 where
   pub directory : Known
   pub listing : Option (List ℕ)
 
--- the name of the listing's file
-abbrev pub listing_in : List Row → Text
-listing_in rows = unwrap_or (first_of (codes "listing") rows) []
-
--- how many listings are standard input
-abbrev pub listing_inputs : List Row → ℕ
-listing_inputs rows = if bytes_eq (listing_in rows) (codes "-") then 1 else 0
-
--- The files that the words name give this: the setup says who there is, and the listing is what its
--- file holds, or standard input. The users stand in the order of their names.
+-- the files that the words name give this; the listing is what its file holds, or standard input
 pub record AreListed (bytes_of : Text → Option (List ℕ)) (input : Option (List ℕ))
     (rows : List Row) (listed : Listed) : Type 0 where
-  pub setup : List ℕ
-  pub setup_is : IsTold (bytes_of (setup_in rows)) setup
-  pub tree : NodesUnderUmask
-  pub opened : Opens setup listed.directory tree
-  pub users : IsAscending (slice_cmp nat_cmp) (λ user. user.name) listed.directory.users
+  pub who : SaysWhoThereIs bytes_of rows listed.directory
   pub listing_is : listed.listing ≡ session_told bytes_of input (listing_in rows)
+
+-- and of two listings
+pub record ListedTwice : Type 0 where
+  pub directory : Known
+  pub before : Option (List ℕ)
+  pub after : Option (List ℕ)
+
+pub record AreListedTwice (bytes_of : Text → Option (List ℕ)) (input : Option (List ℕ))
+    (rows : List Row) (listed : ListedTwice) : Type 0 where
+  pub who : SaysWhoThereIs bytes_of rows listed.directory
+  pub before_is : listed.before ≡ session_told bytes_of input (listing_in rows)
+  pub after_is : listed.after ≡ session_told bytes_of input (after_listing_in rows)

@@ -6,9 +6,9 @@ use Rattle.acl_queries.specs.Asked.{optional_perms_in}
 use Rattle.acl_listings.specs.Block.{FileValue, file_of, path_of}
 use Rattle.acl_listings.specs.Listing.{Block}
 use Rattle.acl_listings.specs.declared.fault.BlockFault.{BlockFault}
-use Rattle.acl_tree_queries.specs.ListingFaults.{SaysOfListing}
+use Rattle.acl_tree_queries.specs.ListingFaults.{SaysOfListings}
 use Rattle.acl_tree_queries.specs.ListingText.{TellsOfFront, TellsOfListing, fault_text, node_of}
-use Rattle.acl_tree_queries.specs.Listings.{AreListed, Listed}
+use Rattle.acl_tree_queries.specs.Listings.{AreListed, Listed, one_listing_in}
 use Rattle.acl_tree_queries.specs.Questions.{Answers}
 use Rattle.acl_tree_queries.specs.WhoAnswer.{who_text}
 use Rattle.acl_tree_queries.specs.WhoListingLine.{who_listing_line}
@@ -42,4 +42,4 @@ BeginsWhoListed = Answers who_listing_line optional_perms_in AreListed IsWhoList
 
 -- what is said of words that have no answer
 abbrev pub SaysWhoListed : (Text → Option (List ℕ)) → List Text → ℕ → Option (List ℕ) → Type 0
-SaysWhoListed = SaysOfListing who_listing_line optional_perms_in
+SaysWhoListed = SaysOfListings one_listing_in who_listing_line optional_perms_in

@@ -1,7 +1,8 @@
 -- What the words of `who` come to: they ask of a listing, or else of a tree.
 use Rattle.std.specs.Prelude.{ℕ, List, Option, if◌then◌else◌}
 use Rattle.clap.specs.Words.{Text, matches_of}
-use Rattle.acl_tree_queries.specs.Listings.{asks_of_listing, by_source, listing_inputs}
+use Rattle.acl_service.specs.RunWords.{input_count}
+use Rattle.acl_tree_queries.specs.Listings.{asks_of_listing, by_source, one_listing_in}
 use Rattle.acl_tree_queries.specs.Trees.{inputs_in}
 use Rattle.acl_tree_queries.specs.WhoAnswer.{AnswersWhoOfTree, BeginsWhoOfTree, SaysWhoOfTree}
 use Rattle.acl_tree_queries.specs.WhoLine.{who_line}
@@ -27,5 +28,6 @@ SaysWho bytes_of input words status line = by_source (asks_of_listing words)
 
 -- how many times the words name standard input
 abbrev pub who_inputs : List Text → ℕ
-who_inputs words = if asks_of_listing words then listing_inputs (matches_of who_listing_line words)
+who_inputs words = if asks_of_listing words
+    then input_count (one_listing_in (matches_of who_listing_line words))
     else inputs_in (matches_of who_line words)

@@ -1,16 +1,20 @@
 //! What is told of each block of a listing, written piece by piece.
-ghost use Rattle.std.specs.Prelude.{◌≡◌, ◌++◌, ℕ, IfErr, List, OnErr, OnOk};
+ghost use Rattle.std.specs.Prelude.{◌≡◌, ◌++◌, ◌∷◌, ℕ, IfErr, IfOk, List, [], Ok, OnErr, OnOk};
 ghost use Rattle.std.specs.Io.KnownBytes.{Appends, Keeps};
-ghost use Rattle.acl_listings.specs.Block.{path_of};
+ghost use Rattle.acl_listings.specs.Block.{file_of, path_of};
 ghost use Rattle.acl_listings.specs.Cursor.{coming};
+ghost use Rattle.acl_listings.specs.Faults.{IsFaultOf};
 ghost use Rattle.acl_listings.specs.Listing.{Block as BlockValue};
 ghost use Rattle.acl_listings.specs.Views.{view_file};
 ghost use Rattle.acl_queries.specs.Output.{AppendsFront};
 ghost use Rattle.acl_tree_queries.specs.ListingFaults.{IsBlocksFault};
-ghost use Rattle.acl_tree_queries.specs.ListingText.{TellsOfBlocks, TellsOfFirstBlocks, fault_text};
+ghost use Rattle.acl_tree_queries.specs.ListingText.{AreAll, AreFirst, TellsInTurn, fault_text};
 ghost use Rattle.acl_tree_queries.specs.ListingText.{node_of};
+ghost use Rattle.acl_tree_queries.specs.Readings.{unless_repeated};
 
-use acl_listings::{BlockFault, Blocks, File, ReadFault, path_of};
+use crate::pieces::send_full;
+use acl_listings::{BlockFault, Blocks, File, FileFault, ReadFault, path_of, read_file};
+use acl_names::Directory;
 use acl_nfs4::Kind;
 use acl_queries::{RunFault, write_text};
 use acl_tree::{Node, NodeAcl};
@@ -18,25 +22,29 @@ use itoa::Buffer;
 use std::alloc::{AllocError, Global};
 use std::io::{self, Read, Write};
 
-/// How many bytes are kept before they are written.
-const PIECE: usize = 65_536;
-
-/// What is told of a block.
+/// What is told of the blocks of a listing, one after the other.
 pub(crate) trait BlockText {
-    /// The text is what is told of the block.
-    ghost Tells: { Self → BlockValue → List ℕ → Type 0 };
+    /// From one state to the other it was told of these blocks.
+    ghost Told: { Self → List BlockValue → Self → Type 0 };
+
+    /// From this state on, and after these blocks, the text is what is told of the block.
+    ghost Tells: { Self → List BlockValue → BlockValue → List ℕ → Type 0 };
 
     /// Appends what is told of the block with this text, whose first line has this number. It fails
     /// only if memory runs out.
     fn push(
-        &self,
+        &mut self,
         alloc: Global,
         line: u64,
         text: &[u8],
         out: &mut Vec<u8>,
     ) -> Result<(), AllocError>
-        ensures { OnOk result ((more : List ℕ)
-            × Tells self.now (record { line = line; text = text.now }) more
+        ensures goes_on { (first : Self) (seen : List BlockValue) → Told first seen self.old
+            → OnOk result (Told first (seen ++ record { line = line; text = text.now } ∷ [])
+            self.new) }
+        ensures text { (first : Self) (seen : List BlockValue) → Told first seen self.old
+            → OnOk result ((more : List ℕ)
+            × Tells first seen (record { line = line; text = text.now }) more
             × (out.new.items ≡ out.old.items ++ more)) };
 }
 
@@ -59,6 +67,16 @@ impl From<ReadFault> for BlocksFault {
             ReadFault::Read => BlocksFault::Unread,
             ReadFault::Memory => BlocksFault::Run(RunFault::Memory),
         }
+    }
+}
+
+impl From<RunFault> for BlocksFault {
+    ghost use Rattle.acl_tree_queries.specs.ListingFaults.{blocks_lack};
+
+    ghost from_gives = { λ fault becomes. becomes ≡ blocks_lack fault };
+
+    fn from(fault: RunFault) -> BlocksFault {
+        BlocksFault::Run(fault)
     }
 }
 
@@ -86,15 +104,17 @@ impl From<io::Error> for BlocksFault {
 /// as they are read.
 fn write_each<T: BlockText, R: Read + Drop, W: Write>(
     alloc: Global,
-    teller: &T,
+    teller: &mut T,
     blocks: &mut Blocks<R>,
     out: &mut W,
 ) -> Result<(), BlocksFault>
-    ensures written { OnOk result ((text : List ℕ)
-        × TellsOfBlocks (T.Tells teller.now) blocks.old.coming text
+    requires { T.Told teller.old [] teller.old }
+    ensures written { OnOk result ((seen : List BlockValue) × (text : List ℕ)
+        × AreAll blocks.old.coming seen × T.Told teller.old seen teller.new
+        × TellsInTurn (T.Tells teller.old) seen text
         × Appends (W.contents out.old) (W.contents out.new) text) }
-    ensures cut { OnErr result ((text : List ℕ)
-        × TellsOfFirstBlocks (T.Tells teller.now) blocks.old.coming text
+    ensures cut { OnErr result ((seen : List BlockValue) × (text : List ℕ)
+        × AreFirst blocks.old.coming seen × TellsInTurn (T.Tells teller.old) seen text
         × AppendsFront (W.contents out.old) (W.contents out.new) text) }
     ensures refused { IfErr result IsBlocksFault }
 {
@@ -105,10 +125,7 @@ fn write_each<T: BlockText, R: Read + Drop, W: Write>(
             return Ok(());
         }
         teller.push(alloc, blocks.line(), blocks.text(), &mut text)?;
-        if text.len() >= PIECE {
-            write_text(text.as_slice(), out)?;
-            text.clear();
-        }
+        send_full(&mut text, out)?;
     }
     Err(BlocksFault::Unread)
 }
@@ -117,15 +134,18 @@ fn write_each<T: BlockText, R: Read + Drop, W: Write>(
 /// runs out or a write fails, a front of what is told of the first blocks went out.
 pub(crate) fn write_blocks<T: BlockText, R: Read + Drop, W: Write>(
     alloc: Global,
-    teller: &T,
+    teller: &mut T,
     reader: R,
     out: &mut W,
 ) -> Result<(), BlocksFault>
-    ensures written { OnOk result ((text : List ℕ)
-        × TellsOfBlocks (T.Tells teller.now) (coming 1 (R.remaining reader)) text
+    requires { T.Told teller.old [] teller.old }
+    ensures written { OnOk result ((seen : List BlockValue) × (text : List ℕ)
+        × AreAll (coming 1 (R.remaining reader)) seen × T.Told teller.old seen teller.new
+        × TellsInTurn (T.Tells teller.old) seen text
         × Appends (W.contents out.old) (W.contents out.new) text) }
-    ensures cut { OnErr result ((text : List ℕ)
-        × TellsOfFirstBlocks (T.Tells teller.now) (coming 1 (R.remaining reader)) text
+    ensures cut { OnErr result ((seen : List BlockValue) × (text : List ℕ)
+        × AreFirst (coming 1 (R.remaining reader)) seen
+        × TellsInTurn (T.Tells teller.old) seen text
         × AppendsFront (W.contents out.old) (W.contents out.new) text) }
     ensures refused { IfErr result IsBlocksFault }
 {
@@ -145,6 +165,33 @@ pub(crate) fn node_of(file: File<'_>) -> Node
             access: file.access,
             default: None,
         },
+    }
+}
+
+/// The file of which a block speaks, if it isn't refused for a path that a block before it has.
+/// `Memory` comes only if memory runs out.
+pub(crate) fn read_once<'t>(
+    alloc: Global,
+    text: &'t [u8],
+    directory: &Directory,
+    repeated: bool,
+) -> Result<File<'t>, FileFault>
+    ensures read { IfOk result (λ file. unless_repeated repeated (file_of directory.now text.now)
+        ≡ Ok (view_file file)) }
+    ensures refused { IfErr result
+        (IsFaultOf (unless_repeated repeated (file_of directory.now text.now))) }
+{
+    let reading = read_file(alloc, text, directory);
+    if !repeated {
+        return reading;
+    }
+    match reading {
+        Err(FileFault::Memory) => Err(FileFault::Memory),
+        Err(FileFault::Block(BlockFault::TooLong)) => Err(FileFault::Block(BlockFault::TooLong)),
+        Err(FileFault::Block(BlockFault::BadHeader)) => {
+            Err(FileFault::Block(BlockFault::BadHeader))
+        }
+        _ => Err(FileFault::Block(BlockFault::RepeatedPath)),
     }
 }
 

@@ -3,39 +3,51 @@ ghost use Rattle.std.specs.Prelude.{◌≡◌, ◌≤◌, ◌⊎◌, map};
 ghost use Rattle.std.specs.Io.KnownBytes.{Appends, Keeps};
 ghost use Rattle.acl_queries.specs.ErrorOutput.{Reports};
 ghost use Rattle.acl_queries.specs.Output.{AppendsFront};
-ghost use Rattle.acl_tree_queries.specs.ImpactAnswer.{AnswersImpact, BeginsImpact, SaysImpact};
-ghost use Rattle.acl_tree_queries.specs.ImpactAnswer.{impact_inputs};
+ghost use Rattle.acl_tree_queries.specs.ImpactWords.{AnswersImpact, BeginsImpact, SaysImpact};
+ghost use Rattle.acl_tree_queries.specs.ImpactWords.{impact_inputs};
 
+mod changes;
+mod kept;
+mod listed;
+mod listing;
 mod question;
 mod text;
 
+use crate::listing::asks_of_listing;
 use crate::question::ask;
 use acl_queries::ErrorOutput;
 use acl_service::OpenFiles;
+use listing::ask_of_listings;
 use question::ImpactQuestion;
 use std::alloc::Global;
 use std::convert::AsStr;
 use std::io::{Read, Write};
 
-/// Tells what a session changes, for anybody at all. The words are those of the command, its name
-/// first: `impact --setup FILE [--before SESSION] SESSION`. It compares the tree that the setup
-/// opens, or what the session of `--before` leaves on it, with what SESSION leaves on that. One
-/// session may be `-`, which is what `input` has; else nothing of `input` is read. `files` opens
-/// the others: the setup first, then the session before, then the other, each of at most 1,048,576
-/// bytes.
+/// Tells what a session changes, for anybody at all, or what changed between two listings of files.
+/// The words are those of the command, its name first: `impact --setup FILE [--before SESSION]
+/// SESSION`, or `impact --setup FILE --listing BEFORE AFTER` if one of them is that option. The
+/// first compares the tree that the setup opens, or what the session of `--before` leaves on it,
+/// with what SESSION leaves on that; the second what `getfacl -R` printed, of any length. One
+/// session or listing may be `-`, which is what `input` has; else nothing of `input` is read.
+/// `files` opens the others: the setup first, then what comes before, then the other. Setup and
+/// sessions have at most 1,048,576 bytes.
 ///
-/// To `out` goes a line for each node that is new, `new PATH`, and for each where somebody is
-/// decided about otherwise, in the order of their paths: `differ NAME UID GIDS LOST GAINED PATH`.
-/// NAME is the first of the setup's users, in the order of their names, whom it concerns; else it
-/// is `-`, and UID and GIDS are somebody in at most two groups. LOST and GAINED are letters, and
-/// `-` is none. A node of which everybody is decided about alike, of whatever uid and groups, has
-/// no line. It is written in pieces of some 64 KiB. What is wrong goes to `err`, and so does help;
-/// a fault while writing there changes nothing.
+/// To `out` goes a line for each path that is new, `new PATH`, and for each where somebody is
+/// decided about otherwise, in the order of the paths of a tree or of the listing AFTER: `differ
+/// NAME UID GIDS LOST GAINED PATH`. NAME is the first of the setup's users, in the order of their
+/// names, whom it concerns; else it is `-`, and UID and GIDS are somebody in at most two groups.
+/// LOST and GAINED are letters, and `-` is none. A path where everybody is decided about alike, of
+/// whatever uid and groups, has no line. Of listings, `fault WORD LINE PATH` tells of each block
+/// that doesn't read, those of BEFORE first and those of AFTER in their places, and `gone PATH` at
+/// the end of each path that AFTER lacks, in the order of BEFORE. It is written in pieces of some
+/// 64 KiB. BEFORE is kept in memory, and AFTER is not. What is wrong goes to `err`, and so does
+/// help; a fault while writing there changes nothing.
 ///
-/// It returns the exit status: 0 with the answer; 1 if a file can't be opened or read or is too
-/// long, or the setup is refused; 2 if the parser of command lines refuses the words or both
-/// sessions are `-`, before any file is opened; and 3 if memory runs out or `out` can't be written.
-/// At 1 and 2 nothing was written, and at 3 nothing or a front of the answer.
+/// It returns the exit status: 0 with the answer; 1 if a file can't be opened, setup or sessions
+/// can't be read or are too long, or the setup is refused; 2 if the parser of command lines refuses
+/// the words or both sessions or listings are `-`, before any file is opened; and 3 if memory runs
+/// out, a listing fails while it is read, or `out` can't be written. At 1 and 2 nothing was
+/// written, and at 3 nothing or a front of the answer.
 pub fn impact<F, S, I, W, E>(
     alloc: Global,
     files: &F,
@@ -69,5 +81,9 @@ where
     ensures told { Reports (SaysImpact (F.bytes_of files.now) (I.remaining input.old)
         (map S.text words.now)) result err.old err.new }
 {
-    ask::<ImpactQuestion, F, S, I, W, E>(alloc, files, words, input, out, err)
+    if asks_of_listing(words) {
+        ask_of_listings(alloc, files, words, input, out, err)
+    } else {
+        ask::<ImpactQuestion, F, S, I, W, E>(alloc, files, words, input, out, err)
+    }
 }

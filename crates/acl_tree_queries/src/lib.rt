@@ -1,7 +1,7 @@
 //! Queries of whole trees, from the words of a command line to what is printed: who may do what
 //! (`who`), who gains or loses what by a session (`impact`), and the session that makes a tree
 //! again (`dump`). A tree is that of a setup, or what sessions leave on it. `who` is asked of the
-//! real files of a listing, too.
+//! real files of a listing, too, and `impact` of two listings.
 #![tactic(auto)]
 
 mod blocks;
@@ -11,6 +11,7 @@ mod impact_command;
 mod laws;
 mod listing;
 mod nodes;
+mod pieces;
 mod question;
 mod trees;
 mod who_command;

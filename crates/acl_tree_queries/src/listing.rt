@@ -1,12 +1,13 @@
 //! The listing that a question is about.
 ghost use Rattle.std.specs.Prelude.{◌≡◌, ◌≤◌, ℕ, IfErr, IfOk, List, OnErr, OnOk, bytes_eq, codes};
-ghost use Rattle.std.specs.Prelude.{false, map};
+ghost use Rattle.std.specs.Prelude.{[], false, map};
 ghost use Rattle.std.specs.Cmp.Lexicographic.{slice_cmp};
 ghost use Rattle.std.specs.Ordering.{nat_cmp};
 ghost use Rattle.std.specs.Io.KnownBytes.{Appends, Keeps};
 ghost use Rattle.clap.specs.Words.{found_of, rows_of};
 ghost use Rattle.acl_names.specs.Ascending.{IsAscending};
 ghost use Rattle.acl_listings.specs.Cursor.{coming};
+ghost use Rattle.acl_listings.specs.Listing.{Block as BlockValue};
 ghost use Rattle.acl_queries.specs.Output.{AppendsFront};
 ghost use Rattle.acl_service.specs.Opened.{Opens};
 ghost use Rattle.acl_service.specs.RunWords.{IsTold, session_told};
@@ -14,8 +15,9 @@ ghost use Rattle.acl_tree.specs.Tree.{NodesUnderUmask};
 ghost use Rattle.acl_tree_queries.specs.Listings.{asks_of_listing, is_listing_option, listing_in};
 ghost use Rattle.acl_tree_queries.specs.ListingFaults.{IsDirectoryFault, IsNamedFault};
 ghost use Rattle.acl_tree_queries.specs.ListingFaults.{fault_of_blocks};
-ghost use Rattle.acl_tree_queries.specs.ListingText.{TellsOfBlocks, TellsOfFirstBlocks};
-ghost use Rattle.acl_tree_queries.specs.QuestionFaults.{question_status};
+ghost use Rattle.acl_tree_queries.specs.ListingText.{AreAll, AreFirst, TellsInTurn};
+ghost use Rattle.acl_tree_queries.specs.QuestionFaults.{fault_of_files, question_status};
+ghost use Rattle.acl_service.specs.declared.files.FilesFault.TheVariants.{CannotRead};
 
 use crate::blocks::{BlockText, BlocksFault, write_blocks};
 use crate::question::QuestionFault;
@@ -28,7 +30,7 @@ use std::convert::AsStr;
 use std::io::{Read, Write};
 
 /// The name of standard input as a listing.
-const INPUT: &str = "-";
+pub(crate) const INPUT: &str = "-";
 
 /// Whether a word is the option that asks of a listing.
 fn is_listing_option(word: &str) -> bool
@@ -53,7 +55,7 @@ pub(crate) fn asks_of_listing<S: AsStr>(words: &[S]) -> bool
     false
 }
 
-/// The name of the listing's file.
+/// The name of the listing that the option gives.
 #[tactic(auto, unfolding(crate::specs::Listings::listing_in))]
 pub(crate) fn listing_field<'a>(matches: &ArgMatches<'a>) -> &'a str
     ensures { result.now ≡ listing_in (rows_of (found_of matches.now)) }
@@ -81,12 +83,25 @@ pub(crate) fn read_directory<'a, F: OpenFiles>(
 }
 
 /// A fault of a listing that has this name.
-fn fault_of<'a>(name: &'a str, fault: BlocksFault) -> QuestionFault<'a>
+pub(crate) fn fault_of<'a>(name: &'a str, fault: BlocksFault) -> QuestionFault<'a>
     ensures { result ≡ fault_of_blocks name.entry fault }
 {
     match fault {
         BlocksFault::Unread => QuestionFault::Unread(name),
         BlocksFault::Run(fault) => QuestionFault::Run(fault),
+    }
+}
+
+/// The file of this name, opened to be read.
+pub(crate) fn open<'a, F: OpenFiles>(files: &F, name: &'a str) -> Result<F::File, QuestionFault<'a>>
+    ensures opened { IfOk result (λ file. F.File.remaining file
+        ≡ F.bytes_of files.now name.entry.now) }
+    ensures refused { IfErr result (λ fault. fault
+        ≡ fault_of_files (CannotRead name.entry)) }
+{
+    match files.open(name) {
+        Ok(file) => Ok(file),
+        Err(_) => Err(QuestionFault::Files(FilesFault::CannotRead(name))),
     }
 }
 
@@ -97,14 +112,19 @@ pub(crate) fn write_listing<'a, F: OpenFiles, I: Read, T: BlockText, W: Write>(
     files: &F,
     name: &'a str,
     input: &mut I,
-    teller: &T,
+    teller: &mut T,
     out: &mut W,
 ) -> Result<(), QuestionFault<'a>>
-    ensures written { OnOk result ((text : List ℕ) × TellsOfBlocks (T.Tells teller.now) (coming 1
-        (session_told (F.bytes_of files.now) (I.remaining input.old) name.entry.now)) text
+    requires { T.Told teller.old [] teller.old }
+    ensures written { OnOk result ((seen : List BlockValue) × (text : List ℕ)
+        × AreAll (coming 1
+        (session_told (F.bytes_of files.now) (I.remaining input.old) name.entry.now)) seen
+        × TellsInTurn (T.Tells teller.old) seen text
         × Appends (W.contents out.old) (W.contents out.new) text) }
-    ensures cut { OnErr result ((text : List ℕ) × TellsOfFirstBlocks (T.Tells teller.now) (coming 1
-        (session_told (F.bytes_of files.now) (I.remaining input.old) name.entry.now)) text
+    ensures cut { OnErr result ((seen : List BlockValue) × (text : List ℕ)
+        × AreFirst (coming 1
+        (session_told (F.bytes_of files.now) (I.remaining input.old) name.entry.now)) seen
+        × TellsInTurn (T.Tells teller.old) seen text
         × AppendsFront (W.contents out.old) (W.contents out.new) text) }
     ensures silent { IfErr result (λ fault. question_status fault ≤ 2
         → Keeps (W.contents out.old) (W.contents out.new)) }
@@ -114,8 +134,6 @@ pub(crate) fn write_listing<'a, F: OpenFiles, I: Read, T: BlockText, W: Write>(
     if name == INPUT {
         return write_blocks(alloc, teller, input, out).map_err(|fault| fault_of(name, fault));
     }
-    let Ok(mut file) = files.open(name) else {
-        return Err(QuestionFault::Files(FilesFault::CannotRead(name)));
-    };
+    let mut file = open(files, name)?;
     write_blocks(alloc, teller, &mut file, out).map_err(|fault| fault_of(name, fault))
 }

@@ -7,13 +7,11 @@ ghost use Rattle.acl_tree.specs.Entries.{Entry};
 ghost use Rattle.acl_tree_queries.specs.Nodes.{TellsOfEach, TellsOfFirst};
 ghost use Rattle.acl_tree_queries.specs.AnswerFaults.{IsLack};
 
+use crate::pieces::PIECE;
 use acl_queries::{RunFault, write_text};
 use acl_tree::{Node, Tree};
 use std::alloc::{AllocError, Global};
 use std::io::Write;
-
-/// How many bytes are kept before they are written.
-const PIECE: usize = 65_536;
 
 /// What is told of a node.
 pub(crate) trait NodeText {

@@ -2,7 +2,7 @@
 ghost use Rattle.std.specs.Prelude.{◌≡◌, IfOk};
 ghost use Rattle.clap.specs.Words.{app_of};
 
-use super::text::ImpactText;
+use super::text::{Findings, ImpactText};
 use crate::command_line::CommandLine;
 use crate::nodes::write_nodes;
 use crate::question::{AnswerFault, Question};
@@ -19,6 +19,9 @@ const ANSWERS: &str = "A line for each file where somebody gains or loses: diffe
 LOST GAINED PATH; and new PATH.
 NAME is the first user whom it concerns; if it is -, UID and GIDS are somebody who isn't in the \
 setup. No line: nobody.
+With --listing BEFORE AFTER in the place of sessions it tells what changed between two listings \
+of real files, as
+getfacl -R prints them: aclctl impact --listing - --help tells more.
 Exit status: 0 with an answer; 1 if a file doesn't read; 2 if the words are wrong, and with this \
 help; 3 if
 memory runs out or the answer can't be written.";
@@ -83,8 +86,10 @@ impl Question for ImpactQuestion {
     ) -> Result<(), AnswerFault> {
         let users = requesters_of(alloc, &trees.directory)?;
         let teller = ImpactText {
-            directory: &trees.directory,
-            users: users.as_slice(),
+            findings: Findings {
+                directory: &trees.directory,
+                users: users.as_slice(),
+            },
             before: &trees.before,
         };
         Ok(write_nodes(alloc, &teller, &trees.after, out)?)

@@ -1,23 +1,31 @@
 //! What `impact` tells of a node.
-ghost use Rattle.std.specs.Prelude.{◌≡◌, ◌++◌, OnOk, codes, decimal, slice_get};
+ghost use Rattle.std.specs.Prelude.{◌≡◌, ◌++◌, OnOk, Option, codes, decimal, slice_get};
+ghost use Rattle.acl_audit.specs.Changes.{file_of};
+ghost use Rattle.acl_audit.specs.Impact.{IsImpact};
+ghost use Rattle.acl_audit.specs.declared.impact.Impact.{Impact as ImpactValue};
 ghost use Rattle.acl_nfs4.specs.Mask.{mask_bits};
 ghost use Rattle.acl_queries.specs.Differences.{bits_text, gids_text};
 ghost use Rattle.acl_tree_queries.specs.ImpactText.{all_gids_text, differ_text, impact_text};
 ghost use Rattle.acl_tree_queries.specs.ImpactText.{new_text, user_text};
 
 use crate::nodes::NodeText;
-use acl_audit::{Change, Impact, impact_on};
+use acl_audit::{Change, Impact, impact_of, impact_on};
 use acl_names::{Asker, Directory, Gid, Requester, Uid, push_id};
 use acl_queries::{push_bits, push_gids};
 use acl_tree::{Node, Tree};
 use std::alloc::{AllocError, Global};
 
-/// Tells what it means that there are the nodes after where those of the tree before were, for
-/// these users of the directory and for anybody.
+/// Tells findings about these users of the directory and about anybody.
 #[derive(Clone, Copy)]
-pub(super) struct ImpactText<'t> {
+pub(super) struct Findings<'t> {
     pub directory: &'t Directory,
     pub users: &'t [Requester],
+}
+
+/// Tells what it means that there are the nodes after where those of the tree before were.
+#[derive(Clone, Copy)]
+pub(super) struct ImpactText<'t> {
+    pub findings: Findings<'t>,
     pub before: &'t Tree,
 }
 
@@ -98,7 +106,7 @@ fn push_somebody(
 }
 
 /// Appends the line of a node that is new.
-fn push_new(path: &[u8], out: &mut Vec<u8>) -> Result<(), AllocError>
+pub(super) fn push_new(path: &[u8], out: &mut Vec<u8>) -> Result<(), AllocError>
     ensures { OnOk result (out.new.items ≡ out.old.items ++ new_text path.now) }
 {
     out.extend_from_slice(b"new ")?;
@@ -107,7 +115,7 @@ fn push_new(path: &[u8], out: &mut Vec<u8>) -> Result<(), AllocError>
     Ok(())
 }
 
-impl<'t> ImpactText<'t> {
+impl<'t> Findings<'t> {
     /// Appends the line of the user at the place.
     fn push_user_at(
         &self,
@@ -129,7 +137,7 @@ impl<'t> ImpactText<'t> {
     }
 
     /// Appends what is told of the finding.
-    fn push_found(
+    pub fn push_found(
         &self,
         found: Option<Impact>,
         path: &[u8],
@@ -145,12 +153,33 @@ impl<'t> ImpactText<'t> {
             Some(Impact::Somebody { asker, change }) => push_somebody(asker, change, path, out),
         }
     }
+
+    /// Appends what it means that the one node became the other.
+    pub fn push_impact(
+        &self,
+        alloc: Global,
+        before: &Node,
+        after: &Node,
+        path: &[u8],
+        out: &mut Vec<u8>,
+    ) -> Result<(), AllocError>
+        ensures { OnOk result ((found : Option ImpactValue)
+            × IsImpact (file_of before.now) (file_of after.now) self.now.users.now found
+            × (out.new.items ≡ out.old.items
+            ++ impact_text self.now.directory.now self.now.users.now path.now found)) }
+    {
+        match impact_of(alloc, before, after, self.users) {
+            Ok(found) => self.push_found(found, path, out),
+            Err(refused) => Err(refused),
+        }
+    }
 }
 
 impl<'t> NodeText for ImpactText<'t> {
     ghost use Rattle.acl_tree_queries.specs.ImpactAnswer.{TellsImpact};
 
-    ghost Tells = { λ teller. TellsImpact teller.directory.now teller.users.now teller.before.now };
+    ghost Tells = { λ teller. TellsImpact teller.findings.directory.now teller.findings.users.now
+        teller.before.now };
 
     fn push(
         &self,
@@ -159,8 +188,8 @@ impl<'t> NodeText for ImpactText<'t> {
         node: &Node,
         out: &mut Vec<u8>,
     ) -> Result<(), AllocError> {
-        match impact_on(alloc, self.before.find(path), node, self.users) {
-            Ok(found) => self.push_found(found, path, out),
+        match impact_on(alloc, self.before.find(path), node, self.findings.users) {
+            Ok(found) => self.findings.push_found(found, path, out),
             Err(refused) => Err(refused),
         }
     }

@@ -5,8 +5,9 @@ ghost use Rattle.clap.specs.Words.{matches_of};
 ghost use Rattle.acl_queries.specs.Asked.{optional_perms_in};
 ghost use Rattle.acl_queries.specs.ErrorOutput.{Reports};
 ghost use Rattle.acl_queries.specs.Output.{AppendsFront};
+ghost use Rattle.acl_service.specs.RunWords.{input_count};
 ghost use Rattle.acl_tree_queries.specs.ListingFaults.{IsListingFault};
-ghost use Rattle.acl_tree_queries.specs.Listings.{listing_inputs};
+ghost use Rattle.acl_tree_queries.specs.Listings.{one_listing_in};
 ghost use Rattle.acl_tree_queries.specs.QuestionFaults.{question_status};
 ghost use Rattle.acl_tree_queries.specs.WhoListing.{AnswersWhoListed, BeginsWhoListed};
 ghost use Rattle.acl_tree_queries.specs.WhoListing.{SaysWhoListed};
@@ -85,20 +86,28 @@ where
     ensures cut { OnErr result (Keeps (W.contents out.old) (W.contents out.new)
         ⊎ BeginsWhoListed (F.bytes_of files.now) (I.remaining input.old)
         (map S.text words.entry.now) (AppendsFront (W.contents out.old) (W.contents out.new))) }
-    ensures untouched { listing_inputs (matches_of who_listing_line (map S.text words.entry.now))
-        ≡ 0 → input.new ≡ input.old }
+    ensures untouched { input_count
+        (one_listing_in (matches_of who_listing_line (map S.text words.entry.now))) ≡ 0
+        → input.new ≡ input.old }
     ensures unread { IfErr result (λ fault. question_status fault ≡ 2 → input.new ≡ input.old) }
-    ensures refused { IfErr result (IsListingFault who_listing_line optional_perms_in
+    ensures refused { IfErr result (IsListingFault one_listing_in who_listing_line optional_perms_in
         (F.bytes_of files.now) (map S.text words.entry.now)) }
 {
     let matches = parse::<WhoListingLine, S>(alloc, words)?;
     let perms = optional_perms_field(&matches)?;
     let directory = read_directory(alloc, files, setup_field(&matches))?;
-    let teller = WhoText {
+    let mut teller = WhoText {
         directory: &directory,
         perms,
     };
-    write_listing(alloc, files, listing_field(&matches), input, &teller, out)
+    write_listing(
+        alloc,
+        files,
+        listing_field(&matches),
+        input,
+        &mut teller,
+        out,
+    )
 }
 
 /// Answers what the words ask of a listing, or tells what is wrong, and returns the exit status.
@@ -123,7 +132,8 @@ where
     ensures cut { result ≡ 3 → Keeps (W.contents out.old) (W.contents out.new)
         ⊎ BeginsWhoListed (F.bytes_of files.now) (I.remaining input.old) (map S.text words.now)
         (AppendsFront (W.contents out.old) (W.contents out.new)) }
-    ensures untouched { listing_inputs (matches_of who_listing_line (map S.text words.now)) ≡ 0
+    ensures untouched { input_count
+        (one_listing_in (matches_of who_listing_line (map S.text words.now))) ≡ 0
         → input.new ≡ input.old }
     ensures unread { result ≡ 2 → input.new ≡ input.old }
     ensures told { Reports (SaysWhoListed (F.bytes_of files.now) (map S.text words.now)) result

@@ -59,14 +59,17 @@ impl<'t> NodeText for WhoText<'t> {
 }
 
 impl<'t> BlockText for WhoText<'t> {
-    ghost use Rattle.std.specs.Prelude.{option_map};
+    ghost use Rattle.std.specs.Prelude.{◌≡◌, option_map};
     ghost use Rattle.acl_posix.specs.Perms.{bits_of};
     ghost use Rattle.acl_tree_queries.specs.WhoListing.{TellsBlock};
 
-    ghost Tells = { λ teller. TellsBlock teller.directory.now (option_map bits_of teller.perms) };
+    ghost Told = { λ first seen last. last ≡ first };
+
+    ghost Tells = { λ teller seen.
+        TellsBlock teller.directory.now (option_map bits_of teller.perms) };
 
     fn push(
-        &self,
+        &mut self,
         alloc: Global,
         line: u64,
         text: &[u8],

@@ -1,0 +1,269 @@
+//! What `impact` tells of two listings.
+ghost use Rattle.std.specs.Prelude.{◌≡◌, ◌++◌, ℕ, IfErr, IfSome, List, OnErr, OnOk};
+ghost use Rattle.std.specs.Io.KnownBytes.{Appends};
+ghost use Rattle.acl_listings.specs.Block.{file_of};
+ghost use Rattle.acl_listings.specs.Cursor.{coming};
+ghost use Rattle.acl_listings.specs.Views.{view_file};
+ghost use Rattle.acl_queries.specs.Output.{AppendsFront};
+ghost use Rattle.acl_tree_queries.specs.ChangeSteps.{TellsFile, TellsFound, is_marked, marked};
+ghost use Rattle.acl_tree_queries.specs.ImpactListing.{TellsBetween, fault_in, gone_text};
+ghost use Rattle.acl_tree_queries.specs.ImpactListing.{gone_unless};
+ghost use Rattle.acl_tree_queries.specs.Kept.{block_of};
+ghost use Rattle.acl_tree_queries.specs.Readings.{reading_of, unless_repeated};
+ghost use Rattle.acl_tree_queries.specs.ListingFaults.{IsBlocksFault};
+ghost use Rattle.acl_tree_queries.specs.Nodes.{TellsOfEach, TellsOfFirst};
+
+use super::kept::{KeptBlock, KeptListing};
+use super::listed::{KeptText, write_kept};
+use super::text::{Findings, push_new};
+use crate::blocks::{BlockText, BlocksFault, node_of, push_fault, read_once, write_blocks};
+use acl_listings::{File, FileFault, read_file};
+use acl_names::Directory;
+use std::alloc::{AllocError, Global};
+use std::io::{Read, Write};
+
+/// Appends the line of the block's fault, if it doesn't read, or has the path of one before it.
+fn push_fault_of(
+    alloc: Global,
+    directory: &Directory,
+    block: &KeptBlock,
+    repeated: bool,
+    out: &mut Vec<u8>,
+) -> Result<(), AllocError>
+    ensures { OnOk result (out.new.items ≡ out.old.items
+        ++ fault_in (reading_of directory.now (block_of block.now))
+        (unless_repeated repeated (file_of directory.now block.now.text.items))) }
+{
+    let text = block.text.as_slice();
+    match read_once(alloc, text, directory, repeated) {
+        Ok(_) => Ok(()),
+        Err(FileFault::Block(fault)) => push_fault(fault, block.line, text, out),
+        Err(FileFault::Memory) => Err(AllocError),
+    }
+}
+
+/// Tells the faults of the listing before.
+#[derive(Drop)]
+struct FaultText<'t> {
+    directory: &'t Directory,
+}
+
+impl<'t> KeptText for FaultText<'t> {
+    ghost use Rattle.acl_tree_queries.specs.ChangeSteps.{TellsFaultOf};
+
+    ghost Tells = { λ teller. TellsFaultOf teller.directory.now };
+
+    fn push(
+        &self,
+        alloc: Global,
+        kept: &KeptListing<'_>,
+        place: usize,
+        out: &mut Vec<u8>,
+    ) -> Result<(), AllocError> {
+        let Some(block) = kept.block(place) else {
+            return Ok(());
+        };
+        let repeated = kept.repeats(place, block.text.as_slice());
+        push_fault_of(alloc, self.directory, block, repeated, out)
+    }
+}
+
+/// Appends the line of a path that is gone.
+fn push_gone(path: &[u8], out: &mut Vec<u8>) -> Result<(), AllocError>
+    ensures { OnOk result (out.new.items ≡ out.old.items ++ gone_text path.now) }
+{
+    out.extend_from_slice(b"gone ")?;
+    out.extend_from_slice(path)?;
+    out.push(b'\n')?;
+    Ok(())
+}
+
+/// Appends that the path of the block is gone, if the block reads and its path isn't one that was
+/// met.
+fn push_unless_met(
+    alloc: Global,
+    directory: &Directory,
+    block: &KeptBlock,
+    repeated: bool,
+    met: bool,
+    out: &mut Vec<u8>,
+) -> Result<(), AllocError>
+    ensures { OnOk result (out.new.items ≡ out.old.items ++ gone_unless (λ path. met)
+        (unless_repeated repeated (file_of directory.now block.now.text.items))) }
+{
+    if met {
+        return Ok(());
+    }
+    match read_once(alloc, block.text.as_slice(), directory, repeated) {
+        Ok(file) => push_gone(file.path, out),
+        Err(FileFault::Block(_)) => Ok(()),
+        Err(FileFault::Memory) => Err(AllocError),
+    }
+}
+
+/// Tells which paths of the listing before are gone.
+#[derive(Drop)]
+struct GoneText<'t> {
+    directory: &'t Directory,
+    /// Whether the listing after has the path of the block at each place, if the block is the first
+    /// one of its path.
+    met: &'t [bool],
+}
+
+impl<'t> KeptText for GoneText<'t> {
+    ghost use Rattle.acl_tree_queries.specs.ChangeSteps.{TellsGoneOf};
+
+    ghost Tells = { λ teller. TellsGoneOf teller.directory.now teller.met.now };
+
+    fn push(
+        &self,
+        alloc: Global,
+        kept: &KeptListing<'_>,
+        place: usize,
+        out: &mut Vec<u8>,
+    ) -> Result<(), AllocError> {
+        let Some(block) = kept.block(place) else {
+            return Ok(());
+        };
+        let repeated = kept.repeats(place, block.text.as_slice());
+        let met = is_marked(self.met, Some(place));
+        push_unless_met(alloc, self.directory, block, repeated, met, out)
+    }
+}
+
+/// Whether the place is marked, if there is one.
+fn is_marked(met: &[bool], place: Option<usize>) -> bool
+    ensures { result ≡ is_marked met.now place }
+{
+    match place {
+        Some(place) => met.get(place).copied().unwrap_or(false),
+        None => false,
+    }
+}
+
+/// Marks the place, if there is one.
+fn mark(met: &mut [bool], place: Option<usize>)
+    ensures { met.new ≡ marked met.old place }
+{
+    if let Some(place) = place {
+        if place < met.len() {
+            met[place] = true;
+        }
+    }
+}
+
+/// Tells what the files of the listing after came to, beside the listing before.
+#[derive(Drop)]
+struct ChangeText<'t> {
+    findings: Findings<'t>,
+    before: &'t KeptListing<'t>,
+    /// Whether a block has been told of that has the path of the block before at each place, if
+    /// that is the first one of its path.
+    met: Vec<bool>,
+}
+
+impl<'t> ChangeText<'t> {
+    /// Appends what the file came to, where the first block before that has its path stands at this
+    /// place.
+    fn push_file(
+        &self,
+        alloc: Global,
+        place: Option<usize>,
+        file: File<'_>,
+        out: &mut Vec<u8>,
+    ) -> Result<(), AllocError>
+        ensures { OnOk result ((more : List ℕ)
+            × TellsFile self.now place (view_file file.entry) more
+            × (out.new.items ≡ out.old.items ++ more)) }
+    {
+        let path = file.path;
+        let Some(before) = self.before.block_at(place) else {
+            return push_new(path, out);
+        };
+        match read_file(alloc, before.text.as_slice(), self.findings.directory) {
+            Ok(old) => {
+                self.findings
+                    .push_impact(alloc, &node_of(old), &node_of(file), path, out)
+            }
+            Err(FileFault::Block(_)) => Ok(()),
+            Err(FileFault::Memory) => Err(AllocError),
+        }
+    }
+
+    /// Appends what is told of the block, where the first block before that has its path stands at
+    /// this place.
+    fn push_block(
+        &self,
+        alloc: Global,
+        place: Option<usize>,
+        line: u64,
+        text: &[u8],
+        out: &mut Vec<u8>,
+    ) -> Result<(), AllocError>
+        ensures { OnOk result ((more : List ℕ) × TellsFound self.now place
+            (reading_of self.now.findings.directory.now (record { line = line; text = text.now }))
+            (unless_repeated (is_marked self.now.met.items place)
+            (file_of self.now.findings.directory.now text.now)) more
+            × (out.new.items ≡ out.old.items ++ more)) }
+    {
+        let repeated = is_marked(self.met.as_slice(), place);
+        match read_once(alloc, text, self.findings.directory, repeated) {
+            Ok(file) => self.push_file(alloc, place, file, out),
+            Err(FileFault::Block(fault)) => push_fault(fault, line, text, out),
+            Err(FileFault::Memory) => Err(AllocError),
+        }
+    }
+}
+
+impl<'t> BlockText for ChangeText<'t> {
+    ghost use Rattle.acl_tree_queries.specs.ChangeSteps.{HasTold, TellsNext};
+
+    ghost Told = { HasTold };
+
+    ghost Tells = { TellsNext };
+
+    fn push(
+        &mut self,
+        alloc: Global,
+        line: u64,
+        text: &[u8],
+        out: &mut Vec<u8>,
+    ) -> Result<(), AllocError> {
+        let place = self.before.place_of(text);
+        self.push_block(alloc, place, line, text, out)?;
+        mark(self.met.as_mut_slice(), place);
+        Ok(())
+    }
+}
+
+/// Writes what is told of the listing before and of the one that the reader reads after it.
+pub(super) fn write_changes<A: Read + Drop, W: Write>(
+    alloc: Global,
+    findings: Findings<'_>,
+    before: &KeptListing<'_>,
+    after: A,
+    out: &mut W,
+) -> Result<(), BlocksFault>
+    ensures written { OnOk result ((text : List ℕ) × IfSome (coming 1 (A.remaining after))
+        (λ after. TellsBetween TellsOfEach findings.entry.directory.now findings.entry.users.now
+        before.now after text) × Appends (W.contents out.old) (W.contents out.new) text) }
+    ensures cut { OnErr result ((text : List ℕ) × IfSome (coming 1 (A.remaining after))
+        (λ after. TellsBetween TellsOfFirst findings.entry.directory.now findings.entry.users.now
+        before.now after text) × AppendsFront (W.contents out.old) (W.contents out.new) text) }
+    ensures refused { IfErr result IsBlocksFault }
+{
+    let directory = findings.directory;
+    write_kept(alloc, &FaultText { directory }, before, out)?;
+    let mut changes = ChangeText {
+        findings,
+        before,
+        met: Vec::from_elem(alloc, false, before.len())?,
+    };
+    write_blocks(alloc, &mut changes, after, out)?;
+    let gone = GoneText {
+        directory,
+        met: changes.met.as_slice(),
+    };
+    write_kept(alloc, &gone, before, out)?;
+    Ok(())
+}
