@@ -2,6 +2,7 @@
 beside the program look at its answers with. Lists are random, over the ids of a small universe.
 """
 import itertools
+import re
 
 UIDS = (1000, 1, 2, 3, 65534)
 # whom no list names, if it names all others
@@ -120,6 +121,42 @@ def change_for(first, second, uid, gids):
     return "", ""
 
 
-def is_alike(first, second):
+def is_alike(first, second, requesters=REQUESTERS):
     """Whether nobody in the universe loses or gains anything."""
-    return all(change_for(first, second, *it) == ("", "") for it in REQUESTERS)
+    return all(change_for(first, second, *it) == ("", "") for it in requesters)
+
+
+def requesters_about(*files):
+    """The universe of files with POSIX lists: whom they name, and somebody whom none names, in up to three of the groups that they
+    name. Whoever asks is decided about as one of these is, if two groups are enough to tell two files apart."""
+    uids = {it.owner for it in files} | {name for it in files for tag, name, _ in it.entries if tag == "u" and name != ""}
+    gids = {it.group for it in files} | {name for it in files for tag, name, _ in it.entries if tag == "g" and name != ""}
+    stranger = next(it for it in itertools.count() if it not in uids)
+    return [(uid, them) for uid in (*uids, stranger) for count in range(4) for them in itertools.combinations(sorted(gids), count)]
+
+
+def differ_line(name, uid, gids, change, path):
+    """The line of `impact` that tells of one who loses and gains so."""
+    lost, gained = (it or "-" for it in change)
+    return f"differ {name} {uid} {','.join(map(str, gids)) or '-'} {lost} {gained} {path}"
+
+
+def is_told(line, path, before, after, users, requesters=REQUESTERS):
+    """Whether a line of `impact`, or none, tells what became of a path, where there are these users, in the order of their names:
+    (name, uid, gids). The first of them who is decided about otherwise has a line of exactly these words. If it is none of them it
+    may be anybody in at most two groups, who has to lose and gain what is told; and where nobody in the universe does there is no
+    line."""
+    if before is None:
+        return line == f"new {path}"
+    for name, uid, gids in users:
+        change = change_for(before, after, uid, gids)
+        if change != ("", ""):
+            return line == differ_line(name, uid, gids, change, path)
+    if is_alike(before, after, requesters):
+        return line is None
+    said = re.match(r"differ - ([0-9]+) (-|[0-9]+(?:,[0-9]+)?) ", line or "")
+    if not said:
+        return False
+    uid, gids = int(said[1]), tuple(map(int, said[2].split(","))) if said[2] != "-" else ()
+    change = change_for(before, after, uid, gids)
+    return change != ("", "") and line == differ_line("-", uid, gids, change, path)
