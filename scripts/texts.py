@@ -1,7 +1,10 @@
-"""How texts of access control lists are read, as docs/PROFILE.md says, apart from the code: what the scripts share that look at
-readers.
+"""How texts of access control lists are read, as docs/PROFILE.md says, and listings of real files, as docs/SERVICE.md does, apart
+from the code: what the scripts share that look at readers.
 """
 import re
+
+MAX_BLOCK = 65536
+MAX_ENTRIES = 64
 
 
 def pieces(text):
@@ -40,3 +43,71 @@ def entry(piece, users, groups):
     if not re.fullmatch(rb"[rwx-]{1,3}", perms) or any(perms.count(it) > 1 for it in b"rwx"):
         return "S"
     return whose if whose in ("S", "U") else (tag.decode()[0], whose, perms.decode().replace("-", ""))
+
+
+class Unread(Exception):
+    """The word that says why a block of a listing doesn't read."""
+
+
+def blocks_of(listing):
+    """The blocks of a listing, each with the number of its first line."""
+    lines = listing.split(b"\n")
+    if lines[-1] == b"":
+        lines.pop()
+    block = []
+    for number, line in enumerate([*lines, b""], 1):
+        if line:
+            block.append(line)
+        elif block:
+            yield number - len(block), b"\n".join(block)
+            block = []
+
+
+def path_of(text):
+    """The path that a block's first line gives, whether the block reads or not; None if there is none."""
+    first = text.split(b"\n")[0]
+    return first[8:] if first.startswith(b"# file: ") and 8 < len(first) <= MAX_BLOCK else None
+
+
+def header_of(lines):
+    """The path, the owner's and the group's texts of a block's first three lines."""
+    for line, head in zip(lines, (b"# file: ", b"# owner: ", b"# group: ")):
+        if not line.startswith(head):
+            raise Unread("bad-header")
+        yield line[len(head):]
+
+
+def file_of(text, users, groups, is_repeated=False):
+    """The path, owner, group and entries that a block's text says, by these ids. Another block may have had its path before, where
+    that counts."""
+    if len(text) > MAX_BLOCK:
+        raise Unread("too-long")
+    lines = text.split(b"\n")
+    header = [*header_of(lines)]
+    ids = [qualifier(it, known) for it, known in zip(header[1:], (users, groups))]
+    if len(header) < 3 or header[0] == b"" or "S" in ids:
+        raise Unread("bad-header")
+    if is_repeated:
+        raise Unread("repeated-path")
+    if "U" in ids:
+        raise Unread("unknown-name")
+    access = b"\n".join(it for it in lines[3:] if not it.startswith(b"default:"))
+    return header[0], *ids, entries_of(access, users, groups)
+
+
+def entries_of(text, users, groups):
+    """The entries of a list, which have to be one."""
+    found = []
+    for piece in pieces(text):
+        if len(found) == MAX_ENTRIES:
+            raise Unread("too-many")
+        read = entry(piece, users, groups)
+        if isinstance(read, str):
+            raise Unread("bad-acl" if read == "S" else "unknown-name")
+        found.append(read)
+    keys = [it[:2] for it in found]
+    named = any(tag in "ug" and name != "" for tag, name in keys)
+    whole = {("u", ""), ("g", ""), ("o", "")} <= set(keys) and len(set(keys)) == len(keys)
+    if not whole or named and ("m", "") not in keys:
+        raise Unread("invalid-acl")
+    return found
