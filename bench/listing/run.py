@@ -1,12 +1,14 @@
 #!/usr/bin/env python3
-"""Times `who` of a listing of a million files by one user, by the built program, and tells the most memory that it took.
+"""Times `who` of a listing of a million files and `impact` of two, by one user, by the built program, and tells the most memory
+that each took.
 
     bench/listing/run.py [TIMES [FILES]]
 
-The listing is as `getfacl -R` prints it, some 100 bytes a file: files of folders that share a list of their own, as on a share,
-and, as another listing, each file with another list. Before a time is taken the answer is looked at: how many lines it has.
-Each work is done TIMES times in turn (5, unless told), the listing read from a file, and the least and the middle milliseconds
-are printed, the start of the program among them.
+A listing is as `getfacl -R` prints it, some 100 bytes a file: files of folders that share a list of their own, as on a share,
+and, as another listing, each file with another list. For `impact` every thousandth file of the first has another owner and list in
+a later one. Before a time is taken the answer is looked at: how many lines it has. Each work is done TIMES times in turn (5, unless
+told), the listings read from files, and the least and the middle milliseconds and the most MiB are printed, the start of the program
+among them.
 """
 import os
 import statistics
@@ -18,6 +20,8 @@ import time
 TOP = os.path.dirname(os.path.dirname(os.path.dirname(os.path.realpath(__file__))))
 PROGRAM = f"{TOP}/crates/aclctl/out/aclctl"
 FILES_OF_FOLDER = 50
+# Of how many files one is changed.
+FILES_OF_CHANGE = 1000
 SETUP = """\
 domain = "example.org"
 umask = "022"
@@ -70,28 +74,33 @@ def main():
     times = int((sys.argv[1:] + ["5"])[0])
     files = int((sys.argv[2:] + ["1000000"])[0])
     with tempfile.TemporaryDirectory() as folder:
-        setup, shared, each = (f"{folder}/{it}" for it in ("setup.toml", "shared", "each"))
+        setup, shared, each, later = (f"{folder}/{it}" for it in ("setup.toml", "shared", "each", "later"))
         with open(setup, "w") as file:
             file.write(SETUP)
-        write_listing(shared, files, lambda place: place // FILES_OF_FOLDER)
+        folder_of = lambda place: place // FILES_OF_FOLDER
+        write_listing(shared, files, folder_of)
         write_listing(each, files, lambda place: place)
+        # Another variant has another owner: so the one before, in no groups, may no longer read or write.
+        write_listing(later, files, lambda place: folder_of(place) + (place % FILES_OF_CHANGE == 0))
+        changed = len(range(0, files, FILES_OF_CHANGE))
         works = {
-            "files of a folder with one list, letters": ("who", "--setup", setup, "--listing", shared),
-            "the same, --perms w": ("who", "--setup", setup, "--perms", "w", "--listing", shared),
-            "each file with another list than the one before": ("who", "--setup", setup, "--listing", each),
+            "`who`: files of a folder with one list, letters": (files, "who", "--setup", setup, "--listing", shared),
+            "the same, `--perms w`": (None, "who", "--setup", setup, "--perms", "w", "--listing", shared),
+            "`who`: each file with another list than the one before": (files, "who", "--setup", setup, "--listing", each),
+            f"`impact` of two listings, {changed} files changed": (changed, "impact", "--setup", setup, "--listing", shared, later),
         }
-        for name in (shared, each):
-            if lines_of(("who", "--setup", setup, "--listing", name)) != files:
-                sys.exit("bench/listing: another number of lines than files")
+        for name, (lines, *words) in works.items():
+            if lines is not None and lines_of(words) != lines:
+                sys.exit(f"bench/listing: {name}: another number of lines than {lines}")
         taken = {name: [] for name in works}
         for _ in range(times):
-            for name, words in works.items():
+            for name, (_, *words) in works.items():
                 taken[name].append(milliseconds(words))
-        most = max(most_memory(words) for words in works.values())
         size = os.path.getsize(shared) / 1e6
-        print(f"{files} files, {size:.0f} MB, one user; milliseconds, least and middle of {times}; at most {most:.1f} MiB")
+        print(f"{files} files, {size:.0f} MB a listing, one user; milliseconds, least and middle of {times}; the most MiB")
         for name, its in taken.items():
-            print(f"| {name} | {min(its):.1f} | {statistics.median(its):.1f} |")
+            most = most_memory(works[name][1:])
+            print(f"| {name} | {min(its):.1f} | {statistics.median(its):.1f} | {most:.1f} |")
 
 
 if __name__ == "__main__":
