@@ -8,7 +8,7 @@ _aclctl_options() {
         compare) echo --owner --group --help ;;
         run) echo --setup --journal --max-errors --help ;;
         who) echo --setup --perms --listing --help ;;
-        impact) echo --setup --before --help ;;
+        impact) echo --setup --before --listing --help ;;
         dump) echo --setup --help ;;
         lint) echo --setup --help ;;
     esac

@@ -161,7 +161,8 @@ class Lines(unittest.TestCase):
         files = sorted(it.name for it in self.room.iterdir())
         lines = ["run --setup ", "run --setup=", "run --setup s x y ", "run --max-errors 3 x "]
         lines += ["run --journal ", "impact --before ", "impact ", "who --perms r ", "dump "]
-        lines += ["who --listing ", "lint --setup s x "]
+        lines += ["who --listing ", "impact --listing ", "impact --listing=", "impact --listing x "]
+        lines += ["lint --setup s x "]
         for line in lines:
             self.assertEqual(by_bash(f"aclctl {line}", cwd=self.room), files, line)
         for line in ("run --setup se", "who --setup=se", "run x y se", "dump -- se"):
@@ -174,7 +175,7 @@ class Lines(unittest.TestCase):
 
     def test_nothing_where_a_number_goes_or_too_many_words_stand(self):
         lines = ["decide --owner ", "explain --gids=", "compare --group 5", "run --max-errors "]
-        for line in (*lines, "who --perms ", "who x s", "impact --setup s x y"):
+        for line in (*lines, "who --perms ", "who x s", "impact --setup s x y", "impact --listing b a x"):
             self.assertEqual(by_bash(f"aclctl {line}", cwd=self.room), [], line)
 
 

@@ -22,7 +22,7 @@ commands:
   compare    tells whether anybody gains or loses access between two lists
   run        lets sessions work on one tree at the same time, and prints their answers
   who        tells who may do what with each file of a tree, or of real files
-  impact     tells who gains or loses what by a session: for anybody at all
+  impact     tells who gains or loses what by a session, or between two listings
   dump       prints a tree as a session that makes it again
   lint       tells what is wrong with a setup or with sessions, and where
   --help     prints this
