@@ -4,7 +4,7 @@ use acl_tree_queries::{dump, impact, who};
 use std::alloc::Global;
 use std::io::{self, Read};
 
-const OFFICE: &str =
+pub const OFFICE: &str =
     "domain = \"example.org\"\numask = \"022\"\nroot = { owner = \"root\", group = \"root\", mode = \"755\", style = \"posix\" }\nuser = [ { name = \"root\", uid = 0, groups = [\"root\"] }, { name = \"alice\", uid = 1000, groups = [\"staff\"] }, { name = \"bob\", uid = 1001, groups = [\"staff\", \"ops\"] }, { name = \"carol\", uid = 1002, groups = [\"guest\"] } ]\ngroup = [ { name = \"root\", gid = 0 }, { name = \"staff\", gid = 50 }, { name = \"ops\", gid = 60 }, { name = \"guest\", gid = 70 } ]\n";
 
 /// Alice shares a directory with Bob.
@@ -48,7 +48,21 @@ const LONG: &str =
 const LISTING: &str =
     "# file: srv/share/plan\n# owner: alice\n# group: staff\nuser::rw-\nuser:bob:rwx\t#effective:rw-\ngroup::r--\nmask::rw-\nother::---\n\n# file: srv/share/lost\n# owner: alice\n# group: gone\nuser::rw-\ngroup::---\nother::---\n\n\n# file: srv/share/bent\n# owner: 1000\n# group: 50\nuser::rwz\ngroup::---\nother::---\n\n# owner: alice\n# group: staff\n\n# file: srv/share/a dir\n# owner: 1001\n# group: 60\n# flags: -s-\nuser::rwx\ngroup::r-x\nother::--x\ndefault:user::rwx\ndefault:group::rwx\ndefault:other::rwx\n";
 
-const FILES: [(&str, &str); 13] = [
+/// A listing of files that were there: later two are gone, one has another owner and one another
+/// list. A header doesn't read, and a group is one that the office lacks.
+pub const OLDER: &str =
+    "# file: srv/share/old\n# owner: root\n# group: root\nuser::rw-\ngroup::r--\nother::r--\n\n# owner: alice\n\n# file: srv/share/a dir\n# owner: 1001\n# group: 60\n# flags: -s-\nuser::rwx\ngroup::r-x\nother::--x\ndefault:user::rwx\n\n# file: srv/share/lost\n# owner: alice\n# group: gone\nuser::rw-\ngroup::---\nother::---\n\n# file: srv/share/plan\n# owner: alice\n# group: staff\nuser::rw-\nuser:bob:rwx\t#effective:rw-\ngroup::r--\nmask::rw-\nother::---\n\n# file: srv/share/a\\012b\n# owner: carol\n# group: guest\nuser::rw-\ngroup::---\nother::---\n";
+
+/// What is there later, in another order. One path stands twice that was there, and one that was
+/// not, of which the first block doesn't read.
+pub const NEWER: &str =
+    "# file: srv/share/plan\n# owner: alice\n# group: staff\nuser::rw-\nuser:bob:r--\ngroup::r--\nmask::rw-\nother::---\n\n# file: srv/share/new\n# owner: root\n# group: root\nuser::rw-\ngroup::r--\nother::r--\n\nuser::rw-\n\n# file: srv/share/lost\n# owner: alice\n# group: staff\nuser::rw-\ngroup::---\nother::---\n\n# file: srv/share/a dir\n# owner: 1000\n# group: 60\n# flags: -s-\nuser::rwx\ngroup::r-x\nother::--x\ndefault:user::rwx\n\n# file: srv/share/plan\n# owner: alice\n# group: staff\nuser::---\ngroup::---\nother::---\n\n# file: srv/share/next\n# owner: bob\n# group: ops\nuser::rw-\n\n# file: srv/share/next\n# owner: bob\n# group: ops\nuser::rw-\ngroup::r--\nother::---\n";
+
+/// What `impact` tells of these two.
+pub const SINCE_OLDER: &str =
+    "fault bad-header 8 -\nfault unknown-name 19 srv/share/lost\ndiffer bob 1001 50,60 w - srv/share/plan\nnew srv/share/new\nfault bad-header 17 -\ndiffer alice 1000 50 - rw srv/share/a dir\nfault repeated-path 35 srv/share/plan\nfault invalid-acl 42 srv/share/next\nnew srv/share/next\ngone srv/share/old\ngone srv/share/a\\012b\n";
+
+const FILES: [(&str, &str); 15] = [
     ("office", OFFICE),
     ("alice", ALICE),
     ("before", BEFORE),
@@ -62,6 +76,8 @@ const FILES: [(&str, &str); 13] = [
     ("aces", ACES),
     ("long", LONG),
     ("listing", LISTING),
+    ("older", OLDER),
+    ("newer", NEWER),
 ];
 
 /// Bytes at hand.

@@ -4,7 +4,7 @@
 //! `rt try --test --fail-alloc N` refuses the growth N of a test. Each test here passes whichever
 //! growth that is, and prints how many refusals it was told of: one up to the last growth that it
 //! asks for, and none from then on.
-use crate::fixture::{ALICE_AGAIN, Sheet, Shelf};
+use crate::fixture::{ALICE_AGAIN, SINCE_OLDER, Sheet, Shelf};
 use acl_service::ErrorOutput;
 use acl_tree_queries::{dump, impact, who};
 use std::alloc::Global;
@@ -102,6 +102,15 @@ fn who_of_a_listing_under_a_refused_growth(rt: HostRuntime) -> Result<(), Fail> 
     let answer =
         b"alice srv/share/plan\nbob srv/share/plan\nfault unknown-name 10 srv/share/lost\nfault bad-acl 18 srv/share/bent\nfault bad-header 25 -\nbob srv/share/a dir\n";
     let told = refusals(rt.alloc(), &words, answer.as_slice());
+    assert!(rt; told.is_some());
+    println!(rt; "refusals: {}", told.unwrap_or(0))?;
+    Ok(())
+}
+
+#[test]
+fn impact_of_listings_under_a_refused_growth(rt: HostRuntime) -> Result<(), Fail> {
+    let words = ["impact", "--setup", "office", "--listing", "older", "newer"];
+    let told = refusals(rt.alloc(), &words, SINCE_OLDER.as_bytes());
     assert!(rt; told.is_some());
     println!(rt; "refusals: {}", told.unwrap_or(0))?;
     Ok(())
