@@ -7,7 +7,7 @@ ghost use Rattle.acl_tree.specs.Entries.{Entry};
 ghost use Rattle.acl_tree_queries.specs.Nodes.{TellsOfEach, TellsOfFirst};
 ghost use Rattle.acl_tree_queries.specs.AnswerFaults.{IsLack};
 
-use crate::pieces::PIECE;
+use crate::pieces::send_full;
 use acl_queries::{RunFault, write_text};
 use acl_tree::{Node, Tree};
 use std::alloc::{AllocError, Global};
@@ -50,10 +50,7 @@ pub(crate) fn write_nodes<T: NodeText, W: Write>(
     let mut text = Vec::new(alloc);
     for (path, node) in entries.as_slice() {
         teller.push(alloc, path, node, &mut text)?;
-        if text.len() >= PIECE {
-            write_text(text.as_slice(), out)?;
-            text.clear();
-        }
+        send_full(&mut text, out)?;
     }
     write_text(text.as_slice(), out)?;
     Ok(())

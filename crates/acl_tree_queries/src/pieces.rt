@@ -7,7 +7,7 @@ use acl_queries::write_text;
 use std::io::{self, Write};
 
 /// How many bytes are kept before they are written.
-pub(crate) const PIECE: usize = 65_536;
+const PIECE: usize = 65_536;
 
 /// Writes the text if it has the bytes of a piece, and then it is empty.
 pub(crate) fn send_full<W: Write>(text: &mut Vec<u8>, out: &mut W) -> io::Result<()>
