@@ -17,8 +17,8 @@ use Rattle.acl_queries.specs.declared.command.run_fault.RunFault.TheVariants.{Ou
 use Rattle.acl_service.specs.FilesFaults.{SaysRun}
 use Rattle.acl_service.specs.RunWords.{RunsWords, input_count, run_rows, sessions_in}
 use Rattle.acl_tree_queries.specs.DumpAnswer.{AnswersDump, BeginsDump, SaysDump, dump_inputs}
-use Rattle.acl_tree_queries.specs.ImpactAnswer.{AnswersImpact, BeginsImpact, SaysImpact}
-use Rattle.acl_tree_queries.specs.ImpactAnswer.{impact_inputs}
+use Rattle.acl_tree_queries.specs.ImpactWords.{AnswersImpact, BeginsImpact, SaysImpact}
+use Rattle.acl_tree_queries.specs.ImpactWords.{impact_inputs}
 use Rattle.acl_tree_queries.specs.WhoWords.{AnswersWho, BeginsWho, SaysWho, who_inputs}
 use Rattle.aclctl.specs.Fault.{fault_line, program_line, status_of}
 use Rattle.aclctl.specs.Input.{AreWordsOf, IsInputFault}

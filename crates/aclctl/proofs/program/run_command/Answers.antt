@@ -2,7 +2,7 @@ use Rattle.std.proofs.Common.{arith, map}
 use Rattle.std.proofs.lemmas.Grind.{common_steps}
 use Rattle.acl_lint.specs.LintAnswer.{AnswersLint}
 use Rattle.acl_tree_queries.specs.DumpAnswer.{AnswersDump}
-use Rattle.acl_tree_queries.specs.ImpactAnswer.{AnswersImpact}
+use Rattle.acl_tree_queries.specs.ImpactWords.{AnswersImpact}
 use Rattle.aclctl.specs.Program.{EndsWith}
 use Rattle.aclctl.proofs.program.run_command.Goals as goal
 
