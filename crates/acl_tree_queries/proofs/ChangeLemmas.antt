@@ -1,6 +1,6 @@
 -- What is told of two listings: of the one before, of the one after, and of what is gone.
 use Rattle.std.proofs.Common.{◌≡◌, ◌∙◌, ◌<◌, ◌++◌, ℕ, Bool, true, false, List, [], ◌∷◌, Option, Some, None, Result, Ok, Err, ap, arith, bytes_eq, get_or, length, length-append, map as each, refl, subst, sym, zero, suc, OnErr, OnOk, take, length-take, option_and_then, option_map}
-use Rattle.std.specs.List.{list_any}
+use Rattle.std.specs.List.{AllByRecursion, list_any}
 use Rattle.std.specs.Option.{option_map_or}
 use Rattle.std.specs.Borrow.{Bor}
 use Rattle.std.specs.Prelude.{IfSome, slice_get}
@@ -279,6 +279,17 @@ module _ {T E : Type 0} (result : Result T E) (known : Known) (kept : List Block
       (λ is. (gone_unless (λ path. marked) said, ap (λ b. gone_unless (λ path. b) said) there ∙ ap (gone_unless (λ path. get_or met (length (take place kept)) false)) once, is)) went)
 
 -- ---- what a file came to
+
+same_requests : (grants : Identity → ℕ → Bool) (requester : Identity) (requests : List ℕ) → AllByRecursion (λ request. grants requester request ≡ grants requester request) requests
+same_requests grants requester [] = tt
+same_requests grants requester (request ∷ requests) = (refl, same_requests grants requester requests)
+
+-- everyone is decided about alike where a file stays as it was
+pub alike_itself : (file : access.File) → access.IsAlikeToAll file file
+alike_itself file = λ requester. record {
+  bits = λ bit has. refl;
+  requests = same_requests (access.granter_of file) requester (access.requests_between file.acl file.acl);
+}
 
 get_shown : {A B : Type 0} (shown : A → B) (items : List A) (place : ℕ) → slice_get (each shown items) place ≡ option_map shown (slice_get items place)
 get_shown shown [] place = refl

@@ -1,5 +1,5 @@
 //! What `impact` tells of two listings.
-ghost use Rattle.std.specs.Prelude.{◌≡◌, ◌++◌, ℕ, IfErr, IfSome, List, OnErr, OnOk};
+ghost use Rattle.std.specs.Prelude.{◌≡◌, ◌++◌, ℕ, IfErr, IfSome, List, Ok, OnErr, OnOk};
 ghost use Rattle.std.specs.Io.KnownBytes.{Appends};
 ghost use Rattle.acl_listings.specs.Block.{file_of};
 ghost use Rattle.acl_listings.specs.Cursor.{coming};
@@ -163,15 +163,17 @@ struct ChangeText<'t> {
 }
 
 impl<'t> ChangeText<'t> {
-    /// Appends what the file came to, where the first block before that has its path stands at this
-    /// place.
+    /// Appends what the file came to of which the block with this text speaks, where the first block
+    /// before that has its path stands at this place. Blocks that are the same aren't compared.
     fn push_file(
         &self,
         alloc: Global,
         place: Option<usize>,
+        text: &[u8],
         file: File<'_>,
         out: &mut Vec<u8>,
     ) -> Result<(), AllocError>
+        requires { file_of self.now.findings.directory.now text.now ≡ Ok (view_file file) }
         ensures { OnOk result ((more : List ℕ)
             × TellsFile self.now place (view_file file.entry) more
             × (out.new.items ≡ out.old.items ++ more)) }
@@ -180,6 +182,9 @@ impl<'t> ChangeText<'t> {
         let Some(before) = self.before.block_at(place) else {
             return push_new(path, out);
         };
+        if before.text.as_slice() == text {
+            return Ok(());
+        }
         match read_file(alloc, before.text.as_slice(), self.findings.directory) {
             Ok(old) => {
                 self.findings
@@ -208,7 +213,7 @@ impl<'t> ChangeText<'t> {
     {
         let repeated = is_marked(self.met.as_slice(), place);
         match read_once(alloc, text, self.findings.directory, repeated) {
-            Ok(file) => self.push_file(alloc, place, file, out),
+            Ok(file) => self.push_file(alloc, place, text, file, out),
             Err(FileFault::Block(fault)) => push_fault(fault, line, text, out),
             Err(FileFault::Memory) => Err(AllocError),
         }
