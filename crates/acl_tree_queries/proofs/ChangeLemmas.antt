@@ -1,5 +1,5 @@
 -- What is told of two listings: of the one before, of the one after, and of what is gone.
-use Rattle.std.proofs.Common.{◌≡◌, ◌∙◌, ◌<◌, ◌++◌, ℕ, Bool, true, false, List, [], ◌∷◌, Option, Some, None, Result, Ok, Err, ap, arith, bytes_eq, get_or, length, length-append, map as each, refl, subst, sym, zero, suc, OnErr, OnOk, take, length-take, option_and_then, option_map}
+use Rattle.std.proofs.Common.{append-nil, ◌≡◌, ◌∙◌, ◌<◌, ◌++◌, ℕ, Bool, true, false, List, [], ◌∷◌, Option, Some, None, Result, Ok, Err, ap, arith, bytes_eq, get_or, length, length-append, map as each, refl, subst, sym, zero, suc, OnErr, OnOk, take, length-take, option_and_then, option_map}
 use Rattle.std.specs.List.{AllByRecursion, list_any}
 use Rattle.std.specs.Option.{option_map_or}
 use Rattle.std.specs.Borrow.{Bor}
@@ -31,7 +31,7 @@ use Rattle.acl_tree_queries.specs.Placed.{Placed, placed, placed_behind}
 use Rattle.acl_tree_queries.specs.Readings.{Reading, is_among, is_at, reading_of, repeats, repeats_one_of, unless_repeated}
 use Rattle.acl_tree_queries.specs.declared.impact_command.changes.ChangeText.{ChangeText}
 use Rattle.acl_tree_queries.specs.declared.impact_command.text.Findings.{Findings}
-use Rattle.acl_tree_queries.proofs.PlacedLemmas.{each_and_each, each_and_first, each_in_place, each_of_longer, first_in_place, first_of_longer, placed_shown, placed_split, put, show_placed, shown_each, shown_first, some_item}
+use Rattle.acl_tree_queries.proofs.PlacedLemmas.{each_and_each, each_and_first, each_in_place, each_of_longer, first_in_place, first_of_longer, placed_shown, placed_split, no_item, put, show_placed, shown_each, shown_first, some_item}
 use Rattle.acl_tree_queries.proofs.PlacesLemmas.{earlier_repeats, find_found, first_here, marks_repeat, met_among}
 
 -- a block that says something of a file repeats no path
@@ -277,6 +277,28 @@ module _ {T E : Type 0} (result : Result T E) (known : Known) (kept : List Block
       some_item kept place (λ item. OnOk result ((more : List ℕ) × TellsGoneOf known met item more × (new ≡ old ++ more))) block at
       (on_ok_weaker result
       (λ is. (gone_unless (λ path. marked) said, ap (λ b. gone_unless (λ path. b) said) there ∙ ap (gone_unless (λ path. get_or met (length (take place kept)) false)) once, is)) went)
+
+none_gone : (said : Result FileValue BlockFault) → gone_unless (λ path. true) said ≡ []
+none_gone (Ok file) = refl
+none_gone (Err fault) = refl
+
+-- a block whose place was met isn't gone
+module _ (known : Known) (kept : List Block) (place : ℕ) (met : List Bool) (mark : get_or met place false ≡ true) (out : List ℕ) where
+  abbrev TellsNone : Placed Block → Type 0
+  TellsNone item = (more : List ℕ) × TellsGoneOf known met item more × (out ≡ out ++ more)
+
+  pub tells_met : IfSome (slice_get (placed kept) place) TellsNone
+  tells_met = by (slice_get kept place) refl
+    where
+      by : (found : Option Block) → slice_get kept place ≡ found → IfSome (slice_get (placed kept) place) TellsNone
+      by None is = no_item kept place TellsNone is
+      by (Some block) is =
+          let within : place < length kept = slice_get_within kept place block is in
+          let len : length (take place kept) ≡ place = omega (arith, within, length-take {A = Block}) in
+          let said = file_before (read_placed known (put (take place kept) block)) in
+          let tells : TellsGoneOf known met (put (take place kept) block) [] =
+          sym (ap (λ n. gone_unless (λ path. get_or met n false) said) len ∙ ap (λ b. gone_unless (λ path. b) said) mark ∙ none_gone said) in
+          some_item kept place TellsNone block is ([], tells, sym (append-nil out))
 
 -- ---- what a file came to
 

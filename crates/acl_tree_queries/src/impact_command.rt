@@ -6,10 +6,12 @@ ghost use Rattle.acl_queries.specs.Output.{AppendsFront};
 ghost use Rattle.acl_tree_queries.specs.ImpactWords.{AnswersImpact, BeginsImpact, SaysImpact};
 ghost use Rattle.acl_tree_queries.specs.ImpactWords.{impact_inputs};
 
+mod before;
 mod changes;
 mod kept;
 mod listed;
 mod listing;
+mod marks;
 mod question;
 mod text;
 

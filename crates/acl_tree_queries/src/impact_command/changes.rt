@@ -1,156 +1,25 @@
-//! What `impact` tells of two listings.
+//! What `impact` tells of two listings, one after the other.
 ghost use Rattle.std.specs.Prelude.{◌≡◌, ◌++◌, ℕ, IfErr, IfSome, List, Ok, OnErr, OnOk};
 ghost use Rattle.std.specs.Io.KnownBytes.{Appends};
 ghost use Rattle.acl_listings.specs.Block.{file_of};
 ghost use Rattle.acl_listings.specs.Cursor.{coming};
 ghost use Rattle.acl_listings.specs.Views.{view_file};
 ghost use Rattle.acl_queries.specs.Output.{AppendsFront};
-ghost use Rattle.acl_tree_queries.specs.ChangeSteps.{TellsFile, TellsFound, is_marked, marked};
-ghost use Rattle.acl_tree_queries.specs.ImpactListing.{TellsBetween, fault_in, gone_text};
-ghost use Rattle.acl_tree_queries.specs.ImpactListing.{gone_unless};
-ghost use Rattle.acl_tree_queries.specs.Kept.{block_of};
+ghost use Rattle.acl_tree_queries.specs.ChangeSteps.{TellsFile, TellsFound, is_marked};
+ghost use Rattle.acl_tree_queries.specs.ImpactListing.{TellsBetween};
 ghost use Rattle.acl_tree_queries.specs.Readings.{reading_of, unless_repeated};
 ghost use Rattle.acl_tree_queries.specs.ListingFaults.{IsBlocksFault};
 ghost use Rattle.acl_tree_queries.specs.Nodes.{TellsOfEach, TellsOfFirst};
 
-use super::kept::{KeptBlock, KeptListing};
-use super::listed::{KeptText, write_kept};
+use super::before::{FaultText, GoneText};
+use super::kept::KeptListing;
+use super::listed::write_kept;
+use super::marks::{is_marked, mark};
 use super::text::{Findings, push_new};
 use crate::blocks::{BlockText, BlocksFault, node_of, push_fault, read_once, write_blocks};
 use acl_listings::{File, FileFault, read_file};
-use acl_names::Directory;
 use std::alloc::{AllocError, Global};
 use std::io::{Read, Write};
-
-/// Appends the line of the block's fault, if it doesn't read, or has the path of one before it.
-fn push_fault_of(
-    alloc: Global,
-    directory: &Directory,
-    block: &KeptBlock,
-    repeated: bool,
-    out: &mut Vec<u8>,
-) -> Result<(), AllocError>
-    ensures { OnOk result (out.new.items ≡ out.old.items
-        ++ fault_in (reading_of directory.now (block_of block.now))
-        (unless_repeated repeated (file_of directory.now block.now.text.items))) }
-{
-    let text = block.text.as_slice();
-    match read_once(alloc, text, directory, repeated) {
-        Ok(_) => Ok(()),
-        Err(FileFault::Block(fault)) => push_fault(fault, block.line, text, out),
-        Err(FileFault::Memory) => Err(AllocError),
-    }
-}
-
-/// Tells the faults of the listing before.
-#[derive(Drop)]
-struct FaultText<'t> {
-    directory: &'t Directory,
-}
-
-impl<'t> KeptText for FaultText<'t> {
-    ghost use Rattle.acl_tree_queries.specs.ChangeSteps.{TellsFaultOf};
-
-    ghost Tells = { λ teller. TellsFaultOf teller.directory.now };
-
-    fn push(
-        &self,
-        alloc: Global,
-        kept: &KeptListing<'_>,
-        place: usize,
-        out: &mut Vec<u8>,
-    ) -> Result<(), AllocError> {
-        let Some(block) = kept.block(place) else {
-            return Ok(());
-        };
-        let repeated = kept.repeats(place, block.text.as_slice());
-        push_fault_of(alloc, self.directory, block, repeated, out)
-    }
-}
-
-/// Appends the line of a path that is gone.
-fn push_gone(path: &[u8], out: &mut Vec<u8>) -> Result<(), AllocError>
-    ensures { OnOk result (out.new.items ≡ out.old.items ++ gone_text path.now) }
-{
-    out.extend_from_slice(b"gone ")?;
-    out.extend_from_slice(path)?;
-    out.push(b'\n')?;
-    Ok(())
-}
-
-/// Appends that the path of the block is gone, if the block reads and its path isn't one that was
-/// met.
-fn push_unless_met(
-    alloc: Global,
-    directory: &Directory,
-    block: &KeptBlock,
-    repeated: bool,
-    met: bool,
-    out: &mut Vec<u8>,
-) -> Result<(), AllocError>
-    ensures { OnOk result (out.new.items ≡ out.old.items ++ gone_unless (λ path. met)
-        (unless_repeated repeated (file_of directory.now block.now.text.items))) }
-{
-    if met {
-        return Ok(());
-    }
-    match read_once(alloc, block.text.as_slice(), directory, repeated) {
-        Ok(file) => push_gone(file.path, out),
-        Err(FileFault::Block(_)) => Ok(()),
-        Err(FileFault::Memory) => Err(AllocError),
-    }
-}
-
-/// Tells which paths of the listing before are gone.
-#[derive(Drop)]
-struct GoneText<'t> {
-    directory: &'t Directory,
-    /// Whether the listing after has the path of the block at each place, if the block is the first
-    /// one of its path.
-    met: &'t [bool],
-}
-
-impl<'t> KeptText for GoneText<'t> {
-    ghost use Rattle.acl_tree_queries.specs.ChangeSteps.{TellsGoneOf};
-
-    ghost Tells = { λ teller. TellsGoneOf teller.directory.now teller.met.now };
-
-    fn push(
-        &self,
-        alloc: Global,
-        kept: &KeptListing<'_>,
-        place: usize,
-        out: &mut Vec<u8>,
-    ) -> Result<(), AllocError> {
-        let Some(block) = kept.block(place) else {
-            return Ok(());
-        };
-        let repeated = kept.repeats(place, block.text.as_slice());
-        let met = is_marked(self.met, Some(place));
-        push_unless_met(alloc, self.directory, block, repeated, met, out)
-    }
-}
-
-/// Whether the place is marked, if there is one.
-fn is_marked(met: &[bool], place: Option<usize>) -> bool
-    ensures { result ≡ is_marked met.now place }
-{
-    match place {
-        Some(place) => met.get(place).copied().unwrap_or(false),
-        None => false,
-    }
-}
-
-/// Marks the place, if there is one.
-fn mark(met: &mut [bool], place: Option<usize>)
-    ensures { met.new ≡ marked met.old place }
-{
-    if let Some(place) = place {
-        if place < met.len() {
-            met[place] = true;
-        }
-    }
-}
 
 /// Tells what the files of the listing after came to, beside the listing before.
 #[derive(Drop)]
@@ -163,8 +32,9 @@ struct ChangeText<'t> {
 }
 
 impl<'t> ChangeText<'t> {
-    /// Appends what the file came to of which the block with this text speaks, where the first block
-    /// before that has its path stands at this place. Blocks that are the same aren't compared.
+    /// Appends what the file came to of which the block with this text speaks, where the first
+    /// block before that has its path stands at this place. Blocks that are the same aren't
+    /// compared.
     fn push_file(
         &self,
         alloc: Global,

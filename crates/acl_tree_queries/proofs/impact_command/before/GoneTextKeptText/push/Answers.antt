@@ -1,9 +1,14 @@
-use Rattle.std.proofs.Common.{rules, ◌≡◌, ◌∙◌, None, Some, ap, option_map, slice_get, sym}
+use Rattle.std.proofs.Common.{rules, ◌≡◌, ◌∙◌, true, false, None, Some, ap, get_or, option_map, slice_get, sym}
 use Rattle.acl_listings.specs.Listing.{Block}
 use Rattle.acl_tree_queries.specs.Kept.{block_of, is_earlier, place_of}
-use Rattle.acl_tree_queries.proofs.ChangeLemmas.{tells_fault}
+use Rattle.acl_tree_queries.proofs.ChangeLemmas.{tells_gone, tells_met}
 use Rattle.acl_tree_queries.proofs.PlacedLemmas.{no_item}
-use Rattle.acl_tree_queries.proofs.impact_command.changes.FaultTextKeptText.push.Goals as goal
+use Rattle.acl_tree_queries.proofs.impact_command.before.GoneTextKeptText.push.Goals as goal
+
+pub returns-then-is_marked : goal.returns-then-is_marked
+returns-then-is_marked c =
+    let met : get_or c.args.self.now.met.now c.args.place false ≡ true = sym c.is_marked.ensures ∙ c.if-is_marked.true in
+    tells_met c.args.self.now.directory.now c.args.kept.now c.args.place c.args.self.now.met.now met c.args.out.now.items
 
 pub returns-in_default : goal.returns-in_default
 returns-in_default c =
@@ -17,4 +22,5 @@ returns c =
     let at : slice_get c.args.kept.now c.args.place ≡ Some block = sym c.block.ensures ∙ ap (option_map (λ block. block_of block.now)) some in
     let repeats : c.repeats-repeated.result ≡ is_earlier c.args.place (place_of c.args.kept.now block.text) =
     c.repeats-repeated.ensures ∙ ap (λ text. is_earlier c.args.place (place_of c.args.kept.now text)) c.as_slice.ensures.value in
-    tells_fault _ c.args.self.now.directory.now c.args.kept.now c.args.place block at c.repeats-repeated.result repeats _ _ c.push_fault_of.ensures
+    let unmet : false ≡ get_or c.args.self.now.met.now c.args.place false = sym c.if-is_marked.false ∙ c.is_marked.ensures in
+    tells_gone _ c.args.self.now.directory.now c.args.kept.now c.args.place block at c.repeats-repeated.result repeats _ _ c.args.self.now.met.now false unmet c.push_gone_of.ensures
