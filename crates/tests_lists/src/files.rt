@@ -10,12 +10,6 @@ pub fn owner_and_group() -> Option<(Uid, Gid)> {
     Some((Uid::new(1000)?, Gid::new(50)?))
 }
 
-/// Who asks as the user with this number.
-pub fn requester(alloc: Global, uid: u32) -> Option<Requester> {
-    let uid = Uid::new(uid)?;
-    directory(alloc)?.requester(alloc, uid).ok()
-}
-
 /// Who asks as the user of this name.
 pub fn requester_named(alloc: Global, name: &str) -> Option<Requester> {
     let names = directory(alloc)?;

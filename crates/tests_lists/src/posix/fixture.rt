@@ -15,7 +15,7 @@ pub fn perms(text: &str) -> Option<Perms> {
 }
 
 /// What `print_effective` appends.
-pub fn effective(alloc: Global, acl: &Acl) -> Option<String> {
+fn effective(alloc: Global, acl: &Acl) -> Option<String> {
     let names = directory(alloc)?;
     let mut out = Vec::new(alloc);
     acl.print_effective(&names, &mut out).ok()?;
