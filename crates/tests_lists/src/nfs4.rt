@@ -1,7 +1,6 @@
 //! Worked examples.
 mod access;
 mod comparison;
-mod entries;
 mod fixture;
 mod hostile;
 mod inheritance;

@@ -9,17 +9,11 @@ fn may(alloc: Global, text: &str, user: &str, letters: &str) -> Option<bool> {
     grants4(alloc, text, &requester_named(alloc, user)?, request)
 }
 
-/// A list once a mode is set.
-const SET: &str =
-    "A::OWNER@:rwa,D::OWNER@:x,A::OWNER@:tTcC,D::bob@example.org:rwax,D:g:ops@example.org:rwax,D::GROUP@:rwax,A::EVERYONE@:r";
-
 #[test]
 fn the_first_entry_that_speaks_decides(rt: HostRuntime) {
-    const ROWS: [(&str, &str, &str, bool); 11] = [
+    const ROWS: [(&str, &str, &str, bool); 7] = [
         ("D::EVERYONE@:r,A::OWNER@:r", "alice", "r", false),
         ("A::OWNER@:r,D::EVERYONE@:r", "alice", "r", true),
-        ("A::OWNER@:r,D::EVERYONE@:r", "alice", "x", false),
-        ("A::OWNER@:r,D::EVERYONE@:r", "alice", "rx", false),
         // The empty request is granted.
         ("D::EVERYONE@:r", "carol", "", true),
         // The file's group, and a named one.
@@ -28,8 +22,6 @@ fn the_first_entry_that_speaks_decides(rt: HostRuntime) {
         // What is only inherited has no effect, and audits decide nothing.
         ("A:fi:EVERYONE@:x", "bob", "x", false),
         ("U:F:EVERYONE@:x,A::bob:x", "bob", "x", true),
-        (SET, "bob", "r", false),
-        (SET, "carol", "r", true),
     ];
     for (list, user, letters, wanted) in ROWS {
         assert_eq!(rt;

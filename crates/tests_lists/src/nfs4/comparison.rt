@@ -11,30 +11,11 @@ use tests_common::acl4;
 type Told = (u32, u32, u32, &'static str, &'static str);
 
 /// Two lists, the bits that are asked, and what they decide differently of them, if anything.
-const ROWS: [(&str, &str, &str, Option<Told>); 11] = [
+const ROWS: [(&str, &str, &str, Option<Told>); 6] = [
     (
         "A::OWNER@:r,A::EVERYONE@:r",
         "A::EVERYONE@:r",
         "rwaxdDtTnNcCoy",
-        None,
-    ),
-    // The owner is alice, and the file's group staff.
-    ("A::OWNER@:r", "A::alice:r", "r", None),
-    ("A::GROUP@:r", "A:g:staff:r", "r", None),
-    // What is not asked doesn't count.
-    ("A::EVERYONE@:rx", "A::EVERYONE@:r", "rwa", None),
-    // Audits decide nothing, nor does what is only inherited.
-    (
-        "U:F:EVERYONE@:r,A:fi:EVERYONE@:w",
-        "A:di:alice:w",
-        "rw",
-        None,
-    ),
-    // Two entries that allow may change places.
-    (
-        "A:g:ops:r,A:g:guest:rx",
-        "A:g:guest:rx,A:g:ops:r",
-        "rx",
         None,
     ),
     // In one of the groups, or in neither, all are decided alike.

@@ -1,5 +1,4 @@
 //! Tests of the longest NFSv4 lists.
-use crate::nfs4::fixture::fault_of;
 use acl_names::Uid;
 use acl_nfs4::{Ace, AceFault, AceType, Acl4, Fault4, Flags, Mask, Who};
 use acl_posix::Mode;
@@ -54,19 +53,6 @@ fn is_as_long_as_may_be(alloc: Global, bits: u16) -> Option<[bool; 4]> {
 fn as_many_entries_as_there_may_be(rt: HostRuntime) {
     let found = is_as_long_as_may_be(rt.alloc(), 0o644);
     assert_eq!(rt; found, Some([true; 4]));
-}
-
-/// Why the longest text is refused with this after it.
-fn fault_behind(alloc: Global, more: &str) -> Option<AceFault> {
-    let mut text = text_of(alloc, 128)?;
-    text.push_str(more).ok()?;
-    fault_of(alloc, text.as_str())
-}
-
-#[test]
-fn one_entry_too_many(rt: HostRuntime) {
-    let fault = fault_behind(rt.alloc(), "nonsense");
-    assert_eq!(rt; fault, Some(AceFault::TooMany));
 }
 
 /// An entry that no mode changes.

@@ -37,7 +37,7 @@ fn the_mode_of_a_list(rt: HostRuntime) {
 
 #[test]
 fn a_mode_that_is_set(rt: HostRuntime) {
-    const ROWS: [(&str, u16, &str); 3] = [
+    const ROWS: [(&str, u16, &str); 2] = [
         (
             SHARED,
             0o604,
@@ -47,12 +47,6 @@ fn a_mode_that_is_set(rt: HostRuntime) {
             "A:fd:bob:rx",
             0o750,
             "A::OWNER@:rwax\nA:fdi:bob@example.org:rx\nA::bob@example.org:rx\nD::bob@example.org:wa\nA::GROUP@:rx\nD::GROUP@:wa\n",
-        ),
-        // Audits stay.
-        (
-            "U:SF:EVERYONE@:rx,L:fF:bob:w,U::OWNER@:",
-            0o700,
-            "A::OWNER@:rwax\nU:SF:EVERYONE@:rx\nL:fF:bob@example.org:w\nU::OWNER@:\nD::GROUP@:rwax\n",
         ),
     ];
     for (list, mode, wanted) in ROWS {
