@@ -7,7 +7,7 @@ use std::alloc::Global;
 use tests_common::directory;
 
 /// Sessions: the name of each, its text, and what it prints.
-const SESSIONS: [(&str, &str, &str); 18] = [
+const SESSIONS: [(&str, &str, &str); 19] = [
     (
         "create and get",
         "create file /a alice 666\nget /a\n",
@@ -47,6 +47,11 @@ const SESSIONS: [(&str, &str, &str); 18] = [
         "default acl at creation",
         "create dir /d alice 755\nset /d default u::rwx,u:bob:rwx,g::r-x,m::rwx,o::-\ncreate file /d/f carol 640\nget /d/f\ncreate dir /d/e carol 750\nget /d/e\n",
         "1 ok\n2 ok\n3 ok\n4 get /d/f file carol guest 640 posix\nuser::rw-\nuser:bob:rwx\t#effective:r--\ngroup::r-x\t#effective:r--\nmask::r--\nother::---\n5 ok\n6 get /d/e dir carol guest 750 posix\nuser::rwx\nuser:bob:rwx\t#effective:r-x\ngroup::r-x\nmask::r-x\nother::---\ndefault:user::rwx\ndefault:user:bob:rwx\ndefault:group::r-x\ndefault:mask::rwx\ndefault:other::---\n",
+    ),
+    (
+        "default acl kept and taken away",
+        "create dir /d alice 755\nset /d default u::rwx,g::r-x,o::-\nset /d access u::rwx,g::-,o::-\nget /d\nset /d default none\ncreate file /d/f carol 666\nget /d/f\n",
+        "1 ok\n2 ok\n3 ok\n4 get /d dir alice staff 700 posix\nuser::rwx\ngroup::---\nother::---\ndefault:user::rwx\ndefault:group::r-x\ndefault:other::---\n5 ok\n6 ok\n7 get /d/f file carol guest 644 posix\nuser::rw-\ngroup::r--\nother::r--\n",
     ),
     (
         "translation with a mask",

@@ -1,4 +1,5 @@
-//! Tests of the sizes of requests and answers.
+//! Tests of the sizes of requests and answers, and so of what is in them: a request of the tree,
+//! and a reply.
 use acl_lang::{Answer, Numbered};
 use std::test::Fail;
 

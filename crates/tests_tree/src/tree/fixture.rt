@@ -22,7 +22,7 @@ pub const DIR: &str = "/longer-than-16-b";
 pub const CHILD: &str = "/longer-than-16-b/child";
 
 /// The paths of all nodes that the tests create, but for those that fill a tree.
-const PATHS: [&str; 7] = ["/", "/a", "/d", "/d/e", "/d/f", DIR, CHILD];
+const PATHS: [&str; 4] = ["/", "/a", DIR, CHILD];
 
 pub fn uid(number: u32) -> Option<Uid> {
     Uid::new(number)
@@ -54,15 +54,12 @@ pub enum Command<'a> {
     Get(&'a str),
     SetAccess(&'a str, &'a str),
     SetDefault(&'a str, &'a str),
-    SetNoDefault(&'a str),
     SetNfs4(&'a str, &'a str),
     Chmod(&'a str, u16),
     Create(Kind, &'a str, u32, u16),
     Check(&'a str, u32, &'a str),
     Check4(&'a str, u32, &'a str),
     Translate(&'a str),
-    /// A line that is no command.
-    Faulty(LineFault),
 }
 
 /// A step of an example: a command with what it tells, or what the tree has then.
@@ -71,22 +68,11 @@ pub enum Step<'a> {
     Tells(Command<'a>, Told),
     /// So many nodes.
     Has(usize),
-    /// A node with this owner, group and mode.
-    Shows(&'a str, u32, u32, u16),
     /// A node with this access list, and no default list.
     HasAccess(&'a str, &'a str),
-    /// A node with this access list and this default list.
-    HasBoth(&'a str, &'a str, &'a str),
     /// A node with this NFSv4 list.
     HasAces(&'a str, &'a str),
-    /// A node whose translation is this list, and no further one.
-    TranslatesTo(&'a str, &'a str),
-    /// A node whose translation is of both lists, and they are these.
-    TranslatesToBoth(&'a str, &'a str, &'a str),
 }
-
-/// An example: its name, and its steps, one after the other.
-pub type Example = (&'static str, &'static [Step<'static>]);
 
 /// Copies of a tree's nodes, each at its path.
 #[derive(Drop)]
@@ -141,11 +127,6 @@ impl World {
         Some(told_by(&reply))
     }
 
-    fn reply(&mut self, command: Command<'_>) -> Option<Reply> {
-        let request = request(self.alloc, command)?;
-        self.apply(&request)
-    }
-
     /// What the command tells.
     pub fn command(&mut self, command: Command<'_>) -> Option<Told> {
         let request = request(self.alloc, command)?;
@@ -157,12 +138,8 @@ impl World {
         match step {
             Step::Tells(command, told) => Some(self.command(command)? == told),
             Step::Has(nodes) => Some(self.tree.len() == nodes),
-            Step::Shows(at, owner, group, bits) => self.shows(at, owner, group, bits),
             Step::HasAccess(at, text) => self.has(at, Lists::Posix(text, None)),
-            Step::HasBoth(at, text, default) => self.has(at, Lists::Posix(text, Some(default))),
             Step::HasAces(at, text) => self.has(at, Lists::Nfs4(text)),
-            Step::TranslatesTo(at, text) => self.translates_to(at, text),
-            Step::TranslatesToBoth(at, text, below) => self.translates_to_both(at, text, below),
         }
     }
 
@@ -200,12 +177,6 @@ impl World {
         }
     }
 
-    /// Whether the node at the path is shown with this owner, group and mode.
-    fn shows(&mut self, at: &str, owner: u32, group: u32, bits: u16) -> Option<bool> {
-        let reply = self.reply(Command::Get(at))?;
-        Some(node_is_shown(&reply, owner, group, bits))
-    }
-
     /// Whether the node at the path has these lists, and no others.
     fn has(&self, at: &str, lists: Lists<'_>) -> Option<bool> {
         let lists = lists_of(self.alloc, lists)?;
@@ -214,21 +185,6 @@ impl World {
             Some(node) => Some(has_lists(&node.acl, &lists)),
             None => Some(false),
         }
-    }
-
-    /// Whether the node's translation is this list, and no further one.
-    fn translates_to(&mut self, at: &str, text: &str) -> Option<bool> {
-        let list = acl4(self.alloc, text)?;
-        let reply = self.reply(Command::Translate(at))?;
-        Some(is_translation(&reply, &list))
-    }
-
-    /// Whether the node's translation is of both lists, and they are these.
-    fn translates_to_both(&mut self, at: &str, text: &str, below: &str) -> Option<bool> {
-        let list = acl4(self.alloc, text)?;
-        let below = acl4(self.alloc, below)?;
-        let reply = self.reply(Command::Translate(at))?;
-        Some(are_translations(&reply, &list, &below))
     }
 }
 
@@ -258,7 +214,6 @@ fn request(alloc: Global, command: Command<'_>) -> Option<Request> {
             let acl = boxed(alloc, text)?;
             Some(Request::SetDefault(path(alloc, at)?, Some(acl)))
         }
-        Command::SetNoDefault(at) => Some(Request::SetDefault(path(alloc, at)?, None)),
         Command::SetNfs4(at, text) => {
             let acl = boxed4(alloc, text)?;
             Some(Request::SetNfs4(path(alloc, at)?, acl))
@@ -280,7 +235,6 @@ fn request(alloc: Global, command: Command<'_>) -> Option<Request> {
             Some(Request::Check4(path(alloc, at)?, user, mask))
         }
         Command::Translate(at) => Some(Request::Translate(path(alloc, at)?)),
-        Command::Faulty(fault) => Some(Request::Bad(fault)),
     }
 }
 
@@ -311,17 +265,6 @@ fn told_by(reply: &Reply) -> Told {
         Reply::Refused(fault) => Told::Refused(*fault),
         Reply::Fault(fault) => Told::Fault(*fault),
     }
-}
-
-fn node_is_shown(reply: &Reply, owner: u32, group: u32, bits: u16) -> bool {
-    match reply {
-        Reply::Node(view) => is_shown(view, owner, group, bits),
-        _ => false,
-    }
-}
-
-fn is_shown(view: &View, owner: u32, group: u32, bits: u16) -> bool {
-    view.owner.value() == owner && view.group.value() == group && view.mode.bits() == bits
 }
 
 fn is_copied(node: &Node, view: &View) -> bool {
@@ -359,21 +302,5 @@ fn is_nfs4(own: &NodeAcl, list: &Acl4) -> bool {
     match own {
         NodeAcl::Posix { .. } => false,
         NodeAcl::Nfs4 { acl } => acl.aces() == list.aces(),
-    }
-}
-
-fn is_translation(reply: &Reply, list: &Acl4) -> bool {
-    match reply {
-        Reply::Translated(acl) => acl.aces() == list.aces(),
-        _ => false,
-    }
-}
-
-fn are_translations(reply: &Reply, list: &Acl4, below: &Acl4) -> bool {
-    match reply {
-        Reply::TranslatedBoth { access, inherit } => {
-            access.aces() == list.aces() && inherit.aces() == below.aces()
-        }
-        _ => false,
     }
 }

@@ -6,7 +6,6 @@ use acl_nfs4::{Ace, AceType, Acl4, Flags, Kind, Mask, Who};
 use acl_tree::{Boxed, MAX_NODES, Path, Request, Style, TreeFault};
 use bitflags::Flags as FlagSet;
 use std::alloc::Global;
-use std::test::Fail;
 
 /// The path of a slash and four digits.
 fn numbered(alloc: Global, number: u32) -> Option<Path> {
@@ -68,29 +67,6 @@ fn full_tree(rt: HostRuntime) {
     assert_eq!(rt; wrong_step(full(rt.alloc()), &steps), None);
 }
 
-/// A component of 50 letters behind a slash.
-const COMPONENT: &str = "/aaaaaaaaaaaaaaaaaaaaaaaaaaaaaaaaaaaaaaaaaaaaaaaaaa";
-
-/// Whether the directories down to a path of 255 bytes are created, and the last one is shown.
-fn gets_the_longest_path(alloc: Global) -> Option<bool> {
-    let mut world = World::new(alloc, Style::Posix)?;
-    let mut path = String::new(alloc);
-    for _ in 0..5 {
-        path.push_str(COMPONENT).ok()?;
-        let create = Command::Create(Kind::Dir, path.as_str(), ALICE, 0o755);
-        if world.command(create) != Some(Told::Done) {
-            return Some(false);
-        }
-    }
-    let shown = world.command(Command::Get(path.as_str()));
-    Some(path.len() == 255 && shown == Some(Told::Shown))
-}
-
-#[test]
-fn the_longest_path(rt: HostRuntime) {
-    assert_eq!(rt; gets_the_longest_path(rt.alloc()), Some(true));
-}
-
 /// A list of 128 entries that allow user 0 to read attributes.
 fn longest(alloc: Global) -> Option<Acl4> {
     let ace = Ace::new(
@@ -131,51 +107,15 @@ fn with_longest(alloc: Global) -> Option<World> {
     }
 }
 
+/// A mode would make it longer than a list may be, and it still decides.
 #[test]
-fn too_many_entries_for_a_mode(rt: HostRuntime) {
-    let steps = [Step::Tells(
-        Command::Chmod("/a", 0o644),
-        Told::Refused(TreeFault::TooMany),
-    )];
+fn the_longest_list_stays_and_decides(rt: HostRuntime) {
+    let steps = [
+        Step::Tells(
+            Command::Chmod("/a", 0o644),
+            Told::Refused(TreeFault::TooMany),
+        ),
+        Step::Tells(Command::Check4("/a", 0, "t"), Told::Granted),
+    ];
     assert_eq!(rt; leave_all(with_longest(rt.alloc()), &steps), Some(true));
-}
-
-#[test]
-fn the_longest_list_decides(rt: HostRuntime) {
-    let steps = [Step::Tells(Command::Check4("/a", 0, "t"), Told::Granted)];
-    assert_eq!(rt; wrong_step(with_longest(rt.alloc()), &steps), None);
-}
-
-/// The entries of the text, and of 60 users by their uids.
-fn with_users(alloc: Global, text: &str) -> Option<String> {
-    let mut all = String::from_str(alloc, text).ok()?;
-    for number in 1..61 {
-        let entry = format!(in alloc; ",u:{number}:r").ok()?;
-        all.push_str(entry.as_str()).ok()?;
-    }
-    Some(all)
-}
-
-#[test]
-fn most_entries_of_an_access_list(rt: HostRuntime) -> Result<(), Fail> {
-    let text = with_users(rt.alloc(), "u::r,g::r,o::r,m::r").ok_or("a text")?;
-    let steps = [
-        Step::Tells(Command::SetAccess("/a", text.as_str()), Told::Done),
-        Step::HasAccess("/a", text.as_str()),
-    ];
-    assert_eq!(rt; wrong_step(World::after(rt.alloc(), A), &steps), None);
-    Ok(())
-}
-
-#[test]
-fn many_named_users(rt: HostRuntime) -> Result<(), Fail> {
-    let text = with_users(rt.alloc(), "u::r,g::r,m::r,o::-").ok_or("a text")?;
-    let steps = [
-        Step::Tells(Command::SetAccess("/a", text.as_str()), Told::Done),
-        Step::Tells(Command::Check("/a", 60, "r"), Told::Granted),
-        Step::Tells(Command::Check("/a", 1, "r"), Told::Granted),
-        Step::Tells(Command::Check("/a", 61, "r"), Told::Denied),
-    ];
-    assert_eq!(rt; wrong_step(World::after(rt.alloc(), A), &steps), None);
-    Ok(())
 }
