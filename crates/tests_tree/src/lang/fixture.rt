@@ -69,18 +69,10 @@ pub fn code(fault: LineFault) -> u8 {
     }
 }
 
-/// How much room printing the answer asks for.
-pub fn room_of(alloc: Global, answer: &Answer) -> Option<usize> {
+/// Whether this is printed of the answer, and how much room printing it asks for.
+pub fn is_printed(alloc: Global, answer: &Answer, text: &str) -> Option<(bool, usize)> {
     let names = directory(alloc)?;
     let mut out = Vec::new(alloc);
     render(answer, &names, &mut out).ok()?;
-    Some(out.capacity())
-}
-
-/// Whether this is printed of the answer.
-pub fn is_printed(alloc: Global, answer: &Answer, text: &str) -> Option<bool> {
-    let names = directory(alloc)?;
-    let mut out = Vec::new(alloc);
-    render(answer, &names, &mut out).ok()?;
-    Some(out.as_slice() == text.as_bytes())
+    Some((out.as_slice() == text.as_bytes(), out.capacity()))
 }

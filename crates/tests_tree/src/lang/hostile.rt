@@ -1,6 +1,6 @@
 //! Texts that are cut anywhere, or have another byte anywhere, are read without a fault of the
 //! reader's own.
-use crate::lang::fixture::{code, code_of};
+use crate::lang::fixture::code;
 use acl_lang::{Line, MAX_TEXT_LEN, Numbered, read_line, read_text};
 use acl_names::Directory;
 use acl_tree::Request;
@@ -150,32 +150,4 @@ fn other_bytes(rt: HostRuntime) -> Result<(), Fail> {
         );
     }
     Ok(())
-}
-
-/// The code of the text with another byte at the place.
-fn code_with(alloc: Global, text: &[u8], at: usize, byte: u8) -> Option<u8> {
-    let line = with_byte(alloc, text, at, byte)?;
-    code_of(alloc, &line)
-}
-
-/// The first place at which the byte makes no fault of the text.
-fn first_faultless(alloc: Global, text: &[u8], byte: u8) -> Option<usize> {
-    for at in 0..text.len() {
-        if !matches!(code_with(alloc, text, at, byte), Some(1..=10)) {
-            return Some(at);
-        }
-    }
-    None
-}
-
-#[test]
-fn bytes_of_no_text(rt: HostRuntime) {
-    for text in [TEXTS[0], TEXTS[1]] {
-        assert_eq!(rt; first_faultless(rt.alloc(), text, 0), None, "in {text:?}");
-        assert_eq!(rt;
-            first_faultless(rt.alloc(), text, 0x80),
-            None,
-            "in {text:?}"
-        );
-    }
 }

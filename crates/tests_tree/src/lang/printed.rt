@@ -1,5 +1,5 @@
 //! Tests of printed answers.
-use crate::lang::fixture::{Shown, boxed, is_printed, room_of};
+use crate::lang::fixture::{Shown, boxed, is_printed};
 use crate::lists::Lists;
 use acl_lang::Answer;
 use acl_nfs4::{Acl4, Kind};
@@ -86,48 +86,17 @@ const ANSWERS: [(u32, Said<'static>, &str); 8] = [
 ];
 
 /// Faults as replies, and what is printed of them in answer to line 2.
-const FAULTS: [(Said<'static>, &str); 18] = [
-    (
-        Said::Refused(TreeFault::NoSuchPath),
-        "2 error 20 no-such-path\n",
-    ),
-    (Said::Refused(TreeFault::Exists), "2 error 21 exists\n"),
-    (
-        Said::Refused(TreeFault::NotADirectory),
-        "2 error 22 not-a-directory\n",
-    ),
-    (
-        Said::Refused(TreeFault::WrongStyle),
-        "2 error 23 wrong-style\n",
-    ),
-    (
-        Said::Refused(TreeFault::DefaultOnFile),
-        "2 error 24 default-on-file\n",
-    ),
-    (
-        Said::Refused(TreeFault::InheritOnFile),
-        "2 error 25 inherit-on-file\n",
-    ),
+const FAULTS: [(Said<'static>, &str); 8] = [
     (Said::Refused(TreeFault::Full), "2 error 26 full\n"),
     (Said::Refused(TreeFault::TooMany), "2 error 27 too-many\n"),
-    (Said::Fault(LineFault::Syntax), "2 error 1 syntax\n"),
     (Said::Fault(LineFault::BadPath), "2 error 2 bad-path\n"),
-    (Said::Fault(LineFault::BadMode), "2 error 3 bad-mode\n"),
     (Said::Fault(LineFault::BadPerms), "2 error 4 bad-perms\n"),
     (
         Said::Fault(LineFault::UnknownName),
         "2 error 5 unknown-name\n",
     ),
     (Said::Fault(LineFault::BadAcl), "2 error 6 bad-acl\n"),
-    (
-        Said::Fault(LineFault::InvalidAcl),
-        "2 error 7 invalid-acl\n",
-    ),
     (Said::Fault(LineFault::TooMany), "2 error 8 too-many\n"),
-    (
-        Said::Fault(LineFault::InheritOnly),
-        "2 error 9 inherit-only\n",
-    ),
     (
         Said::Fault(LineFault::LineTooLong),
         "2 error 10 line-too-long\n",
@@ -156,30 +125,11 @@ fn reply_of(alloc: Global, said: Said<'_>) -> Option<Reply> {
     }
 }
 
-/// Whether this is printed of the reply to the line.
-fn prints(alloc: Global, line: u32, said: Said<'_>, text: &str) -> Option<bool> {
+/// Whether this is printed of the reply to the line, and asks for at most so many bytes.
+fn prints(alloc: Global, line: u32, said: Said<'_>, text: &str, bytes: usize) -> Option<[bool; 2]> {
     let reply = reply_of(alloc, said)?;
-    is_printed(alloc, &Answer { line, reply }, text)
-}
-
-#[test]
-fn answers(rt: HostRuntime) {
-    for (line, said, text) in ANSWERS {
-        assert_eq!(rt; prints(rt.alloc(), line, said, text), Some(true), "{text}");
-    }
-}
-
-#[test]
-fn faults(rt: HostRuntime) {
-    for (said, text) in FAULTS {
-        assert_eq!(rt; prints(rt.alloc(), 2, said, text), Some(true), "{text}");
-    }
-}
-
-/// Whether printing the reply asks for at most so many bytes.
-fn asks_for_at_most(alloc: Global, line: u32, said: Said<'_>, bytes: usize) -> Option<bool> {
-    let reply = reply_of(alloc, said)?;
-    Some(room_of(alloc, &Answer { line, reply })? <= bytes)
+    let (is_this, room) = is_printed(alloc, &Answer { line, reply }, text)?;
+    Some([is_this, room <= bytes])
 }
 
 /// An answer of one line asks for 64 bytes at the most, and one that shows lists for 512 bytes a
@@ -189,14 +139,16 @@ fn answers_ask_for_little_room(rt: HostRuntime) {
     for (line, said, text) in ANSWERS {
         let lines = text.bytes().filter(|byte| *byte == b'\n').count();
         let bytes = if lines == 1 { 64 } else { 512 * lines };
-        let asks = asks_for_at_most(rt.alloc(), line, said, bytes);
-        assert_eq!(rt; asks, Some(true), "{text}");
+        let right = prints(rt.alloc(), line, said, text, bytes);
+        assert_eq!(rt; right, Some([true; 2]), "{text}");
     }
+}
+
+/// Those that no session of the examples meets.
+#[test]
+fn faults_have_their_numbers_and_words(rt: HostRuntime) {
     for (said, text) in FAULTS {
-        assert_eq!(rt;
-            asks_for_at_most(rt.alloc(), 2, said, 64),
-            Some(true),
-            "{text}"
-        );
+        let right = prints(rt.alloc(), 2, said, text, 64);
+        assert_eq!(rt; right, Some([true; 2]), "{text}");
     }
 }
