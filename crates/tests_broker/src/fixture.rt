@@ -9,9 +9,6 @@ use acl_broker::{Broker, CancelRefused, End, Service, SessionEnd, TakeRefused, T
 use std::alloc::{AllocError, Global};
 use std::test::Fail;
 
-/// A request for which the service never has memory enough.
-pub(super) const HEAVY: u16 = 60_000;
-
 /// A service that knows the request that it applied last.
 #[derive(Drop)]
 pub(super) struct Last {
@@ -43,9 +40,6 @@ impl Service for Last {
     ghost reply = { λ last request. record { before = last.request; request = request } };
 
     fn apply(&mut self, request: &u16) -> Result<Follows, AllocError> {
-        if *request == HEAVY {
-            return Err(AllocError);
-        }
         let reply = Follows {
             before: self.request,
             request: *request,

@@ -1,6 +1,6 @@
 //! Examples of a broker on one thread.
 use crate::acts::{Act, wrong_act, wrong_of, wrong_step};
-use crate::fixture::{HEAVY, Last, open_broker, reply_to};
+use crate::fixture::{Last, open_broker, reply_to};
 use acl_broker::{Broker, CancelRefused, CloseRefused, SubmitRefusal, TakeRefused};
 use std::test::Fail;
 
@@ -70,30 +70,6 @@ fn cancelled(rt: HostRuntime) -> Result<(), Fail> {
         Act::Cancel(1, Err(CancelRefused::UnknownSession)),
         Act::Journal(1),
         Act::AllOpen(false),
-    ];
-    assert_eq!(rt; wrong_act(open_broker(rt.alloc(), 1)?, &acts), None);
-    Ok(())
-}
-
-#[test]
-fn item_that_wants_memory_stays_first(rt: HostRuntime) -> Result<(), Fail> {
-    let refused = Act::Take(0, Err(TakeRefused::Memory));
-    let acts = [
-        Act::Submit(0, 1, None),
-        Act::Submit(0, HEAVY, None),
-        Act::Submit(0, 2, None),
-        Act::Take(0, Ok(0)),
-        refused,
-        Act::Journal(1),
-        Act::Applied(1),
-        refused,
-        Act::Journal(1),
-        Act::Applied(1),
-        refused,
-        Act::Journal(1),
-        Act::Applied(1),
-        Act::Answer(0, reply_to(0, 1)),
-        Act::Answer(0, None),
     ];
     assert_eq!(rt; wrong_act(open_broker(rt.alloc(), 1)?, &acts), None);
     Ok(())

@@ -3,7 +3,7 @@ use crate::acts::{
     Act, HalfAct, halves_after, rejoined_after, rejoined_closed_after, wrong_act, wrong_half_act,
     wrong_step,
 };
-use crate::fixture::{Follows, HEAVY, Halves, open_broker, reply_to};
+use crate::fixture::{Follows, Halves, open_broker, reply_to};
 use acl_broker::{SLOTS, SubmitRefusal, TakeRefused};
 use std::alloc::Global;
 use std::test::Fail;
@@ -104,6 +104,7 @@ fn outbox(rt: HostRuntime) -> Result<(), Fail> {
     Ok(())
 }
 
+/// A slot that a poll freed is found again.
 #[test]
 fn outbox_beyond_the_ring(rt: HostRuntime) -> Result<(), Fail> {
     let acts = [
@@ -114,6 +115,8 @@ fn outbox_beyond_the_ring(rt: HostRuntime) -> Result<(), Fail> {
         HalfAct::Deliver(0, false),
         HalfAct::Owed(0, 44),
         HalfAct::Poll(reply_to(0, 1)),
+        HalfAct::Deliver(0, true),
+        HalfAct::Deliver(0, false),
     ];
     let then = [Act::AnswerAll(2, 301), Act::Answer(0, None)];
     assert_eq!(rt; wrong_act(rejoined_after(rt.alloc(), &acts)?, &then), None);
@@ -140,34 +143,6 @@ fn outbox_stays_over_rejoin_and_split(rt: HostRuntime) -> Result<(), Fail> {
     assert_eq!(rt; halves.taker.owed(0), 2);
     let halves = after_answer(rt.alloc(), halves, reply_to(1, 2))?;
     assert_eq!(rt; halves.taker.owed(0), 1);
-    Ok(())
-}
-
-#[test]
-fn hand_that_wants_memory_stays_first(rt: HostRuntime) -> Result<(), Fail> {
-    let refused = HalfAct::Take(Err(TakeRefused::Memory));
-    let acts = [
-        HalfAct::Submit(1),
-        HalfAct::Submit(HEAVY),
-        HalfAct::Submit(2),
-        HalfAct::Take(Ok(0)),
-        refused,
-        HalfAct::Journal(1),
-        HalfAct::Owed(0, 1),
-        refused,
-        HalfAct::Journal(1),
-        HalfAct::Owed(0, 1),
-        refused,
-        HalfAct::Journal(1),
-        HalfAct::Owed(0, 1),
-    ];
-    let then = [
-        Act::Take(0, Err(TakeRefused::Memory)),
-        Act::Applied(1),
-        Act::Answer(0, reply_to(0, 1)),
-        Act::Answer(0, None),
-    ];
-    assert_eq!(rt; wrong_act(rejoined_after(rt.alloc(), &acts)?, &then), None);
     Ok(())
 }
 
@@ -211,21 +186,5 @@ fn ends_by_four_takes(halves: Halves) -> bool {
 fn cancelled_session_ends(rt: HostRuntime) -> Result<(), Fail> {
     let acts = [HalfAct::SubmitAll(1, 4), HalfAct::Cancel(Ok(()))];
     assert!(rt; ends_by_four_takes(halves_after(rt.alloc(), &acts)?));
-    Ok(())
-}
-
-/// A slot that a poll freed is found again.
-#[test]
-fn delivers_again_after_a_poll(rt: HostRuntime) -> Result<(), Fail> {
-    let acts = [
-        HalfAct::SubmitAndTakeAll(1, 301),
-        HalfAct::DeliverAll(SLOTS),
-        HalfAct::Deliver(0, false),
-        HalfAct::Poll(reply_to(0, 1)),
-        HalfAct::Deliver(0, true),
-        HalfAct::Deliver(0, false),
-    ];
-    let halves = Halves::split(open_broker(rt.alloc(), 1)?)?;
-    assert_eq!(rt; wrong_half_act(halves, &acts), None);
     Ok(())
 }
