@@ -13,7 +13,7 @@ const JOINED: &str = "posix u::-,g::rw,o::-";
 
 /// First STYLE and TEXT, second STYLE and TEXT, and what is answered where the owner is 1000 and
 /// the group is 50.
-const ANSWERS: [(&str, &str, &str); 15] = [
+const ANSWERS: [(&str, &str, &str); 10] = [
     (
         "posix u::rw,g::r,o::-",
         "nfs4 A::OWNER@:rwa,D::OWNER@:x,A::GROUP@:r,D::GROUP@:wax",
@@ -25,28 +25,13 @@ const ANSWERS: [(&str, &str, &str); 15] = [
         "posix u::rw,g::r,o::-",
         "alike\n",
     ),
-    // The mask takes from bob what the other list doesn't give him; the entries stand in any order.
-    (
-        "posix m::r,u:1001:rw,u::rw,g::r,o::-",
-        "posix u::rw,u:1001:r,g::r,m::rw,o::-",
-        "alike\n",
-    ),
-    // The owner has the uid 1000.
-    ("nfs4 A::OWNER@:rc", "nfs4 A::1000:rc", "alike\n"),
     // A POSIX list doesn't speak of attributes.
     ("posix u::r,g::r,o::r", "nfs4 A::EVERYONE@:rtTcC", "alike\n"),
-    // No entries grant nothing.
-    ("nfs4 ", "nfs4 D::EVERYONE@:rwaxdDtTnNcCoy", "alike\n"),
     // Only who is in both groups gains.
     (
         "posix u::-,g::-,o::r",
         "posix u::-,g::-,g:60:r,m::r,o::r",
         "differ\nrequester 65534 50,60\nlost -\ngained r\n",
-    ),
-    (
-        "posix u::-,g::-,g:60:r,m::r,o::r",
-        "posix u::-,g::-,o::r",
-        "differ\nrequester 65534 60,50\nlost r\ngained -\n",
     ),
     // The owner loses to write and gains to execute.
     (
@@ -59,11 +44,6 @@ const ANSWERS: [(&str, &str, &str); 15] = [
         "posix u::rw,g::r,o::-",
         "nfs4 A::OWNER@:r,A::GROUP@:r",
         "differ\nrequester 1000 -\nlost wa\ngained -\n",
-    ),
-    (
-        "nfs4 A::OWNER@:r,A::GROUP@:r",
-        "posix u::rw,g::r,o::-",
-        "differ\nrequester 1000 -\nlost -\ngained wa\n",
     ),
     // Between NFSv4 lists all bits count.
     (
@@ -91,18 +71,13 @@ const ANSWERS: [(&str, &str, &str); 15] = [
 
 /// Fields of which one is faulty and those after it may be, with blanks between them, and what is
 /// said.
-const FAULTS: [(&str, &str); 11] = [
+const FAULTS: [(&str, &str); 6] = [
     ("x y z z z z", "aclctl: bad-id\n"),
-    ("1 4294967295 z z z z", "aclctl: bad-id\n"),
     ("1 2 POSIX x z z", "aclctl: bad-style\n"),
-    ("1 2 posix x z z", "aclctl: bad-acl\n"),
     ("1 2 posix u:bob:r z z", "aclctl: unknown-name\n"),
     ("1 2 posix u::rw z z", "aclctl: invalid-acl\n"),
-    ("1 2 posix u::rw,g::r,o::- nfs5 x", "aclctl: bad-style\n"),
     ("1 2 posix u::rw,g::r,o::- nfs4 x", "aclctl: bad-acl\n"),
-    ("1 2 nfs4 A::bob:r z z", "aclctl: unknown-name\n"),
     ("1 2 nfs4 A:i:1:r z z", "aclctl: inherit-only\n"),
-    ("1 2 nfs4 A::1:r posix x", "aclctl: bad-acl\n"),
 ];
 
 /// STYLE and an entry that stands so many times in TEXT, the second STYLE and TEXT, and how the

@@ -11,18 +11,12 @@ const BY_GROUPS: &str = "u::rw,g::r,g:60:rw,m::r,o::-";
 const BY_ACES: &str = "A::OWNER@:rwa,D:g:60:w,A::EVERYONE@:rwa";
 
 /// All fields but TEXT with blanks between them, TEXT, and the answer.
-const ANSWERS: [(&str, &str, &str); 12] = [
+const ANSWERS: [(&str, &str, &str); 6] = [
     // The mask takes from both groups what one of them has.
     (
         "1000 50 1001 50,60 rw posix",
         BY_GROUPS,
         "denied\nclass group\nentry group::r-- r-- -w-\nentry group:60:rw- r-- -w-\nmask r--\n",
-    ),
-    // Another group doesn't count.
-    (
-        "1000 50 1001 60 r posix",
-        BY_GROUPS,
-        "granted\nclass group\nentry group:60:rw- r-- ---\nmask r--\n",
     ),
     // The mask doesn't limit the owner.
     (
@@ -30,23 +24,11 @@ const ANSWERS: [(&str, &str, &str); 12] = [
         BY_GROUPS,
         "granted\nclass owner\nentry user::rw- rw- ---\n",
     ),
-    // Nor does it limit the others.
-    (
-        "1000 50 1001 70 r posix",
-        "u::rw,g::r,g:60:rw,m::-,o::r",
-        "granted\nclass other\nentry other::r-- r-- ---\n",
-    ),
     // A user's own entry goes before those of the groups. The entries are in no order.
     (
         "1000 50 1001 50 w posix",
         "o::rwx,m::r,g::rwx,u:1002:rwx,u:1001:rw,u::-",
         "denied\nclass user\nentry user:1001:rw- r-- -w-\nmask r--\n",
-    ),
-    // There is no mask.
-    (
-        "1000 50 1001 50 x posix",
-        "u::-,g::r,o::x",
-        "denied\nclass group\nentry group::r-- r-- --x\n",
     ),
     // To write is two bits.
     (
@@ -54,35 +36,16 @@ const ANSWERS: [(&str, &str, &str); 12] = [
         BY_ACES,
         "denied\nr 3 A::EVERYONE@:rwa\nw 2 D:g:60:w\na 3 A::EVERYONE@:rwa\n",
     ),
-    (
-        "1000 50 1000 60 rw nfs4",
-        BY_ACES,
-        "granted\nr 1 A::OWNER@:rwa\nw 1 A::OWNER@:rwa\na 1 A::OWNER@:rwa\n",
-    ),
     // Nobody speaks of it.
     ("1000 50 1001 60 x nfs4", BY_ACES, "denied\nx - -\n"),
-    // An entry that is only inherited decides nothing, nor does one of another kind.
-    (
-        "1000 50 1001 60 rx nfs4",
-        "A:fi:1001:rx,U:S:1001:rx,D:g:GROUP@:x,A::1001:rx",
-        "granted\nr 4 A::1001:rx\nx 4 A::1001:rx\n",
-    ),
     // Nothing is asked for.
     ("1000 50 1001 60 - nfs4", "", "granted\n"),
-    (
-        "1000 50 1001 60 - posix",
-        "u::rw,g::r,o::-",
-        "granted\nclass other\nentry other::--- --- ---\n",
-    ),
 ];
 
 /// All fields but TEXT, of which one is faulty and those after it may be, with blanks between them,
 /// TEXT, and what is said.
-const FAULTS: [(&str, &str, &str); 9] = [
+const FAULTS: [(&str, &str, &str); 6] = [
     ("x y z z z z", "z", "aclctl: bad-id\n"),
-    ("1 4294967295 z z z z", "z", "aclctl: bad-id\n"),
-    ("1 2 z z z z", "z", "aclctl: bad-id\n"),
-    ("1 2 3 4, z z", "z", "aclctl: bad-id\n"),
     ("1 2 3 4 rr z", "z", "aclctl: bad-perms\n"),
     ("1 2 3 4 r POSIX", "x", "aclctl: bad-style\n"),
     ("1 2 3 4 r posix", "u::rw", "aclctl: invalid-acl\n"),

@@ -1,17 +1,13 @@
-//! Tests of words that are lines.
-use acl_queries::{WordsFault, words_of};
+//! Tests of words that are lines, and of how faults of what is read are told.
+use acl_queries::{CapFault, WordsFault, words_of};
 use std::alloc::Global;
 use std::fmt::Display;
 
 /// Texts, each with its words.
-const TEXTS: [(&str, &[&str]); 7] = [
+const TEXTS: [(&str, &[&str]); 3] = [
     ("a\n\nb", &["a", "", "b"]),
     ("", &[]),
-    ("\n", &[""]),
-    ("a", &["a"]),
-    ("a\n", &["a"]),
-    ("a\n\n", &["a", ""]),
-    ("a\r\n", &["a\r"]),
+    ("a\r\n\n", &["a\r", ""]),
 ];
 
 /// Whether the words are these.
@@ -31,7 +27,7 @@ fn has(alloc: Global, text: &str, wanted: &[&str]) -> Option<bool> {
 }
 
 /// Whether the fault says what it is in these words.
-pub fn says<F: Display>(alloc: Global, fault: &F, words: &str) -> Option<bool> {
+fn says<F: Display>(alloc: Global, fault: &F, words: &str) -> Option<bool> {
     let shown = format!(in alloc; "{fault}").ok()?;
     Some(shown.as_str() == words)
 }
@@ -44,14 +40,11 @@ fn words_are_lines(rt: HostRuntime) {
 }
 
 #[test]
-fn bytes_that_are_no_text_are_refused(rt: HostRuntime) {
-    let outcome = words_of(rt.alloc(), b"a\n\xff".as_slice());
-    assert_eq!(rt; outcome.err(), Some(WordsFault::BadWords));
-}
-
-#[test]
 fn faults_say_what_they_are(rt: HostRuntime) {
     let alloc = rt.alloc();
     assert_eq!(rt; says(alloc, &WordsFault::BadWords, "bad words"), Some(true));
     assert_eq!(rt; says(alloc, &WordsFault::Memory, "memory"), Some(true));
+    assert_eq!(rt; says(alloc, &CapFault::Read, "a read failed"), Some(true));
+    assert_eq!(rt; says(alloc, &CapFault::TooLong, "too long"), Some(true));
+    assert_eq!(rt; says(alloc, &CapFault::Memory, "memory"), Some(true));
 }
