@@ -2,7 +2,6 @@
 use crate::fixture::tree;
 use acl_lang::MAX_TEXT_LEN;
 use acl_service::{OneFault, run_one};
-use acl_tree::{Path, Tree};
 use std::alloc::Global;
 use std::io::{self, Write};
 use tests_common::directory;
@@ -13,15 +12,8 @@ const SHOWN: &str =
     "1 ok\n2 get /a file alice staff 644 posix\nuser::rw-\ngroup::r--\nother::r--\n";
 
 /// Sessions: the name of each, its text, and what it prints.
-const SESSIONS: [(&str, &str, &str); 5] = [
+const SESSIONS: [(&str, &str, &str); 2] = [
     ("create and get", CREATE_AND_GET, SHOWN),
-    ("empty text", "", ""),
-    ("blanks and comments", " \n# nothing\n\t\n", ""),
-    (
-        "mask and effective marks",
-        "create file /a alice 666\nset /a access u::rw,u:bob:rw,g::r,m::r,o::-\ncheck /a bob w\nget /a\n",
-        "1 ok\n2 ok\n3 denied\n4 get /a file alice staff 640 posix\nuser::rw-\nuser:bob:rw-\t#effective:r--\ngroup::r--\nmask::r--\nother::---\n",
-    ),
     (
         "faults and translations",
         "create file /a alice 666\nset /a access u::-,g::r,g:ops:w,m::rw,o::-\n\ntranslate /a\nget /b\nmake /b",
@@ -62,28 +54,6 @@ fn sessions(rt: HostRuntime) {
     for (name, text, answers) in SESSIONS {
         assert_eq!(rt; prints(rt.alloc(), text, answers), Some(true), "{name}");
     }
-}
-
-/// The tree once the session is done.
-fn after(alloc: Global) -> Option<Tree> {
-    let names = directory(alloc)?;
-    let tree = tree(alloc)?;
-    let mut lines = [0; 128];
-    let mut out = lines.as_mut_slice();
-    let text = CREATE_AND_GET.as_bytes();
-    run_one(alloc, &names, tree, text, &mut out).ok()
-}
-
-/// Whether it has the file /a, beside its root alone.
-fn has_a(alloc: Global) -> Option<bool> {
-    let path = Path::read(alloc, b"/a").ok()?;
-    let after = after(alloc)?;
-    Some(after.len() == 2 && after.node(&path).is_some())
-}
-
-#[test]
-fn the_tree_is_given_back(rt: HostRuntime) {
-    assert_eq!(rt; has_a(rt.alloc()), Some(true));
 }
 
 /// The fault of a session whose writer fails.

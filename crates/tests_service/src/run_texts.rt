@@ -85,20 +85,13 @@ const RUNS: [(&str, &[&str], bool, Option<u32>, &str); 4] = [
 ];
 
 /// What stands after the examples' setup, and what is said of it.
-const SETUPS: [(&str, &str); 6] = [
-    ("[[", "aclctl: setup: not toml\n"),
-    ("[[user]]\nname = \"dave\"\n", "aclctl: setup: bad field\n"),
+const SETUPS: [(&str, &str); 3] = [
     (
         "[[user]]\nname = \"dave\"\nuid = 1000\ngroups = []\n",
         "aclctl: setup: repeated id\n",
     ),
     (
         "[[user]]\nname = \"dave\"\nuid = 7\ngroups = [\"wheel\"]\n",
-        "aclctl: setup: unknown group\n",
-    ),
-    // A user may be in 32 groups.
-    (
-        "[[user]]\nname = \"dave\"\nuid = 7\ngroups = [\"g1\", \"g2\", \"g3\", \"g4\", \"g5\", \"g6\", \"g7\", \"g8\", \"g9\", \"g10\", \"g11\", \"g12\", \"g13\", \"g14\", \"g15\", \"g16\", \"g17\", \"g18\", \"g19\", \"g20\", \"g21\", \"g22\", \"g23\", \"g24\", \"g25\", \"g26\", \"g27\", \"g28\", \"g29\", \"g30\", \"g31\", \"g32\"]\n",
         "aclctl: setup: unknown group\n",
     ),
     (
@@ -228,22 +221,9 @@ fn prints_both<R: Threads + Wait + Clock + Sync>(rt: &R, alloc: Global) -> Optio
     ends_with(rt, alloc, &gate, SETUP, &given, true, None, ending)
 }
 
-/// Whether one session of the same requests in the same order is answered the same.
-fn prints_one<R: Threads + Wait + Clock + Sync>(rt: &R, alloc: Global) -> Option<bool> {
-    let (mut both, check) = change_and_check(alloc)?;
-    both.push_str(check.as_str()).ok()?;
-    let mut text = String::new(alloc);
-    push_lines(alloc, &mut text, "", 1, " ok")?;
-    push_lines(alloc, &mut text, "", MANY.checked_add(1)?, " granted")?;
-    let given = [both.as_str()];
-    let ending = (0, text.as_str(), "");
-    ends_with(rt, alloc, &OpenGate, SETUP, &given, false, None, ending)
-}
-
 #[test]
 fn one_session_after_the_other(rt: HostRuntime) {
     assert_eq!(rt; prints_both(&rt, rt.alloc()), Some(true));
-    assert_eq!(rt; prints_one(&rt, rt.alloc()), Some(true));
 }
 
 #[test]

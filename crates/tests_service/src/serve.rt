@@ -23,7 +23,7 @@ const GRANTED: &str = "1 granted\n2 granted\n3 granted\n";
 
 /// What is run over a tree of a root alone: a name, the texts, how many errors end a session, and
 /// what is seen.
-const RUNS: [(&str, &[&str], Option<u32>, &[Seen<'static>]); 6] = [
+const RUNS: [(&str, &[&str], Option<u32>, &[Seen<'static>]); 4] = [
     (
         "empty text",
         &[""],
@@ -51,24 +51,6 @@ const RUNS: [(&str, &[&str], Option<u32>, &[Seen<'static>]); 6] = [
             ),
             Seen::Nodes(5),
         ],
-    ),
-    (
-        "the second error ends the session",
-        &["get /x\nget /\nnope\nget /\n"],
-        Some(2),
-        &[
-            Seen::Output(
-                0,
-                "1 error 20 no-such-path\n2 get / dir root root 755 posix\nuser::rwx\ngroup::r-x\nother::r-x\n3 error 1 syntax\n",
-            ),
-            Seen::Journal(&[(0, 1), (0, 2), (0, 3)]),
-        ],
-    ),
-    (
-        "journal of one session",
-        &["create file /a alice 666\nget /a\n"],
-        None,
-        &[Seen::Journal(&[(0, 1), (0, 2)])],
     ),
     // `denied` is no error, and a session with fewer errors than are allowed goes to its end.
     (
@@ -153,33 +135,15 @@ fn each_session_waits_for_the_others_answer(rt: HostRuntime) {
 }
 
 /// The gate is asked of each request once and told of each answer once, by their numbers from 1.
-#[test]
-fn a_gate_sees_each_request_and_each_answer(rt: HostRuntime) {
-    let gate = Counting::new();
-    let seen = [Seen::Output(0, GRANTED), Seen::Output(1, "1 granted\n")];
-    let texts = [CHECKS, "check / bob r\n"];
-    let served = serving(
-        &rt,
-        rt.alloc(),
-        &gate,
-        tree(rt.alloc()),
-        &texts,
-        None,
-        &seen,
-    );
-    assert_eq!(rt; served, Some(Ok(true)));
-    assert!(rt; gate.has_counted([3, 1], [3, 1]));
-}
-
 /// Lines that are blank or comments are no requests, and a faulty line is one: the numbers are
 /// those of the requests and not of the lines.
 #[test]
-fn a_gate_sees_requests_and_not_lines(rt: HostRuntime) {
+fn a_gate_sees_each_request_and_each_answer(rt: HostRuntime) {
     let gate = Counting::new();
-    let texts = ["\n# nothing\nx\n\ncheck / bob r\n", ""];
+    let texts = ["\n# nothing\nx\n\ncheck / bob r\n", CHECKS];
     let seen = [
         Seen::Output(0, "3 error 1 syntax\n5 granted\n"),
-        Seen::Output(1, ""),
+        Seen::Output(1, GRANTED),
     ];
     let served = serving(
         &rt,
@@ -191,7 +155,7 @@ fn a_gate_sees_requests_and_not_lines(rt: HostRuntime) {
         &seen,
     );
     assert_eq!(rt; served, Some(Ok(true)));
-    assert!(rt; gate.has_counted([2, 0], [2, 0]));
+    assert!(rt; gate.has_counted([2, 3], [2, 3]));
 }
 
 #[test]
