@@ -5,6 +5,7 @@ mod fixture;
 mod hostile;
 mod inheritance;
 mod longest;
+mod masks;
 mod mode;
 mod refused_growths;
 mod sizes;

@@ -13,6 +13,8 @@ mod error_output;
 #[cfg(test)]
 mod explain;
 #[cfg(test)]
+mod explanation;
+#[cfg(test)]
 mod input;
 #[cfg(test)]
 mod refused_growths;

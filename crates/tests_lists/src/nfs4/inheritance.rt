@@ -34,3 +34,21 @@ fn what_is_inherited(rt: HostRuntime) {
         assert!(rt; is_text(below, wanted) == Some(true), "{list} {kind:?}");
     }
 }
+
+/// Whether a directory with the list hands anything down.
+fn hands_down(alloc: Global, text: &str) -> Option<bool> {
+    Some(acl4(alloc, text)?.has_inheritance())
+}
+
+#[test]
+fn flags_of_inheritance(rt: HostRuntime) {
+    const ROWS: [(&str, bool); 4] = [
+        ("A::OWNER@:r,A:n:OWNER@:r", true),
+        ("A:fi:OWNER@:r", true),
+        ("A:SFg:ops:r", false),
+        ("", false),
+    ];
+    for (list, wanted) in ROWS {
+        assert_eq!(rt; hands_down(rt.alloc(), list), Some(wanted));
+    }
+}
