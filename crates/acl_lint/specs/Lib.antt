@@ -6,6 +6,6 @@ pub mod Spots
 pub mod FieldKeys
 pub mod PartsKeys
 pub mod SetupPlace
-pub mod LintAnswer
 pub mod LintFaults
+pub mod LintAnswer
 pub mod LintLaws

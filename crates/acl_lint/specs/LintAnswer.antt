@@ -2,16 +2,20 @@
 use Rattle.std.specs.Prelude.{◌≡◌, ◌⊎◌, ℕ, ◌==◌, List, [], ◌∷◌, ◌++◌, Option, Vec, map}
 use Rattle.std.specs.Prelude.{codes, if◌then◌else◌}
 use Rattle.std.specs.declared.alloc.Global.{Global}
-use Rattle.clap.specs.Words.{Row, Text}
+use Rattle.clap.specs.Words.{Row, Text, matches_of}
 use Rattle.acl_names.specs.Bytes.{hyphen, newline, space}
 use Rattle.acl_names.specs.Directory.{Known}
 use Rattle.acl_tree.specs.Tree.{NodesUnderUmask}
+use Rattle.acl_queries.specs.CommandLine.{Takes}
+use Rattle.acl_queries.specs.ErrorOutput.{SaysFault}
+use Rattle.acl_queries.specs.Meaning.{Meaning}
 use Rattle.acl_service.specs.Opened.{Opens}
 use Rattle.acl_service.specs.RunWords.{AreTold, CanRun, IsTold, input_count, sessions_in, setup_in}
 use Rattle.acl_service.specs.SetupFaults.{setup_error_words}
 use Rattle.acl_service.specs.TextsFaults.{IsRefusedBy}
 use Rattle.acl_service.specs.declared.setup.fault.SetupError.{SetupError}
-use Rattle.acl_lint.specs.LintLine.{LintTakes, lint_rows}
+use Rattle.acl_lint.specs.LintFaults.{IsLintFault, lint_fault_line, lint_status}
+use Rattle.acl_lint.specs.LintLine.{lint_line}
 use Rattle.acl_lint.specs.LintText.{sessions_text}
 use Rattle.acl_lint.specs.SetupPlace.{IsPlace}
 
@@ -60,9 +64,14 @@ pub record AnswersRows (bytes_of : Text → Option (List ℕ)) (input : Option (
 -- the words of `lint` are answered
 pub record AnswersLint (bytes_of : Text → Option (List ℕ)) (input : Option (List ℕ))
     (words : List Text) (WentOut : List ℕ → Type 0) : Type 0 where
-  pub taken : LintTakes words
-  pub of_rows : AnswersRows bytes_of input (lint_rows words) WentOut
+  pub taken : Takes lint_line words
+  pub of_rows : AnswersRows bytes_of input (matches_of lint_line words) WentOut
 
--- how many sessions of the words are standard input
-abbrev pub lint_inputs : List Text → ℕ
-lint_inputs words = input_count (sessions_in (lint_rows words))
+-- what the words of `lint` mean
+abbrev pub lint_meaning : (Text → Option (List ℕ)) → Option (List ℕ) → List Text → Meaning
+lint_meaning bytes_of input words = record {
+  Answers = AnswersLint bytes_of input words;
+  Begins = AnswersLint bytes_of input words;
+  Says = SaysFault lint_status lint_fault_line (IsLintFault words);
+  inputs = input_count (sessions_in (matches_of lint_line words));
+}

@@ -1,8 +1,8 @@
 -- The lines and the exit statuses of words of `lint` that have no answer, or not all of it.
 use Rattle.std.specs.Prelude.{◌≢◌, ⊤, ℕ, List, Option}
-use Rattle.clap.specs.Words.{Row, Text, kind_of}
+use Rattle.clap.specs.Words.{Row, Text, kind_of, matches_of}
 use Rattle.clap.specs.declared.error.kind.ErrorKind.TheVariants.{OutOfMemory}
-use Rattle.acl_queries.specs.ErrorOutput.{SaysFault}
+use Rattle.acl_queries.specs.CommandLine.{Takes}
 use Rattle.acl_queries.specs.Faults.{usage_line, usage_status}
 use Rattle.acl_queries.specs.RunFaults.{run_line, run_status}
 use Rattle.acl_queries.specs.declared.command.run_fault.RunFault.{RunFault}
@@ -10,7 +10,7 @@ use Rattle.acl_queries.specs.declared.command.run_fault.RunFault.TheVariants as 
 use Rattle.acl_service.specs.FilesFaults.{IsFilesFault, files_line, files_status}
 use Rattle.acl_service.specs.RunWords.{CanRun, sessions_in, setup_in}
 use Rattle.acl_service.specs.declared.files.FilesFault.{FilesFault}
-use Rattle.acl_lint.specs.LintLine.{LintTakes, lint_rows}
+use Rattle.acl_lint.specs.LintLine.{lint_line}
 use Rattle.acl_lint.specs.declared.fault.LintFault.{LintFault}
 use Rattle.acl_lint.specs.declared.fault.LintFault.TheVariants.{Usage, Files, Run}
 
@@ -48,9 +48,5 @@ IsRowsFault rows (Run fault) = CanRun (sessions_in rows) × IsLack fault
 -- the words have none for this: the parser refuses them, which is so unless memory ran out, or it
 -- takes them, and the files have none
 abbrev pub IsLintFault : List Text → LintFault → Type 0
-IsLintFault words (Usage error) = kind_of error ≢ OutOfMemory → ¬ LintTakes words
-IsLintFault words fault = LintTakes words × IsRowsFault (lint_rows words) fault
-
--- what is said of the words
-abbrev pub SaysLint : List Text → ℕ → Option (List ℕ) → Type 0
-SaysLint words = SaysFault lint_status lint_fault_line (IsLintFault words)
+IsLintFault words (Usage error) = kind_of error ≢ OutOfMemory → ¬ Takes lint_line words
+IsLintFault words fault = Takes lint_line words × IsRowsFault (matches_of lint_line words) fault

@@ -1,10 +1,9 @@
 -- The command line of `lint`, as the parser of command lines sees it.
-use Rattle.std.specs.Prelude.{◌≡◌, List, [], ◌∷◌, codes, fold, refl, true}
-use Rattle.clap.specs.Words.{App, Row, Text, fault_of, is_simple, is_simple_and_free, matches_of}
-use Rattle.clap.specs.Words.{new_app, with_rule}
+use Rattle.std.specs.Prelude.{◌≡◌, [], ◌∷◌, codes, fold, refl, true}
+use Rattle.clap.specs.Words.{App, is_simple, is_simple_and_free, new_app, with_rule}
 use Rattle.clap.proofs.OnLiterals.{clap_on_literals}
 use Rattle.acl_queries.specs.CommandLine.{required_option}
-use Rattle.acl_service.specs.RunWords.{session_words}
+use Rattle.acl_service.specs.RunLine.{session_words}
 
 -- `lint --setup FILE SESSION..`
 unfoldable pub lint_line : App
@@ -19,11 +18,3 @@ lint_line-simple = refl
 pub lint_line-free : is_simple_and_free lint_line ≡ true
 unfolding clap_on_literals lint_line
 lint_line-free = refl
-
--- the parser finds no fault in the words, of which the first is the command's name
-abbrev pub LintTakes : List Text → Type 0
-LintTakes words = fault_of lint_line words ≡ []
-
--- what the parser finds in the words
-unfoldable pub lint_rows : List Text → List Row
-lint_rows words = matches_of lint_line words

@@ -1,14 +1,12 @@
-//! The words of `lint`, as the parser of command lines takes them.
-ghost use Rattle.std.specs.Prelude.{◌≡◌, IfErr, IfOk, OnOk, map};
-ghost use Rattle.clap.specs.Words.{app_of, found_of, kind_of, rows_of};
-ghost use Rattle.acl_lint.specs.LintLine.{LintTakes, lint_line, lint_rows};
+//! The command line of `lint`.
+ghost use Rattle.std.specs.Prelude.{◌≡◌, IfOk};
+ghost use Rattle.clap.specs.Words.{app_of};
 
+use acl_queries::CommandLine;
 use acl_queries::options::setup_option;
 use acl_service::session_words;
-use clap::error::ErrorKind;
-use clap::{ArgMatches, Command, Error};
+use clap::Command;
 use std::alloc::{AllocError, Global};
-use std::convert::AsStr;
 
 /// What is told, and what the exit statuses are.
 const ANSWERS: &str = "A line for each fault, and none if nothing is wrong. Of a setup that is \
@@ -24,24 +22,23 @@ help; 3 if
 memory runs out or the answer can't be written.";
 
 /// The command line of `lint`.
-fn command<'a>(alloc: Global) -> Result<Command<'a>, AllocError>
-    ensures { IfOk result (λ command. app_of command ≡ lint_line) }
-{
-    Command::new(alloc, "lint")
-        .bin_name("aclctl lint")?
-        .about("Tells what is wrong with a setup or with sessions, and where, before they run.")
-        .after_help(ANSWERS)
-        .arg(setup_option(alloc))?
-        .arg(session_words(alloc))
-}
+pub(crate) struct LintLine;
 
-/// What the parser finds in the words of `lint`, of which the first is the command's name.
-pub(crate) fn parse<'a, S: AsStr>(alloc: Global, words: &'a [S]) -> Result<ArgMatches<'a>, Error>
-    ensures taken { OnOk result (LintTakes (map S.text words.entry.now)) }
-    ensures fields { IfOk result (λ matches. rows_of (found_of matches)
-        ≡ lint_rows (map S.text words.entry.now)) }
-    ensures refused { IfErr result (λ error. LintTakes (map S.text words.entry.now)
-        → kind_of error ≡ ErrorKind.OutOfMemory) }
-{
-    command(alloc)?.try_get_matches_from(words)
+impl CommandLine for LintLine {
+    ghost use Rattle.acl_lint.specs.LintLine.{lint_line, lint_line-free, lint_line-simple};
+
+    ghost line = { lint_line };
+
+    ghost line_simple = { lint_line-simple };
+
+    ghost line_free = { lint_line-free };
+
+    fn command<'a>(alloc: Global) -> Result<Command<'a>, AllocError> {
+        Command::new(alloc, "lint")
+            .bin_name("aclctl lint")?
+            .about("Tells what is wrong with a setup or with sessions, and where, before they run.")
+            .after_help(ANSWERS)
+            .arg(setup_option(alloc))?
+            .arg(session_words(alloc))
+    }
 }

@@ -2,14 +2,15 @@
 ghost use Rattle.std.specs.Prelude.{◌≡◌, ◌≤◌, ◌⊎◌, IfErr, OnErr, OnOk, map};
 ghost use Rattle.std.specs.Io.KnownBytes.{Appends, Keeps};
 ghost use Rattle.acl_queries.specs.ErrorOutput.{Reports};
+ghost use Rattle.acl_queries.specs.Meaning.{Ends, LeavesInput};
 ghost use Rattle.acl_queries.specs.Output.{AppendsFront};
-ghost use Rattle.acl_lint.specs.LintAnswer.{AnswersLint, lint_inputs};
-ghost use Rattle.acl_lint.specs.LintFaults.{IsLintFault, SaysLint, lint_status};
+ghost use Rattle.acl_lint.specs.LintAnswer.{AnswersLint, lint_meaning};
+ghost use Rattle.acl_lint.specs.LintFaults.{IsLintFault, lint_status};
 
 use crate::answer::answer_matches;
-use crate::command_line::parse;
+use crate::command_line::LintLine;
 use crate::fault::LintFault;
-use acl_queries::{ErrorOutput, report};
+use acl_queries::{ErrorOutput, parse, report};
 use acl_service::OpenFiles;
 use std::alloc::Global;
 use std::convert::AsStr;
@@ -35,11 +36,12 @@ where
     ensures cut { OnErr result (Keeps (W.contents out.old) (W.contents out.new)
         ⊎ AnswersLint (F.bytes_of files.now) (I.remaining input.old) (map S.text words.entry.now)
         (AppendsFront (W.contents out.old) (W.contents out.new))) }
-    ensures untouched { lint_inputs (map S.text words.entry.now) ≡ 0 → input.new ≡ input.old }
+    ensures untouched { (lint_meaning (F.bytes_of files.now) (I.remaining input.old)
+        (map S.text words.entry.now)).inputs ≡ 0 → input.new ≡ input.old }
     ensures unread { IfErr result (λ fault. lint_status fault ≡ 2 → input.new ≡ input.old) }
     ensures refused { IfErr result (IsLintFault (map S.text words.entry.now)) }
 {
-    match parse::<S>(alloc, words) {
+    match parse::<LintLine, S>(alloc, words) {
         Ok(matches) => answer_matches(alloc, files, &matches, input, out),
         Err(error) => Err(LintFault::Usage(error)),
     }
@@ -83,22 +85,12 @@ where
     I: Read,
     W: Write,
     E: Write + Drop,
-    ensures statuses { result ≤ 3 }
-    ensures answered { result ≡ 0 → AnswersLint (F.bytes_of files.now) (I.remaining input.old)
-        (map S.text words.now) (Appends (W.contents out.old) (W.contents out.new)) }
-
-    // Nothing is written if the words or a file are refused.
-    ensures silent { 1 ≤ result → result ≤ 2 → Keeps (W.contents out.old) (W.contents out.new) }
-
-    // If memory runs out or a write fails, nothing went out or a front of the answer.
-    ensures cut { result ≡ 3 → Keeps (W.contents out.old) (W.contents out.new)
-        ⊎ AnswersLint (F.bytes_of files.now) (I.remaining input.old) (map S.text words.now)
-        (AppendsFront (W.contents out.old) (W.contents out.new)) }
-
-    // Standard input is left as it is if no session is `-`, and if the words are refused.
-    ensures untouched { lint_inputs (map S.text words.now) ≡ 0 → input.new ≡ input.old }
-    ensures unread { result ≡ 2 → input.new ≡ input.old }
-    ensures told { Reports (SaysLint (map S.text words.now)) result err.old err.new }
+    ensures ended { Ends (lint_meaning (F.bytes_of files.now) (I.remaining input.old)
+        (map S.text words.now)) result (W.contents out.old) (W.contents out.new) }
+    ensures told { Reports (lint_meaning (F.bytes_of files.now) (I.remaining input.old)
+        (map S.text words.now)).Says result err.old err.new }
+    ensures input { LeavesInput (lint_meaning (F.bytes_of files.now) (I.remaining input.old)
+        (map S.text words.now)).inputs result input.old input.new }
 {
     match answer::<F, S, I, W>(alloc, files, words, input, out) {
         Ok(()) => 0,

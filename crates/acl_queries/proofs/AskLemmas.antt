@@ -19,8 +19,9 @@ use Rattle.acl_posix.specs.Validity.{IsValid, fault_of}
 use Rattle.acl_posix.specs.declared.reading.PieceFault.{PieceFault}
 use Rattle.acl_queries.specs.AclText.{accepted, acl_of, as_field, entries_of, nobody}
 use Rattle.acl_queries.specs.Ask.{Ask, GiveAcl, GiveFlag, GiveGids, GiveId, GivePerms, Write}
-use Rattle.acl_queries.specs.Asked.{Asked, acl_in, asked_by, asked_in, flag_in, flag_of, gids_in, gids_of, id_in, id_of, perms_in, perms_of}
-use Rattle.acl_queries.specs.CommandLine.{TakesWords, decide_line}
+use Rattle.acl_queries.specs.Asked.{Asked, acl_in, asked_in, flag_in, flag_of, gids_in, gids_of, id_in, id_of, perms_in, perms_of}
+use Rattle.acl_queries.specs.CommandLine.{Takes}
+use Rattle.acl_queries.specs.DecideLine.{decide_line}
 use Rattle.acl_queries.specs.declared.command.query_fault.FieldFault.TheVariants.{BadAcl, BadId, BadPerms, InvalidAcl, TooMany}
 use Rattle.acl_queries.proofs.AclLemmas.{entries_of-spelt, field_of}
 
@@ -132,9 +133,9 @@ module _ (words : List Text) where
 
 -- Words.
 
-pub asked_by-Ask : (words : List Text) (asked : Asked) → Ask words asked → TakesWords words × (asked_by words ≡ Ok asked)
+pub asked_in-Ask : (words : List Text) (asked : Asked) → Ask words asked → Takes decide_line words × (asked_in (matches_of decide_line words) ≡ Ok asked)
 unfolding asked_in
-asked_by-Ask words asked ask = (
+asked_in-Ask words asked ask = (
   ask.taken,
   rw (
     id_in-given words _ _ ask.owner,
@@ -147,9 +148,9 @@ asked_by-Ask words asked ask = (
   ) refl,
 )
 
-pub Ask-asked_by : (words : List Text) (asked : Asked) → TakesWords words → asked_by words ≡ Ok asked → Ask words asked
+pub Ask-asked_in : (words : List Text) (asked : Asked) → Takes decide_line words → asked_in (matches_of decide_line words) ≡ Ok asked → Ask words asked
 unfolding asked_in
-Ask-asked_by words asked taken is =
+Ask-asked_in words asked taken is =
     let owner = bind_ok (id_in (codes "owner") (rows words)) _ asked is in
     let group = bind_ok (id_in (codes "group") (rows words)) _ asked owner.2 in
     let uid = bind_ok (id_in (codes "uid") (rows words)) _ asked group.2 in

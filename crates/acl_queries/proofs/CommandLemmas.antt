@@ -1,25 +1,15 @@
 -- What building a command line by its arguments gives.
-use Rattle.std.proofs.Common.{◌≡◌, ◌∙◌, ap₂, refl, subst, false, true, List, [], Result, Ok, Err, OnOk, IfErr, IfOk, inl, inr}
+use Rattle.std.proofs.Common.{◌≡◌, ◌∙◌, ap₂, subst, false, true, List, [], Result, Ok, Err, OnOk, IfErr, IfOk, inl, inr}
 use Rattle.clap.specs.Words.{AddsArg, App, FailsBy, HasKind, HasMatchesOf, Kinds, Rule, Text, app_of, fault_of, found_of, is_simple, is_simple_and_free, kind_of, matches_of, rows_of, rule_of, subcommand_of, subcommand_rows_of, with_rule}
-use Rattle.clap.proofs.OnLiterals.{clap_on_literals}
 use Rattle.clap.specs.declared.error.Error.{Error}
 use Rattle.clap.specs.declared.error.kind.ErrorKind.TheVariants.{OutOfMemory}
 use Rattle.clap.specs.declared.parser.matches.ArgMatches.{ArgMatches}
-use Rattle.acl_queries.specs.CommandLine.{decide_line}
 use Rattle.clap.specs.declared.builder.arg.Arg.{Arg}
 use Rattle.clap.specs.declared.builder.command.Command.{Command}
 
 -- a command with one more argument is the known command with the known rule
 pub app_of-arg : {app : App} {rule : Rule} (old new : Command) (arg : Arg) → AddsArg old arg new → arg.global ≡ false → app_of old ≡ app → rule_of arg ≡ rule → app_of new ≡ with_rule app rule
 app_of-arg old new arg added local is_app is_rule = added.shape local ∙ ap₂ with_rule is_app is_rule
-
-pub decide_line-simple : is_simple decide_line ≡ true
-unfolding clap_on_literals decide_line
-decide_line-simple = refl
-
-pub decide_line-free : is_simple_and_free decide_line ≡ true
-unfolding clap_on_literals decide_line
-decide_line-free = refl
 
 module _ (line app : App) (words : List Text) (is : app ≡ line) where
   -- what the parser says of the command as it was built, of the known command

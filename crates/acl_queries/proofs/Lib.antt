@@ -3,13 +3,11 @@ pub mod ErrorLemmas
 pub mod LineLemmas
 pub mod CommandLemmas
 pub mod AclLemmas
-pub mod OutcomeLemmas
+pub mod MeaningLemmas
 pub mod AskLemmas
 pub mod AcesLemmas
-pub mod CompareLineLemmas
-pub mod AnsweringLemmas
+pub mod QueryLemmas
 pub mod DifferenceLemmas
 pub mod ComparedLemmas
 pub mod ExclusiveLemmas
 pub mod ExplanationLemmas
-pub mod ExplainLineLemmas

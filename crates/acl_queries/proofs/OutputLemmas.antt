@@ -1,9 +1,9 @@
 -- Fronts of a text that go out.
-use Rattle.std.proofs.Common.{◌≡◌, ◌∙◌, ◌+◌, ◌-◌, ◌++◌, ℕ, List, Option, ◌≤◌, ap, append_assoc, arith, length, length-drop, subst, sym, take, drop, take-add}
+use Rattle.std.proofs.Common.{◌≡◌, ◌∙◌, ◌+◌, ◌-◌, ◌++◌, [], ℕ, List, Option, Some, None, ◌≤◌, ap, append-nil, append_assoc, arith, length, length-drop, subst, sym, take, drop, take-add}
 use Rattle.std.proofs.lemmas.List.{take-append-drop, take_rest}
 use Rattle.std.proofs.Math.Seq.{take-append-add, take-append_seam, take-length}
 use Rattle.std.proofs.KnownBytes.{Appends-trans}
-use Rattle.std.specs.Io.KnownBytes.{Appends}
+use Rattle.std.specs.Io.KnownBytes.{Appends, Keeps}
 use Rattle.acl_queries.specs.Output.{AppendsFront}
 
 -- a front of a text went out, and then a front of the rest
@@ -46,3 +46,12 @@ module _ (before between after : Option (List ℕ)) (so_far text rest all : List
   -- the next text went out whole
   pub more_among : Appends between after text → (more : List ℕ) × Appends before after more × (more ++ rest ≡ all)
   more_among went = (so_far ++ text, Appends-trans before between after so_far text whole went, append_assoc so_far text rest ∙ is)
+
+pub Appends-nothing : (old new : Option (List ℕ)) → Keeps old new → Appends old new []
+Appends-nothing None new kept = tt
+Appends-nothing (Some bytes) None kept = kept
+Appends-nothing (Some bytes) (Some after) kept = kept ∙ sym (append-nil bytes)
+
+-- if nothing went out, a front of any text did
+pub front_of_none : (old new : Option (List ℕ)) (text : List ℕ) → Keeps old new → AppendsFront old new text
+front_of_none old new text kept = (0, Appends-nothing old new kept)

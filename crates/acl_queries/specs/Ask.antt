@@ -15,7 +15,8 @@ use Rattle.acl_posix.specs.Validity.{IsValid}
 use Rattle.acl_posix.specs.declared.limits.TheConstants.{MAX_ENTRIES}
 use Rattle.acl_queries.specs.AclText.{nobody}
 use Rattle.acl_queries.specs.Asked.{Asked}
-use Rattle.acl_queries.specs.CommandLine.{TakesWords, decide_line}
+use Rattle.acl_queries.specs.CommandLine.{Takes}
+use Rattle.acl_queries.specs.DecideLine.{decide_line}
 
 -- the words give the text for the name
 abbrev pub Give : List Text → Text → Text → Type 0
@@ -53,7 +54,7 @@ GiveFlag words name given = (given ≡ true) ↔ Give words name (codes "true")
 
 -- the words ask this: the parser takes them, and they give each field
 pub record Ask (words : List Text) (asked : Asked) : Type 0 where
-  pub taken : TakesWords words
+  pub taken : Takes decide_line words
   pub owner : GiveId words (codes "owner") asked.owner
   pub group : GiveId words (codes "group") asked.group
   pub uid : GiveId words (codes "uid") asked.requester.uid

@@ -1,7 +1,7 @@
--- What the words of `decide` ask, read field by field.
+-- What the fields of `decide` ask, read one by one.
 use Rattle.std.specs.Prelude.{ℕ, Bool, false, List, [], Option, Some, None, Result, Ok, codes}
 use Rattle.std.specs.Prelude.{bytes_eq}
-use Rattle.clap.specs.Words.{Text, Row, first_of, matches_of}
+use Rattle.clap.specs.Words.{Text, Row, first_of}
 use Rattle.acl_names.specs.Bytes.{comma}
 use Rattle.acl_names.specs.Ids.{decimal_value}
 use Rattle.acl_names.specs.Pieces.{parts}
@@ -12,7 +12,6 @@ use Rattle.acl_names.specs.declared.limits.TheConstants.{MAX_GROUPS_OF_USER}
 use Rattle.acl_posix.specs.Entry.{EntryValue}
 use Rattle.acl_posix.specs.PermsText.{perms_of_text}
 use Rattle.acl_queries.specs.AclText.{acl_of}
-use Rattle.acl_queries.specs.CommandLine.{decide_line}
 use Rattle.acl_queries.specs.declared.command.query_fault.FieldFault.{FieldFault}
 use Rattle.acl_queries.specs.declared.command.query_fault.FieldFault.TheVariants.{BadId, BadPerms}
 use Rattle.acl_queries.specs.declared.command.query_fault.FieldFault.TheVariants.{BadAcl, TooMany}
@@ -89,7 +88,3 @@ asked_in rows = do
     acl = acl;
     nfs4 = flag_in (codes "nfs4") rows;
   })
-
--- what the words ask, if the parser finds no fault in them
-abbrev pub asked_by : List Text → Result Asked FieldFault
-asked_by words = asked_in (matches_of decide_line words)

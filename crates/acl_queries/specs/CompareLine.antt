@@ -1,6 +1,7 @@
 -- The command line of `compare`, as the parser of command lines sees it.
-use Rattle.std.specs.Prelude.{◌≡◌, List, [], ◌∷◌, codes, fold}
-use Rattle.clap.specs.Words.{App, Text, fault_of, new_app, with_rule}
+use Rattle.std.specs.Prelude.{◌≡◌, [], ◌∷◌, codes, fold, refl, true}
+use Rattle.clap.specs.Words.{App, is_simple, is_simple_and_free, new_app, with_rule}
+use Rattle.clap.proofs.OnLiterals.{clap_on_literals}
 use Rattle.acl_queries.specs.CommandLine.{required_option, required_word}
 
 -- `compare --owner N --group N STYLE TEXT STYLE TEXT`
@@ -10,6 +11,11 @@ compare_line = fold with_rule (new_app (codes "compare"))
     ∷ required_word (codes "style") ∷ required_word (codes "text")
     ∷ required_word (codes "other-style") ∷ required_word (codes "other-text") ∷ [])
 
--- the parser finds no fault in the words, of which the first is the command's name
-abbrev pub TakesCompareWords : List Text → Type 0
-TakesCompareWords words = fault_of compare_line words ≡ []
+-- its parser is known
+pub compare_line-simple : is_simple compare_line ≡ true
+unfolding clap_on_literals compare_line
+compare_line-simple = refl
+
+pub compare_line-free : is_simple_and_free compare_line ≡ true
+unfolding clap_on_literals compare_line
+compare_line-free = refl

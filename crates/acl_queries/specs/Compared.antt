@@ -1,9 +1,8 @@
--- Which lists the words of `compare` give, read field by field.
+-- Which lists the fields of `compare` give, read one by one.
 use Rattle.std.specs.Prelude.{ℕ, List, Result, Ok, codes}
-use Rattle.clap.specs.Words.{Text, Row, matches_of}
+use Rattle.clap.specs.Words.{Row}
 use Rattle.acl_names.specs.Steps.{◌>>=◌}
 use Rattle.acl_queries.specs.Asked.{id_in}
-use Rattle.acl_queries.specs.CompareLine.{compare_line}
 use Rattle.acl_queries.specs.ListField.{list_in}
 use Rattle.acl_queries.specs.declared.command.list.AnyAcl.{AnyAcl}
 use Rattle.acl_queries.specs.declared.command.query_fault.FieldFault.{FieldFault}
@@ -23,7 +22,3 @@ compared_in rows = do
   first ← list_in (codes "style") (codes "text") rows
   second ← list_in (codes "other-style") (codes "other-text") rows
   Ok (record { owner = owner; group = group; first = first; second = second })
-
--- what the words compare, if the parser finds no fault in them
-abbrev pub compared_by : List Text → Result Compared FieldFault
-compared_by words = compared_in (matches_of compare_line words)

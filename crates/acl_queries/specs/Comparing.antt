@@ -1,7 +1,6 @@
 -- Private steps, which no public clause cites: what a comparison compares.
 use Rattle.std.specs.Prelude.{ℕ}
 use Rattle.acl_queries.specs.Compared.{Compared}
-use Rattle.acl_queries.specs.declared.compare_command.comparison.Comparison.{Comparison}
 use Rattle.acl_queries.specs.declared.command.list.AnyAcl.{AnyAcl}
 
 -- two lists for a file of this owner and this group
@@ -12,7 +11,3 @@ between owner group first second = record {
   first = first;
   second = second;
 }
-
--- what the comparison compares
-abbrev pub compared : Comparison → Compared
-compared comparison = between comparison.owner comparison.group comparison.first comparison.second

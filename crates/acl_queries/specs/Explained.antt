@@ -1,10 +1,9 @@
--- What the words of `explain` ask, read field by field.
+-- What the fields of `explain` ask, read one by one.
 use Rattle.std.specs.Prelude.{ℕ, List, Result, Ok, codes}
-use Rattle.clap.specs.Words.{Text, Row, matches_of}
+use Rattle.clap.specs.Words.{Row}
 use Rattle.acl_names.specs.Requester.{Identity}
 use Rattle.acl_names.specs.Steps.{◌>>=◌}
 use Rattle.acl_queries.specs.Asked.{gids_in, id_in, perms_in}
-use Rattle.acl_queries.specs.ExplainLine.{explain_line}
 use Rattle.acl_queries.specs.ListField.{list_in}
 use Rattle.acl_queries.specs.declared.command.list.AnyAcl.{AnyAcl}
 use Rattle.acl_queries.specs.declared.command.query_fault.FieldFault.{FieldFault}
@@ -34,7 +33,3 @@ explained_in rows = do
     request = perms;
     acl = acl;
   })
-
--- what the words ask, if the parser finds no fault in them
-abbrev pub explained_by : List Text → Result Explained FieldFault
-explained_by words = explained_in (matches_of explain_line words)

@@ -1,7 +1,7 @@
 -- The lines and the exit statuses of faults.
 use Rattle.std.specs.Prelude.{◌≡◌, ◌≢◌, ℕ, List, [], Option, Some, None, Result, Err, IsOk, codes}
 use Rattle.std.specs.Prelude.{⊤}
-use Rattle.clap.specs.Words.{Kinds, Text, fault_of, kind_of}
+use Rattle.clap.specs.Words.{Kinds, kind_of}
 use Rattle.clap.specs.declared.error.Error.{Error}
 use Rattle.clap.specs.declared.error.kind.ErrorKind.{ErrorKind}
 use Rattle.clap.specs.declared.error.kind.ErrorKind.TheVariants.{OutOfMemory}
@@ -11,8 +11,6 @@ use Rattle.acl_posix.specs.declared.acl.Invalid.{Invalid}
 use Rattle.acl_posix.specs.declared.acl.Invalid.TheVariants as invalid
 use Rattle.acl_posix.specs.declared.entries.TextFault.{TextFault}
 use Rattle.acl_posix.specs.declared.entries.TextFault.TheVariants as text
-use Rattle.acl_queries.specs.Asked.{asked_by}
-use Rattle.acl_queries.specs.CommandLine.{decide_line}
 use Rattle.acl_queries.specs.ErrorOutput.{SaysFault, line_of_words}
 use Rattle.acl_queries.specs.RunFaults.{run_fault_line}
 use Rattle.acl_queries.specs.declared.command.run_fault.RunFault.TheVariants.{Memory, Output}
@@ -129,7 +127,3 @@ IsRefusedFor kinds reading (Run Memory) = ⊤
 IsRefusedFor kinds reading (Run Output) = (kinds ≡ []) × IsOk reading
 IsRefusedFor kinds reading (Run Stopped) = ⊥
 IsRefusedFor kinds reading (Run NoThread) = ⊥
-
--- the words of `decide` are
-abbrev pub IsFaultOf : List Text → QueryFault → Type 0
-IsFaultOf words = IsRefusedFor (fault_of decide_line words) (asked_by words)

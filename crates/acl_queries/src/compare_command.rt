@@ -1,48 +1,21 @@
 //! The command `compare`.
-ghost use Rattle.std.specs.Prelude.{◌≡◌, ◌≢◌, ◌≤◌, map, IfErr, IsErrOf, OnOk};
-ghost use Rattle.std.specs.Io.KnownBytes.{Appends, Keeps};
-ghost use Rattle.acl_queries.specs.Answering.{IsAnswered};
-ghost use Rattle.acl_queries.specs.CompareLine.{TakesCompareWords};
-ghost use Rattle.acl_queries.specs.CompareOutcome.{EndsAsCompared, IsCompareFaultOf, IsCutShort};
-ghost use Rattle.acl_queries.specs.Compared.{Compared, compared_by};
-ghost use Rattle.acl_queries.specs.Differences.{Answers, AreAlike, Differ};
+ghost use Rattle.std.specs.Prelude.{map};
 ghost use Rattle.acl_nfs4.specs.declared.comparison.Difference.{Difference};
-ghost use Rattle.acl_queries.specs.Faults.{SaysQueryFault, failed_write};
+ghost use Rattle.acl_queries.specs.Compared.{Compared};
+ghost use Rattle.acl_queries.specs.Differences.{AreAlike, Differ, compare_meaning};
 ghost use Rattle.acl_queries.specs.ErrorOutput.{Reports};
-ghost use Rattle.acl_queries.specs.Output.{AppendsFront};
+ghost use Rattle.acl_queries.specs.Meaning.{Ends};
 
 mod command_line;
 mod comparison;
 mod text;
 
-use crate::command::query_fault::QueryFault;
-use crate::{ErrorOutput, RunFault, report, write_text};
-use comparison::read_comparison;
+use crate::ErrorOutput;
+use crate::command::query::ask;
+use comparison::Comparison;
 use std::alloc::Global;
 use std::convert::AsStr;
 use std::io::Write;
-use text::answer_text;
-
-/// Writes what the lists of the words decide differently.
-fn answer<S: AsStr, W: Write>(alloc: Global, words: &[S], out: &mut W) -> Result<(), QueryFault>
-    ensures taken { OnOk result (TakesCompareWords (map S.text words.now)) }
-    ensures answered { OnOk result (IsAnswered Answers (compared_by (map S.text words.now))
-        (Appends (W.contents out.old) (W.contents out.new))) }
-    ensures refused { IfErr result (IsCompareFaultOf (map S.text words.now)) }
-    ensures silent { IfErr result (λ fault. fault ≢ failed_write
-        → Keeps (W.contents out.old) (W.contents out.new)) }
-    ensures cut { IsErrOf result failed_write
-        → IsAnswered Answers (compared_by (map S.text words.now))
-        (AppendsFront (W.contents out.old) (W.contents out.new)) }
-{
-    let matches = command_line::parse(alloc, words)?;
-    let comparison = read_comparison(alloc, &matches)?;
-    let text = answer_text(alloc, &comparison)?;
-    if write_text(text.as_slice(), out).is_err() {
-        return Err(QueryFault::Run(RunFault::Output));
-    }
-    Ok(())
-}
 
 /// Tells whether anybody at all gains or loses access if one access control list takes the place of
 /// another. The words are those of the command, its name first: `compare --owner N --group N STYLE
@@ -65,22 +38,11 @@ pub fn compare<S: AsStr, W: Write, E: Write + Drop>(
     out: &mut W,
     err: &mut ErrorOutput<E>,
 ) -> u8
-    ensures statuses { result ≤ 3 }
-
-    // Unless memory runs out or a write fails.
-    ensures ended { result ≢ 3
-        → EndsAsCompared (map S.text words.now) (W.contents out.old) (W.contents out.new) result }
-
-    // If memory runs out or a write fails, no more went out than a front of an answer.
-    ensures cut { result ≡ 3 → IsCutShort (map S.text words.now) (W.contents out.old)
+    ensures ended { Ends (compare_meaning (map S.text words.now)) result (W.contents out.old)
         (W.contents out.new) }
-    ensures told { Reports (SaysQueryFault (IsCompareFaultOf (map S.text words.now))) result err.old
-        err.new }
+    ensures told { Reports (compare_meaning (map S.text words.now)).Says result err.old err.new }
 {
-    match answer(alloc, words, out) {
-        Ok(()) => 0,
-        Err(fault) => report(&fault, err),
-    }
+    ask::<Comparison, S, W, E>(alloc, words, out, err)
 }
 
 /// Lists that decide alike for every requester differ for nobody: of the two answers of `compare`

@@ -1,15 +1,8 @@
 //! The command `explain`.
-ghost use Rattle.std.specs.Prelude.{◌≡◌, ◌≢◌, ◌≤◌, map, IfErr, IsErrOf, OnOk};
-ghost use Rattle.std.specs.Io.KnownBytes.{Appends, Keeps};
-ghost use Rattle.acl_queries.specs.Answering.{IsAnswered};
+ghost use Rattle.std.specs.Prelude.{map};
 ghost use Rattle.acl_queries.specs.ErrorOutput.{Reports};
-ghost use Rattle.acl_queries.specs.ExplainLine.{TakesExplainWords};
-ghost use Rattle.acl_queries.specs.ExplainOutcome.{EndsAsExplained, IsExplainFaultOf};
-ghost use Rattle.acl_queries.specs.ExplainOutcome.{IsExplanationCutShort};
-ghost use Rattle.acl_queries.specs.ExplainText.{IsExplanation};
-ghost use Rattle.acl_queries.specs.Explained.{explained_by};
-ghost use Rattle.acl_queries.specs.Faults.{SaysQueryFault, failed_write};
-ghost use Rattle.acl_queries.specs.Output.{AppendsFront};
+ghost use Rattle.acl_queries.specs.ExplainText.{explain_meaning};
+ghost use Rattle.acl_queries.specs.Meaning.{Ends};
 
 mod command_line;
 mod nfs4;
@@ -17,34 +10,12 @@ mod posix;
 mod question;
 mod text;
 
-use crate::command::query_fault::QueryFault;
-use crate::{ErrorOutput, RunFault, report, write_text};
-use question::read_question;
+use crate::ErrorOutput;
+use crate::command::query::ask;
+use question::Question;
 use std::alloc::Global;
 use std::convert::AsStr;
 use std::io::Write;
-use text::answer_text;
-
-/// Writes the answer to what the words ask, and why it is so.
-fn answer<S: AsStr, W: Write>(alloc: Global, words: &[S], out: &mut W) -> Result<(), QueryFault>
-    ensures taken { OnOk result (TakesExplainWords (map S.text words.now)) }
-    ensures answered { OnOk result (IsAnswered IsExplanation (explained_by (map S.text words.now))
-        (Appends (W.contents out.old) (W.contents out.new))) }
-    ensures refused { IfErr result (IsExplainFaultOf (map S.text words.now)) }
-    ensures silent { IfErr result (λ fault. fault ≢ failed_write
-        → Keeps (W.contents out.old) (W.contents out.new)) }
-    ensures cut { IsErrOf result failed_write
-        → IsAnswered IsExplanation (explained_by (map S.text words.now))
-        (AppendsFront (W.contents out.old) (W.contents out.new)) }
-{
-    let matches = command_line::parse(alloc, words)?;
-    let question = read_question(alloc, &matches)?;
-    let text = answer_text(alloc, &question)?;
-    if write_text(text.as_slice(), out).is_err() {
-        return Err(QueryFault::Run(RunFault::Output));
-    }
-    Ok(())
-}
 
 /// Tells whether an access control list grants a request, and which entries decide. The words are
 /// those of the command, its name first: `explain --owner N --group N --uid N [--gids N,N..]
@@ -68,20 +39,9 @@ pub fn explain<S: AsStr, W: Write, E: Write + Drop>(
     out: &mut W,
     err: &mut ErrorOutput<E>,
 ) -> u8
-    ensures statuses { result ≤ 3 }
-
-    // Unless memory runs out or a write fails.
-    ensures ended { result ≢ 3
-        → EndsAsExplained (map S.text words.now) (W.contents out.old) (W.contents out.new) result }
-
-    // If memory runs out or a write fails, no more went out than a front of an answer.
-    ensures cut { result ≡ 3 → IsExplanationCutShort (map S.text words.now) (W.contents out.old)
+    ensures ended { Ends (explain_meaning (map S.text words.now)) result (W.contents out.old)
         (W.contents out.new) }
-    ensures told { Reports (SaysQueryFault (IsExplainFaultOf (map S.text words.now))) result err.old
-        err.new }
+    ensures told { Reports (explain_meaning (map S.text words.now)).Says result err.old err.new }
 {
-    match answer(alloc, words, out) {
-        Ok(()) => 0,
-        Err(fault) => report(&fault, err),
-    }
+    ask::<Question, S, W, E>(alloc, words, out, err)
 }

@@ -11,8 +11,9 @@ mod explain_command;
 mod explanation;
 
 pub use command::{
-    CapFault, CommandFault, ErrorOutput, FieldFault, QueryFault, RunFault, WordsFault,
-    optional_perms_field, options, push_bits, push_gids, read_capped, report, words_of, write_text,
+    CapFault, CommandFault, CommandLine, ErrorOutput, FieldFault, QueryFault, RunFault, WordsFault,
+    optional_perms_field, options, parse, push_bits, push_gids, read_capped, report, words_of,
+    write_text,
 };
 pub use compare_command::{alike_lists_differ_for_nobody, compare};
 pub use decide_command::{decide, words_ask_what_they_give};

@@ -1,4 +1,3 @@
-pub mod RunLineLemmas
 pub mod SetupLemmas
 pub mod TextLengths
 pub mod SessionLemmas

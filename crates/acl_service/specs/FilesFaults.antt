@@ -2,13 +2,14 @@
 use Rattle.std.specs.Prelude.{◌≡◌, ◌<◌, ◌⊎◌, ⊤, ℕ, List, ◌∷◌, ◌++◌, Option, Some, codes, length}
 use Rattle.std.specs.Prelude.{Contains}
 use Rattle.acl_broker.specs.declared.limits.TheConstants.{SESSIONS}
-use Rattle.clap.specs.Words.{Row, Text}
+use Rattle.clap.specs.Words.{Row, Text, matches_of}
+use Rattle.acl_queries.specs.CommandLine.{Takes}
 use Rattle.acl_queries.specs.ErrorOutput.{SaysFault, line_of_words}
 use Rattle.acl_queries.specs.Faults.{SaysUsage}
 use Rattle.acl_queries.specs.RunFaults.{run_fault_words}
 use Rattle.acl_queries.specs.declared.command.run_fault.RunFault.TheVariants as run
-use Rattle.acl_service.specs.RunWords.{CanRun, IsTold, RunTakes, input_count, run_rows, sessions_in}
-use Rattle.acl_service.specs.RunWords.{setup_in}
+use Rattle.acl_service.specs.RunLine.{run_line}
+use Rattle.acl_service.specs.RunWords.{CanRun, IsTold, input_count, sessions_in, setup_in}
 use Rattle.acl_service.specs.TextsFaults.{SaysTexts}
 use Rattle.acl_service.specs.declared.files.FilesFault.{FilesFault}
 use Rattle.acl_service.specs.declared.files.FilesFault.TheVariants.{SessionCount}
@@ -66,5 +67,5 @@ SaysFiles bytes_of rows status line =
 -- and of the words: the parser refuses them, or it takes them and they name such files
 abbrev pub SaysRun : (Text → Option (List ℕ)) → List Text → ℕ → Option (List ℕ) → Type 0
 SaysRun bytes_of words status line =
-    SaysUsage (¬ RunTakes words) status line ⊎ (RunTakes words
-    × SaysFiles bytes_of (run_rows words) status line)
+    SaysUsage (¬ Takes run_line words) status line ⊎ (Takes run_line words
+    × SaysFiles bytes_of (matches_of run_line words) status line)

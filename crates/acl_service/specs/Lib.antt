@@ -14,4 +14,6 @@ pub mod Headline
 pub mod TextsFaults
 pub mod RunText
 pub mod RunTexts
+pub mod RunLine
 pub mod RunWords
+pub mod RunMeaning

@@ -1,38 +1,14 @@
--- What the words of `run` ask, and what comes of it.
-use Rattle.std.specs.Prelude.{◌≡◌, ◌⊎◌, ⊤, ℕ, ◌+◌, ◌^◌, ◌<◌, ◌≤◌, length, List, [], ◌∷◌, Option}
-use Rattle.std.specs.Prelude.{Some, None, codes, IfSome, unwrap_or, Vec, fold, if◌then◌else◌}
-use Rattle.std.specs.Prelude.{bytes_eq}
+-- Which files the fields of `run` name, and what comes of them.
+use Rattle.std.specs.Prelude.{◌≡◌, ⊤, ℕ, ◌+◌, ◌^◌, ◌<◌, ◌≤◌, length, List, [], ◌∷◌, Option}
+use Rattle.std.specs.Prelude.{Some, None, codes, IfSome, unwrap_or, Vec, if◌then◌else◌, bytes_eq}
 use Rattle.std.specs.Str.Parse.{IsNumeral, digits_value, without_leading_plus}
 use Rattle.std.specs.declared.alloc.Global.{Global}
-use Rattle.clap.specs.Words.{App, Row, Rule, Text, all_of, fault_of, first_of, matches_of, new_app}
-use Rattle.clap.specs.Words.{with_rule}
-use Rattle.clap.specs.declared.builder.value_parser.ValueParser.TheVariants.{Unsigned}
+use Rattle.clap.specs.Words.{Row, Text, all_of, first_of, matches_of}
 use Rattle.acl_broker.specs.declared.limits.TheConstants.{SESSIONS}
 use Rattle.acl_queries.specs.Asked.{flag_in}
-use Rattle.acl_queries.specs.CommandLine.{flag, optional_option, required_option, required_word}
+use Rattle.acl_queries.specs.CommandLine.{Takes}
+use Rattle.acl_service.specs.RunLine.{run_line}
 use Rattle.acl_service.specs.RunTexts.{RunsTexts}
-
--- `--max-errors K`, of 1 to 65535
-abbrev pub limit_option : Rule
-limit_option = record (optional_option (codes "max-errors")) { parser = Some (Unsigned 1 65535) }
-
--- one word or more that belong to no option
-abbrev pub session_words : Rule
-session_words = record (required_word (codes "session"))
-    { range = Some (record { start_inclusive = 1; end_inclusive = 18446744073709551615 }) }
-
--- `run --setup FILE [--journal] [--max-errors K] SESSION..`
-unfoldable pub run_line : App
-run_line = fold with_rule (new_app (codes "run"))
-    (required_option (codes "setup") ∷ flag (codes "journal") ∷ limit_option ∷ session_words ∷ [])
-
--- the parser finds no fault in the words, of which the first is the command's name
-abbrev pub RunTakes : List Text → Type 0
-RunTakes words = fault_of run_line words ≡ []
-
--- what the parser finds in the words
-unfoldable pub run_rows : List Text → List Row
-run_rows words = matches_of run_line words
 
 -- the names of the files that the words give
 unfoldable pub setup_in : List Row → Text
@@ -53,10 +29,6 @@ pub record CanRun (names : List Text) : Type 0 where
   pub some : 1 ≤ length names
   pub few : length names ≤ SESSIONS
   pub once : input_count names ≤ 1
-
--- these may not: there are none, too many, or standard input is two of them
-abbrev pub IsSessionFault : List Text → Type 0
-IsSessionFault names = (length names ≡ 0) ⊎ ((SESSIONS < length names) ⊎ (1 < input_count names))
 
 -- the limit is the number that the text of `--max-errors` writes, if the words give one; there is
 -- none if it writes no number from 1, which the parser doesn't let through
@@ -86,9 +58,10 @@ AreTold bytes_of input (name ∷ names) (text ∷ texts) =
     IsTold (session_told bytes_of input name) text.items × AreTold bytes_of input names texts
 AreTold bytes_of input _ _ = ⊥
 
--- what the files print that the words name went out so: all of it, or a front
-pub record RunsWords (bytes_of : Text → Option (List ℕ)) (input : Option (List ℕ)) (rows : List Row)
+-- what the files print that the fields name went out so: all of it, or a front
+pub record RunsRows (bytes_of : Text → Option (List ℕ)) (input : Option (List ℕ)) (rows : List Row)
     (WentOut : List ℕ → Type 0) : Type 0 where
+  pub can_run : CanRun (sessions_in rows)
   pub setup : List ℕ
   pub texts : List (Vec ℕ Global)
   pub limit : Option ℕ
@@ -96,3 +69,9 @@ pub record RunsWords (bytes_of : Text → Option (List ℕ)) (input : Option (Li
   pub setup_is : IsTold (bytes_of (setup_in rows)) setup
   pub texts_are : AreTold bytes_of input (sessions_in rows) texts
   pub runs : RunsTexts setup texts (flag_in (codes "journal") rows) limit WentOut
+
+-- the words are taken, and what the files print that they name went out so
+pub record RunsWords (bytes_of : Text → Option (List ℕ)) (input : Option (List ℕ))
+    (words : List Text) (WentOut : List ℕ → Type 0) : Type 0 where
+  pub taken : Takes run_line words
+  pub runs : RunsRows bytes_of input (matches_of run_line words) WentOut

@@ -1,16 +1,11 @@
 //! The command `run`.
-ghost use Rattle.std.specs.Prelude.{◌≡◌, ◌≢◌, ◌<◌, ◌≤◌, ◌↔◌, ◌⊎◌, All, Some, length, map};
-ghost use Rattle.std.specs.Io.KnownBytes.{Appends, Keeps};
+ghost use Rattle.std.specs.Prelude.{◌≢◌, ◌<◌, ◌≤◌, ◌≡◌, ◌↔◌, All, Some, length, map};
 ghost use Rattle.clap.specs.Words.{found_of, rows_of};
 ghost use Rattle.acl_lang.specs.declared.limits.TheConstants.{MAX_TEXT_LEN};
 ghost use Rattle.acl_broker.specs.declared.limits.TheConstants.{SESSIONS};
 ghost use Rattle.acl_queries.specs.ErrorOutput.{Reports};
-ghost use Rattle.acl_queries.specs.Output.{AppendsFront};
-ghost use Rattle.acl_service.specs.FilesFaults.{SaysFiles, SaysRun};
-ghost use Rattle.acl_service.specs.TextsFaults.{RefusesSetup, SaysTexts};
-ghost use Rattle.acl_service.specs.RunTexts.{RunsTexts};
-ghost use Rattle.acl_service.specs.RunWords.{CanRun, IsSessionFault, RunTakes, RunsWords};
-ghost use Rattle.acl_service.specs.RunWords.{input_count, run_rows, sessions_in};
+ghost use Rattle.acl_queries.specs.Meaning.{Ends, LeavesInput};
+ghost use Rattle.acl_service.specs.RunMeaning.{files_meaning, run_meaning, texts_meaning};
 
 mod command_line;
 mod fault;
@@ -19,10 +14,10 @@ mod texts;
 
 use crate::files::{FilesFault, OpenFiles, read_texts};
 use acl_queries::options::flag_field;
-use acl_queries::{ErrorOutput, report};
+use acl_queries::{ErrorOutput, parse, report};
 use acl_runs::{Gate, OpenGate};
 use clap::ArgMatches;
-use command_line::{limit_field, parse};
+use command_line::{RunLine, limit_field};
 pub use command_line::{session_fields, session_words, setup_field};
 use std::alloc::Global;
 use std::convert::AsStr;
@@ -63,21 +58,11 @@ pub fn run_texts<R: Threads + Wait + Clock + Sync, G: Gate, W: Write, E: Write +
     requires count { 1 ≤ length texts.now }
     requires short { All (λ text. length text.items ≤ MAX_TEXT_LEN) texts.now }
     requires some { max_errors ≢ Some 0 }
-    ensures statuses { result ≤ 3 }
-    ensures printed { result ≡ 0 → RunsTexts setup.now texts.now journal max_errors
-        (Appends (W.contents out.old) (W.contents out.new)) }
-    ensures refused_setup { result ≡ 1 → RefusesSetup setup.now }
+    ensures ended { Ends (texts_meaning setup.now texts.now journal max_errors) result
+        (W.contents out.old) (W.contents out.new) }
     ensures too_many { (result ≡ 2) ↔ (SESSIONS < length texts.now) }
-
-    // Nothing is written if the run is refused.
-    ensures silent { 1 ≤ result → result ≤ 2 → Keeps (W.contents out.old) (W.contents out.new) }
-
-    // If the run lacks something, or a write fails, nothing went out or a front of what the texts
-    // print.
-    ensures cut { result ≡ 3 → Keeps (W.contents out.old) (W.contents out.new)
-        ⊎ RunsTexts setup.now texts.now journal max_errors
-        (AppendsFront (W.contents out.old) (W.contents out.new)) }
-    ensures told { Reports (SaysTexts setup.now (length texts.now)) result err.old err.new }
+    ensures told { Reports (texts_meaning setup.now texts.now journal max_errors).Says result
+        err.old err.new }
 {
     let options = Options {
         journal,
@@ -118,37 +103,14 @@ where
     I: Read,
     W: Write,
     E: Write + Drop,
-    ensures statuses { result ≤ 3 }
-
-    // With outputs, or if a file or the setup is refused, the words and the names of the sessions
-    // were taken.
-    ensures taken { result ≤ 1 → RunTakes (map S.text words.now)
-        × CanRun (sessions_in (run_rows (map S.text words.now))) }
-
-    // Wrong usage is one of these, and then nothing is read.
-    ensures refused { result ≡ 2 → (¬ RunTakes (map S.text words.now))
-        ⊎ IsSessionFault (sessions_in (run_rows (map S.text words.now))) }
-    ensures unread { result ≡ 2 → input.new ≡ input.old }
-
-    // Standard input is left as it is if no session is `-`.
-    ensures untouched { input_count (sessions_in (run_rows (map S.text words.now))) ≡ 0
-        → input.new ≡ input.old }
-    ensures printed { result ≡ 0 → RunsWords (F.bytes_of files.now) (I.remaining input.old)
-        (run_rows (map S.text words.now))
-        (Appends (W.contents out.old) (W.contents out.new)) }
-
-    // Nothing is written if the words, a file or the setup are refused.
-    ensures silent { 1 ≤ result → result ≤ 2 → Keeps (W.contents out.old) (W.contents out.new) }
-
-    // If the run lacks something, or a write fails, nothing went out or a front of what the files
-    // print.
-    ensures cut { result ≡ 3 → Keeps (W.contents out.old) (W.contents out.new)
-        ⊎ RunsWords (F.bytes_of files.now) (I.remaining input.old) (run_rows (map S.text words.now))
-        (AppendsFront (W.contents out.old) (W.contents out.new)) }
-    ensures told { Reports (SaysRun (F.bytes_of files.now) (map S.text words.now)) result err.old
-        err.new }
+    ensures ended { Ends (run_meaning (F.bytes_of files.now) (I.remaining input.old)
+        (map S.text words.now)) result (W.contents out.old) (W.contents out.new) }
+    ensures told { Reports (run_meaning (F.bytes_of files.now) (I.remaining input.old)
+        (map S.text words.now)).Says result err.old err.new }
+    ensures input { LeavesInput (run_meaning (F.bytes_of files.now) (I.remaining input.old)
+        (map S.text words.now)).inputs result input.old input.new }
 {
-    match parse(alloc, words) {
+    match parse::<RunLine, S>(alloc, words) {
         Ok(matches) => run_files(rt, alloc, files, &matches, input, out, err),
         Err(error) => report(&error, err),
     }
@@ -170,21 +132,12 @@ where
     I: Read,
     W: Write,
     E: Write + Drop,
-    ensures statuses { result ≤ 3 }
-    ensures taken { result ≤ 1 → CanRun (sessions_in (rows_of (found_of matches.now))) }
-    ensures refused { result ≡ 2 → IsSessionFault (sessions_in (rows_of (found_of matches.now))) }
-    ensures untouched { input_count (sessions_in (rows_of (found_of matches.now))) ≡ 0
-        → input.new ≡ input.old }
-    ensures unread { result ≡ 2 → input.new ≡ input.old }
-    ensures printed { result ≡ 0 → RunsWords (F.bytes_of files.now) (I.remaining input.old)
-        (rows_of (found_of matches.now))
-        (Appends (W.contents out.old) (W.contents out.new)) }
-    ensures silent { 1 ≤ result → result ≤ 2 → Keeps (W.contents out.old) (W.contents out.new) }
-    ensures cut { result ≡ 3 → Keeps (W.contents out.old) (W.contents out.new)
-        ⊎ RunsWords (F.bytes_of files.now) (I.remaining input.old) (rows_of (found_of matches.now))
-        (AppendsFront (W.contents out.old) (W.contents out.new)) }
-    ensures told { Reports (SaysFiles (F.bytes_of files.now) (rows_of (found_of matches.now)))
-        result err.old err.new }
+    ensures ended { Ends (files_meaning (F.bytes_of files.now) (I.remaining input.old)
+        (rows_of (found_of matches.now))) result (W.contents out.old) (W.contents out.new) }
+    ensures told { Reports (files_meaning (F.bytes_of files.now) (I.remaining input.old)
+        (rows_of (found_of matches.now))).Says result err.old err.new }
+    ensures input { LeavesInput (files_meaning (F.bytes_of files.now) (I.remaining input.old)
+        (rows_of (found_of matches.now))).inputs result input.old input.new }
 {
     let Some(names) = session_fields(matches) else {
         return report(&FilesFault::SessionCount, err);

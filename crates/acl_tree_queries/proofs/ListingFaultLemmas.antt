@@ -7,7 +7,7 @@ use Rattle.acl_service.specs.declared.files.FilesFault.TheVariants.{SessionCount
 use Rattle.acl_tree_queries.specs.AnswerFaults.{IsLack}
 use Rattle.acl_tree_queries.specs.ListingFaults.{IsDirectoryFault, IsListingFault, IsNamedFault}
 use Rattle.acl_tree_queries.specs.QuestionFaults.{Asks, question_status}
-use Rattle.acl_tree_queries.specs.Questions.{Takes}
+use Rattle.acl_queries.specs.CommandLine.{Takes}
 use Rattle.acl_tree_queries.specs.declared.question.fault.QuestionFault.{QuestionFault}
 use Rattle.acl_tree_queries.specs.declared.question.fault.QuestionFault.TheVariants.{Words, Files, Setup, LineTooLong, Unread, Run}
 

@@ -1,17 +1,20 @@
 -- What words come to that ask of trees, and what is said of them.
 use Rattle.std.proofs.Common.{◌≡◌, ◌≢◌, ◌∙◌, ◌≤◌, ◌⊎◌, IfErr, IsOk, ap, ℕ, List, Option, Result, Ok, Err, OnErr, arith, inr, refl, subst, sym}
 use Rattle.std.specs.Prelude.{IfSome}
+use Rattle.std.specs.Io.KnownBytes.{Keeps}
 use Rattle.clap.specs.Words.{App, Row, Text, matches_of}
+use Rattle.acl_queries.specs.CommandLine.{Takes}
 use Rattle.acl_queries.specs.ErrorOutput.{ErrorText, Reports, SaysFault, Tells}
-use Rattle.acl_queries.specs.Faults.{status_of}
+use Rattle.acl_queries.specs.Meaning.{Ends, Meaning}
+use Rattle.acl_queries.specs.Output.{AppendsFront}
 use Rattle.acl_queries.specs.declared.command.query_fault.FieldFault.{FieldFault}
-use Rattle.acl_queries.specs.declared.command.query_fault.QueryFault.{QueryFault}
-use Rattle.acl_queries.specs.declared.command.query_fault.QueryFault.TheVariants as query
 use Rattle.acl_queries.proofs.ErrorLemmas.{Reports-line}
-use Rattle.acl_service.proofs.FaultLemmas.{files_some}
+use Rattle.acl_queries.proofs.MeaningLemmas.{Ends-fault}
+use Rattle.acl_queries.proofs.QueryLemmas.{query_bounds}
+use Rattle.acl_service.proofs.FaultLemmas.{files_bounds}
 use Rattle.acl_tree_queries.specs.AnswerFaults.{IsAnswerFault, answer_status}
 use Rattle.acl_tree_queries.specs.QuestionFaults.{Asks, IsQuestionFault, fault_of_answer, question_line, question_status}
-use Rattle.acl_tree_queries.specs.Questions.{Answers, Takes}
+use Rattle.acl_tree_queries.specs.Questions.{Answers}
 use Rattle.acl_tree_queries.specs.Trees.{AreTreesOf}
 use Rattle.acl_tree_queries.specs.declared.question.answer_fault.AnswerFault.{AnswerFault}
 use Rattle.acl_tree_queries.specs.declared.question.answer_fault.AnswerFault.TheVariants as answer
@@ -36,26 +39,28 @@ module _ {Q : Type 0} (line : App) (asked_in : List Row → Result Q FieldFault)
     out = out;
   }
 
-some_query : (fault : QueryFault) → 1 ≤ status_of fault
-some_query (query.Field fault) = omega arith
-some_query (query.Usage error) = omega arith
-some_query (query.Run fault) = omega arith
+question_bounds : (fault : QuestionFault) → (1 ≤ question_status fault) × (question_status fault ≤ 3)
+question_bounds (Words fault) = query_bounds fault
+question_bounds (Files fault) = files_bounds fault
+question_bounds (Setup error) = (omega arith, omega arith)
+question_bounds LineTooLong = (omega arith, omega arith)
+question_bounds (Unread name) = (omega arith, omega arith)
+question_bounds (Run fault) = (omega arith, omega arith)
 
-some_status : (fault : QuestionFault) → 1 ≤ question_status fault
-some_status (Words fault) = some_query fault
-some_status (Files fault) = files_some fault
-some_status (Setup error) = omega arith
-some_status LineTooLong = omega arith
-some_status (Unread name) = omega arith
-some_status (Run fault) = omega arith
+module _ (fault : QuestionFault) (status : ℕ) (is_status : status ≡ question_status fault) where
+  -- a question that has no answer, or not all of it
+  pub Ends-question : (meaning : Meaning) (old new : Option (List ℕ)) → (question_status fault ≤ 2 → Keeps old new)
+      → Keeps old new ⊎ meaning.Begins (AppendsFront old new) → Ends meaning status old new
+  Ends-question meaning old new silent cut =
+      let (some, within) = question_bounds fault in
+      Ends-fault meaning old new status (omega (arith, some, is_status)) (omega (arith, within, is_status)) (λ few. silent (omega (arith, few, is_status))) (λ three. cut)
 
--- what is told of a fault is what is said
-pub Reports-fault : (IsFault : QuestionFault → Type 0) (fault : QuestionFault) (status : ℕ) (old new : ErrorText) → IsFault fault
-    → status ≡ question_status fault → IfSome (question_line fault) (λ text. Tells text old new)
-    → Reports (SaysFault question_status question_line IsFault) status old new
-Reports-fault IsFault fault status old new is is_status told =
-    Reports-line (SaysFault question_status question_line IsFault) status (question_line fault) old new
-    (subst (λ (n : ℕ). 1 ≤ n) (sym is_status) (some_status fault)) (fault, is, is_status, refl) told
+  -- what is told of a fault is what is said
+  pub Reports-question : (IsFault : QuestionFault → Type 0) (old new : ErrorText) → IsFault fault → IfSome (question_line fault) (λ text. Tells text old new)
+      → Reports (SaysFault question_status question_line IsFault) status old new
+  Reports-question IsFault old new is told =
+      Reports-line (SaysFault question_status question_line IsFault) status (question_line fault) old new
+      (subst (λ (n : ℕ). 1 ≤ n) (sym is_status) (question_bounds fault).0) (fault, is, is_status, refl) told
 
 -- what is so of a fault of an answer is so of the fault that it becomes
 module _ {T : Type 0} (result : Result T QuestionFault) (fault : AnswerFault) (became : QuestionFault) (is : result ≡ Err became) (from : became ≡ fault_of_answer fault) where

@@ -1,13 +1,12 @@
 -- What `dump` answers.
 use Rattle.std.specs.Prelude.{◌≡◌, ℕ, List, All, Option, Result, Ok}
-use Rattle.clap.specs.Words.{Row, Text, matches_of}
+use Rattle.clap.specs.Words.{Row, Text}
 use Rattle.acl_audit.specs.Dump.{making}
+use Rattle.acl_queries.specs.Meaning.{Meaning}
 use Rattle.acl_queries.specs.declared.command.query_fault.FieldFault.{FieldFault}
 use Rattle.acl_tree_queries.specs.DumpLine.{dump_line}
 use Rattle.acl_tree_queries.specs.DumpText.{HasLongLine, IsDumped, dump_text}
-use Rattle.acl_tree_queries.specs.QuestionFaults.{SaysQuestion}
-use Rattle.acl_tree_queries.specs.Questions.{Answers}
-use Rattle.acl_tree_queries.specs.Trees.{AreTreesOf, inputs_in}
+use Rattle.acl_tree_queries.specs.QuestionMeaning.{tree_meaning}
 use Rattle.acl_tree_queries.specs.declared.dump_command.question.DumpQuestion.{DumpQuestion}
 use Rattle.acl_tree_queries.specs.declared.trees.Trees.{Trees}
 
@@ -28,20 +27,6 @@ HasNoDump question trees = HasLongLine (making trees.after)
 abbrev pub asks_dump : List Row → Result DumpQuestion FieldFault
 asks_dump rows = Ok (record {})
 
--- the words of `dump` are answered, and that went out so: all of it, or it was begun
-abbrev pub AnswersDump : (Text → Option (List ℕ)) → Option (List ℕ) → List Text
-    → (List ℕ → Type 0) → Type 0
-AnswersDump = Answers dump_line asks_dump AreTreesOf IsDump
-
-abbrev pub BeginsDump : (Text → Option (List ℕ)) → Option (List ℕ) → List Text
-    → (List ℕ → Type 0) → Type 0
-BeginsDump = Answers dump_line asks_dump AreTreesOf IsDumpBegun
-
--- what is said of words of `dump` that have no answer
-abbrev pub SaysDump : (Text → Option (List ℕ)) → Option (List ℕ) → List Text → ℕ
-    → Option (List ℕ) → Type 0
-SaysDump = SaysQuestion dump_line asks_dump HasNoDump
-
--- how many sessions of the words are standard input
-abbrev pub dump_inputs : List Text → ℕ
-dump_inputs words = inputs_in (matches_of dump_line words)
+-- what the words of `dump` mean
+abbrev pub dump_meaning : (Text → Option (List ℕ)) → Option (List ℕ) → List Text → Meaning
+dump_meaning = tree_meaning dump_line asks_dump IsDump IsDumpBegun HasNoDump

@@ -8,13 +8,13 @@ use Rattle.acl_tree.specs.Entries.{Entry}
 use Rattle.acl_tree.specs.Tree.{NodesUnderUmask}
 use Rattle.acl_audit.specs.Impact.{IsImpactOn, requesters_of}
 use Rattle.acl_audit.specs.declared.impact.Impact.{Impact}
+use Rattle.acl_queries.specs.Meaning.{Meaning}
 use Rattle.acl_queries.specs.declared.command.query_fault.FieldFault.{FieldFault}
 use Rattle.acl_tree_queries.specs.ImpactText.{impact_text}
 use Rattle.acl_tree_queries.specs.ImpactLine.{impact_line}
 use Rattle.acl_tree_queries.specs.Nodes.{TellsOfEach, TellsOfFirst}
-use Rattle.acl_tree_queries.specs.QuestionFaults.{IsNeverRefused, SaysQuestion}
-use Rattle.acl_tree_queries.specs.Questions.{Answers}
-use Rattle.acl_tree_queries.specs.Trees.{AreTreesOf}
+use Rattle.acl_tree_queries.specs.QuestionFaults.{IsNeverRefused}
+use Rattle.acl_tree_queries.specs.QuestionMeaning.{tree_meaning}
 use Rattle.acl_tree_queries.specs.declared.impact_command.question.ImpactQuestion.{ImpactQuestion}
 use Rattle.acl_tree_queries.specs.declared.trees.Trees.{Trees}
 
@@ -43,16 +43,6 @@ IsImpactBegun question trees text =
 abbrev pub asks_impact : List Row → Result ImpactQuestion FieldFault
 asks_impact rows = Ok (record {})
 
--- the words of `impact` are answered, and that went out so: all of it, or of the first nodes
-abbrev pub AnswersImpactOfTree : (Text → Option (List ℕ)) → Option (List ℕ) → List Text
-    → (List ℕ → Type 0) → Type 0
-AnswersImpactOfTree = Answers impact_line asks_impact AreTreesOf IsImpactAnswer
-
-abbrev pub BeginsImpactOfTree : (Text → Option (List ℕ)) → Option (List ℕ) → List Text
-    → (List ℕ → Type 0) → Type 0
-BeginsImpactOfTree = Answers impact_line asks_impact AreTreesOf IsImpactBegun
-
--- what is said of words of `impact` that have no answer
-abbrev pub SaysImpactOfTree : (Text → Option (List ℕ)) → Option (List ℕ) → List Text → ℕ
-    → Option (List ℕ) → Type 0
-SaysImpactOfTree = SaysQuestion impact_line asks_impact IsNeverRefused
+-- what the words of `impact` mean that ask of a tree
+abbrev pub impact_of_tree : (Text → Option (List ℕ)) → Option (List ℕ) → List Text → Meaning
+impact_of_tree = tree_meaning impact_line asks_impact IsImpactAnswer IsImpactBegun IsNeverRefused

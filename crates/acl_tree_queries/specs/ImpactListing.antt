@@ -12,15 +12,15 @@ use Rattle.acl_audit.specs.declared.impact.Impact.{Impact}
 use Rattle.acl_listings.specs.Block.{FileValue}
 use Rattle.acl_listings.specs.Listing.{Block, blocks_of}
 use Rattle.acl_listings.specs.declared.fault.BlockFault.{BlockFault}
+use Rattle.acl_queries.specs.Meaning.{Meaning}
 use Rattle.acl_tree_queries.specs.ImpactAnswer.{asks_impact}
 use Rattle.acl_tree_queries.specs.ImpactListingLine.{impact_listing_line}
 use Rattle.acl_tree_queries.specs.ImpactText.{impact_text, new_text}
-use Rattle.acl_tree_queries.specs.ListingFaults.{SaysOfListings}
 use Rattle.acl_tree_queries.specs.ListingText.{fault_text, node_of}
 use Rattle.acl_tree_queries.specs.Listings.{AreListedTwice, ListedTwice, two_listings_in}
 use Rattle.acl_tree_queries.specs.Nodes.{TellsOfEach, TellsOfFirst}
 use Rattle.acl_tree_queries.specs.Placed.{Placed, placed}
-use Rattle.acl_tree_queries.specs.Questions.{Answers}
+use Rattle.acl_tree_queries.specs.QuestionMeaning.{listing_meaning}
 use Rattle.acl_tree_queries.specs.Readings.{Reading, is_among, is_at, reading_of, repeats}
 use Rattle.acl_tree_queries.specs.Readings.{repeats_one_of, unless_repeated}
 use Rattle.acl_tree_queries.specs.declared.impact_command.question.ImpactQuestion.{ImpactQuestion}
@@ -108,16 +108,7 @@ IsImpactListed question = TellsOfListings TellsOfEach
 abbrev pub IsImpactListedBegun : ImpactQuestion → ListedTwice → List ℕ → Type 0
 IsImpactListedBegun question = TellsOfListings TellsOfFirst
 
--- the words are answered, and that went out so: all of it, or of the first items
-abbrev pub AnswersImpactListed : (Text → Option (List ℕ)) → Option (List ℕ) → List Text
-    → (List ℕ → Type 0) → Type 0
-AnswersImpactListed = Answers impact_listing_line asks_impact AreListedTwice IsImpactListed
-
-abbrev pub BeginsImpactListed : (Text → Option (List ℕ)) → Option (List ℕ) → List Text
-    → (List ℕ → Type 0) → Type 0
-BeginsImpactListed =
-    Answers impact_listing_line asks_impact AreListedTwice IsImpactListedBegun
-
--- what is said of words that have no answer
-abbrev pub SaysImpactListed : (Text → Option (List ℕ)) → List Text → ℕ → Option (List ℕ) → Type 0
-SaysImpactListed = SaysOfListings two_listings_in impact_listing_line asks_impact
+-- what the words of `impact` mean that ask of listings
+abbrev pub impact_of_listings : (Text → Option (List ℕ)) → Option (List ℕ) → List Text → Meaning
+impact_of_listings = listing_meaning two_listings_in impact_listing_line asks_impact AreListedTwice
+    IsImpactListed IsImpactListedBegun

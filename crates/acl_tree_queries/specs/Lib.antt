@@ -4,12 +4,13 @@ pub mod AnswerFaults
 pub mod QuestionFaults
 pub mod Nodes
 pub mod Placed
-pub mod WhoLine
-pub mod WhoAnswer
 pub mod Listings
 pub mod Readings
 pub mod ListingText
 pub mod ListingFaults
+pub mod QuestionMeaning
+pub mod WhoLine
+pub mod WhoAnswer
 pub mod WhoListingLine
 pub mod WhoListing
 pub mod WhoWords

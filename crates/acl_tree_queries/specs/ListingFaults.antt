@@ -4,7 +4,6 @@ use Rattle.clap.specs.Words.{App, Row, Text, fault_of, matches_of}
 use Rattle.std.specs.Borrow.{Bor}
 use Rattle.acl_listings.specs.declared.window.ReadFault.{ReadFault}
 use Rattle.acl_listings.specs.declared.window.ReadFault.TheVariants as read
-use Rattle.acl_queries.specs.ErrorOutput.{SaysFault}
 use Rattle.acl_queries.specs.Faults.{IsRefusedFor}
 use Rattle.acl_queries.specs.declared.command.query_fault.FieldFault.{FieldFault}
 use Rattle.acl_queries.specs.declared.command.run_fault.RunFault.{RunFault}
@@ -15,8 +14,7 @@ use Rattle.acl_service.specs.TextsFaults.{IsRefusedBy}
 use Rattle.acl_service.specs.declared.files.FilesFault.{FilesFault}
 use Rattle.acl_service.specs.declared.files.FilesFault.TheVariants as files
 use Rattle.acl_tree_queries.specs.AnswerFaults.{IsLack}
-use Rattle.acl_tree_queries.specs.QuestionFaults.{Asks, IsTreesFault, question_line}
-use Rattle.acl_tree_queries.specs.QuestionFaults.{question_status}
+use Rattle.acl_tree_queries.specs.QuestionFaults.{Asks, IsTreesFault}
 use Rattle.acl_tree_queries.specs.declared.blocks.BlocksFault.{BlocksFault}
 use Rattle.acl_tree_queries.specs.declared.blocks.BlocksFault.TheVariants as blocks
 use Rattle.acl_tree_queries.specs.declared.question.fault.QuestionFault.{QuestionFault}
@@ -103,11 +101,3 @@ IsListingFault listings_in line asked_in bytes_of words (Unread name) =
     Asks line asked_in words × Contains (listings_in (matches_of line words)) name.now
 IsListingFault listings_in line asked_in bytes_of words (Run fault) =
     Asks line asked_in words × IsLack fault
-
--- what is said of the words
-abbrev pub SaysOfListings : {Q : Type 0} → (List Row → List Text) → App
-    → (List Row → Result Q FieldFault) → (Text → Option (List ℕ)) → List Text → ℕ
-    → Option (List ℕ) → Type 0
-SaysOfListings listings_in line asked_in bytes_of words =
-    SaysFault question_status question_line
-    (IsListingFault listings_in line asked_in bytes_of words)

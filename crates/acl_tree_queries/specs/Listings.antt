@@ -1,5 +1,5 @@
 -- The listing that a question is about.
-use Rattle.std.specs.Prelude.{◌||◌, ◌≡◌, ℕ, Bool, true, false, not, List, [], ◌∷◌, Option}
+use Rattle.std.specs.Prelude.{◌||◌, ◌≡◌, ℕ, Bool, not, List, [], ◌∷◌, Option}
 use Rattle.std.specs.Prelude.{bytes_eq, codes, take, unwrap_or}
 use Rattle.std.specs.Cmp.Lexicographic.{slice_cmp}
 use Rattle.std.specs.List.{list_any, take_while}
@@ -20,11 +20,6 @@ is_listing_option word = bytes_eq word (codes "--listing")
 abbrev pub asks_of_listing : List Text → Bool
 asks_of_listing words =
     list_any is_listing_option (take_while (λ word. not (bytes_eq word (codes "--"))) words)
-
--- what is so of words that ask of a listing, and of others
-abbrev pub by_source : Bool → Type 0 → Type 0 → Type 0
-by_source true listed tree = listed
-by_source false listed tree = tree
 
 -- the names of a question's listings: what stands for the option, and for the word behind it
 abbrev pub listing_in : List Row → Text

@@ -3,7 +3,8 @@ use Rattle.std.specs.Prelude.{◌≡◌, ◌<◌, ◌++◌, ◌∷◌, ⊤, ℕ,
 use Rattle.std.specs.Prelude.{Contains, IsOk, codes}
 use Rattle.clap.specs.Words.{App, Row, Text, fault_of, matches_of}
 use Rattle.clap.specs.declared.error.Error.{Error}
-use Rattle.acl_queries.specs.ErrorOutput.{SaysFault, line_of_words}
+use Rattle.acl_queries.specs.CommandLine.{Takes}
+use Rattle.acl_queries.specs.ErrorOutput.{line_of_words}
 use Rattle.acl_queries.specs.Faults.{IsRefusedFor, fault_line, status_of}
 use Rattle.acl_queries.specs.RunFaults.{run_fault_line}
 use Rattle.acl_queries.specs.declared.command.query_fault.FieldFault.{FieldFault}
@@ -19,7 +20,6 @@ use Rattle.acl_service.specs.declared.files.FilesFault.TheVariants as files
 use Rattle.acl_service.specs.declared.setup.fault.SetupError.{SetupError}
 use Rattle.acl_service.specs.declared.setup.fault.SetupError.TheVariants as setup
 use Rattle.acl_tree_queries.specs.AnswerFaults.{IsLack}
-use Rattle.acl_tree_queries.specs.Questions.{Takes}
 use Rattle.acl_tree_queries.specs.Trees.{AreTreesOf, after_in, before_in, inputs_in}
 use Rattle.acl_tree_queries.specs.declared.question.answer_fault.AnswerFault.{AnswerFault}
 use Rattle.acl_tree_queries.specs.declared.question.answer_fault.AnswerFault.TheVariants as answer
@@ -128,11 +128,3 @@ IsQuestionFault line asked_in IsRefused bytes_of input words (Run fault) =
 -- no question is refused
 abbrev pub IsNeverRefused : {Q : Type 0} → Q → Trees → Type 0
 IsNeverRefused question trees = ⊥
-
--- what is said of the words
-abbrev pub SaysQuestion : {Q : Type 0} → App → (List Row → Result Q FieldFault)
-    → (Q → Trees → Type 0) → (Text → Option (List ℕ)) → Option (List ℕ) → List Text → ℕ
-    → Option (List ℕ) → Type 0
-SaysQuestion line asked_in IsRefused bytes_of input words =
-    SaysFault question_status question_line
-    (IsQuestionFault line asked_in IsRefused bytes_of input words)

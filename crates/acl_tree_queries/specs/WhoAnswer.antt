@@ -6,10 +6,10 @@ use Rattle.acl_names.specs.Directory.{Known}
 use Rattle.acl_tree.specs.Entries.{Entry}
 use Rattle.acl_audit.specs.Who.{node_lines, node_lines_of_those_who_may}
 use Rattle.acl_queries.specs.Asked.{optional_perms_in}
+use Rattle.acl_queries.specs.Meaning.{Meaning}
 use Rattle.acl_tree_queries.specs.Nodes.{TellsOfEach, TellsOfFirst}
-use Rattle.acl_tree_queries.specs.QuestionFaults.{IsNeverRefused, SaysQuestion}
-use Rattle.acl_tree_queries.specs.Questions.{Answers}
-use Rattle.acl_tree_queries.specs.Trees.{AreTreesOf}
+use Rattle.acl_tree_queries.specs.QuestionFaults.{IsNeverRefused}
+use Rattle.acl_tree_queries.specs.QuestionMeaning.{tree_meaning}
 use Rattle.acl_tree_queries.specs.WhoLine.{who_line}
 use Rattle.acl_tree_queries.specs.declared.trees.Trees.{Trees}
 
@@ -32,16 +32,6 @@ abbrev pub IsWhoBegun : Option ℕ → Trees → List ℕ → Type 0
 IsWhoBegun perms trees text =
     TellsOfFirst (TellsWho trees.directory perms) (map.entries trees.after.nodes) text
 
--- the words of `who` are answered, and that went out so: all of it, or of the first nodes
-abbrev pub AnswersWhoOfTree : (Text → Option (List ℕ)) → Option (List ℕ) → List Text
-    → (List ℕ → Type 0) → Type 0
-AnswersWhoOfTree = Answers who_line optional_perms_in AreTreesOf IsWho
-
-abbrev pub BeginsWhoOfTree : (Text → Option (List ℕ)) → Option (List ℕ) → List Text
-    → (List ℕ → Type 0) → Type 0
-BeginsWhoOfTree = Answers who_line optional_perms_in AreTreesOf IsWhoBegun
-
--- what is said of words of `who` that have no answer
-abbrev pub SaysWhoOfTree : (Text → Option (List ℕ)) → Option (List ℕ) → List Text → ℕ
-    → Option (List ℕ) → Type 0
-SaysWhoOfTree = SaysQuestion who_line optional_perms_in IsNeverRefused
+-- what the words of `who` mean that ask of a tree
+abbrev pub who_of_tree : (Text → Option (List ℕ)) → Option (List ℕ) → List Text → Meaning
+who_of_tree = tree_meaning who_line optional_perms_in IsWho IsWhoBegun IsNeverRefused

@@ -3,13 +3,13 @@ use Rattle.std.specs.Prelude.{◌≡◌, ℕ, List, Option, Result, Ok, Err}
 use Rattle.clap.specs.Words.{Text}
 use Rattle.acl_names.specs.Directory.{Known}
 use Rattle.acl_queries.specs.Asked.{optional_perms_in}
+use Rattle.acl_queries.specs.Meaning.{Meaning}
 use Rattle.acl_listings.specs.Block.{FileValue, file_of, path_of}
 use Rattle.acl_listings.specs.Listing.{Block}
 use Rattle.acl_listings.specs.declared.fault.BlockFault.{BlockFault}
-use Rattle.acl_tree_queries.specs.ListingFaults.{SaysOfListings}
 use Rattle.acl_tree_queries.specs.ListingText.{TellsOfFront, TellsOfListing, fault_text, node_of}
 use Rattle.acl_tree_queries.specs.Listings.{AreListed, Listed, one_listing_in}
-use Rattle.acl_tree_queries.specs.Questions.{Answers}
+use Rattle.acl_tree_queries.specs.QuestionMeaning.{listing_meaning}
 use Rattle.acl_tree_queries.specs.WhoAnswer.{who_text}
 use Rattle.acl_tree_queries.specs.WhoListingLine.{who_listing_line}
 
@@ -31,15 +31,7 @@ abbrev pub IsWhoListedBegun : Option ℕ → Listed → List ℕ → Type 0
 IsWhoListedBegun perms listed text =
     TellsOfFront (TellsBlock listed.directory perms) listed.listing text
 
--- the words are answered, and that went out so: all of it, or of the first blocks
-abbrev pub AnswersWhoListed : (Text → Option (List ℕ)) → Option (List ℕ) → List Text
-    → (List ℕ → Type 0) → Type 0
-AnswersWhoListed = Answers who_listing_line optional_perms_in AreListed IsWhoListed
-
-abbrev pub BeginsWhoListed : (Text → Option (List ℕ)) → Option (List ℕ) → List Text
-    → (List ℕ → Type 0) → Type 0
-BeginsWhoListed = Answers who_listing_line optional_perms_in AreListed IsWhoListedBegun
-
--- what is said of words that have no answer
-abbrev pub SaysWhoListed : (Text → Option (List ℕ)) → List Text → ℕ → Option (List ℕ) → Type 0
-SaysWhoListed = SaysOfListings one_listing_in who_listing_line optional_perms_in
+-- what the words of `who` mean that ask of a listing
+abbrev pub who_of_listing : (Text → Option (List ℕ)) → Option (List ℕ) → List Text → Meaning
+who_of_listing = listing_meaning one_listing_in who_listing_line optional_perms_in AreListed
+    IsWhoListed IsWhoListedBegun

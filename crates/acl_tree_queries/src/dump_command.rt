@@ -1,10 +1,8 @@
 //! The command `dump`.
-ghost use Rattle.std.specs.Prelude.{◌≡◌, ◌≤◌, ◌⊎◌, map};
-ghost use Rattle.std.specs.Io.KnownBytes.{Appends, Keeps};
+ghost use Rattle.std.specs.Prelude.{map};
 ghost use Rattle.acl_queries.specs.ErrorOutput.{Reports};
-ghost use Rattle.acl_queries.specs.Output.{AppendsFront};
-ghost use Rattle.acl_tree_queries.specs.DumpAnswer.{AnswersDump, BeginsDump, SaysDump};
-ghost use Rattle.acl_tree_queries.specs.DumpAnswer.{dump_inputs};
+ghost use Rattle.acl_queries.specs.Meaning.{Ends, LeavesInput};
+ghost use Rattle.acl_tree_queries.specs.DumpAnswer.{dump_meaning};
 
 mod lines;
 mod question;
@@ -47,23 +45,12 @@ where
     I: Read,
     W: Write,
     E: Write + Drop,
-    ensures statuses { result ≤ 3 }
-    ensures answered { result ≡ 0 → AnswersDump (F.bytes_of files.now) (I.remaining input.old)
-        (map S.text words.now) (Appends (W.contents out.old) (W.contents out.new)) }
-
-    // Nothing is written if the words, a file or the setup are refused, or a line is too long.
-    ensures silent { 1 ≤ result → result ≤ 2 → Keeps (W.contents out.old) (W.contents out.new) }
-
-    // If memory runs out or a write fails, nothing went out or a front of the session.
-    ensures cut { result ≡ 3 → Keeps (W.contents out.old) (W.contents out.new)
-        ⊎ BeginsDump (F.bytes_of files.now) (I.remaining input.old) (map S.text words.now)
-        (AppendsFront (W.contents out.old) (W.contents out.new)) }
-
-    // Standard input is left as it is if no session is `-`, and if the words are refused.
-    ensures untouched { dump_inputs (map S.text words.now) ≡ 0 → input.new ≡ input.old }
-    ensures unread { result ≡ 2 → input.new ≡ input.old }
-    ensures told { Reports (SaysDump (F.bytes_of files.now) (I.remaining input.old)
-        (map S.text words.now)) result err.old err.new }
+    ensures ended { Ends (dump_meaning (F.bytes_of files.now) (I.remaining input.old)
+        (map S.text words.now)) result (W.contents out.old) (W.contents out.new) }
+    ensures told { Reports (dump_meaning (F.bytes_of files.now) (I.remaining input.old)
+        (map S.text words.now)).Says result err.old err.new }
+    ensures input { LeavesInput (dump_meaning (F.bytes_of files.now) (I.remaining input.old)
+        (map S.text words.now)).inputs result input.old input.new }
 {
     ask::<DumpQuestion, F, S, I, W, E>(alloc, files, words, input, out, err)
 }

@@ -1,10 +1,8 @@
 //! The command `impact`.
-ghost use Rattle.std.specs.Prelude.{◌≡◌, ◌≤◌, ◌⊎◌, map};
-ghost use Rattle.std.specs.Io.KnownBytes.{Appends, Keeps};
+ghost use Rattle.std.specs.Prelude.{map};
 ghost use Rattle.acl_queries.specs.ErrorOutput.{Reports};
-ghost use Rattle.acl_queries.specs.Output.{AppendsFront};
-ghost use Rattle.acl_tree_queries.specs.ImpactWords.{AnswersImpact, BeginsImpact, SaysImpact};
-ghost use Rattle.acl_tree_queries.specs.ImpactWords.{impact_inputs};
+ghost use Rattle.acl_queries.specs.Meaning.{Ends, LeavesInput};
+ghost use Rattle.acl_tree_queries.specs.ImpactWords.{impact_meaning};
 
 mod before;
 mod changes;
@@ -64,24 +62,12 @@ where
     I: Read,
     W: Write,
     E: Write + Drop,
-    ensures statuses { result ≤ 3 }
-    ensures answered { result ≡ 0 → AnswersImpact (F.bytes_of files.now) (I.remaining input.old)
-        (map S.text words.now) (Appends (W.contents out.old) (W.contents out.new)) }
-
-    // Nothing is written if the words, a file or the setup are refused.
-    ensures silent { 1 ≤ result → result ≤ 2 → Keeps (W.contents out.old) (W.contents out.new) }
-
-    // If memory runs out or a write fails, nothing went out or a front of what is told of the first
-    // nodes.
-    ensures cut { result ≡ 3 → Keeps (W.contents out.old) (W.contents out.new)
-        ⊎ BeginsImpact (F.bytes_of files.now) (I.remaining input.old) (map S.text words.now)
-        (AppendsFront (W.contents out.old) (W.contents out.new)) }
-
-    // Standard input is left as it is if no session is `-`, and if the words are refused.
-    ensures untouched { impact_inputs (map S.text words.now) ≡ 0 → input.new ≡ input.old }
-    ensures unread { result ≡ 2 → input.new ≡ input.old }
-    ensures told { Reports (SaysImpact (F.bytes_of files.now) (I.remaining input.old)
-        (map S.text words.now)) result err.old err.new }
+    ensures ended { Ends (impact_meaning (F.bytes_of files.now) (I.remaining input.old)
+        (map S.text words.now)) result (W.contents out.old) (W.contents out.new) }
+    ensures told { Reports (impact_meaning (F.bytes_of files.now) (I.remaining input.old)
+        (map S.text words.now)).Says result err.old err.new }
+    ensures input { LeavesInput (impact_meaning (F.bytes_of files.now) (I.remaining input.old)
+        (map S.text words.now)).inputs result input.old input.new }
 {
     if asks_of_listing(words) {
         ask_of_listings(alloc, files, words, input, out, err)

@@ -5,7 +5,6 @@
 #![tactic(auto)]
 
 mod blocks;
-mod command_line;
 mod dump_command;
 mod impact_command;
 mod laws;

@@ -4,11 +4,12 @@ ghost use Rattle.std.specs.Prelude.{map};
 ghost use Rattle.std.specs.Io.KnownBytes.{Appends, Keeps};
 ghost use Rattle.clap.specs.Words.{Row, found_of, matches_of, rows_of};
 ghost use Rattle.acl_queries.specs.ErrorOutput.{Reports};
+ghost use Rattle.acl_queries.specs.Meaning.{Ends, LeavesInput};
 ghost use Rattle.acl_queries.specs.Output.{AppendsFront};
 ghost use Rattle.acl_queries.specs.declared.command.query_fault.FieldFault.{FieldFault as Fault};
 ghost use Rattle.acl_tree_queries.specs.AnswerFaults.{IsAnswerFault, answer_status};
-ghost use Rattle.acl_tree_queries.specs.QuestionFaults.{IsQuestionFault, SaysQuestion};
-ghost use Rattle.acl_tree_queries.specs.QuestionFaults.{question_status};
+ghost use Rattle.acl_tree_queries.specs.QuestionFaults.{IsQuestionFault, question_status};
+ghost use Rattle.acl_tree_queries.specs.QuestionMeaning.{tree_meaning};
 ghost use Rattle.acl_tree_queries.specs.Questions.{Answers};
 ghost use Rattle.acl_tree_queries.specs.Trees.{AreTreesOf, inputs_in};
 ghost use Rattle.acl_tree_queries.specs.declared.trees.Trees.{Trees as TreesValue};
@@ -16,9 +17,8 @@ ghost use Rattle.acl_tree_queries.specs.declared.trees.Trees.{Trees as TreesValu
 mod answer_fault;
 mod fault;
 
-use crate::command_line::{CommandLine, parse};
 use crate::trees::{Trees, open_trees};
-use acl_queries::{ErrorOutput, FieldFault, report};
+use acl_queries::{CommandLine, ErrorOutput, FieldFault, parse, report};
 use acl_service::OpenFiles;
 pub(crate) use answer_fault::AnswerFault;
 use clap::ArgMatches;
@@ -109,20 +109,14 @@ where
     I: Read,
     W: Write,
     E: Write + Drop,
-    ensures statuses { result ≤ 3 }
-    ensures answered { result ≡ 0 → Answers Q.line Q.asked_in AreTreesOf Q.IsAnswer
-        (F.bytes_of files.now) (I.remaining input.old) (map S.text words.now)
-        (Appends (W.contents out.old) (W.contents out.new)) }
-    ensures silent { 1 ≤ result → result ≤ 2 → Keeps (W.contents out.old) (W.contents out.new) }
-    ensures cut { result ≡ 3 → Keeps (W.contents out.old) (W.contents out.new)
-        ⊎ Answers Q.line Q.asked_in AreTreesOf Q.IsBegun (F.bytes_of files.now)
-        (I.remaining input.old) (map S.text words.now)
-        (AppendsFront (W.contents out.old) (W.contents out.new)) }
-    ensures untouched { inputs_in (matches_of Q.line (map S.text words.now)) ≡ 0
-        → input.new ≡ input.old }
-    ensures unread { result ≡ 2 → input.new ≡ input.old }
-    ensures told { Reports (SaysQuestion Q.line Q.asked_in Q.IsRefused (F.bytes_of files.now)
-        (I.remaining input.old) (map S.text words.now)) result err.old err.new }
+    ensures ended { Ends (tree_meaning Q.line Q.asked_in Q.IsAnswer Q.IsBegun Q.IsRefused
+        (F.bytes_of files.now) (I.remaining input.old) (map S.text words.now)) result
+        (W.contents out.old) (W.contents out.new) }
+    ensures told { Reports (tree_meaning Q.line Q.asked_in Q.IsAnswer Q.IsBegun Q.IsRefused
+        (F.bytes_of files.now) (I.remaining input.old) (map S.text words.now)).Says
+        result err.old err.new }
+    ensures input { LeavesInput (inputs_in (matches_of Q.line (map S.text words.now))) result
+        input.old input.new }
 {
     match answer::<Q, F, S, I, W>(alloc, files, words, input, out) {
         Ok(()) => 0,

@@ -1,38 +1,28 @@
 -- What the program comes to.
-use Rattle.std.specs.Prelude.{◌≡◌, ◌≤◌, ℕ, ◌⊎◌, ◌++◌, List, [], ◌∷◌, Option, Some, None, codes}
+use Rattle.std.specs.Prelude.{◌≡◌, ◌⊎◌, ℕ, ◌++◌, List, [], ◌∷◌, Option, Some, None, codes}
 use Rattle.std.specs.Prelude.{if◌then◌else◌, bytes_eq}
-use Rattle.std.specs.Io.KnownBytes.{Appends, IsAtEnd, Keeps}
+use Rattle.std.specs.Io.KnownBytes.{IsAtEnd}
 use Rattle.acl_names.specs.Bytes.{newline}
-use Rattle.acl_lint.specs.LintAnswer.{AnswersLint, lint_inputs}
-use Rattle.acl_lint.specs.LintFaults.{SaysLint}
-use Rattle.acl_queries.specs.CompareOutcome.{EndsAsCompared, IsCompareFaultOf, IsCutShort}
+use Rattle.acl_lint.specs.LintAnswer.{lint_meaning}
+use Rattle.acl_queries.specs.DecideAnswer.{decide_meaning}
+use Rattle.acl_queries.specs.Differences.{compare_meaning}
 use Rattle.acl_queries.specs.ErrorOutput.{SaysFault}
-use Rattle.acl_queries.specs.ExplainOutcome.{EndsAsExplained, IsExplainFaultOf}
-use Rattle.acl_queries.specs.ExplainOutcome.{IsExplanationCutShort}
-use Rattle.acl_queries.specs.Faults.{IsFaultOf, SaysQueryFault}
-use Rattle.acl_queries.specs.Outcome.{EndsAs, Outcome, outcome_of}
-use Rattle.acl_queries.specs.Output.{AppendsFront}
+use Rattle.acl_queries.specs.ExplainText.{explain_meaning}
+use Rattle.acl_queries.specs.Meaning.{Meaning}
 use Rattle.acl_queries.specs.RunFaults.{run_fault_line}
 use Rattle.acl_queries.specs.declared.command.run_fault.RunFault.TheVariants.{Output}
-use Rattle.acl_service.specs.FilesFaults.{SaysRun}
-use Rattle.acl_service.specs.RunWords.{RunsWords, input_count, run_rows, sessions_in}
-use Rattle.acl_tree_queries.specs.DumpAnswer.{AnswersDump, BeginsDump, SaysDump, dump_inputs}
-use Rattle.acl_tree_queries.specs.ImpactWords.{AnswersImpact, BeginsImpact, SaysImpact}
-use Rattle.acl_tree_queries.specs.ImpactWords.{impact_inputs}
-use Rattle.acl_tree_queries.specs.WhoWords.{AnswersWho, BeginsWho, SaysWho, who_inputs}
+use Rattle.acl_service.specs.RunMeaning.{run_meaning}
+use Rattle.acl_tree_queries.specs.DumpAnswer.{dump_meaning}
+use Rattle.acl_tree_queries.specs.ImpactWords.{impact_meaning}
+use Rattle.acl_tree_queries.specs.WhoWords.{who_meaning}
 use Rattle.aclctl.specs.Fault.{fault_line, program_line, status_of}
 use Rattle.aclctl.specs.Input.{AreWordsOf, IsInputFault}
-use Rattle.aclctl.specs.declared.fault.ProgramFault.{ProgramFault}
 use Rattle.aclctl.specs.declared.fault.ProgramFault.TheVariants.{NoCommand}
 use Rattle.aclctl.specs.declared.help.TheConstants.{HELP}
 
 -- what is told of each file, by its name
 abbrev pub Files : Type 0
 Files = List ℕ → Option (List ℕ)
-
--- what is refused for a fault: its exit status, and nothing for the output
-abbrev pub refusal : ProgramFault → Outcome
-refusal fault = record { status = status_of fault; text = [] }
 
 -- the commands
 pub data Command : Type 0 where
@@ -61,108 +51,14 @@ command_of name =
     else (if bytes_eq name (codes "--help") then Some Help
     else (if bytes_eq name (codes "--version") then Some Version else None)))))))))
 
+-- the one that words name: the first is its name
+abbrev pub command_in : List (List ℕ) → Option Command
+command_in [] = None
+command_in (first ∷ more) = command_of first
+
 -- what `--version` prints
 abbrev pub version_text : List ℕ
 version_text = codes "aclctl 0.1.0" ++ newline ∷ []
-
--- how many sessions of these words of the command are standard input
-abbrev pub inputs_of : Option Command → List (List ℕ) → ℕ
-inputs_of (Some Run) words = input_count (sessions_in (run_rows words))
-inputs_of (Some Who) words = who_inputs words
-inputs_of (Some Impact) words = impact_inputs words
-inputs_of (Some Dump) words = dump_inputs words
-inputs_of (Some Lint) words = lint_inputs words
-inputs_of (Some Decide) words = 0
-inputs_of (Some Explain) words = 0
-inputs_of (Some Compare) words = 0
-inputs_of (Some Help) words = 0
-inputs_of (Some Version) words = 0
-inputs_of None words = 0
-
--- by the command that the first of the words names
-abbrev pub inputs_named : List (List ℕ) → ℕ
-inputs_named [] = 0
-inputs_named (first ∷ more) = inputs_of (command_of first) (first ∷ more)
-
--- words ended so of which this goes out: with all of it, or with nothing written if they were
--- refused
-pub record EndsWith (GoesOut : (List ℕ → Type 0) → Type 0) (old new : Option (List ℕ)) (status : ℕ)
-    : Type 0 where
-  pub printed : status ≡ 0 → GoesOut (Appends old new)
-  pub silent : 1 ≤ status → status ≤ 2 → Keeps old new
-
--- with these files and this standard input, a run ended as these words of the command come to
-abbrev pub EndsAsCommand : Files → Option (List ℕ) → Option Command → List (List ℕ)
-    → Option (List ℕ) → Option (List ℕ) → ℕ → Type 0
-EndsAsCommand files input (Some Decide) words old new status =
-    EndsAs (outcome_of words) old new status
-EndsAsCommand files input (Some Explain) words old new status = EndsAsExplained words old new status
-EndsAsCommand files input (Some Compare) words old new status = EndsAsCompared words old new status
-EndsAsCommand files input (Some Run) words old new status =
-    EndsWith (RunsWords files input (run_rows words)) old new status
-EndsAsCommand files input (Some Who) words old new status =
-    EndsWith (AnswersWho files input words) old new status
-EndsAsCommand files input (Some Impact) words old new status =
-    EndsWith (AnswersImpact files input words) old new status
-EndsAsCommand files input (Some Dump) words old new status =
-    EndsWith (AnswersDump files input words) old new status
-EndsAsCommand files input (Some Lint) words old new status =
-    EndsWith (AnswersLint files input words) old new status
-EndsAsCommand files input (Some Help) words old new status =
-    EndsAs (record { status = 0; text = HELP.now }) old new status
-EndsAsCommand files input (Some Version) words old new status =
-    EndsAs (record { status = 0; text = version_text }) old new status
-EndsAsCommand files input None words old new status = EndsAs (refusal NoCommand) old new status
-
--- by the command that the first of the words names
-abbrev pub EndsAsWords : Files → Option (List ℕ) → List (List ℕ) → Option (List ℕ) → Option (List ℕ)
-    → ℕ → Type 0
-EndsAsWords files input [] old new status = EndsAs (refusal NoCommand) old new status
-EndsAsWords files input (first ∷ more) old new status =
-    EndsAsCommand files input (command_of first) (first ∷ more) old new status
-
--- with these bytes on standard input, a run ended as their words come to, with nothing left there;
--- or it was refused for a fault of the bytes or of reading them
-abbrev pub EndsFrom : Files → List ℕ → Option (List ℕ) → Option (List ℕ) → ℕ → Type 0
-EndsFrom files bytes old new status =
-    ((words : List (List ℕ)) × (rest : Option (List ℕ)) × IsAtEnd rest × AreWordsOf bytes words
-    × EndsAsWords files rest words old new status)
-    ⊎ ((fault : ProgramFault) × IsInputFault fault bytes × EndsAs (refusal fault) old new status)
-
--- if memory or a thread was lacking or a write failed, nothing went out, or a front of what these
--- words of the command print
-abbrev pub IsCommandCutShort : Files → Option (List ℕ) → Option Command → List (List ℕ)
-    → Option (List ℕ) → Option (List ℕ) → Type 0
-IsCommandCutShort files input (Some Decide) words old new =
-    AppendsFront old new (outcome_of words).text
-IsCommandCutShort files input (Some Explain) words old new = IsExplanationCutShort words old new
-IsCommandCutShort files input (Some Compare) words old new = IsCutShort words old new
-IsCommandCutShort files input (Some Run) words old new = Keeps old new
-    ⊎ RunsWords files input (run_rows words) (AppendsFront old new)
-IsCommandCutShort files input (Some Who) words old new = Keeps old new
-    ⊎ BeginsWho files input words (AppendsFront old new)
-IsCommandCutShort files input (Some Impact) words old new = Keeps old new
-    ⊎ BeginsImpact files input words (AppendsFront old new)
-IsCommandCutShort files input (Some Dump) words old new = Keeps old new
-    ⊎ BeginsDump files input words (AppendsFront old new)
-IsCommandCutShort files input (Some Lint) words old new = Keeps old new
-    ⊎ AnswersLint files input words (AppendsFront old new)
-IsCommandCutShort files input (Some Help) words old new = AppendsFront old new HELP.now
-IsCommandCutShort files input (Some Version) words old new = AppendsFront old new version_text
-IsCommandCutShort files input None words old new = ⊥
-
--- by the command that the first of the words names
-abbrev pub AreWordsCutShort : Files → Option (List ℕ) → List (List ℕ) → Option (List ℕ)
-    → Option (List ℕ) → Type 0
-AreWordsCutShort files input [] old new = ⊥
-AreWordsCutShort files input (first ∷ more) old new =
-    IsCommandCutShort files input (command_of first) (first ∷ more) old new
-
--- with these bytes on standard input: nothing went out, or a front of what their words print
-abbrev pub IsCutShortFrom : Files → List ℕ → Option (List ℕ) → Option (List ℕ) → Type 0
-IsCutShortFrom files bytes old new =
-    Keeps old new ⊎ ((words : List (List ℕ)) × (rest : Option (List ℕ)) × IsAtEnd rest
-    × AreWordsOf bytes words × AreWordsCutShort files rest words old new)
 
 -- what is said if the text of help or the version can't be written
 abbrev pub SaysLostOutput : ℕ → Option (List ℕ) → Type 0
@@ -173,31 +69,57 @@ abbrev pub SaysNoCommand : ℕ → Option (List ℕ) → Type 0
 SaysNoCommand status line = (status ≡ status_of NoCommand)
     × ((more : List ℕ) × (line ≡ Some (fault_line NoCommand ++ more)))
 
--- with this standard input, what is said of these words of the command
-abbrev pub SaysCommand : Files → Option (List ℕ) → Option Command → List (List ℕ) → ℕ
-    → Option (List ℕ) → Type 0
-SaysCommand files input (Some Decide) words = SaysQueryFault (IsFaultOf words)
-SaysCommand files input (Some Explain) words = SaysQueryFault (IsExplainFaultOf words)
-SaysCommand files input (Some Compare) words = SaysQueryFault (IsCompareFaultOf words)
-SaysCommand files input (Some Run) words = SaysRun files words
-SaysCommand files input (Some Who) words = SaysWho files input words
-SaysCommand files input (Some Impact) words = SaysImpact files input words
-SaysCommand files input (Some Dump) words = SaysDump files input words
-SaysCommand files input (Some Lint) words = SaysLint words
-SaysCommand files input (Some Help) words = SaysLostOutput
-SaysCommand files input (Some Version) words = SaysLostOutput
-SaysCommand files input None words = SaysNoCommand
+-- that text is all that is printed
+abbrev pub text_meaning : List ℕ → Meaning
+text_meaning text = record {
+  Answers = λ WentOut. WentOut text;
+  Begins = λ WentOut. WentOut text;
+  Says = SaysLostOutput;
+  inputs = 0;
+}
 
--- by the command that the first of the words names
-abbrev pub SaysWords : Files → Option (List ℕ) → List (List ℕ) → ℕ → Option (List ℕ) → Type 0
-SaysWords files input [] = SaysNoCommand
-SaysWords files input (first ∷ more) =
-    SaysCommand files input (command_of first) (first ∷ more)
+-- no command is named: there is no answer
+abbrev pub no_command : Meaning
+no_command = record {
+  Answers = λ WentOut. ⊥;
+  Begins = λ WentOut. ⊥;
+  Says = SaysNoCommand;
+  inputs = 0;
+}
 
--- with these bytes on standard input: what is said of their words, with nothing left there, or of a
--- fault of the bytes or of reading them
-abbrev pub SaysFrom : Files → List ℕ → ℕ → Option (List ℕ) → Type 0
-SaysFrom files bytes status line =
-    ((words : List (List ℕ)) × (rest : Option (List ℕ)) × IsAtEnd rest × AreWordsOf bytes words
-    × SaysWords files rest words status line)
-    ⊎ SaysFault status_of program_line (λ fault. IsInputFault fault bytes) status line
+-- with these files and this standard input, what words mean to a command
+abbrev pub command_meaning : Files → Option (List ℕ) → Option Command → List (List ℕ) → Meaning
+command_meaning files input (Some Decide) words = decide_meaning words
+command_meaning files input (Some Explain) words = explain_meaning words
+command_meaning files input (Some Compare) words = compare_meaning words
+command_meaning files input (Some Run) words = run_meaning files input words
+command_meaning files input (Some Who) words = who_meaning files input words
+command_meaning files input (Some Impact) words = impact_meaning files input words
+command_meaning files input (Some Dump) words = dump_meaning files input words
+command_meaning files input (Some Lint) words = lint_meaning files input words
+command_meaning files input (Some Help) words = text_meaning HELP.now
+command_meaning files input (Some Version) words = text_meaning version_text
+command_meaning files input None words = no_command
+
+-- by the command that the words name
+abbrev pub meaning_of : Files → Option (List ℕ) → List (List ℕ) → Meaning
+meaning_of files input words = command_meaning files input (command_in words) words
+
+-- the bytes on standard input are words, nothing is left there then, and they mean such a thing
+pub record AreMeant (files : Files) (bytes : List ℕ) (Such : Meaning → Type 0) : Type 0 where
+  pub words : List (List ℕ)
+  pub are_words : AreWordsOf bytes words
+  pub rest : Option (List ℕ)
+  pub at_end : IsAtEnd rest
+  pub such : Such (meaning_of files rest words)
+
+-- with these bytes on standard input, what their words mean; or they are refused, for a fault of
+-- the bytes or of reading them
+abbrev pub meaning_from : Files → List ℕ → Meaning
+meaning_from files bytes = record {
+  Answers = λ WentOut. AreMeant files bytes (λ meaning. meaning.Answers WentOut);
+  Begins = λ WentOut. AreMeant files bytes (λ meaning. meaning.Begins WentOut);
+  Says = λ status line. AreMeant files bytes (λ meaning. meaning.Says status line)
+      ⊎ SaysFault status_of program_line (λ fault. IsInputFault fault bytes) status line;
+  inputs = 1;
+}

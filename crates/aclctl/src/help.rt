@@ -1,10 +1,9 @@
 //! What the program says of itself.
-ghost use Rattle.std.specs.Prelude.{◌≡◌, ◌≢◌, ◌≤◌};
+ghost use Rattle.std.specs.Prelude.{◌≡◌};
 ghost use Rattle.acl_queries.specs.ErrorOutput.{Reports};
-ghost use Rattle.acl_queries.specs.Outcome.{EndsAs};
-ghost use Rattle.acl_queries.specs.Output.{AppendsFront};
+ghost use Rattle.acl_queries.specs.Meaning.{Ends};
 ghost use Rattle.aclctl.specs.Fault.{status_of};
-ghost use Rattle.aclctl.specs.Program.{SaysLostOutput, SaysNoCommand, version_text};
+ghost use Rattle.aclctl.specs.Program.{SaysLostOutput, SaysNoCommand, text_meaning, version_text};
 ghost use Rattle.aclctl.specs.declared.fault.ProgramFault.TheVariants.{NoCommand};
 ghost use Rattle.aclctl.specs.declared.help.TheConstants.{HELP};
 
@@ -46,10 +45,7 @@ const VERSION: &str = "aclctl 0.1.0\n";
 
 /// Prints a text, and returns the exit status.
 fn print<W: Write, E: Write + Drop>(text: &str, out: &mut W, err: &mut ErrorOutput<E>) -> u8
-    ensures statuses { result ≤ 3 }
-    ensures ended { result ≢ 3 → EndsAs (record { status = 0; text = text.now })
-        (W.contents out.old) (W.contents out.new) result }
-    ensures cut { result ≡ 3 → AppendsFront (W.contents out.old) (W.contents out.new) text.now }
+    ensures ended { Ends (text_meaning text.now) result (W.contents out.old) (W.contents out.new) }
     ensures told { Reports SaysLostOutput result err.old err.new }
 {
     match write_text(text.as_bytes(), out) {
@@ -60,10 +56,7 @@ fn print<W: Write, E: Write + Drop>(text: &str, out: &mut W, err: &mut ErrorOutp
 
 /// Prints what the program's commands are.
 pub fn print_help<W: Write, E: Write + Drop>(out: &mut W, err: &mut ErrorOutput<E>) -> u8
-    ensures statuses { result ≤ 3 }
-    ensures ended { result ≢ 3 → EndsAs (record { status = 0; text = HELP.now })
-        (W.contents out.old) (W.contents out.new) result }
-    ensures cut { result ≡ 3 → AppendsFront (W.contents out.old) (W.contents out.new) HELP.now }
+    ensures ended { Ends (text_meaning HELP.now) result (W.contents out.old) (W.contents out.new) }
     ensures told { Reports SaysLostOutput result err.old err.new }
 {
     print(HELP, out, err)
@@ -71,10 +64,8 @@ pub fn print_help<W: Write, E: Write + Drop>(out: &mut W, err: &mut ErrorOutput<
 
 /// Prints the program's name and its version.
 pub fn print_version<W: Write, E: Write + Drop>(out: &mut W, err: &mut ErrorOutput<E>) -> u8
-    ensures statuses { result ≤ 3 }
-    ensures ended { result ≢ 3 → EndsAs (record { status = 0; text = version_text })
-        (W.contents out.old) (W.contents out.new) result }
-    ensures cut { result ≡ 3 → AppendsFront (W.contents out.old) (W.contents out.new) version_text }
+    ensures ended { Ends (text_meaning version_text) result (W.contents out.old)
+        (W.contents out.new) }
     ensures told { Reports SaysLostOutput result err.old err.new }
 {
     print(VERSION, out, err)

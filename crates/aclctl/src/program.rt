@@ -1,9 +1,9 @@
 //! The program: its words, and the command that the first of them names.
-ghost use Rattle.std.specs.Prelude.{◌≡◌, ◌≢◌, ◌≤◌, [], map, IfSome};
+ghost use Rattle.std.specs.Prelude.{◌≡◌, ◌≢◌, [], map, IfSome};
 ghost use Rattle.std.specs.String.{string_bytes};
 ghost use Rattle.acl_queries.specs.ErrorOutput.{Reports};
-ghost use Rattle.aclctl.specs.Program.{AreWordsCutShort, EndsAsWords, EndsFrom, IsCutShortFrom};
-ghost use Rattle.aclctl.specs.Program.{SaysFrom, SaysWords, inputs_named};
+ghost use Rattle.acl_queries.specs.Meaning.{Ends, LeavesInput};
+ghost use Rattle.aclctl.specs.Program.{meaning_from, meaning_of};
 
 use crate::help::{print_help, print_version, report_no_command};
 use crate::input::command_words;
@@ -38,24 +38,12 @@ where
     I: Read,
     W: Write,
     E: Write + Drop,
-    ensures statuses { result ≤ 3 }
-
-    // Unless memory runs out, a thread is refused or a write fails.
-    ensures ended { result ≢ 3 → EndsAsWords (F.bytes_of files.now) (I.remaining input.old)
-        (map S.text words.now)
-        (W.contents out.old) (W.contents out.new) result }
-
-    // If it does, no more went out than a front of what the words print.
-    ensures cut { result ≡ 3 → AreWordsCutShort (F.bytes_of files.now) (I.remaining input.old)
-        (map S.text words.now)
-        (W.contents out.old) (W.contents out.new) }
-
-    // Nothing is told beside an answer. Else the whole line of a fault is, unless a write fails.
-    ensures told { Reports (SaysWords (F.bytes_of files.now) (I.remaining input.old)
-        (map S.text words.now)) result err.old err.new }
-
-    // Standard input is left as it is, unless it is a session.
-    ensures untouched { inputs_named (map S.text words.now) ≡ 0 → input.new ≡ input.old }
+    ensures ended { Ends (meaning_of (F.bytes_of files.now) (I.remaining input.old)
+        (map S.text words.now)) result (W.contents out.old) (W.contents out.new) }
+    ensures told { Reports (meaning_of (F.bytes_of files.now) (I.remaining input.old)
+        (map S.text words.now)).Says result err.old err.new }
+    ensures input { LeavesInput (meaning_of (F.bytes_of files.now) (I.remaining input.old)
+        (map S.text words.now)).inputs result input.old input.new }
 {
     match words.first() {
         Some(first) if first.as_str() == "decide" => decide(alloc, words, out, err),
@@ -95,33 +83,21 @@ where
     I: Read,
     W: Write,
     E: Write + Drop,
-    ensures statuses { result ≤ 3 }
+    ensures given { given.items ≢ [] → Ends (meaning_of (F.bytes_of files.now)
+        (I.remaining reader.old) (map string_bytes given.items)) result (W.contents out.old)
+        (W.contents out.new) }
+    ensures told_given { given.items ≢ [] → Reports (meaning_of (F.bytes_of files.now)
+        (I.remaining reader.old) (map string_bytes given.items)).Says result err.old err.new }
+    ensures input { given.items ≢ [] → LeavesInput (meaning_of (F.bytes_of files.now)
+        (I.remaining reader.old) (map string_bytes given.items)).inputs result reader.old
+        reader.new }
 
-    // Unless memory runs out, a thread is refused or a write fails.
-    ensures given { given.items ≢ [] → result ≢ 3
-        → EndsAsWords (F.bytes_of files.now) (I.remaining reader.old) (map string_bytes given.items)
-        (W.contents out.old) (W.contents out.new) result }
-    ensures read { given.items ≡ [] → result ≢ 3 → IfSome (I.remaining reader.old)
-        (λ bytes. EndsFrom (F.bytes_of files.now) bytes (W.contents out.old) (W.contents out.new)
-        result) }
-
-    // If it does, no more went out than a front of what the words print.
-    ensures cut_given { given.items ≢ [] → result ≡ 3
-        → AreWordsCutShort (F.bytes_of files.now) (I.remaining reader.old)
-        (map string_bytes given.items)
-        (W.contents out.old) (W.contents out.new) }
-    ensures cut_read { given.items ≡ [] → result ≡ 3 → IfSome (I.remaining reader.old)
-        (λ bytes. IsCutShortFrom (F.bytes_of files.now) bytes (W.contents out.old)
+    // Without words: with the bytes that the reader has, if they are known.
+    ensures read { given.items ≡ [] → IfSome (I.remaining reader.old) (λ bytes.
+        Ends (meaning_from (F.bytes_of files.now) bytes) result (W.contents out.old)
         (W.contents out.new)) }
-
-    // Nothing is told beside an answer. Else the whole line of a fault is, unless a write fails.
-    ensures told_given { given.items ≢ [] → Reports
-        (SaysWords (F.bytes_of files.now) (I.remaining reader.old) (map string_bytes given.items))
-        result err.old err.new }
-    ensures told_read { given.items ≡ [] → IfSome (I.remaining reader.old)
-        (λ bytes. Reports (SaysFrom (F.bytes_of files.now) bytes) result err.old err.new) }
-    ensures untouched { given.items ≢ [] → inputs_named (map string_bytes given.items) ≡ 0
-        → reader.new ≡ reader.old }
+    ensures told_read { given.items ≡ [] → IfSome (I.remaining reader.old) (λ bytes.
+        Reports (meaning_from (F.bytes_of files.now) bytes).Says result err.old err.new) }
 {
     match command_words(alloc, given, reader) {
         Ok(words) => run_command(rt, alloc, files, words.as_slice(), reader, out, err),

@@ -1,6 +1,6 @@
 //! The line that answers whether a request is granted.
 ghost use Rattle.std.specs.Prelude.{◌≡◌};
-ghost use Rattle.acl_queries.specs.Outcome.{answer_line};
+ghost use Rattle.acl_queries.specs.DecideAnswer.{answer_line};
 
 /// The line that says whether a request is granted.
 pub(crate) fn answer_line(granted: bool) -> &'static str

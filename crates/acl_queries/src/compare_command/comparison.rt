@@ -1,14 +1,15 @@
 //! What the words of `compare` ask, and the answer.
 ghost use Rattle.std.specs.Prelude.{◌≡◌, codes, IfErr, IfOk, MatchOption, Ok};
 ghost use Rattle.clap.specs.Words.{found_of, rows_of};
-ghost use Rattle.acl_queries.specs.Compared.{compared_in};
 ghost use Rattle.acl_queries.specs.declared.command.list.AnyAcl.TheVariants as list;
-ghost use Rattle.acl_queries.specs.Comparing.{between, compared};
+ghost use Rattle.acl_queries.specs.Comparing.{between};
 ghost use Rattle.acl_queries.specs.Differences.{AreAlike, Differ};
 ghost use Rattle.acl_queries.specs.Faults.{Explains};
 
+use super::text::answer_text;
 use crate::command::ids::{gid_field, uid_field};
 use crate::command::list::{AnyAcl, list_field};
+use crate::command::query::Query;
 use crate::command::query_fault::QueryFault;
 use acl_bridge::{difference_from_posix, posix_difference, whole_request_difference};
 use acl_names::{Gid, Uid};
@@ -17,6 +18,7 @@ use acl_posix::Acl;
 use bitflags::Flags;
 use clap::ArgMatches;
 use std::alloc::{AllocError, Global};
+use std::marker::Model;
 
 /// Two lists, compared for a file of this owner and this group.
 #[derive(Drop)]
@@ -25,6 +27,16 @@ pub(super) struct Comparison {
     pub group: Gid,
     pub first: AnyAcl,
     pub second: AnyAcl,
+}
+
+impl Model for Comparison {
+    ghost use Rattle.acl_queries.specs.Compared.{Compared};
+    ghost use Rattle.acl_queries.specs.Comparing.{between};
+
+    ghost Value = { Compared };
+
+    ghost view = { λ comparison. between comparison.owner comparison.group comparison.first
+        comparison.second };
 }
 
 /// A difference as it is in the other direction.
@@ -110,9 +122,9 @@ fn between_nfs4_lists(first: &Acl4, second: &Acl4, owners: &Owners) -> Option<Di
 
 impl Comparison {
     /// What the lists decide differently, for whom; none if they decide alike for everyone.
-    pub(super) fn difference(&self, alloc: Global) -> Result<Option<Difference>, AllocError>
-        ensures { IfOk result (λ found. MatchOption found (AreAlike (compared self.now))
-            (Differ (compared self.now))) }
+    fn difference(&self, alloc: Global) -> Result<Option<Difference>, AllocError>
+        ensures { IfOk result (λ found. MatchOption found (AreAlike self.now)
+            (Differ self.now)) }
     {
         let owners = Owners {
             owner: self.owner,
@@ -135,24 +147,32 @@ impl Comparison {
     }
 }
 
-/// What the words compare, their fields read in order.
-#[tactic(auto, unfolding(crate::specs::Compared::compared_in))]
-pub(super) fn read_comparison(
-    alloc: Global,
-    matches: &ArgMatches<'_>,
-) -> Result<Comparison, QueryFault>
-    ensures read { IfOk result (λ comparison. compared_in (rows_of (found_of matches.now))
-        ≡ Ok (compared comparison)) }
-    ensures refused { IfErr result (Explains (compared_in (rows_of (found_of matches.now)))) }
-{
-    let owner = uid_field(matches, "owner")?;
-    let group = gid_field(matches, "group")?;
-    let first = list_field(alloc, matches, "style", "text")?;
-    let second = list_field(alloc, matches, "other-style", "other-text")?;
-    Ok(Comparison {
-        owner,
-        group,
-        first,
-        second,
-    })
+impl Query for Comparison {
+    ghost use Rattle.acl_queries.specs.Compared.{compared_in};
+    ghost use Rattle.acl_queries.specs.Differences.{Answers};
+
+    ghost asked_in = { compared_in };
+
+    ghost IsAnswer = { Answers };
+
+    #[tactic(auto, unfolding(crate::specs::Compared::compared_in))]
+    fn read(alloc: Global, matches: &ArgMatches<'_>) -> Result<Comparison, QueryFault> {
+        let owner = uid_field(matches, "owner")?;
+        let group = gid_field(matches, "group")?;
+        let first = list_field(alloc, matches, "style", "text")?;
+        let second = list_field(alloc, matches, "other-style", "other-text")?;
+        Ok(Comparison {
+            owner,
+            group,
+            first,
+            second,
+        })
+    }
+
+    fn answer_text(&self, alloc: Global) -> Result<Vec<u8>, AllocError> {
+        match self.difference(alloc) {
+            Ok(found) => answer_text(alloc, found),
+            Err(refused) => Err(refused),
+        }
+    }
 }

@@ -1,9 +1,7 @@
 //! The text that `compare` answers with.
 ghost use Rattle.std.specs.Prelude.{◌≡◌, ◌++◌, IfOk, OnOk};
-ghost use Rattle.acl_queries.specs.Comparing.{compared};
-ghost use Rattle.acl_queries.specs.Differences.{Answers, difference_text, told_text};
+ghost use Rattle.acl_queries.specs.Differences.{difference_text, told_text};
 
-use super::comparison::Comparison;
 use crate::command::change_text::{push_bits, push_gids};
 use acl_names::push_id;
 use acl_nfs4::Difference;
@@ -26,7 +24,7 @@ fn push_difference(difference: &Difference, out: &mut Vec<u8>) -> Result<(), All
 }
 
 /// The text for a difference that was found, if any.
-fn told_text(alloc: Global, found: Option<Difference>) -> Result<Vec<u8>, AllocError>
+pub(super) fn answer_text(alloc: Global, found: Option<Difference>) -> Result<Vec<u8>, AllocError>
     ensures { IfOk result (λ text. text.items ≡ told_text found) }
 {
     let mut text = Vec::new(alloc);
@@ -35,14 +33,4 @@ fn told_text(alloc: Global, found: Option<Difference>) -> Result<Vec<u8>, AllocE
         None => text.extend_from_slice("alike\n".as_bytes())?,
     }
     Ok(text)
-}
-
-/// The text that answers.
-pub(super) fn answer_text(alloc: Global, comparison: &Comparison) -> Result<Vec<u8>, AllocError>
-    ensures { IfOk result (λ text. Answers (compared comparison.now) text.items) }
-{
-    match comparison.difference(alloc) {
-        Ok(found) => told_text(alloc, found),
-        Err(refused) => Err(refused),
-    }
 }

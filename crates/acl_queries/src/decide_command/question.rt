@@ -1,18 +1,21 @@
 //! What the words of `decide` ask.
 ghost use Rattle.std.specs.Prelude.{◌≡◌, codes, Ok, IfErr, IfOk};
 ghost use Rattle.clap.specs.Words.{found_of, rows_of};
-ghost use Rattle.acl_queries.specs.Asked.{acl_in, asked_in};
+ghost use Rattle.acl_queries.specs.Asked.{acl_in};
 ghost use Rattle.acl_queries.specs.Faults.{Explains};
 
+use super::translation::print_translation;
 use crate::command::acl::read_acl;
+use crate::command::answer::answer_line;
 use crate::command::ids::{gid_field, gids_field, uid_field};
 use crate::command::options::{flag_field, text_field};
 use crate::command::perms::perms_field;
+use crate::command::query::Query;
 use crate::command::query_fault::{FieldFault, QueryFault};
 use acl_names::{Gid, Requester, Uid};
 use acl_posix::{Acl, Perms};
 use clap::ArgMatches;
-use std::alloc::Global;
+use std::alloc::{AllocError, Global};
 use std::marker::Model;
 
 /// Whether who asks may do what is requested with a file; and, with `nfs4`, what its access control
@@ -44,10 +47,10 @@ impl Model for Question {
 }
 
 impl Question {
-    ghost use Rattle.acl_queries.specs.Outcome.{is_granted};
+    ghost use Rattle.acl_queries.specs.DecideAnswer.{is_granted};
 
     /// The answer.
-    pub(super) fn is_granted(&self) -> bool
+    fn is_granted(&self) -> bool
         ensures { result ≡ is_granted self.now }
     {
         self.acl
@@ -66,24 +69,39 @@ fn acl_field(alloc: Global, matches: &ArgMatches<'_>) -> Result<Acl, QueryFault>
     )
 }
 
-/// What the words ask, their fields read in order.
-#[tactic(auto, unfolding(crate::specs::Asked::asked_in))]
-pub(super) fn read_question(alloc: Global, matches: &ArgMatches<'_>) -> Result<Question, QueryFault>
-    ensures read { IfOk result (λ question. asked_in (rows_of (found_of matches.now)) ≡ Ok question) }
-    ensures refused { IfErr result (Explains (asked_in (rows_of (found_of matches.now)))) }
-{
-    let owner = uid_field(matches, "owner")?;
-    let group = gid_field(matches, "group")?;
-    let uid = uid_field(matches, "uid")?;
-    let gids = gids_field(alloc, matches)?;
-    let request = perms_field(matches)?;
-    let acl = acl_field(alloc, matches)?;
-    Ok(Question {
-        owner,
-        group,
-        requester: Requester::new(uid, gids),
-        request,
-        acl,
-        nfs4: flag_field(matches, "nfs4"),
-    })
+impl Query for Question {
+    ghost use Rattle.acl_queries.specs.Asked.{asked_in};
+    ghost use Rattle.acl_queries.specs.DecideAnswer.{IsDecideText};
+
+    ghost asked_in = { asked_in };
+
+    ghost IsAnswer = { IsDecideText };
+
+    #[tactic(auto, unfolding(crate::specs::Asked::asked_in))]
+    fn read(alloc: Global, matches: &ArgMatches<'_>) -> Result<Question, QueryFault> {
+        let owner = uid_field(matches, "owner")?;
+        let group = gid_field(matches, "group")?;
+        let uid = uid_field(matches, "uid")?;
+        let gids = gids_field(alloc, matches)?;
+        let request = perms_field(matches)?;
+        let acl = acl_field(alloc, matches)?;
+        Ok(Question {
+            owner,
+            group,
+            requester: Requester::new(uid, gids),
+            request,
+            acl,
+            nfs4: flag_field(matches, "nfs4"),
+        })
+    }
+
+    /// The line, and after it the translation if it is asked for.
+    fn answer_text(&self, alloc: Global) -> Result<Vec<u8>, AllocError> {
+        let mut text = Vec::new(alloc);
+        text.extend_from_slice(answer_line(self.is_granted()).as_bytes())?;
+        if self.nfs4 {
+            print_translation(alloc, &self.acl, &mut text)?;
+        }
+        Ok(text)
+    }
 }

@@ -1,6 +1,6 @@
 //! The translation that `decide --nfs4` shows.
 ghost use Rattle.std.specs.Prelude.{◌≡◌, ◌++◌, OnOk};
-ghost use Rattle.acl_queries.specs.Outcome.{translation_text};
+ghost use Rattle.acl_queries.specs.DecideAnswer.{translation_text};
 
 use crate::command::acl::empty_directory;
 use acl_bridge::translate;

@@ -1,17 +1,18 @@
 //! What the words of `explain` ask.
 ghost use Rattle.std.specs.Prelude.{◌≡◌, codes, Ok, IfErr, IfOk};
 ghost use Rattle.clap.specs.Words.{found_of, rows_of};
-ghost use Rattle.acl_queries.specs.Explained.{explained_in};
 ghost use Rattle.acl_queries.specs.Faults.{Explains};
 
+use super::text::explanation_text;
 use crate::command::ids::{gid_field, gids_field, uid_field};
 use crate::command::list::{AnyAcl, list_field};
 use crate::command::perms::perms_field;
+use crate::command::query::Query;
 use crate::command::query_fault::QueryFault;
 use acl_names::{Gid, Requester, Uid};
 use acl_posix::Perms;
 use clap::ArgMatches;
-use std::alloc::Global;
+use std::alloc::{AllocError, Global};
 use std::marker::Model;
 
 /// Why who asks may do what is requested with a file, or may not.
@@ -39,24 +40,32 @@ impl Model for Question {
     } };
 }
 
-/// What the words ask, their fields read in order.
-#[tactic(auto, unfolding(crate::specs::Explained::explained_in))]
-pub(super) fn read_question(alloc: Global, matches: &ArgMatches<'_>) -> Result<Question, QueryFault>
-    ensures read { IfOk result (λ question. explained_in (rows_of (found_of matches.now))
-        ≡ Ok question) }
-    ensures refused { IfErr result (Explains (explained_in (rows_of (found_of matches.now)))) }
-{
-    let owner = uid_field(matches, "owner")?;
-    let group = gid_field(matches, "group")?;
-    let uid = uid_field(matches, "uid")?;
-    let gids = gids_field(alloc, matches)?;
-    let request = perms_field(matches)?;
-    let acl = list_field(alloc, matches, "style", "text")?;
-    Ok(Question {
-        owner,
-        group,
-        requester: Requester::new(uid, gids),
-        request,
-        acl,
-    })
+impl Query for Question {
+    ghost use Rattle.acl_queries.specs.ExplainText.{IsExplanation};
+    ghost use Rattle.acl_queries.specs.Explained.{explained_in};
+
+    ghost asked_in = { explained_in };
+
+    ghost IsAnswer = { IsExplanation };
+
+    #[tactic(auto, unfolding(crate::specs::Explained::explained_in))]
+    fn read(alloc: Global, matches: &ArgMatches<'_>) -> Result<Question, QueryFault> {
+        let owner = uid_field(matches, "owner")?;
+        let group = gid_field(matches, "group")?;
+        let uid = uid_field(matches, "uid")?;
+        let gids = gids_field(alloc, matches)?;
+        let request = perms_field(matches)?;
+        let acl = list_field(alloc, matches, "style", "text")?;
+        Ok(Question {
+            owner,
+            group,
+            requester: Requester::new(uid, gids),
+            request,
+            acl,
+        })
+    }
+
+    fn answer_text(&self, alloc: Global) -> Result<Vec<u8>, AllocError> {
+        explanation_text(alloc, self)
+    }
 }

@@ -5,7 +5,7 @@ ghost use Rattle.acl_nfs4.specs.Mask.{mask_of};
 ghost use Rattle.acl_nfs4.specs.Who.{matches};
 ghost use Rattle.acl_posix.specs.Perms.{bits_of};
 ghost use Rattle.acl_queries.specs.ExplainText.{Decides, IsExplanation, reasons};
-ghost use Rattle.acl_queries.specs.Outcome.{answer_line};
+ghost use Rattle.acl_queries.specs.DecideAnswer.{answer_line};
 
 use super::nfs4::push_nfs4_reasons;
 use super::posix::push_posix_reasons;
@@ -52,7 +52,7 @@ impl Question {
 }
 
 /// The text that answers.
-pub(super) fn answer_text(alloc: Global, question: &Question) -> Result<Vec<u8>, AllocError>
+pub(super) fn explanation_text(alloc: Global, question: &Question) -> Result<Vec<u8>, AllocError>
     ensures { IfOk result (λ text. IsExplanation question.now text.items) }
 {
     let directory = empty_directory(alloc)?;

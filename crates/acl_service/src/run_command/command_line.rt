@@ -1,16 +1,14 @@
-//! The words of `run`, as the parser of command lines takes them.
-ghost use Rattle.std.specs.Prelude.{◌≡◌, ◌≢◌, IfErr, IfOk, OnOk, Some, codes, false, map};
-ghost use Rattle.std.specs.Prelude.{option_map};
-ghost use Rattle.clap.specs.Words.{all_of, app_of, found_of, kind_of, rows_of, rule_of};
-ghost use Rattle.acl_service.specs.RunWords.{HasLimit, IsLimit, RunTakes, limit_option, run_line};
-ghost use Rattle.acl_service.specs.RunWords.{run_rows, session_words, setup_in};
+//! The command line of `run`, and its fields.
+ghost use Rattle.std.specs.Prelude.{◌≡◌, ◌≢◌, IfOk, Some, codes, false, map, option_map};
+ghost use Rattle.clap.specs.Words.{all_of, app_of, found_of, rows_of, rule_of};
+ghost use Rattle.acl_service.specs.RunLine.{limit_option, session_words};
+ghost use Rattle.acl_service.specs.RunWords.{HasLimit, IsLimit, setup_in};
 
+use acl_queries::CommandLine;
 use acl_queries::options::{flag, optional_option, required_word, setup_option, text_field};
 use clap::builder::ValueParser;
-use clap::error::ErrorKind;
-use clap::{Arg, ArgMatches, Command, Error};
+use clap::{Arg, ArgMatches, Command};
 use std::alloc::{AllocError, Global};
-use std::convert::AsStr;
 
 /// What a setup and a session look like.
 const FILES: &str = "A setup is a TOML file:
@@ -26,21 +24,31 @@ A session has a command a line, and each answer tells its line's number:
 The commands are get, set, chmod, create, check, check4 and translate.";
 
 /// The command line of `run`.
-fn command<'a>(alloc: Global) -> Result<Command<'a>, AllocError>
-    ensures { IfOk result (λ command. app_of command ≡ run_line) }
-{
-    Command::new(alloc, "run")
-        .bin_name("aclctl run")?
-        .about("Lets sessions work on one tree at the same time, and prints their answers.")
-        .after_help(FILES)
-        .arg(setup_option(alloc))?
-        .arg(flag(
-            alloc,
-            "journal",
-            "Prints the order in which the commands took effect: session and line of each",
-        ))?
-        .arg(limit_option(alloc))?
-        .arg(session_words(alloc))
+pub(super) struct RunLine;
+
+impl CommandLine for RunLine {
+    ghost use Rattle.acl_service.specs.RunLine.{run_line, run_line-free, run_line-simple};
+
+    ghost line = { run_line };
+
+    ghost line_simple = { run_line-simple };
+
+    ghost line_free = { run_line-free };
+
+    fn command<'a>(alloc: Global) -> Result<Command<'a>, AllocError> {
+        Command::new(alloc, "run")
+            .bin_name("aclctl run")?
+            .about("Lets sessions work on one tree at the same time, and prints their answers.")
+            .after_help(FILES)
+            .arg(setup_option(alloc))?
+            .arg(flag(
+                alloc,
+                "journal",
+                "Prints the order in which the commands took effect: session and line of each",
+            ))?
+            .arg(limit_option(alloc))?
+            .arg(session_words(alloc))
+    }
 }
 
 fn limit_option<'a>(alloc: Global) -> Arg<'a>
@@ -58,17 +66,6 @@ pub fn session_words<'a>(alloc: Global) -> Arg<'a>
 {
     let help = "A file with a session's commands, or - for standard input; at most 64";
     required_word(alloc, "session", "SESSION", help).num_args(1usize..)
-}
-
-/// What the parser finds in the words of `run`, of which the first is the command's name.
-pub(super) fn parse<'a, S: AsStr>(alloc: Global, words: &'a [S]) -> Result<ArgMatches<'a>, Error>
-    ensures taken { OnOk result (RunTakes (map S.text words.entry.now)) }
-    ensures fields { IfOk result (λ matches. rows_of (found_of matches)
-        ≡ run_rows (map S.text words.entry.now)) }
-    ensures refused { IfErr result (λ error. RunTakes (map S.text words.entry.now)
-        → kind_of error ≡ ErrorKind.OutOfMemory) }
-{
-    command(alloc)?.try_get_matches_from(words)
 }
 
 /// The name of the setup's file.

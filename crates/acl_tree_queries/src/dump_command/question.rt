@@ -3,11 +3,10 @@ ghost use Rattle.std.specs.Prelude.{◌≡◌, IfOk};
 ghost use Rattle.clap.specs.Words.{app_of};
 
 use super::text::push_dump;
-use crate::command_line::CommandLine;
 use crate::question::{AnswerFault, Question};
 use crate::trees::Trees;
 use acl_queries::options::{optional_word, setup_option};
-use acl_queries::{FieldFault, write_text};
+use acl_queries::{CommandLine, FieldFault, write_text};
 use clap::{ArgMatches, Command};
 use std::alloc::{AllocError, Global};
 use std::io::Write;

@@ -5,12 +5,12 @@ ghost use Rattle.std.specs.Io.KnownBytes.{Appends, Keeps};
 ghost use Rattle.clap.specs.Words.{found_of, matches_of, rows_of};
 ghost use Rattle.acl_listings.specs.Cursor.{coming};
 ghost use Rattle.acl_queries.specs.ErrorOutput.{Reports};
+ghost use Rattle.acl_queries.specs.Meaning.{Ends, LeavesInput};
 ghost use Rattle.acl_queries.specs.Output.{AppendsFront};
 ghost use Rattle.acl_service.specs.RunWords.{input_count, session_told};
 ghost use Rattle.acl_tree_queries.specs.ChangeSteps.{TellsOfKnown};
 ghost use Rattle.acl_tree_queries.specs.ImpactAnswer.{asks_impact};
-ghost use Rattle.acl_tree_queries.specs.ImpactListing.{AnswersImpactListed, BeginsImpactListed};
-ghost use Rattle.acl_tree_queries.specs.ImpactListing.{SaysImpactListed};
+ghost use Rattle.acl_tree_queries.specs.ImpactListing.{impact_of_listings};
 ghost use Rattle.acl_tree_queries.specs.ImpactListingLine.{impact_listing_line};
 ghost use Rattle.acl_tree_queries.specs.ListingFaults.{IsListingFault, IsListingsFault};
 ghost use Rattle.acl_tree_queries.specs.ListingFaults.{IsReadingFault};
@@ -22,13 +22,12 @@ use super::changes::write_changes;
 use super::kept::{KeptListing, keep_blocks};
 use super::text::Findings;
 use crate::blocks::BlocksFault;
-use crate::command_line::{CommandLine, parse};
 use crate::listing::{INPUT, fault_of, listing_field, open, read_directory};
 use crate::question::QuestionFault;
 use acl_audit::requesters_of;
 use acl_names::Directory;
 use acl_queries::options::{required_option, required_word, setup_option, text_field};
-use acl_queries::{ErrorOutput, report};
+use acl_queries::{CommandLine, ErrorOutput, parse, report};
 use acl_service::{FilesFault, OpenFiles, setup_field};
 use clap::{ArgMatches, Command};
 use std::alloc::{AllocError, Global};
@@ -173,14 +172,15 @@ where
     S: AsStr,
     I: Read,
     W: Write,
-    ensures answered { OnOk result (AnswersImpactListed (F.bytes_of files.now)
-        (I.remaining input.old) (map S.text words.entry.now)
+    ensures answered { OnOk result ((impact_of_listings (F.bytes_of files.now)
+        (I.remaining input.old) (map S.text words.entry.now)).Answers
         (Appends (W.contents out.old) (W.contents out.new))) }
     ensures silent { IfErr result (λ fault. question_status fault ≤ 2
         → Keeps (W.contents out.old) (W.contents out.new)) }
     ensures cut { OnErr result (Keeps (W.contents out.old) (W.contents out.new)
-        ⊎ BeginsImpactListed (F.bytes_of files.now) (I.remaining input.old)
-        (map S.text words.entry.now) (AppendsFront (W.contents out.old) (W.contents out.new))) }
+        ⊎ (impact_of_listings (F.bytes_of files.now) (I.remaining input.old)
+        (map S.text words.entry.now)).Begins
+        (AppendsFront (W.contents out.old) (W.contents out.new))) }
     ensures untouched { input_count
         (two_listings_in (matches_of impact_listing_line (map S.text words.entry.now))) ≡ 0
         → input.new ≡ input.old }
@@ -213,20 +213,12 @@ where
     I: Read,
     W: Write,
     E: Write + Drop,
-    ensures statuses { result ≤ 3 }
-    ensures answered { result ≡ 0 → AnswersImpactListed (F.bytes_of files.now)
-        (I.remaining input.old) (map S.text words.now)
-        (Appends (W.contents out.old) (W.contents out.new)) }
-    ensures silent { 1 ≤ result → result ≤ 2 → Keeps (W.contents out.old) (W.contents out.new) }
-    ensures cut { result ≡ 3 → Keeps (W.contents out.old) (W.contents out.new)
-        ⊎ BeginsImpactListed (F.bytes_of files.now) (I.remaining input.old) (map S.text words.now)
-        (AppendsFront (W.contents out.old) (W.contents out.new)) }
-    ensures untouched { input_count
-        (two_listings_in (matches_of impact_listing_line (map S.text words.now))) ≡ 0
-        → input.new ≡ input.old }
-    ensures unread { result ≡ 2 → input.new ≡ input.old }
-    ensures told { Reports (SaysImpactListed (F.bytes_of files.now) (map S.text words.now)) result
-        err.old err.new }
+    ensures ended { Ends (impact_of_listings (F.bytes_of files.now) (I.remaining input.old)
+        (map S.text words.now)) result (W.contents out.old) (W.contents out.new) }
+    ensures told { Reports (impact_of_listings (F.bytes_of files.now) (I.remaining input.old)
+        (map S.text words.now)).Says result err.old err.new }
+    ensures input { LeavesInput (impact_of_listings (F.bytes_of files.now) (I.remaining input.old)
+        (map S.text words.now)).inputs result input.old input.new }
 {
     match answer(alloc, files, words, input, out) {
         Ok(()) => 0,

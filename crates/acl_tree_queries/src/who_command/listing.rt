@@ -4,21 +4,20 @@ ghost use Rattle.std.specs.Io.KnownBytes.{Appends, Keeps};
 ghost use Rattle.clap.specs.Words.{matches_of};
 ghost use Rattle.acl_queries.specs.Asked.{optional_perms_in};
 ghost use Rattle.acl_queries.specs.ErrorOutput.{Reports};
+ghost use Rattle.acl_queries.specs.Meaning.{Ends, LeavesInput};
 ghost use Rattle.acl_queries.specs.Output.{AppendsFront};
 ghost use Rattle.acl_service.specs.RunWords.{input_count};
 ghost use Rattle.acl_tree_queries.specs.ListingFaults.{IsListingFault};
 ghost use Rattle.acl_tree_queries.specs.Listings.{one_listing_in};
 ghost use Rattle.acl_tree_queries.specs.QuestionFaults.{question_status};
-ghost use Rattle.acl_tree_queries.specs.WhoListing.{AnswersWhoListed, BeginsWhoListed};
-ghost use Rattle.acl_tree_queries.specs.WhoListing.{SaysWhoListed};
+ghost use Rattle.acl_tree_queries.specs.WhoListing.{who_of_listing};
 ghost use Rattle.acl_tree_queries.specs.WhoListingLine.{who_listing_line};
 
 use super::text::WhoText;
-use crate::command_line::{CommandLine, parse};
 use crate::listing::{listing_field, read_directory, write_listing};
 use crate::question::QuestionFault;
 use acl_queries::options::{optional_perms_option, required_option, setup_option};
-use acl_queries::{ErrorOutput, optional_perms_field, report};
+use acl_queries::{CommandLine, ErrorOutput, optional_perms_field, parse, report};
 use acl_service::{OpenFiles, setup_field};
 use clap::Command;
 use std::alloc::{AllocError, Global};
@@ -79,13 +78,15 @@ where
     S: AsStr,
     I: Read,
     W: Write,
-    ensures answered { OnOk result (AnswersWhoListed (F.bytes_of files.now) (I.remaining input.old)
-        (map S.text words.entry.now) (Appends (W.contents out.old) (W.contents out.new))) }
+    ensures answered { OnOk result ((who_of_listing (F.bytes_of files.now)
+        (I.remaining input.old) (map S.text words.entry.now)).Answers
+        (Appends (W.contents out.old) (W.contents out.new))) }
     ensures silent { IfErr result (λ fault. question_status fault ≤ 2
         → Keeps (W.contents out.old) (W.contents out.new)) }
     ensures cut { OnErr result (Keeps (W.contents out.old) (W.contents out.new)
-        ⊎ BeginsWhoListed (F.bytes_of files.now) (I.remaining input.old)
-        (map S.text words.entry.now) (AppendsFront (W.contents out.old) (W.contents out.new))) }
+        ⊎ (who_of_listing (F.bytes_of files.now) (I.remaining input.old)
+        (map S.text words.entry.now)).Begins
+        (AppendsFront (W.contents out.old) (W.contents out.new))) }
     ensures untouched { input_count
         (one_listing_in (matches_of who_listing_line (map S.text words.entry.now))) ≡ 0
         → input.new ≡ input.old }
@@ -125,19 +126,12 @@ where
     I: Read,
     W: Write,
     E: Write + Drop,
-    ensures statuses { result ≤ 3 }
-    ensures answered { result ≡ 0 → AnswersWhoListed (F.bytes_of files.now) (I.remaining input.old)
-        (map S.text words.now) (Appends (W.contents out.old) (W.contents out.new)) }
-    ensures silent { 1 ≤ result → result ≤ 2 → Keeps (W.contents out.old) (W.contents out.new) }
-    ensures cut { result ≡ 3 → Keeps (W.contents out.old) (W.contents out.new)
-        ⊎ BeginsWhoListed (F.bytes_of files.now) (I.remaining input.old) (map S.text words.now)
-        (AppendsFront (W.contents out.old) (W.contents out.new)) }
-    ensures untouched { input_count
-        (one_listing_in (matches_of who_listing_line (map S.text words.now))) ≡ 0
-        → input.new ≡ input.old }
-    ensures unread { result ≡ 2 → input.new ≡ input.old }
-    ensures told { Reports (SaysWhoListed (F.bytes_of files.now) (map S.text words.now)) result
-        err.old err.new }
+    ensures ended { Ends (who_of_listing (F.bytes_of files.now) (I.remaining input.old)
+        (map S.text words.now)) result (W.contents out.old) (W.contents out.new) }
+    ensures told { Reports (who_of_listing (F.bytes_of files.now) (I.remaining input.old)
+        (map S.text words.now)).Says result err.old err.new }
+    ensures input { LeavesInput (who_of_listing (F.bytes_of files.now) (I.remaining input.old)
+        (map S.text words.now)).inputs result input.old input.new }
 {
     match answer(alloc, files, words, input, out) {
         Ok(()) => 0,

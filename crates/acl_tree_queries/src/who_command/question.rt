@@ -3,13 +3,12 @@ ghost use Rattle.std.specs.Prelude.{◌≡◌, IfOk};
 ghost use Rattle.clap.specs.Words.{app_of};
 
 use super::text::WhoText;
-use crate::command_line::CommandLine;
 use crate::nodes::write_nodes;
 use crate::question::{AnswerFault, Question};
 use crate::trees::Trees;
 use acl_posix::Perms;
 use acl_queries::options::{optional_perms_option, optional_word, setup_option};
-use acl_queries::{FieldFault, optional_perms_field};
+use acl_queries::{CommandLine, FieldFault, optional_perms_field};
 use clap::{ArgMatches, Command};
 use std::alloc::{AllocError, Global};
 use std::io::Write;

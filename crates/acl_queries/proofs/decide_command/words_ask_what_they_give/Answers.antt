@@ -1,5 +1,5 @@
-use Rattle.acl_queries.proofs.AskLemmas.{Ask-asked_by, asked_by-Ask}
+use Rattle.acl_queries.proofs.AskLemmas.{Ask-asked_in, asked_in-Ask}
 use Rattle.acl_queries.proofs.decide_command.words_ask_what_they_give.Goals as goal
 
 pub returns : goal.returns
-returns c = λ words asked. (asked_by-Ask words asked, λ asks. Ask-asked_by words asked asks.0 asks.1)
+returns c = λ words asked. (asked_in-Ask words asked, λ asks. Ask-asked_in words asked asks.0 asks.1)

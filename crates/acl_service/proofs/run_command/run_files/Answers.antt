@@ -1,15 +1,17 @@
-use Rattle.std.proofs.Common.{rules, ◌≡◌, ◌≤◌, ◌∙◌, ℕ, Bool, Bor, List, Option, None, Some, [], ap, arith, codes, inl, inr, length, subst, sym, Vec, Global, option_map, unwrap_or}
-use Rattle.std.proofs.Math.Logic.{⊎_map}
+use Rattle.std.proofs.Common.{rules, ◌≡◌, ◌≤◌, ◌∙◌, ℕ, Bool, Bor, List, Option, None, Some, [], ap, arith, codes, inl, inr, length, refl, subst, sym, Vec, Global, option_map, unwrap_or}
+use Rattle.std.proofs.KnownBytes.{Keeps-refl}
 use Rattle.std.proofs.lemmas.List.{length-map}
 use Rattle.clap.specs.Words.{Row, Text, all_of, found_of, rows_of}
-use Rattle.acl_service.specs.RunTexts.{RunsTexts}
+use Rattle.acl_broker.specs.declared.limits.TheConstants.{SESSIONS}
 use Rattle.acl_queries.proofs.ErrorLemmas.{Reports-map}
-use Rattle.acl_service.specs.FilesFaults.{IsFilesFault, SaysFiles, files_status}
-use Rattle.acl_service.specs.RunWords.{AreTold, CanRun, IsSessionFault, IsTold, RunsWords, input_count, sessions_in, setup_in}
+use Rattle.acl_queries.proofs.MeaningLemmas.{Ends-map}
+use Rattle.acl_service.specs.FilesFaults.{IsFilesFault, SaysFiles}
+use Rattle.acl_service.specs.RunMeaning.{files_meaning, texts_meaning}
+use Rattle.acl_service.specs.RunTexts.{RunsTexts}
+use Rattle.acl_service.specs.RunWords.{AreTold, CanRun, IsTold, RunsRows, input_count, sessions_in, setup_in}
 use Rattle.acl_service.specs.TextsFaults.{SaysTexts}
-use Rattle.acl_service.specs.declared.files.FilesFault.{FilesFault}
-use Rattle.acl_service.specs.declared.files.FilesFault.TheVariants.{SessionCount, InputTwice, CannotRead, Memory}
-use Rattle.acl_service.proofs.FaultLemmas.{Reports-files}
+use Rattle.acl_service.specs.declared.files.FilesFault.TheVariants.{SessionCount}
+use Rattle.acl_service.proofs.FaultLemmas.{Ends-files, Reports-files}
 use Rattle.acl_service.proofs.FileLemmas.{shown}
 use Rattle.acl_service.proofs.run_command.run_files.Given as given
 use Rattle.acl_service.proofs.run_command.run_files.Goals as goal
@@ -30,25 +32,11 @@ no_sessions rows given none are =
     let named : None ≡ all_of (codes "session") rows = sym (ap (option_map (λ names. shown names.now)) none) ∙ are in
     sym (ap (λ (o : Option (List Text)). unwrap_or o []) named)
 
--- a file can't be read only of sessions that may run
-may_run : (setup : Text) (names : List Text) (fault : FilesFault) → IsFilesFault setup names fault → files_status fault ≤ 1 → CanRun names
-may_run setup names (CannotRead refused) is few = is.0
-may_run setup names Memory is few = is
-may_run setup names SessionCount is few = absurd (omega (arith, few))
-may_run setup names InputTwice is few = absurd (omega (arith, few))
-
--- and wrong usage is that of sessions that may not
-may_not : (setup : Text) (names : List Text) (fault : FilesFault) → IsFilesFault setup names fault → files_status fault ≡ 2 → IsSessionFault names
-may_not setup names SessionCount is two = ⊎_map (λ none. none) inl is
-may_not setup names InputTwice is two = inr (inr is)
-may_not setup names (CannotRead refused) is two = absurd (omega (arith, two))
-may_not setup names Memory is two = absurd (omega (arith, two))
-
 -- what the texts print that were read, the files print that the words name
-runs_words : (g : given.Over) (c : goal.After-drop-texts-in-Ok g) (WentOut : List ℕ → Type 0)
+runs_rows : (g : given.Over) (c : goal.After-drop-texts-in-Ok g) (WentOut : List ℕ → Type 0)
     → RunsTexts c.as_slice.result.now c.as_slice-in-Ok.result.now c.flag_field.result c.limit_field.result WentOut
-    → RunsWords (g.F.OpenFiles.bytes_of c.args.files.now) (g.I.Read.remaining c.args.input.now) (rows_of (found_of c.args.matches.now)) WentOut
-runs_words g c WentOut runs =
+    → RunsRows (g.F.OpenFiles.bytes_of c.args.files.now) (g.I.Read.remaining c.args.input.now) (rows_of (found_of c.args.matches.now)) WentOut
+runs_rows g c WentOut runs =
     let rows = rows_of (found_of c.args.matches.now) in
     let bytes_of = g.F.OpenFiles.bytes_of c.args.files.now in
     let input = g.I.Read.remaining c.args.input.now in
@@ -58,6 +46,7 @@ runs_words g c WentOut runs =
     let told = c.in-Ok.ensures in
     let names_are : shown c.in-Some.names.now ≡ sessions_in rows = sessions_given rows _ _ c.in-Some.is c.session_fields.ensures in
     record {
+      can_run = subst CanRun names_are told.taken;
       setup = setup;
       texts = texts;
       limit = limit;
@@ -70,38 +59,39 @@ runs_words g c WentOut runs =
           (subst (λ (those : List (Vec ℕ Global)). RunsTexts c.as_slice.result.now those c.flag_field.result limit WentOut) c.as_slice-in-Ok.ensures.value runs));
     }
 
-pub returns-in-Ok-clause-printed : goal.returns-in-Ok-clause-printed
-returns-in-Ok-clause-printed g c is_zero = runs_words g c _ (c.run_texts.ensures.printed is_zero)
+pub returns-in_default-clause-ended : goal.returns-in_default-clause-ended
+returns-in_default-clause-ended g c =
+    Ends-files _ (files_meaning (g.F.OpenFiles.bytes_of c.args.files.now) (g.I.Read.remaining c.args.input.now) (rows_of (found_of c.args.matches.now))) _ _ SessionCount c.report.ensures.status (Keeps-refl _)
 
-pub returns-in-Ok-clause-cut : goal.returns-in-Ok-clause-cut
-returns-in-Ok-clause-cut g c lacked = ⊎_map (λ kept. kept) (runs_words g c _) (c.run_texts.ensures.cut lacked)
+pub returns-in_default-clause-input : goal.returns-in_default-clause-input
+returns-in_default-clause-input g c = record { untouched = λ none. refl; unread = λ two. refl }
 
-pub returns-in_default-clause-refused : goal.returns-in_default-clause-refused
-returns-in_default-clause-refused g c two =
-    let none : c.session_fields.result ≡ None = search rules in
-    inl (ap length (no_sessions (rows_of (found_of c.args.matches.now)) c.session_fields.result none c.session_fields.ensures))
+pub returns-in-Err-clause-ended : goal.returns-in-Err-clause-ended
+returns-in-Err-clause-ended g c =
+    Ends-files _ (files_meaning (g.F.OpenFiles.bytes_of c.args.files.now) (g.I.Read.remaining c.args.input.now) (rows_of (found_of c.args.matches.now))) _ _ c.in-Err.fault c.report-in-Err.ensures.status (Keeps-refl _)
 
-pub returns-in-Ok-clause-taken : goal.returns-in-Ok-clause-taken
-returns-in-Ok-clause-taken g c few =
-    subst CanRun (sessions_given (rows_of (found_of c.args.matches.now)) _ _ c.in-Some.is c.session_fields.ensures) c.in-Ok.ensures.taken
+pub returns-in-Err-clause-input : goal.returns-in-Err-clause-input
+returns-in-Err-clause-input g c = record {
+  untouched = λ none.
+      c.read_texts.ensures.untouched (ap input_count (sessions_given (rows_of (found_of c.args.matches.now)) _ _ c.in-Some.is c.session_fields.ensures) ∙ none);
+  unread = λ two. c.in-Err.ensures.unread (sym c.report-in-Err.ensures.status ∙ two);
+}
 
-pub returns-in-Ok-clause-untouched : goal.returns-in-Ok-clause-untouched
-returns-in-Ok-clause-untouched g c none =
-    c.read_texts.ensures.untouched (ap input_count (sessions_given (rows_of (found_of c.args.matches.now)) _ _ c.in-Some.is c.session_fields.ensures) ∙ none)
+pub returns-in-Ok-clause-ended : goal.returns-in-Ok-clause-ended
+returns-in-Ok-clause-ended g c =
+    Ends-map (texts_meaning c.as_slice.result.now c.as_slice-in-Ok.result.now c.flag_field.result c.limit_field.result)
+    (files_meaning (g.F.OpenFiles.bytes_of c.args.files.now) (g.I.Read.remaining c.args.input.now) (rows_of (found_of c.args.matches.now))) _ _ _ (runs_rows g c) (runs_rows g c) c.run_texts.ensures.ended
 
-pub returns-in-Err-clause-untouched : goal.returns-in-Err-clause-untouched
-returns-in-Err-clause-untouched g c none =
-    c.read_texts.ensures.untouched (ap input_count (sessions_given (rows_of (found_of c.args.matches.now)) _ _ c.in-Some.is c.session_fields.ensures) ∙ none)
-
-pub returns-in-Err-clause-taken : goal.returns-in-Err-clause-taken
-returns-in-Err-clause-taken g c few =
-    subst CanRun (sessions_given (rows_of (found_of c.args.matches.now)) _ _ c.in-Some.is c.session_fields.ensures)
-    (may_run _ _ _ c.in-Err.ensures.refused (subst (λ (status : ℕ). status ≤ 1) c.report-in-Err.ensures.status few))
-
-pub returns-in-Err-clause-refused : goal.returns-in-Err-clause-refused
-returns-in-Err-clause-refused g c two =
-    subst IsSessionFault (sessions_given (rows_of (found_of c.args.matches.now)) _ _ c.in-Some.is c.session_fields.ensures)
-    (may_not _ _ _ c.in-Err.ensures.refused (sym c.report-in-Err.ensures.status ∙ two))
+pub returns-in-Ok-clause-input : goal.returns-in-Ok-clause-input
+returns-in-Ok-clause-input g c =
+    let names_are = sessions_given (rows_of (found_of c.args.matches.now)) _ _ c.in-Some.is c.session_fields.ensures in
+    let few : length (sessions_in (rows_of (found_of c.args.matches.now))) ≤ SESSIONS = (subst CanRun names_are c.in-Ok.ensures.taken).few in
+    let count : length c.as_slice-in-Ok.result.now ≡ length (sessions_in (rows_of (found_of c.args.matches.now))) =
+    ap length c.as_slice-in-Ok.ensures.value ∙ c.in-Ok.ensures.count ∙ sym (length-map c.in-Some.names.now (λ name. name.now)) ∙ ap length names_are in
+    record {
+      untouched = λ none. c.read_texts.ensures.untouched (ap input_count names_are ∙ none);
+      unread = λ two. absurd (omega (arith, few, count, c.run_texts.ensures.too_many.0 two));
+    }
 
 pub returns-in_default-clause-told : goal.returns-in_default-clause-told
 returns-in_default-clause-told g c =

@@ -3,7 +3,7 @@ use Rattle.std.specs.FinMap as map
 use Rattle.std.specs.Io.KnownBytes.{Keeps}
 use Rattle.std.specs.Map.Iter.{deref_pair}
 use Rattle.acl_queries.specs.Output.{AppendsFront}
-use Rattle.acl_queries.proofs.OutcomeLemmas.{front_of_none}
+use Rattle.acl_queries.proofs.OutputLemmas.{front_of_none}
 use Rattle.acl_tree.specs.declared.node.Node.{Node}
 use Rattle.acl_tree_queries.proofs.NodesLemmas.{cut_short, next_told}
 use Rattle.acl_tree_queries.proofs.PiecesLemmas.{front_now, keeps_more, sends, sends_front}

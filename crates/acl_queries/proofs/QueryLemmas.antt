@@ -1,0 +1,63 @@
+-- How a query ends that gives no answer, and what is said of it.
+use Rattle.std.proofs.Common.{◌≡◌, ◌≢◌, ◌∙◌, ◌≤◌, ◌⊎◌, ℕ, List, Option, ap, arith, inl, inr, refl, sym, subst, Result}
+use Rattle.std.specs.Prelude.{⊤, IfSome}
+use Rattle.std.specs.Io.KnownBytes.{Keeps}
+use Rattle.clap.specs.Words.{App, Row, Text}
+use Rattle.acl_queries.specs.ErrorOutput.{ErrorText, Reports, Tells}
+use Rattle.acl_queries.specs.Faults.{SaysQueryFault, failed_write, fault_line, status_of}
+use Rattle.acl_queries.specs.Meaning.{Ends}
+use Rattle.acl_queries.specs.Output.{AppendsFront}
+use Rattle.acl_queries.specs.Queries.{IsAnswered, query_meaning}
+use Rattle.acl_queries.specs.declared.command.query_fault.FieldFault.{FieldFault}
+use Rattle.acl_queries.specs.declared.command.query_fault.QueryFault.{QueryFault}
+use Rattle.acl_queries.specs.declared.command.query_fault.QueryFault.TheVariants.{Field, Usage, Run}
+use Rattle.acl_queries.specs.declared.command.run_fault.RunFault.TheVariants.{Memory, NoThread, Output, Stopped}
+use Rattle.acl_queries.proofs.MeaningLemmas.{Ends-fault}
+
+abbrev IsFailedWrite : QueryFault → Type 0
+IsFailedWrite (Field fault) = ⊥
+IsFailedWrite (Usage error) = ⊥
+IsFailedWrite (Run Memory) = ⊥
+IsFailedWrite (Run Stopped) = ⊥
+IsFailedWrite (Run NoThread) = ⊥
+IsFailedWrite (Run Output) = ⊤
+
+pub query_bounds : (fault : QueryFault) → (1 ≤ status_of fault) × (status_of fault ≤ 3)
+query_bounds (Field fault) = (omega arith, omega arith)
+query_bounds (Usage error) = (omega arith, omega arith)
+query_bounds (Run fault) = (omega arith, omega arith)
+
+module _ (old new : Option (List ℕ)) where
+  -- nothing went out for a fault that isn't a failed write
+  silent_of : (fault : QueryFault) → (fault ≢ failed_write → Keeps old new) → ¬ IsFailedWrite fault → Keeps old new
+  silent_of fault silent other = silent (λ is. other (subst IsFailedWrite (sym is) tt))
+
+  module _ {A : Type 0} (line : App) (asked_in : List Row → Result A FieldFault) (IsAnswer : A → List ℕ → Type 0) (words : List Text) where
+    -- of words that are refused, and of an answer that can't be written, no more went out than a front of an answer
+    cut_by : (fault : QueryFault) → (fault ≢ failed_write → Keeps old new) → (fault ≡ failed_write → IsAnswered line asked_in IsAnswer words (AppendsFront old new))
+        → Keeps old new ⊎ IsAnswered line asked_in IsAnswer words (AppendsFront old new)
+    cut_by (Field fault) silent cut = inl (silent_of (Field fault) silent (λ never. never))
+    cut_by (Usage error) silent cut = inl (silent_of (Usage error) silent (λ never. never))
+    cut_by (Run Memory) silent cut = inl (silent_of (Run Memory) silent (λ never. never))
+    cut_by (Run Stopped) silent cut = inl (silent_of (Run Stopped) silent (λ never. never))
+    cut_by (Run NoThread) silent cut = inl (silent_of (Run NoThread) silent (λ never. never))
+    cut_by (Run Output) silent cut = inr (cut refl)
+
+    pub Ends-refused : (fault : QueryFault) (status : ℕ) → (fault ≢ failed_write → Keeps old new)
+        → (fault ≡ failed_write → IsAnswered line asked_in IsAnswer words (AppendsFront old new)) → status ≡ status_of fault
+        → Ends (query_meaning line asked_in IsAnswer words) status old new
+    Ends-refused fault status silent cut is_status =
+        let (some, within) = query_bounds fault in
+        let three : fault ≡ failed_write → status ≡ 3 = λ is. is_status ∙ ap status_of is in
+        Ends-fault (query_meaning line asked_in IsAnswer words) old new status (omega (arith, some, is_status)) (omega (arith, within, is_status))
+        (λ few. silent (λ is. let failed = three is in omega (arith, few, failed))) (λ lacked. cut_by fault silent cut)
+
+-- a fault that is told by its line and its status
+pub Reports-fault : (IsFault : QueryFault → Type 0) (fault : QueryFault) (status : ℕ) (old new : ErrorText) → IsFault fault → status ≡ status_of fault
+    → IfSome (fault_line fault) (λ line. Tells line old new) → Reports (SaysQueryFault IsFault) status old new
+Reports-fault IsFault fault status old new is is_status told =
+    let some = (query_bounds fault).0 in
+    record {
+      silent = λ none. absurd (omega (arith, some, is_status, none));
+      told = λ some. (fault_line fault, (fault, is, is_status, refl), told);
+    }

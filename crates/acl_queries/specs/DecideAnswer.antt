@@ -1,0 +1,38 @@
+-- What `decide` answers.
+use Rattle.std.specs.Prelude.{◌≡◌, ◌++◌, ◌∷◌, [], Bool, ℕ, List, codes, if◌then◌else◌}
+use Rattle.clap.specs.Words.{Text}
+use Rattle.acl_names.specs.Bytes.{newline}
+use Rattle.acl_posix.specs.Access.{grants}
+use Rattle.acl_posix.specs.Entry.{EntryValue}
+use Rattle.acl_nfs4.specs.PrintedText.{aces_text}
+use Rattle.acl_bridge.specs.Translation.{translation}
+use Rattle.acl_queries.specs.AclText.{nobody}
+use Rattle.acl_queries.specs.Asked.{Asked, asked_in}
+use Rattle.acl_queries.specs.DecideLine.{decide_line}
+use Rattle.acl_queries.specs.Meaning.{Meaning}
+use Rattle.acl_queries.specs.Queries.{query_meaning}
+
+-- whether what is asked is granted (1003.1e draft 17, section 23)
+abbrev pub is_granted : Asked → Bool
+is_granted asked = grants asked.acl asked.owner asked.group asked.requester asked.request
+
+-- the line that answers
+abbrev pub answer_line : Bool → List ℕ
+answer_line granted = if granted then codes "granted" ++ newline ∷ []
+    else codes "denied" ++ newline ∷ []
+
+-- the entries of the NFSv4 list that an access control list translates to, one a line
+abbrev pub translation_text : List EntryValue → List ℕ
+translation_text acl = aces_text nobody (translation acl)
+
+-- the line, and after it the translation if it is asked for
+abbrev pub answer_text : Asked → List ℕ
+answer_text asked = answer_line (is_granted asked)
+    ++ (if asked.nfs4 then translation_text asked.acl else [])
+
+-- what the words of `decide` mean
+abbrev pub IsDecideText : Asked → List ℕ → Type 0
+IsDecideText asked text = text ≡ answer_text asked
+
+abbrev pub decide_meaning : List Text → Meaning
+decide_meaning = query_meaning decide_line asked_in IsDecideText
