@@ -1,6 +1,7 @@
 /* Counts the allocations of the program, whose calls the linker hands over here (--wrap). A driver includes it once. */
 #include <stddef.h>
 #include <stdint.h>
+#include "timing.h"
 
 static uint64_t allocations;
 
@@ -8,7 +9,6 @@ static uint64_t allocations;
 enum { MARK = 54321 };
 static double marks[2];
 static int marked;
-static double now(void);
 
 void *__real_malloc(size_t size);
 void *__real_calloc(size_t count, size_t size);

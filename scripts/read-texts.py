@@ -1,15 +1,16 @@
 #!/usr/bin/env python3
 """Reads cut and bent texts of access control lists as docs/PROFILE.md says, apart from the code, and prints what each comes to.
 
-    scripts/read-texts.py [--check]
+    scripts/read-texts.py [--check | --write]
 
 The tests of hostile texts in crates/tests_lists hold these tables. A row is for one way to bend a
 text: cut off at each place in turn, or with the byte at each place in turn replaced. A character
 stands for one place: the number of entries that are read, or the fault of the first faulty piece
-(S syntax, U unknown name, I inherit-only).
+(S syntax, U unknown name, I inherit-only). Over a row stands the text, a column for each byte, with
+| for a newline: in the tests as a comment, which --write writes over each row.
 
-With --check it compares the texts and the rows that the tests hold with its own, prints what
-differs and at last 'N passed, M failed', and ends with status 1 if something differs.
+With --check it compares the texts, the rows and these comments that the tests hold with its own,
+prints what differs and at last 'N passed, M failed', and ends with status 1 if something differs.
 """
 import ast
 import re
@@ -23,6 +24,8 @@ GROUPS = {"root": 0, "staff": 50, "ops": 60, "guest": 70}
 DOMAIN = "example.org"
 MODE_SET = b"A::OWNER@:rwatTcC,A::bob@example.org:rwa,A:g:ops@example.org:r,A::EVERYONE@:r"
 LONG_FORMS = b"user : : rwx , g::r-x\nmask:rwx # all\nother:r"
+# How a newline is shown where each byte of a text has a column.
+NEWLINE = "|"
 BYTES = (None, 0, ord(":"), ord(","), ord("#"), ord("\n"), 0x80)
 
 
@@ -79,10 +82,38 @@ STYLES = {
 }
 
 
+def shown(text):
+    """A text with a column for each byte."""
+    made = text.decode("latin-1").replace("\n", NEWLINE)
+    if NEWLINE.encode() in text or not (made.isascii() and made.isprintable()):
+        sys.exit(f"scripts/read-texts.py: {text!r} has a byte for which there is no column")
+    return made
+
+
+def with_texts(code, text):
+    """A file of tests with a text over each of its rows, so that each byte stands over the letter of its place."""
+
+    def with_text(found):
+        """The beginning of a row with the text over it, in place of the comments over it."""
+        indent, opening = found.groups()
+        column = len(f"{indent}{opening}".rpartition("\n")[2])
+        return f"{f'{indent}//':{column}}{shown(text)}\n{indent}{opening}"
+
+    return re.sub(r'^(?: *//.*\n)*( *)(\(\s*(?:None|Some\([^)]*\)),\s*")', with_text, code, flags=re.MULTILINE)
+
+
+def comments_in(code):
+    """The comments of a file of tests that have a line of their own, with their numbers."""
+    lines = enumerate(code.split("\n"), 1)
+    return [(number, line) for number, line in lines if re.match(r" *//(?![/!])", line)]
+
+
 def print_tables():
+    """Prints what each text comes to, for each reader and each way to bend the text."""
     for what, (read, *_) in STYLES.items():
         for text in (LONG_FORMS, MODE_SET):
             print(what, repr(text.decode()))
+            print("        ", shown(text))
             for byte in BYTES:
                 print("   ", "cut " if byte is None else f"{byte:#04x}", row(read, text, byte))
 
@@ -122,9 +153,18 @@ def comparisons():
             first = "0" if byte in bytes_that_leave_nothing(code) else "S"
             held = first + "S" * (len(other) - 1)
             yield f"the other style's row of {what} for {byte}", held, row(read, other, byte)
+        yield f"the texts over the rows of {what}", comments_in(code), comments_in(with_texts(code, own))
+
+
+def write():
+    """Writes the texts over the rows of the tests, and leaves all else as it is."""
+    for _, folder, own, _ in STYLES.values():
+        path = TESTS / folder / "hostile.rt"
+        path.write_text(with_texts(path.read_text(), own))
 
 
 def check():
+    """Prints where the tests hold something else than is worked out here, and returns the status with which the script ends."""
     passed = failed = 0
     for what, held, wanted in comparisons():
         passed, failed = passed + (held == wanted), failed + (held != wanted)
@@ -135,4 +175,7 @@ def check():
 
 
 if __name__ == "__main__":
-    sys.exit(check() if sys.argv[1:] == ["--check"] else print_tables())
+    ways = {(): print_tables, ("--check",): check, ("--write",): write}
+    if tuple(sys.argv[1:]) not in ways:
+        sys.exit("usage: scripts/read-texts.py [--check | --write]")
+    sys.exit(ways[tuple(sys.argv[1:])]())

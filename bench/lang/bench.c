@@ -3,14 +3,16 @@
 #include <stdint.h>
 #include <stdio.h>
 #include <string.h>
-#include <time.h>
+
+#define TURNS 15
+#include "../timing.h"
 
 /* The static library bench_lang. */
 uint64_t lang_times_read(const char *text, size_t length, uint32_t rounds);
 uint64_t lang_times_gathered(const char *text, size_t length, uint32_t rounds);
 uint64_t lang_times_rendered(const char *text, size_t length, uint32_t rounds);
 
-enum { MOST = 1048576, ROUNDS = 10, TURNS = 15 };
+enum { MOST = 1048576, ROUNDS = 10 };
 
 static char text[MOST + 256];
 
@@ -32,37 +34,25 @@ static size_t commands(char *out, unsigned nth)
         file, file, file, file, file, file, file, file);
 }
 
-static double seconds(void)
+/* Of some turns the least, in nanoseconds a round. */
+static double least_round(uint64_t (*work)(const char *, size_t, uint32_t), size_t length, uint64_t *each)
 {
-    struct timespec now;
-    clock_gettime(CLOCK_MONOTONIC, &now);
-    return (double)now.tv_sec + (double)now.tv_nsec / 1e9;
-}
-
-/* Of some turns the least, in seconds a round. */
-static double least(uint64_t (*work)(const char *, size_t, uint32_t), size_t length, uint64_t *each)
-{
-    double best = 1e9;
-    for (int turn = 0; turn < TURNS; turn++) {
-        double start = seconds();
-        *each = work(text, length, ROUNDS) / ROUNDS;
-        double took = (seconds() - start) / ROUNDS;
-        if (took < best) best = took;
-    }
+    double best = 1e18;
+    IN_TURNS LEAST(best, ROUNDS, *each = work(text, length, ROUNDS) / ROUNDS);
     return best;
 }
 
 /* The same of work that prepares once: what more rounds take beside few. */
-static double least_beside(uint64_t (*work)(const char *, size_t, uint32_t), size_t length, uint64_t *each)
+static double least_round_beside(uint64_t (*work)(const char *, size_t, uint32_t), size_t length, uint64_t *each)
 {
-    double best = 1e9;
-    for (int turn = 0; turn < TURNS; turn++) {
-        double start = seconds();
+    double best = 1e18;
+    IN_TURNS {
+        double start = now();
         work(text, length, 1);
-        double one = seconds() - start;
-        start = seconds();
+        double one = now() - start;
+        start = now();
         *each = work(text, length, 1 + ROUNDS) / (1 + ROUNDS);
-        double took = (seconds() - start - one) / ROUNDS;
+        double took = (now() - start - one) / ROUNDS;
         if (took > 0 && took < best) best = took;
     }
     return best;
@@ -77,16 +67,16 @@ int main(void)
         length += more;
     }
     uint64_t requests = 0, same = 0, bytes = 0;
-    double read = least(lang_times_read, length, &requests);
-    double gathered = least(lang_times_gathered, length, &same);
-    double rendered = least_beside(lang_times_rendered, length, &bytes);
+    double read = least_round(lang_times_read, length, &requests);
+    double gathered = least_round(lang_times_gathered, length, &same);
+    double rendered = least_round_beside(lang_times_rendered, length, &bytes);
     if (requests == 0 || requests != same || bytes == 0) {
         fprintf(stderr, "bench: the text isn't read\n");
         return 1;
     }
     printf("| WORK | BYTES | REQUESTS | MB A SECOND | NS A REQUEST |\n|---|---|---|---|---|\n");
-    printf("| read one by one | %zu | %llu | %.0f | %.0f |\n", length, (unsigned long long)requests, (double)length / read / 1e6, read * 1e9 / (double)requests);
-    printf("| read into a list | %zu | %llu | %.0f | %.0f |\n", length, (unsigned long long)requests, (double)length / gathered / 1e6, gathered * 1e9 / (double)requests);
-    printf("| print | %llu | %llu | %.0f | %.0f |\n", (unsigned long long)bytes, (unsigned long long)requests, (double)bytes / rendered / 1e6, rendered * 1e9 / (double)requests);
+    printf("| read one by one | %zu | %llu | %.0f | %.0f |\n", length, (unsigned long long)requests, (double)length / read * 1e3, read / (double)requests);
+    printf("| read into a list | %zu | %llu | %.0f | %.0f |\n", length, (unsigned long long)requests, (double)length / gathered * 1e3, gathered / (double)requests);
+    printf("| print | %llu | %llu | %.0f | %.0f |\n", (unsigned long long)bytes, (unsigned long long)requests, (double)bytes / rendered * 1e3, rendered / (double)requests);
     return 0;
 }

@@ -4,8 +4,8 @@
 #include <stdio.h>
 #include <stdlib.h>
 #include <string.h>
-#include <time.h>
 #include "../allocations.h"
+#include "../timing.h"
 
 /* The static library bench_lists. */
 uint64_t aces_times_read(const char *text, size_t length, uint32_t rounds);
@@ -296,22 +296,7 @@ static int translated(const struct posix *acl, struct list *made)
     return 1;
 }
 
-static double now(void)
-{
-    struct timespec t;
-    clock_gettime(CLOCK_MONOTONIC, &t);
-    return t.tv_sec * 1e9 + t.tv_nsec;
-}
-
-enum { RUNS = 25 };
 static volatile uint64_t sink;
-#define LEAST(least, rounds, work)                \
-    do {                                          \
-        double start = now();                     \
-        work;                                     \
-        double took = (now() - start) / (rounds); \
-        if (took < least) least = took;           \
-    } while (0)
 
 static uint64_t state = 88172645463325252u;
 static uint32_t below(uint32_t n)
@@ -442,27 +427,27 @@ static void times(int n)
     double ours, theirs;
 #define ROW(what) printf("| %d | %s | %.1f | %.1f | %.2f |\n", n, what, theirs, ours, theirs / ours)
     theirs = ours = 1e18;
-    for (int run = 0; run < RUNS; run++) {
+    IN_TURNS {
         LEAST(theirs, rounds, for (int i = 0; i < rounds; i++) { struct list l; sink += read_list(text, length, &l); free(l.aces); });
         LEAST(ours, rounds, sink += aces_times_read(text, length, rounds));
     }
     ROW("read");
     theirs = ours = 1e18;
-    for (int run = 0; run < RUNS; run++) {
+    IN_TURNS {
         LEAST(theirs, rounds, for (int i = 0; i < rounds; i++) { struct string t = {0}; print_list(&list, &t); sink += t.length; free(t.bytes); });
         LEAST(ours, rounds, sink += aces_times_printed(text, length, rounds));
     }
     ROW("print");
     theirs = ours = 1e18;
     uint64_t a = 0, b = 0;
-    for (int run = 0; run < RUNS; run++) {
+    IN_TURNS {
         LEAST(theirs, turns * uids, for (int i = 0; i < turns; i++) for (int u = 0; u < uids; u++) a += grants(&list, 1, 2, 3000 + u, gids, 2, 1));
         LEAST(ours, turns * uids, b += aces_times_checked(text, length, 3000, uids, gids, 2, turns));
     }
     sink += a + b;
     ROW("check");
     theirs = ours = 1e18;
-    for (int run = 0; run < RUNS; run++) {
+    IN_TURNS {
         LEAST(theirs, rounds, for (int i = 0; i < rounds; i++) { struct list l; sink += inherit(&list, 1, &l); free(l.aces); });
         LEAST(ours, rounds, sink += aces_times_inherited(text, length, 1, rounds));
     }
@@ -486,7 +471,7 @@ static void times_changes(int n, int users)
     char what[64];
     double ours = 1e18, theirs = 1e18;
     if (aces_times_set(text, length, 0640, 1) == 0) { printf("a mode is refused\n"); exit(1); }
-    for (int run = 0; run < RUNS; run++) {
+    IN_TURNS {
         LEAST(theirs, rounds, for (int i = 0; i < rounds; i++) { struct list l; sink += with_mode(&list, 0640, &l); free(l.aces); });
         LEAST(ours, rounds, sink += aces_times_set(text, length, 0640, rounds));
     }
@@ -496,7 +481,7 @@ static void times_changes(int n, int users)
     if (n > 64 || users > 8) return;
     make_posix(&posix, text, (n - 4) / 3, n - 4 - (n - 4) / 3, 3000, 6, 5);
     length = strlen(text), theirs = ours = 1e18;
-    for (int run = 0; run < RUNS; run++) {
+    IN_TURNS {
         LEAST(theirs, rounds, for (int i = 0; i < rounds; i++) { struct list l; sink += translated(&posix, &l); free(l.aces); });
         LEAST(ours, rounds, sink += acl_times_translated(text, length, rounds));
     }
@@ -517,7 +502,7 @@ static void times_names(int n)
     int rounds = 50000 / n;
     double named = 1e18, numbered = 1e18;
     if (aces_times_names_read(names, strlen(names), text, strlen(text), 1) != (uint64_t)n) { printf("the names aren't read\n"); exit(1); }
-    for (int run = 0; run < RUNS; run++) {
+    IN_TURNS {
         /* The directory is made at each call: so many rounds make that little. */
         LEAST(named, 20 * rounds, sink += aces_times_names_read(names, strlen(names), text, strlen(text), 20 * rounds));
         LEAST(numbered, rounds, sink += aces_times_read(numbers, strlen(numbers), rounds));
@@ -560,7 +545,7 @@ static void times_compare(void)
             if (aces_times_compared(first, strlen(first), second, strlen(second), 1) != 1
                 || aces_times_compared(first, strlen(first), changed, strlen(changed), 1) != 0) { printf("comparisons are wrong\n"); exit(1); }
             best = 1e18;
-            for (int run = 0; run < RUNS; run++) LEAST(best, 1, sink += aces_times_compared(first, strlen(first), second, strlen(second), 1));
+            IN_TURNS LEAST(best, 1, sink += aces_times_compared(first, strlen(first), second, strlen(second), 1));
             printf("| 128 NFSv4 entries of %s, %d ids | %.2f |\n", whats[about], ids, best / 1e6);
         }
     /* The second list has other permissions and another mask, and comes to the same. */
@@ -572,10 +557,10 @@ static void times_compare(void)
         if (acl_times_compared(first, strlen(first), second, strlen(second), 1) != 1
             || acl_times_compared_whole(first, strlen(first), second, strlen(second), 1) != 1) { printf("comparisons are wrong\n"); exit(1); }
         best = 1e18;
-        for (int run = 0; run < RUNS; run++) LEAST(best, 1, sink += acl_times_compared(first, strlen(first), second, strlen(second), 1));
+        IN_TURNS LEAST(best, 1, sink += acl_times_compared(first, strlen(first), second, strlen(second), 1));
         printf("| 64 POSIX entries of %d users and %d groups, each permission | %.2f |\n", users, 60 - users, best / 1e6);
         best = 1e18;
-        for (int run = 0; run < RUNS; run++) LEAST(best, 1, sink += acl_times_compared_whole(first, strlen(first), second, strlen(second), 1));
+        IN_TURNS LEAST(best, 1, sink += acl_times_compared_whole(first, strlen(first), second, strlen(second), 1));
         printf("| 64 POSIX entries of %d users and %d groups, whole requests | %.2f |\n", users, 60 - users, best / 1e6);
     }
 }

@@ -10,15 +10,15 @@
 #include <string.h>
 #include <sys/resource.h>
 #include <sys/wait.h>
-#include <time.h>
 #include <unistd.h>
+#include "../timing.h"
 
 /* The static library bench_run. */
 size_t run_prints(const uint8_t *setup, size_t setup_length, const char *texts, size_t texts_length, const size_t *lengths,
                   size_t count, char *printed, size_t room);
 size_t libacl_prints(const char *text, size_t length, char *printed, size_t room);
 
-enum { MOST = 1048576, ROOM = 16 * MOST, SESSIONS = 64, TURNS = 25 };
+enum { MOST = 1048576, ROOM = 16 * MOST, SESSIONS = 64 };
 
 extern char **environ;
 static const char *program, *folder;
@@ -118,16 +118,6 @@ static struct files make_faults(int count)
     return made;
 }
 
-static double clock_ms(clockid_t clock)
-{
-    struct timespec now;
-    clock_gettime(clock, &now);
-    return now.tv_sec * 1e3 + now.tv_nsec / 1e6;
-}
-
-/* What some work took: milliseconds until its end, and of processors; and the most memory, in MB. */
-struct took { double wall, processor, peak; };
-
 /* Runs the program on the sessions and waits for it. It may run on processor 0 alone; its answers go to the file. */
 static struct took run_program(const struct files *sessions, int journal, int one_processor, const char *to)
 {
@@ -145,10 +135,10 @@ static struct took run_program(const struct files *sessions, int journal, int on
     struct rusage used;
     pid_t child;
     if (one_processor) sched_setaffinity(0, sizeof one, &one);
-    double start = clock_ms(CLOCK_MONOTONIC);
+    double start = now();
     if (posix_spawn(&child, program, &actions, NULL, (char *const *)words, environ)) fail("the program can't be started");
     if (wait4(child, &status, 0, &used) != child || !WIFEXITED(status) || WEXITSTATUS(status)) fail("the program failed");
-    double wall = clock_ms(CLOCK_MONOTONIC) - start;
+    double wall = (now() - start) / 1e6;
     if (one_processor) sched_setaffinity(0, sizeof all, &all);
     posix_spawn_file_actions_destroy(&actions);
     double processor = used.ru_utime.tv_sec * 1e3 + used.ru_utime.tv_usec / 1e3 + used.ru_stime.tv_sec * 1e3 + used.ru_stime.tv_usec / 1e3;
@@ -238,33 +228,11 @@ static void compare_libacl(const struct files *session)
     same(ours.printed, length, theirs.printed, by_libacl(&theirs), "run_one and libacl");
 }
 
-static int by_size(const void *a, const void *b)
-{
-    double x = *(const double *)a, y = *(const double *)b;
-    return (x > y) - (x < y);
-}
-
 /* A row: of some turns the least and the middle time until the end, and the least of processors. */
-struct turns { double wall[TURNS], processor[TURNS]; int count; };
-
-static void add_turn(struct turns *turns, struct took took)
-{
-    turns->wall[turns->count] = took.wall, turns->processor[turns->count++] = took.processor;
-}
-
-static double least(const struct turns *turns) { return turns->wall[0]; }
-static double middle(const struct turns *turns) { return turns->wall[turns->count / 2]; }
-
-static void sort(struct turns *turns)
-{
-    qsort(turns->wall, turns->count, sizeof *turns->wall, by_size);
-    qsort(turns->processor, turns->count, sizeof *turns->processor, by_size);
-}
-
 static void row(const char *what, struct turns *turns, double bytes)
 {
     sort(turns);
-    printf("| %s | %.2f | %.2f | %.2f | ", what, least(turns), middle(turns), turns->processor[0]);
+    printf("| %s | %.2f | %.2f | %.2f | ", what, least(turns), middle(turns), least_processor(turns));
     if (bytes > 0) printf("%.0f |  |\n", bytes / least(turns) / 1e3);
     else printf(" |  |\n");
     fflush(stdout);
@@ -277,18 +245,11 @@ static void peak_row(const char *what, const struct files *sessions, int journal
     fflush(stdout);
 }
 
-#define IN_PROCESS(turns, work)                                                                                             \
-    do {                                                                                                                    \
-        double start = clock_ms(CLOCK_MONOTONIC), begun = clock_ms(CLOCK_PROCESS_CPUTIME_ID);                               \
-        work;                                                                                                               \
-        add_turn(turns, (struct took){clock_ms(CLOCK_MONOTONIC) - start, clock_ms(CLOCK_PROCESS_CPUTIME_ID) - begun, 0});   \
-    } while (0)
-
 static void time_one(const struct files *mixed)
 {
     struct held held = hold(mixed);
     struct turns turns = {0};
-    for (int i = 0; i < TURNS; i++) IN_PROCESS(&turns, by_run_one(&held));
+    IN_TURNS ADD_TURN(&turns, by_run_one(&held));
     row("1 MiB of mixed commands, run_one", &turns, held.length);
 }
 
@@ -296,14 +257,14 @@ static void time_libacl(const struct files *posix)
 {
     struct held held = hold(posix);
     struct turns ours = {0}, theirs = {0};
-    for (int i = 0; i < TURNS; i++) {
-        IN_PROCESS(&theirs, by_libacl(&held));
-        IN_PROCESS(&ours, by_run_one(&held));
+    IN_TURNS {
+        ADD_TURN(&theirs, by_libacl(&held));
+        ADD_TURN(&ours, by_run_one(&held));
     }
     row("1 MiB of POSIX commands, libacl", &theirs, held.length);
     row("1 MiB of POSIX commands, run_one", &ours, held.length);
     printf("| libacl's time over run_one's | %.1f | %.1f | %.1f | | |\n", least(&theirs) / least(&ours), middle(&theirs) / middle(&ours),
-           theirs.processor[0] / ours.processor[0]);
+           least_processor(&theirs) / least_processor(&ours));
 }
 
 /* What one took over what the other took in the same turn. */
@@ -319,8 +280,8 @@ static void time_many(const char *what, const struct files *sessions)
     char name[128];
     struct held held = hold(sessions);
     struct turns alone = {0}, each = {0}, all = {0}, one = {0}, all_over_each = {0}, one_over_each = {0};
-    for (int i = 0; i < TURNS; i++) {
-        IN_PROCESS(&alone, by_run_one(&held));
+    IN_TURNS {
+        ADD_TURN(&alone, by_run_one(&held));
         struct took sum = {0};
         for (int j = 0; j < sessions->count; j++) {
             struct files single = {.count = 1};
@@ -343,7 +304,7 @@ static void time_many(const char *what, const struct files *sessions)
 static void time_start(const struct files *small)
 {
     struct turns turns = {0};
-    for (int i = 0; i < TURNS; i++) add_turn(&turns, run_program(small, 0, 0, "/dev/null"));
+    IN_TURNS add_turn(&turns, run_program(small, 0, 0, "/dev/null"));
     row("a session of ten lines, the program from start to end", &turns, 0);
 }
 

@@ -1,9 +1,6 @@
 """scripts/wrong-bodies: how it reads code and what the kit says, in which order it tries, and how
 it ends."""
 
-import importlib.machinery
-import importlib.util
-import signal
 import subprocess
 import sys
 import tempfile
@@ -13,22 +10,18 @@ from contextlib import contextmanager
 from pathlib import Path
 from unittest.mock import patch
 
-SCRIPT = Path(__file__).resolve().parent.parent / "wrong-bodies"
+SCRIPTS = Path(__file__).resolve().parent.parent
+sys.path.insert(0, str(SCRIPTS))
+
+from wrong_bodies import crates, edits, functions, grouping, judging, lanes, prover
+from wrong_bodies.clock import Clock, Ended
+from wrong_bodies.edits import Edit
+from wrong_bodies.functions import Function
+from wrong_bodies.trying import Trial
+
 # How many seconds what is ended at once may take on the slowest machine.
 SLOW = 600
 LOGS = Path(__file__).resolve().parent / "logs"
-
-
-def loaded():
-    """The script as a module."""
-    loader = importlib.machinery.SourceFileLoader("wrong_bodies", str(SCRIPT))
-    made = importlib.util.module_from_spec(importlib.util.spec_from_loader("wrong_bodies", loader))
-    sys.modules["wrong_bodies"] = made
-    loader.exec_module(made)
-    return made
-
-
-wrong = loaded()
 CODE = """\
 /// A doc comment of fn one.
 pub(crate) fn one(a: u8) -> u8
@@ -61,14 +54,13 @@ const FOUR: u8 = 4;
 class Functions(unittest.TestCase):
     def setUp(self):
         self.lines = CODE.split("\n")
-        self.types = wrong.modules_of_types
-        wrong.modules_of_types = lambda crate: {"Names": "names"}
-        self.addCleanup(setattr, wrong, "modules_of_types", self.types)
+        types = patch.object(functions, "modules_of_types", lambda crate: {"Names": "names"})
+        self.enterContext(types)
 
     def around(self, text):
         """The function around the line that has this text."""
         at = next(it for it, line in enumerate(self.lines) if text in line)
-        return wrong.function_around("low", "src/places/here.rt", self.lines, at)
+        return functions.function_around("low", "src/places/here.rt", self.lines, at)
 
     def test_a_function_is_found_from_its_contract_and_from_its_body(self):
         for text in ("pub(crate) fn one", "ensures { result", "return a;", "    a"):
@@ -93,14 +85,14 @@ class Functions(unittest.TestCase):
 
     def test_the_root_of_a_crate_is_no_module(self):
         for name, module in (("lib", ""), ("main", ""), ("a/b", "a/b")):
-            self.assertEqual(wrong.module_of(f"src/{name}.rt"), module)
+            self.assertEqual(functions.module_of(f"src/{name}.rt"), module)
 
 
 class Lines(unittest.TestCase):
     """What lines of a check say of a function."""
 
     def setUp(self):
-        self.own = wrong.Function("src/names.rt", 10, 20, "is_domain", "proofs/names/is_domain")
+        self.own = Function("src/names.rt", 10, 20, "is_domain", "proofs/names/is_domain")
 
     def test_a_place_inside_the_function(self):
         for line, is_named in (
@@ -111,7 +103,7 @@ class Lines(unittest.TestCase):
             ("note: src/other.rt:15:1: it is not proved", False),
             ("note: src/names.rt:15:1: it is proved", False),
         ):
-            self.assertEqual(self.own.is_named(line), is_named, line)
+            self.assertEqual(judging.is_named(self.own, line), is_named, line)
 
     def test_an_answer_of_its_proof(self):
         lacks = "no proof: expected answers in"
@@ -123,16 +115,16 @@ class Lines(unittest.TestCase):
             (f"fn low::names::is_domain: {lacks} proofs/names/is_domain/Answers.antt; it", True),
             (f"fn low::names::is_name: {lacks} proofs/names/is_name/Answers.antt; it", False),
         ):
-            self.assertEqual(self.own.is_named(line), is_named, line)
+            self.assertEqual(judging.is_named(self.own, line), is_named, line)
 
     def test_a_line_that_says_it_is_proved(self):
         for says in ("is_domain: proved", "is_domain: proved, may wait"):
-            self.assertTrue(self.own.is_proved_by("low", f"fn low::names::{says}"), says)
+            self.assertTrue(judging.is_proved_by(self.own, "low", f"fn low::names::{says}"), says)
         for says in ("is_domain: not proved", "is_domain_too: proved"):
-            self.assertFalse(self.own.is_proved_by("low", f"fn low::names::{says}"), says)
-        self.assertFalse(self.own.is_proved_by("top", "fn low::names::is_domain: proved"))
-        of_a_trait = wrong.Function("src/names.rt", 1, 2, "f", None)
-        self.assertFalse(of_a_trait.is_proved_by("low", "fn low::names: proved"))
+            self.assertFalse(judging.is_proved_by(self.own, "low", f"fn low::names::{says}"), says)
+        self.assertFalse(judging.is_proved_by(self.own, "top", "fn low::names::is_domain: proved"))
+        of_a_trait = Function("src/names.rt", 1, 2, "f", None)
+        self.assertFalse(judging.is_proved_by(of_a_trait, "low", "fn low::names: proved"))
 
 
 class Logs(unittest.TestCase):
@@ -147,7 +139,7 @@ class Logs(unittest.TestCase):
 
     def setUp(self):
         self.functions = {
-            name: wrong.Function(f"src/{file}.rt", first, last, name, f"proofs/{file}/{name}")
+            name: Function(f"src/{file}.rt", first, last, name, f"proofs/{file}/{name}")
             for name, (file, first, last) in self.PLACES.items()
         }
 
@@ -156,8 +148,8 @@ class Logs(unittest.TestCase):
         proved."""
         lines = (LOGS / f"{name}.log").read_text().splitlines()[1:]
         functions = self.functions.items()
-        named = {it for it, own in functions if any(map(own.is_named, lines))}
-        is_proved = lambda own: any(own.is_proved_by("acl_bridge", it) for it in lines)
+        named = {it for it, own in functions if any(judging.is_named(own, line) for line in lines)}
+        is_proved = lambda own: any(judging.is_proved_by(own, "acl_bridge", it) for it in lines)
         proved = {it for it, own in functions if is_proved(own)}
         return named, proved
 
@@ -177,11 +169,30 @@ class Logs(unittest.TestCase):
         self.assertNotIn("whole_request_difference", proved)
 
 
+class Verdicts(unittest.TestCase):
+    """What a check of one edit alone comes to."""
+
+    def test_by_whether_all_is_proved_and_by_the_lines(self):
+        left = "note: src/a.rt:3:1: it is not proved"
+        gone = "proofs/a/f/Answers.antt:2:1: error: `b` is not in scope"
+        unread, names = "src/a.rt:3:1: error: a type differs", "names what the edit took away"
+        for is_proved, lines, is_refused, why in (
+            (True, ["only=1 proved=1"], False, "NOT REFUSED"),
+            (False, [left, "only=1 proved=0"], True, f"refused: {left}"),
+            (False, ["only=1 proved=0"], True, "refused: only=1 proved=0"),
+            (False, [unread, left], False, f"BAD EDIT: it did not reach the prover: {unread}"),
+            (None, ["no memory"], False, "BAD EDIT: it did not reach the prover: no memory"),
+            (False, [gone], True, f"refused, but only because a proof file {names}: {gone}"),
+            (False, [gone, left], True, f"refused: {left}"),
+        ):
+            self.assertEqual(judging.verdict(is_proved, lines), (is_refused, why))
+
+
 def edit(crate, name, file="src/lib.rt", line=1):
     """An edit of a function of its own."""
-    own = wrong.Function(file, line, line + 1, name, f"proofs/{name}")
+    own = Function(file, line, line + 1, name, f"proofs/{name}")
     path = f"wrong-bodies/one/{name}.edit"
-    made = wrong.Edit(crate, name, [(file, "a", "b")], [own], path=path)
+    made = Edit(crate, name, [(file, "a", "b")], [own], path=path)
     made.apply = lambda texts: {file: "b"}
     return made
 
@@ -199,9 +210,9 @@ class Bad(unittest.TestCase):
             pair = ("src/lib.rt", old, "new")
             more = {"path": "wrong-bodies/lib/bent.edit", **more}
             functions = more.pop("functions", [])
-            edit = wrong.Edit("names", "bent", [pair], functions, [*goals], **more)
-            with patch.object(wrong, "TOP", Path(room)):
-                return wrong.why_bad(edit)
+            edit = Edit("names", "bent", [pair], functions, [*goals], **more)
+            with patch.object(crates, "TOP", Path(room)):
+                return edits.why_bad(edit)
 
     def test_an_old_text_has_to_stand_once(self):
         self.assertIn("stand once", self.why("no such text"))
@@ -221,9 +232,9 @@ class Bad(unittest.TestCase):
 
     def test_a_goal_is_one_of_a_function_that_it_edits(self):
         goal = ("proofs/two", "returns", "g c")
-        one = wrong.Function("src/lib.rt", 1, 2, "one", "proofs/one")
+        one = Function("src/lib.rt", 1, 2, "one", "proofs/one")
         self.assertIn("proofs/two", self.why("done();", goal, functions=[one]))
-        two = wrong.Function("src/lib.rt", 1, 2, "two", "proofs/two")
+        two = Function("src/lib.rt", 1, 2, "two", "proofs/two")
         self.assertIsNone(self.why("done();", goal, functions=[one, two]))
         self.assertIsNone(self.why("done();", goal, functions=[None]))
 
@@ -238,7 +249,7 @@ class Order(unittest.TestCase):
 
     def names(self, changed, commit):
         """The names of the first edits of the groups, in order."""
-        return [it.edits[0].name for it in wrong.in_turn(self.found, changed, commit)]
+        return [it.edits[0].name for it in grouping.in_turn(self.found, changed, commit)]
 
     def test_edits_of_changed_files_come_first_the_newest_before_the_others(self):
         changed = {"crates/high/src/newest.rt": 0, "README.md": 1, "crates/low/src/new.rt": 2}
@@ -252,7 +263,7 @@ class Order(unittest.TestCase):
         self.assertEqual(len({it[0] for it in orders[:3]}), 3)
         for it in orders:
             self.assertEqual(sorted(it), sorted(orders[0]))
-        tried = [own.name for group in wrong.in_turn(self.found, {}, "2") for own in group.edits]
+        tried = [own.name for group in grouping.in_turn(self.found, {}, "2") for own in group.edits]
         every = [it.name for edits in self.found.values() for it in edits]
         self.assertEqual(sorted(tried), sorted(every))
 
@@ -267,7 +278,7 @@ def no_copy(crate, texts):
         yield room
 
 
-class Kit(wrong.Clock):
+class Kit(Clock):
     """In place of the kit: it proves every crate, and refuses each edit of a check, by its place.
     Its time is over after so many checks."""
 
@@ -280,7 +291,7 @@ class Kit(wrong.Clock):
             return 0, "logic=proved functions=9\n"
         if self.checks == 0:
             self.end()
-            raise wrong.Ended
+            raise Ended
         self.checks -= 1
         lines = [f"note: src/lib.rt:{it}:1: it is not proved" for it in range(1, 99)]
         return 1, "\n".join([*lines, "only=3 proved=2", ""])
@@ -289,50 +300,52 @@ class Kit(wrong.Clock):
 class InTime(unittest.TestCase):
     """How many are tried where the time is over after so many checks, of four that are needed."""
 
+    def setUp(self):
+        below = {"low": [], "high": ["low", "itoa"]}
+        self.enterContext(patch.object(crates, "stands_on", lambda: below))
+        self.enterContext(patch.object(grouping, "TOGETHER", 1))
+        kit = {"kit": lambda: Path("kit"), "copy_of": no_copy, "answers_of": lambda crate, edits: {}}
+        self.enterContext(patch.multiple(prover, **kit))
+        self.enterContext(patch.dict("os.environ", {"RT_JOBS": "1"}))
+
     def tried(self, checks, is_neutral=False):
         """How many of four edits were tried, and how many of them were as they should be."""
         edits = [edit(it, name, line=10) for it in ("low", "high") for name in ("one", "two")]
         for it in edits:
             it.is_neutral = is_neutral
         found = {"low": edits[:2], "high": edits[2:]}
-        below = {"low": [], "high": ["low", "itoa"]}
-        kit = {"kit": lambda: Path("kit"), "stands_on": lambda: below, "copy_of": no_copy}
-        kit |= {"answers_of": lambda crate, edits: {}, "TOGETHER": 1}
-        patches = patch.multiple(wrong, **kit), patch.dict("os.environ", {"RT_JOBS": "1"})
-        with tempfile.TemporaryDirectory() as room, patches[0], patches[1]:
+        tries = grouping.in_turn(found, {}, "0")
+        self.places = grouping.Places(tries, True)
+        with tempfile.TemporaryDirectory() as room, patch("builtins.print"):
             for it in found:
                 Path(room, it).mkdir()
-            tries = wrong.in_turn(found, {}, "0")
-            self.prover = wrong.Prover(room, Kit(checks), found, tries, True)
-            with patch("builtins.print"):
-                return self.prover.run()
+            self.trial = Trial(prover.Prover(room, Kit(checks), found, self.places))
+            return self.trial.run(tries)
 
     def test_those_of_checks_that_ended_in_time_are_counted_and_no_other(self):
         for checks in range(5):
             self.assertEqual(self.tried(checks), (checks, checks))
-            self.assertEqual(self.prover.failures, [])
+            self.assertEqual(self.trial.failures, [])
 
     def test_a_neutral_edit_that_is_refused_fails(self):
         self.assertEqual(self.tried(4, is_neutral=True), (4, 0))
-        self.assertEqual(len(self.prover.failures), 4)
-        self.assertTrue(self.prover.failures[0].startswith("neutral edit "))
+        self.assertEqual(len(self.trial.failures), 4)
+        self.assertTrue(self.trial.failures[0].startswith("neutral edit "))
 
     def test_a_crate_comes_before_the_first_check_that_needs_it_and_after_earlier_ones(self):
-        below = {"low": [], "high": ["low", "itoa"]}
         self.tried(4)
-        self.enterContext(patch.object(wrong, "stands_on", lambda: below))
-        groups, places = self.prover.tries, self.prover.place_of_check
-        order = [self.prover.place_of_proof("low"), places(groups[0]), places(groups[1])]
-        order += [self.prover.place_of_proof("high"), places(groups[2]), places(groups[3])]
+        groups, check = self.places.tries, self.places.of_check
+        order = [self.places.of_proof("low"), check(groups[0]), check(groups[1])]
+        order += [self.places.of_proof("high"), check(groups[2]), check(groups[3])]
         self.assertEqual(order, sorted(order))
 
 
 class Ending(unittest.TestCase):
     def test_what_runs_is_ended_with_all_that_it_started(self):
-        clock, begun = wrong.Clock(), time.monotonic()
+        clock, begun = Clock(), time.monotonic()
         clock.end_after(0.5)
         with tempfile.TemporaryDirectory() as room:
-            with self.assertRaises(wrong.Ended):
+            with self.assertRaises(Ended):
                 clock.run(["sh", "-c", "sleep 900 & echo $! > child; wait"], room)
             child = Path(room, "child").read_text().strip()
         self.assertLess(time.monotonic() - begun, SLOW)
@@ -341,28 +354,27 @@ class Ending(unittest.TestCase):
         self.assertIn(state[:1], ("", "Z"))
 
     def test_nothing_begins_once_it_has_ended(self):
-        clock = wrong.Clock()
+        clock = Clock()
         clock.end()
-        with self.assertRaises(wrong.Ended):
+        with self.assertRaises(Ended):
             clock.run(["true"], "/")
-        with self.assertRaises(wrong.Ended):
-            with wrong.Lanes(1, clock).lane(True, (0, 0)):
+        with self.assertRaises(Ended):
+            with lanes.Lanes(1, clock).lane(True, (0, 0)):
                 self.fail("a lane was held")
 
     def test_a_command_that_was_killed_runs_once_more(self):
         with tempfile.TemporaryDirectory() as room:
             words = ["sh", "-c", "[ -e seen ] && exec echo well; touch seen; kill -9 $$"]
-            self.assertEqual(wrong.Clock().run(words, room), (0, "well\n"))
+            self.assertEqual(Clock().run(words, room), (0, "well\n"))
 
     def test_who_waits_for_a_lane_is_told(self):
-        clock, begun = wrong.Clock(), time.monotonic()
-        lanes = wrong.Lanes(1, clock)
-        self.addCleanup(setattr, wrong, "PAUSE", wrong.PAUSE)
-        self.addCleanup(setattr, wrong, "free_memory", wrong.free_memory)
-        lanes.busy, wrong.free_memory, wrong.PAUSE = 1, lambda: 0, 900
+        clock, begun = Clock(), time.monotonic()
+        full = lanes.Lanes(1, clock)
+        full.busy = 1
+        self.enterContext(patch.multiple(lanes, PAUSE=900, free_memory=lambda: 0))
         clock.end_after(0.3)
-        with self.assertRaises(wrong.Ended):
-            with lanes.lane(False, (0, 0)):
+        with self.assertRaises(Ended):
+            with full.lane(False, (0, 0)):
                 self.fail("a lane was held")
         self.assertLess(time.monotonic() - begun, SLOW)
 
@@ -372,7 +384,7 @@ class Ending(unittest.TestCase):
             Path(room, "rt").chmod(0o755)
             how = {"capture_output": True, "text": True}
             how |= {"env": {"PATH": f"{room}:/usr/bin:/bin", "HOME": room}}
-            ran = subprocess.run([sys.executable, SCRIPT, "acl_bridge"], **how)
+            ran = subprocess.run([sys.executable, SCRIPTS / "wrong-bodies", "acl_bridge"], **how)
         self.assertEqual(ran.returncode, 1)
         self.assertIn("this is rattle-kit-99z", ran.stderr)
 

@@ -1,5 +1,7 @@
 //! Texts that were cut or bent: what each comes to, by scripts/read-texts.py, which shares nothing
-//! with the readers.
+//! with the readers. Over each row stands the text. What stands in the row under a byte is the
+//! outcome of the text cut off before that byte, if the row is for None, and else of the text with
+//! the row's byte in its place.
 use crate::bent::{ACES, BENDS, ENTRIES, bent, is_refused_behind};
 use crate::texts::is_text;
 use acl_names::Directory;
@@ -36,30 +38,37 @@ fn outcomes(alloc: Global, text: &str, byte: Option<u8>) -> Option<String> {
 #[test]
 fn cut_and_bent_texts(rt: HostRuntime) {
     const ROWS: [(Option<u8>, &str); 7] = [
+        //   A::OWNER@:rwatTcC,A::bob@example.org:rwa,A:g:ops@example.org:r,A::EVERYONE@:r
         (
             None,
             "0SSSSSSSSS11111111SSSSSSSSSSSSSSSSSSS2222SSSSSSSSSSSSSSSSSSSS33SSSSSSSSSSSSS4",
         ),
+        //   A::OWNER@:rwatTcC,A::bob@example.org:rwa,A:g:ops@example.org:r,A::EVERYONE@:r
         (
             Some(0),
             "SSSSSSSSSSSSSSSSSSSSSSSSSSSSSSSSSSSSSSSSSSSSSSSSSSSSSSSSSSSSSSSSSSSSSSSSSSSSS",
         ),
+        //   A::OWNER@:rwatTcC,A::bob@example.org:rwa,A:g:ops@example.org:r,A::EVERYONE@:r
         (
             Some(b':'),
             "S44SSSSSS4SSSSSSSSS44SSSSSSSSSSSSSSS4SSSSS4S4SSSSSSSSSSSSSSS4SSS44SSSSSSSSS4S",
         ),
+        //   A::OWNER@:rwatTcC,A::bob@example.org:rwa,A:g:ops@example.org:r,A::EVERYONE@:r
         (
             Some(b','),
             "SSSSSSSSSSSSSSSSS4SSSSSSSSSSSSSSSSSSSSSS4SSSSSSSSSSSSSSSSSSSSS4SSSSSSSSSSSSSS",
         ),
+        //   A::OWNER@:rwatTcC,A::bob@example.org:rwa,A:g:ops@example.org:r,A::EVERYONE@:r
         (
             Some(b'#'),
             "0SSSSSSSSS11111111SSSSSSSSSSSSSSSSSSS2222SSSSSSSSSSSSSSSSSSSS33SSSSSSSSSSSSS4",
         ),
+        //   A::OWNER@:rwatTcC,A::bob@example.org:rwa,A:g:ops@example.org:r,A::EVERYONE@:r
         (
             Some(b'\n'),
             "SSSSSSSSSSSSSSSSS4SSSSSSSSSSSSSSSSSSSSSS4SSSSSSSSSSSSSSSSSSSSS4SSSSSSSSSSSSS4",
         ),
+        //   A::OWNER@:rwatTcC,A::bob@example.org:rwa,A:g:ops@example.org:r,A::EVERYONE@:r
         (
             Some(0x80),
             "SSSSSSSSSSSSSSSSSSSSSSSSSSSSSSSSSSSSSSSSSSSSSSSSSSSSSSSSSSSSSSSSSSSSSSSSSSSSS",

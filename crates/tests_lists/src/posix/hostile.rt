@@ -1,5 +1,7 @@
 //! Texts that were cut or bent: what each comes to, by scripts/read-texts.py, which shares nothing
-//! with the readers.
+//! with the readers. Over each row stands the text, with `|` for a newline. What stands in the row
+//! under a byte is the outcome of the text cut off before that byte, if the row is for None, and
+//! else of the text with the row's byte in its place.
 use crate::bent::{ACES, BENDS, ENTRIES, bent, is_refused_behind};
 use crate::texts::is_text;
 use acl_names::Directory;
@@ -35,12 +37,19 @@ fn outcomes(alloc: Global, text: &str, byte: Option<u8>) -> Option<String> {
 #[test]
 fn cut_and_bent_texts(rt: HostRuntime) {
     const ROWS: [(Option<u8>, &str); 7] = [
+        //      user : : rwx , g::r-x|mask:rwx # all|other:r
         (None, "0SSSSSSSSS1111SSSSS2222SSSSS3333333333SSSSSS"),
+        //         user : : rwx , g::r-x|mask:rwx # all|other:r
         (Some(0), "SSSSSSSSSSSSSSSSSSSSSSSSSSSSSSSS44443SSSSSSS"),
+        //            user : : rwx , g::r-x|mask:rwx # all|other:r
         (Some(b':'), "SSSSS4S4SSSSSSSS44SSSSSSSS44SSSS44443SSSSS4S"),
+        //            user : : rwx , g::r-x|mask:rwx # all|other:r
         (Some(b','), "SSSSSSSSSSSSS4SSSSSSS4SSSSSSSSSS44443SSSSSSS"),
+        //            user : : rwx , g::r-x|mask:rwx # all|other:r
         (Some(b'#'), "2SSSSSSSSS3333SSSSS4433SSSSS4444444433SSSSSS"),
+        //             user : : rwx , g::r-x|mask:rwx # all|other:r
         (Some(b'\n'), "SSSSSSSSSSSSS4SSSSSS44SSSSSSS44SSSS44SSSSSSS"),
+        //            user : : rwx , g::r-x|mask:rwx # all|other:r
         (Some(0x80), "SSSSSSSSSSSSSSSSSSSSSSSSSSSSSSSS44443SSSSSSS"),
     ];
     for (byte, wanted) in ROWS {
