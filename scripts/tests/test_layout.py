@@ -46,3 +46,11 @@ class Faults(unittest.TestCase):
         head, doc, attribute = "//! One.", "    /// Two.", "    #[inline]"
         self.assertEqual(self.numbers("one.rt", ".rt", head, doc, attribute, "fn two()"), [])
         self.assertEqual(self.numbers("one.rt", ".rt", head, attribute, doc, "fn two()"), [3])
+
+    def test_a_value_for_the_proof_alone_has_a_remark(self):
+        head, remark, value = "//! One.", "    // For the proof only.", "    let _two = two();"
+        self.assertEqual(self.numbers("one.rt", ".rt", head, remark, value), [])
+        self.assertEqual(self.numbers("one.rt", ".rt", head, "{", "    let _ = self;"), [])
+        self.assertEqual(self.numbers("one.rt", ".rt", head, "    three();", value), [3])
+        for call in ("let _ = end.close();", "let _three = two()?;", "let _ = self"):
+            self.assertEqual(self.numbers("one.rt", ".rt", head, "    three();", call), [])

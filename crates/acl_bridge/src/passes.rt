@@ -195,7 +195,7 @@ fn append_made(
         Part::Allowed => append_allowed(aces, who, perms, effect),
         Part::Denied => append_denied(aces, who, perms, effect),
         Part::Settled => {
-            // Both calls take it by value.
+            // For the proof only: a copy by itself for each of the two calls.
             let denied = who;
             append_allowed(aces, who, perms, effect)?;
             append_denied(aces, denied, perms, effect)

@@ -10,7 +10,8 @@ use Rattle.acl_queries.specs.CommandLine.{Takes}
 use Rattle.acl_queries.specs.ErrorOutput.{SaysFault}
 use Rattle.acl_queries.specs.Meaning.{Meaning}
 use Rattle.acl_service.specs.Opened.{Opens}
-use Rattle.acl_service.specs.RunWords.{AreTold, CanRun, IsTold, input_count, sessions_in, setup_in}
+use Rattle.acl_service.specs.RunWords.{CanRun, HasBytes, HaveBytes, input_count, sessions_in}
+use Rattle.acl_service.specs.RunWords.{setup_in}
 use Rattle.acl_service.specs.SetupFaults.{setup_error_words}
 use Rattle.acl_service.specs.TextsFaults.{IsRefusedBy}
 use Rattle.acl_service.specs.declared.setup.fault.SetupError.{SetupError}
@@ -20,13 +21,13 @@ use Rattle.acl_lint.specs.LintText.{sessions_text}
 use Rattle.acl_lint.specs.SetupPlace.{IsPlace}
 
 -- words with `-` between them
-abbrev pub joined : List ℕ → List ℕ
-joined words = map (λ byte. if byte == space then hyphen else byte) words
+abbrev pub with_hyphens : List ℕ → List ℕ
+with_hyphens words = map (λ byte. if byte == space then hyphen else byte) words
 
 -- `NAME: WORD PLACE`
 abbrev pub setup_text : Text → SetupError → List ℕ → List ℕ
 setup_text name error place =
-    name ++ codes ": " ++ joined (setup_error_words error) ++ space ∷ place ++ newline ∷ []
+    name ++ codes ": " ++ with_hyphens (setup_error_words error) ++ space ∷ place ++ newline ∷ []
 
 -- the setup opens, and that is told of sessions of these names, with these texts
 pub record IsOfSessions (setup : List ℕ) (names : List Text) (texts : List (Vec ℕ Global))
@@ -55,8 +56,8 @@ pub record AnswersRows (bytes_of : Text → Option (List ℕ)) (input : Option (
   pub can_run : CanRun (sessions_in rows)
   pub setup : List ℕ
   pub texts : List (Vec ℕ Global)
-  pub setup_is : IsTold (bytes_of (setup_in rows)) setup
-  pub texts_are : AreTold bytes_of input (sessions_in rows) texts
+  pub setup_is : HasBytes (bytes_of (setup_in rows)) setup
+  pub texts_are : HaveBytes bytes_of input (sessions_in rows) texts
   pub text : List ℕ
   pub answers : IsLint (setup_in rows) setup (sessions_in rows) texts text
   pub out : WentOut text

@@ -9,7 +9,7 @@ use Rattle.acl_queries.specs.declared.command.run_fault.RunFault.{RunFault}
 use Rattle.acl_queries.specs.declared.command.run_fault.RunFault.TheVariants as run
 use Rattle.acl_service.specs.FilesFaults.{IsFilesFault, files_line, files_status}
 use Rattle.acl_service.specs.RunWords.{CanRun, sessions_in, setup_in}
-use Rattle.acl_service.specs.declared.files.FilesFault.{FilesFault}
+use Rattle.acl_service.specs.declared.files.fault.FilesFault.{FilesFault}
 use Rattle.acl_lint.specs.LintLine.{lint_line}
 use Rattle.acl_lint.specs.declared.fault.LintFault.{LintFault}
 use Rattle.acl_lint.specs.declared.fault.LintFault.TheVariants.{Usage, Files, Run}

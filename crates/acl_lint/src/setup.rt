@@ -3,7 +3,7 @@ ghost use Rattle.std.specs.Prelude.{◌≡◌, ◌++◌, ◌⊎◌, ℕ, IfErr, 
 ghost use Rattle.std.specs.Io.KnownBytes.{Appends, Keeps};
 ghost use Rattle.acl_queries.specs.Output.{AppendsFront};
 ghost use Rattle.acl_service.specs.TextsFaults.{IsRefusedBy};
-ghost use Rattle.acl_lint.specs.LintAnswer.{IsOfSetup, joined, setup_text};
+ghost use Rattle.acl_lint.specs.LintAnswer.{IsOfSetup, setup_text, with_hyphens};
 ghost use Rattle.acl_lint.specs.LintFaults.{IsLack};
 
 use crate::setup_place::setup_place;
@@ -14,7 +14,7 @@ use std::io::Write;
 
 /// Appends words with `-` between them.
 fn push_joined(words: &[u8], out: &mut Vec<u8>) -> Result<(), AllocError>
-    ensures { OnOk result (out.new.items ≡ out.old.items ++ joined words.now) }
+    ensures { OnOk result (out.new.items ≡ out.old.items ++ with_hyphens words.now) }
 {
     for byte in words {
         out.push(if *byte == b' ' { b'-' } else { *byte })?;

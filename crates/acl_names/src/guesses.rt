@@ -13,8 +13,7 @@ use crate::limits::MAX_NAME_LEN;
 use crate::named::{Named, find_by_bytes};
 use std::alloc::{AllocError, Global};
 
-/// So many guesses there are for each member: of many names one in 17 then loses its guess to
-/// another.
+/// Places of the table for each member. With 8, about one name in 17 loses its place to another.
 const GUESSES_PER_MEMBER: usize = 8;
 
 /// An odd number near the golden ratio of 2^64, by which the bits of a hash are spread.

@@ -37,10 +37,10 @@ struct Question {
     stranger: Uid,
 }
 
-/// Two lists, each for a file of its own owners, decide alike for everyone if they decide alike for
-/// the asker of each pair of entries, one of each list: someone who is whom both entries name, and
-/// in no other group. So they do if they decide alike for everyone who is in at most two groups.
-/// There is nothing to run here: a proof cites the contract.
+/// Two lists, each for a file with its own owners, decide alike for everyone if they decide alike
+/// for certain askers: for each pair of entries, one from each list, someone whom both entries name
+/// and who is in no other group. It follows that askers in at most two groups suffice. There is
+/// nothing to run here: a proof cites the contract.
 pub fn comparison_laws()
     ensures pairs { PairsSuffice }
     ensures two_groups { TwoGroupsSuffice }
@@ -87,8 +87,9 @@ impl Who {
     }
 }
 
-/// One to whom entries about both apply, if they apply to anybody at once: the stranger, if neither
-/// asks for a user.
+/// Someone to whom an entry for `who` applies on a file of `owners`, and an entry for `other` on a
+/// file of `other_owners`, if there is anybody. Its uid is `stranger` if neither requires a
+/// particular user.
 pub fn asker_for(
     owners: &Owners,
     other_owners: &Owners,
@@ -119,9 +120,9 @@ fn asks_for(aces: &[Ace], owner: Uid, uid: Uid) -> bool
     aces.iter().any(|ace| ace.who().needs_user(owner, uid))
 }
 
-/// A user for whom no entry asks. Each of the entries asks for one user at most, so one of as many
-/// and one more is free. They are tried from nobody's number downwards: the low numbers are those
-/// of people and of root, and a stranger is none of them.
+/// A uid that no entry requires. Each entry requires at most one, so one of `2 * MAX_ACES + 1`
+/// candidates is free. They are tried from nobody's number downwards, since low numbers are those
+/// of people and of root.
 fn stranger(first: &[Ace], second: &[Ace], owner: Uid, other_owner: Uid) -> Uid
     requires first { length first.now ≤ MAX_ACES }
     requires second { length second.now ≤ MAX_ACES }

@@ -35,7 +35,8 @@ impl Who {
         self.matches_any(owner, group, subject)
     }
 
-    /// The same of anyone. It stays a call, so that the look at a user is not one arm among others.
+    /// Whether an entry of this who applies to the subject, for any kind of who. It is never
+    /// inlined, so that the common test for a user is one comparison at the call.
     #[inline(never)]
     fn matches_any<S: Subject>(&self, owner: Uid, group: Gid, subject: &S) -> bool
         ensures { result ≡ matches owner group (S.identity subject.now) self.now }
@@ -62,7 +63,7 @@ impl Who {
         }
     }
 
-    /// Whether both are about the same.
+    /// Whether both are the same who: `==`, with a clause that proofs can cite.
     pub(crate) fn is(&self, other: &Who) -> bool
         ensures { result ≡ same_who self.now other.now }
     {

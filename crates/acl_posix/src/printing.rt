@@ -122,8 +122,8 @@ fn print_lines(
     Ok(())
 }
 
-/// Appends the lines, if `out` has room for them. The text is in the hand meanwhile, so that where
-/// it ends isn't written to memory byte by byte.
+/// Appends the lines. `out` has to have room for them. It works on a `Vec` of its own meanwhile, so
+/// that the length stays in a register.
 fn put_lines(entries: &[Entry], mask: Option<Perms>, directory: &Directory, out: &mut Vec<u8>)
     requires within { length entries.now ≤ MAX_ENTRIES }
     requires room { vec_len out.old + length entries.now * MAX_LINE ≤ vec_capacity out.old }

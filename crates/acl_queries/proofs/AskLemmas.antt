@@ -18,7 +18,7 @@ use Rattle.acl_posix.specs.InOrder.{in_order}
 use Rattle.acl_posix.specs.Validity.{IsValid, fault_of}
 use Rattle.acl_posix.specs.declared.reading.PieceFault.{PieceFault}
 use Rattle.acl_queries.specs.AclText.{accepted, acl_of, as_field, entries_of, nobody}
-use Rattle.acl_queries.specs.Ask.{Ask, GiveAcl, GiveFlag, GiveGids, GiveId, GivePerms, Write}
+use Rattle.acl_queries.specs.Ask.{Ask, GiveAcl, GiveFlag, GiveGids, GiveId, GivePerms, WriteIds}
 use Rattle.acl_queries.specs.Asked.{Asked, acl_in, asked_in, flag_in, flag_of, gids_in, gids_of, id_in, id_of, perms_in, perms_of}
 use Rattle.acl_queries.specs.CommandLine.{Takes}
 use Rattle.acl_queries.specs.DecideLine.{decide_line}
@@ -27,7 +27,7 @@ use Rattle.acl_queries.proofs.AclLemmas.{entries_of-spelt, field_of}
 
 -- Gids.
 
-Say-Write : (texts : List Text) (ids : List ℕ) → Write texts ids → Say id_of texts ids
+Say-Write : (texts : List Text) (ids : List ℕ) → WriteIds texts ids → Say id_of texts ids
 Say-Write [] [] written = refl
 Say-Write [] (id ∷ ids) written = cc
 Say-Write (text ∷ texts) [] written = cc
@@ -36,15 +36,15 @@ Say-Write (text ∷ texts) (id ∷ ids) written =
     let more : map decimal_value texts ≡ map Some ids = cc in
     rw (first, Say-Write texts ids more) refl
 
-Write-Say : (texts : List Text) (ids : List ℕ) → Say id_of texts ids → Write texts ids
-Write-Say [] [] said = refl
-Write-Say [] (id ∷ ids) said = cc
-Write-Say (text ∷ texts) [] said = cc
-Write-Say (text ∷ texts) (id ∷ ids) said =
+WriteIds-Say : (texts : List Text) (ids : List ℕ) → Say id_of texts ids → WriteIds texts ids
+WriteIds-Say [] [] said = refl
+WriteIds-Say [] (id ∷ ids) said = cc
+WriteIds-Say (text ∷ texts) [] said = cc
+WriteIds-Say (text ∷ texts) (id ∷ ids) said =
     let is : id_of text ≡ Ok id = cc in
     let more : map id_of texts ≡ map Ok ids = cc in
     let first = given BadId (decimal_value text) id is in
-    rw (first, Write-Say texts ids more) refl
+    rw (first, WriteIds-Say texts ids more) refl
 
 -- Entries.
 
@@ -100,7 +100,7 @@ module _ (words : List Text) where
   GiveGids-from gids None given is = inl (given, cc)
   GiveGids-from gids (Some text) given is =
       let said = at_most_read-said id_of TooMany MAX_GROUPS_OF_USER (parts comma text) gids is in
-      inr (text, given, Write-Say _ _ said.0, said.1)
+      inr (text, given, WriteIds-Say _ _ said.0, said.1)
 
   GivePerms-read : (perms : ℕ) → perms_in rows ≡ Ok perms → GivePerms words perms
   GivePerms-read perms is =

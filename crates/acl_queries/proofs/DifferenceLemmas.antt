@@ -12,7 +12,7 @@ use Rattle.acl_nfs4.specs.declared.comparison.Difference.{Difference}
 use Rattle.acl_bridge.specs.Comparison.{GrantAlikeToAll, IsFirstDifference, granted_by, permission_bits, whole_requests}
 use Rattle.acl_queries.specs.Comparing.{between}
 use Rattle.acl_queries.specs.Compared.{Compared}
-use Rattle.acl_queries.specs.Differences.{Answers, AreAlike, Differ, told_text}
+use Rattle.acl_queries.specs.Differences.{AreAlike, Differ, IsComparison, comparison_text}
 use Rattle.acl_queries.specs.declared.command.list.AnyAcl.TheVariants.{Nfs4, Posix}
 
 -- of two NFSv4 lists all bits were compared
@@ -54,6 +54,6 @@ swapped_is before after bits difference is = record {
 
 -- the text for what was found answers
 pub answers_found : (compared : Compared) (found : Option Difference) → MatchOption found (AreAlike compared) (Differ compared)
-    → Answers compared (told_text found)
+    → IsComparison compared (comparison_text found)
 answers_found compared None alike = inl (alike, refl)
 answers_found compared (Some difference) differs = inr (difference, differs, refl)

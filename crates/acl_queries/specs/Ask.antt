@@ -19,38 +19,38 @@ use Rattle.acl_queries.specs.CommandLine.{Takes}
 use Rattle.acl_queries.specs.DecideLine.{decide_line}
 
 -- the words give the text for the name
-abbrev pub Give : List Text → Text → Text → Type 0
-Give words name text = first_of name (matches_of decide_line words) ≡ Some text
+abbrev pub GiveText : List Text → Text → Text → Type 0
+GiveText words name text = first_of name (matches_of decide_line words) ≡ Some text
 
 -- the words give the id for the name, in decimal
 abbrev pub GiveId : List Text → Text → ℕ → Type 0
-GiveId words name id = (text : Text) × Give words name text × (decimal_value text ≡ Some id)
+GiveId words name id = (text : Text) × GiveText words name text × (decimal_value text ≡ Some id)
 
 -- the texts are the ids in decimal, one for one
-abbrev pub Write : List Text → List ℕ → Type 0
-Write texts ids = map decimal_value texts ≡ map Some ids
+abbrev pub WriteIds : List Text → List ℕ → Type 0
+WriteIds texts ids = map decimal_value texts ≡ map Some ids
 
 -- the words give the gids, between commas, or nothing at all
 abbrev pub GiveGids : List Text → List ℕ → Type 0
 GiveGids words gids = ((first_of (codes "gids") (matches_of decide_line words) ≡ None)
     × (gids ≡ []))
-    ⊎ ((text : Text) × Give words (codes "gids") text × Write (parts comma text) gids
+    ⊎ ((text : Text) × GiveText words (codes "gids") text × WriteIds (parts comma text) gids
     × (length gids ≤ MAX_GROUPS_OF_USER))
 
 -- the words give permissions
 abbrev pub GivePerms : List Text → ℕ → Type 0
-GivePerms words perms = (text : Text) × Give words (codes "perms") text
+GivePerms words perms = (text : Text) × GiveText words (codes "perms") text
     × (perms_of_text text ≡ Some perms)
 
 -- the words give a text that spells valid entries, and the access control list is those in order
 abbrev pub GiveAcl : List Text → List EntryValue → Type 0
-GiveAcl words acl = (text : Text) × (entries : List EntryValue) × Give words (codes "text") text
+GiveAcl words acl = (text : Text) × (entries : List EntryValue) × GiveText words (codes "text") text
     × Spells (entry_of nobody) MAX_ENTRIES text entries
     × IsValid entries × (in_order entries ≡ acl)
 
 -- the words set the flag exactly if this is true; the parser gives it a value then, `true`
 abbrev pub GiveFlag : List Text → Text → Bool → Type 0
-GiveFlag words name given = (given ≡ true) ↔ Give words name (codes "true")
+GiveFlag words name given = (given ≡ true) ↔ GiveText words name (codes "true")
 
 -- the words ask this: the parser takes them, and they give each field
 pub record Ask (words : List Text) (asked : Asked) : Type 0 where

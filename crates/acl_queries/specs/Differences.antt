@@ -89,17 +89,17 @@ abbrev pub alike_text : List ℕ
 alike_text = codes "alike\n"
 
 -- the text for a difference that was found, if any
-abbrev pub told_text : Option Difference → List ℕ
-told_text None = alike_text
-told_text (Some difference) = difference_text difference
+abbrev pub comparison_text : Option Difference → List ℕ
+comparison_text None = alike_text
+comparison_text (Some difference) = difference_text difference
 
 -- The text answers: it says that the lists are alike, and they are; or it tells of a difference,
 -- and it is one. Which one, if there are several, isn't fixed.
-abbrev pub Answers : Compared → List ℕ → Type 0
-Answers compared text =
+abbrev pub IsComparison : Compared → List ℕ → Type 0
+IsComparison compared text =
     (AreAlike compared × (text ≡ alike_text))
     ⊎ ((difference : Difference) × Differ compared difference × (text ≡ difference_text difference))
 
 -- what the words of `compare` mean
 abbrev pub compare_meaning : List Text → Meaning
-compare_meaning = query_meaning compare_line compared_in Answers
+compare_meaning = query_meaning compare_line compared_in IsComparison

@@ -7,6 +7,7 @@ pub(crate) mod change_text;
 mod command_fault;
 mod command_line;
 mod error_output;
+pub mod fields;
 pub(crate) mod ids;
 mod input;
 pub(crate) mod list;

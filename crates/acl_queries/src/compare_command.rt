@@ -1,8 +1,6 @@
 //! The command `compare`.
 ghost use Rattle.std.specs.Prelude.{map};
-ghost use Rattle.acl_nfs4.specs.declared.comparison.Difference.{Difference};
-ghost use Rattle.acl_queries.specs.Compared.{Compared};
-ghost use Rattle.acl_queries.specs.Differences.{AreAlike, Differ, compare_meaning};
+ghost use Rattle.acl_queries.specs.Differences.{compare_meaning};
 ghost use Rattle.acl_queries.specs.ErrorOutput.{Reports};
 ghost use Rattle.acl_queries.specs.Meaning.{Ends};
 
@@ -44,10 +42,3 @@ pub fn compare<S: AsStr, W: Write, E: Write + Drop>(
 {
     ask::<Comparison, S, W, E>(alloc, words, out, err)
 }
-
-/// Lists that decide alike for every requester differ for nobody: of the two answers of `compare`
-/// at most one is right. There is nothing to run here: a proof cites the contract.
-pub fn alike_lists_differ_for_nobody()
-    ensures { (compared : Compared) (difference : Difference) → AreAlike compared
-        → Differ compared difference → ⊥ }
-{}

@@ -1,11 +1,6 @@
 //! The command `decide`.
-ghost use Rattle.std.specs.Prelude.{◌≡◌, ◌↔◌, ℕ, List, Ok, map};
-ghost use Rattle.clap.specs.Words.{matches_of};
-ghost use Rattle.acl_queries.specs.Ask.{Ask};
-ghost use Rattle.acl_queries.specs.Asked.{Asked, asked_in};
-ghost use Rattle.acl_queries.specs.CommandLine.{Takes};
+ghost use Rattle.std.specs.Prelude.{map};
 ghost use Rattle.acl_queries.specs.DecideAnswer.{decide_meaning};
-ghost use Rattle.acl_queries.specs.DecideLine.{decide_line};
 ghost use Rattle.acl_queries.specs.ErrorOutput.{Reports};
 ghost use Rattle.acl_queries.specs.Meaning.{Ends};
 
@@ -41,11 +36,3 @@ pub fn decide<S: AsStr, W: Write, E: Write + Drop>(
 {
     ask::<Question, S, W, E>(alloc, words, out, err)
 }
-
-/// Words ask what their fields give, each field by itself, and nothing else. There is nothing to
-/// run here: a proof cites the contract.
-pub fn words_ask_what_they_give()
-    ensures { (words : List (List ℕ)) (asked : Asked)
-        → Ask words asked ↔ (Takes decide_line words
-        × (asked_in (matches_of decide_line words) ≡ Ok asked)) }
-{}

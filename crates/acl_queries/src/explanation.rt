@@ -6,9 +6,6 @@ ghost use Rattle.acl_posix.specs.Access.{effective_perms, is_for_group_of, is_un
 ghost use Rattle.acl_posix.specs.Entry.{same_tag};
 ghost use Rattle.acl_posix.specs.Perms.{bits_of};
 ghost use Rattle.std.specs.List.{list_any};
-ghost use Rattle.acl_queries.specs.Explanation.{ClassesDecide, FirstSpeakersDecide};
-ghost use Rattle.acl_queries.specs.Explanation.{LaterEntriesDontCount, OtherEntriesDontCount};
-ghost use Rattle.acl_queries.specs.Explanation.{SilentEntriesDontCount};
 ghost use Rattle.acl_queries.specs.Explanation.{class_of, counts, first_speaker, is_limited};
 ghost use Rattle.acl_queries.specs.Explanation.{is_of_class, lacks, speaks_of};
 
@@ -145,15 +142,3 @@ pub fn first_speaker(
         .iter()
         .position(|ace| speaks(ace, owner, group, requester, bit))
 }
-
-/// Of a POSIX list one class of entries decides, and no permissions count but those of its entries
-/// and, where the class is under it, the mask's. Of an NFSv4 list the first entry that speaks of a
-/// bit decides it: what comes after counts for nothing, and so do entries that stay silent about
-/// it. There is nothing to run here: a proof cites the contract.
-pub fn explanation_laws()
-    ensures classes { ClassesDecide }
-    ensures others { OtherEntriesDontCount }
-    ensures speakers { FirstSpeakersDecide }
-    ensures silent { SilentEntriesDontCount }
-    ensures later { LaterEntriesDontCount }
-{}

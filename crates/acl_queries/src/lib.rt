@@ -9,13 +9,15 @@ mod compare_command;
 mod decide_command;
 mod explain_command;
 mod explanation;
+mod laws;
 
 pub use command::{
     CapFault, CommandFault, CommandLine, ErrorOutput, FieldFault, QueryFault, RunFault, WordsFault,
-    optional_perms_field, options, parse, push_bits, push_gids, read_capped, report, words_of,
-    write_text,
+    fields, optional_perms_field, options, parse, push_bits, push_gids, read_capped, report,
+    words_of, write_text,
 };
-pub use compare_command::{alike_lists_differ_for_nobody, compare};
-pub use decide_command::{decide, words_ask_what_they_give};
+pub use compare_command::compare;
+pub use decide_command::decide;
 pub use explain_command::explain;
-pub use explanation::{Class, class_of, effective_perms, explanation_laws, first_speaker, lacks};
+pub use explanation::{Class, class_of, effective_perms, first_speaker, lacks};
+pub use laws::{alike_lists_differ_for_nobody, explanation_laws, words_ask_what_they_give};

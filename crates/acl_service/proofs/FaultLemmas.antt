@@ -1,6 +1,7 @@
 -- What is said of runs that come to nothing.
-use Rattle.std.proofs.Common.{◌≤◌, ◌≡◌, ◌≢◌, ◌∙◌, ℕ, List, Option, ap, arith, inl, refl, subst, sym}
+use Rattle.std.proofs.Common.{◌≤◌, ◌≡◌, ◌≢◌, ◌∙◌, ℕ, List, Option, ap, arith, codes, inl, refl, subst, sym}
 use Rattle.std.specs.Prelude.{IfSome}
+use Rattle.std.specs.Fmt.{digits}
 use Rattle.std.specs.Io.KnownBytes.{Keeps}
 use Rattle.acl_queries.specs.ErrorOutput.{ErrorText, Reports, SaysFault, Tells}
 use Rattle.acl_queries.specs.Meaning.{Ends, Meaning}
@@ -8,12 +9,17 @@ use Rattle.acl_queries.specs.Output.{AppendsFront}
 use Rattle.acl_queries.proofs.ErrorLemmas.{Reports-line}
 use Rattle.acl_queries.proofs.MeaningLemmas.{Ends-fault}
 use Rattle.acl_service.specs.FilesFaults.{files_line, files_status}
-use Rattle.acl_service.specs.TextsFaults.{lost_output, texts_line, texts_status}
-use Rattle.acl_service.specs.declared.files.FilesFault.{FilesFault}
-use Rattle.acl_service.specs.declared.files.FilesFault.TheVariants.{SessionCount, InputTwice, CannotRead, Memory}
+use Rattle.acl_service.specs.TextsFaults.{lost_output, texts_line, texts_status, too_many_sessions}
+use Rattle.acl_service.specs.declared.files.fault.FilesFault.{FilesFault}
+use Rattle.acl_service.specs.declared.files.fault.FilesFault.TheVariants.{SessionCount, InputTwice, CannotRead, Memory}
 use Rattle.acl_service.specs.declared.run_command.fault.TextsFault.{TextsFault}
 use Rattle.acl_service.specs.declared.run_command.fault.TextsFault.TheVariants.{TooManySessions, Setup, Run}
 use Rattle.acl_service.proofs.CutLemmas.{kept_or_cut}
+
+-- how many sessions there may be, in the words of the code
+pub too_many-is : codes "at most 64 sessions" ≡ too_many_sessions
+unfolding digits
+too_many-is = refl
 
 texts_bounds : (fault : TextsFault) → (1 ≤ texts_status fault) × (texts_status fault ≤ 3)
 texts_bounds TooManySessions = (omega arith, omega arith)

@@ -8,16 +8,16 @@ use Rattle.std.specs.declared.vec.Vec.{Vec}
 use Rattle.std.specs.declared.alloc.Global.{Global}
 use Rattle.clap.specs.Words.{Text}
 use Rattle.acl_service.specs.FilesFaults.{IsFilesFault, IsReadFault, IsReadFaultAmong}
-use Rattle.acl_service.specs.RunWords.{AreTold, CanRun, IsTold, input_count, session_told}
-use Rattle.acl_service.specs.declared.files.FilesFault.{FilesFault}
-use Rattle.acl_service.specs.declared.files.FilesFault.TheVariants.{SessionCount, InputTwice, CannotRead, Memory}
+use Rattle.acl_service.specs.RunWords.{CanRun, HasBytes, HaveBytes, bytes_of_session, input_count}
+use Rattle.acl_service.specs.declared.files.fault.FilesFault.{FilesFault}
+use Rattle.acl_service.specs.declared.files.fault.FilesFault.TheVariants.{SessionCount, InputTwice, CannotRead, Memory}
 
-pub AreTold-more : (bytes_of : Text → Option (List ℕ)) (input : Option (List ℕ)) (names : List Text) (texts : List (Vec ℕ Global)) (name : Text) (text : Vec ℕ Global)
-    → AreTold bytes_of input names texts → IsTold (session_told bytes_of input name) text.items → AreTold bytes_of input (names ++ name ∷ []) (texts ++ text ∷ [])
-AreTold-more bytes_of input [] [] name text told last = (last, tt)
-AreTold-more bytes_of input (first ∷ names) (before ∷ texts) name text (here, more) last = (here, AreTold-more bytes_of input names texts name text more last)
-AreTold-more bytes_of input [] (before ∷ texts) name text told last = absurd told
-AreTold-more bytes_of input (first ∷ names) [] name text told last = absurd told
+pub HaveBytes-more : (bytes_of : Text → Option (List ℕ)) (input : Option (List ℕ)) (names : List Text) (texts : List (Vec ℕ Global)) (name : Text) (text : Vec ℕ Global)
+    → HaveBytes bytes_of input names texts → HasBytes (bytes_of_session bytes_of input name) text.items → HaveBytes bytes_of input (names ++ name ∷ []) (texts ++ text ∷ [])
+HaveBytes-more bytes_of input [] [] name text told last = (last, tt)
+HaveBytes-more bytes_of input (first ∷ names) (before ∷ texts) name text (here, more) last = (here, HaveBytes-more bytes_of input names texts name text more last)
+HaveBytes-more bytes_of input [] (before ∷ texts) name text told last = absurd told
+HaveBytes-more bytes_of input (first ∷ names) [] name text told last = absurd told
 
 -- the names up to and including one
 pub map-take_more : {A B : Type 0} (f : A → B) (names : List A) (at : ℕ) (none : A) → at < length names → map f (take (at + 1) names) ≡ map f (take at names) ++ f (get_or names at none) ∷ []
@@ -64,11 +64,11 @@ module _ (so_far : List Text) (name : Text) where
 
 -- what is told of a text by the input as it is, by the input as it was, if it stayed for a name that is its
 pub told_before : (bytes_of : Text → Option (List ℕ)) (now first : Option (List ℕ)) (name : Text) (text : List ℕ)
-    → (bytes_eq name (codes "-") ≡ true → now ≡ first) → IsTold (session_told bytes_of now name) text → IsTold (session_told bytes_of first name) text
+    → (bytes_eq name (codes "-") ≡ true → now ≡ first) → HasBytes (bytes_of_session bytes_of now name) text → HasBytes (bytes_of_session bytes_of first name) text
 told_before bytes_of now first name text stayed = go (bytes_eq name (codes "-")) stayed
   where
-    go : (b : Bool) → (b ≡ true → now ≡ first) → IsTold (cond b now (bytes_of name)) text → IsTold (cond b first (bytes_of name)) text
-    go true stayed told = subst (λ input. IsTold input text) (stayed refl) told
+    go : (b : Bool) → (b ≡ true → now ≡ first) → HasBytes (cond b now (bytes_of name)) text → HasBytes (cond b first (bytes_of name)) text
+    go true stayed told = subst (λ input. HasBytes input text) (stayed refl) told
     go false stayed told = told
 
 -- what is refused for one of the names is refused for the names

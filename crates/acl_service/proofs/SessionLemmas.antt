@@ -17,7 +17,7 @@ use Rattle.acl_runs.specs.RunReport.{IsReport}
 use Rattle.acl_service.specs.Runs.{answer_to, answers_of, tree_after, tree_after_one}
 use Rattle.acl_service.specs.Served.{next_served, reply_served}
 use Rattle.acl_service.specs.Sessions.{ExplainsSessions, IsServedAlone, answer_handling, answers_in, is_error, requests_of_each, tree_after_journal}
-use Rattle.acl_service.specs.Told.{IsToldOf, told}
+use Rattle.acl_service.specs.ReportOf.{IsReportOf, report_of}
 use Rattle.acl_runs.specs.declared.report.RunReport.{RunReport}
 use Rattle.acl_service.specs.declared.served.Served.{Served}
 use Rattle.acl_service.specs.declared.sessions.report.Report.{Report}
@@ -36,7 +36,7 @@ served_tree served (entry ∷ journal) = served_tree (next_served served entry.i
 -- what is told of a run explains its sessions
 pub explains : (served : Served) (limit : Option ℕ) (texts : List (Vec ℕ Global)) (run : RunReport Served (JournalEntry Numbered) Answer)
     → IsReport next_served reply_served (answer_handling served.directory.now) served limit (requests_of_each served.directory.now texts) run
-    → ExplainsSessions served.directory.now served.tree limit texts (told run)
+    → ExplainsSessions served.directory.now served.tree limit texts (report_of run)
 explains served limit texts run is =
     let known = served.directory.now in
     let journal = run.journal.items in
@@ -57,7 +57,7 @@ explains served limit texts run is =
 
 -- the same, of the report, if the run is of sessions that want the texts' requests
 pub explained : (served : Served) (limit : Option ℕ) (texts : List (Vec ℕ Global)) (wanted : List (List Numbered)) (run : RunReport Served (JournalEntry Numbered) Answer) (report : Report)
-    → wanted ≡ requests_of_each served.directory.now texts → report ≡ told run
+    → wanted ≡ requests_of_each served.directory.now texts → report ≡ report_of run
     → IsReport next_served reply_served (answer_handling served.directory.now) served limit wanted run
     → ExplainsSessions served.directory.now served.tree limit texts report
 explained served limit texts wanted run report wanted_are is_told is =
@@ -66,7 +66,7 @@ explained served limit texts wanted run report wanted_are is_told is =
 
 -- and so does a report that has the run's entries in a list of its own
 pub explained_by : (known : Known) (tree : NodesUnderUmask) (limit : Option ℕ) (texts : List (Vec ℕ Global)) (run : RunReport Served (JournalEntry Numbered) Answer) (report : Report)
-    → IsToldOf run report → ExplainsSessions known tree limit texts (told run) → ExplainsSessions known tree limit texts report
+    → IsReportOf run report → ExplainsSessions known tree limit texts (report_of run) → ExplainsSessions known tree limit texts report
 explained_by known tree limit texts run report same is = record {
   entries = subst (λ entries. AllByRecursion (λ entry. entry.session < length texts) entries) (sym same.journal) is.entries;
   served = λ session none below.

@@ -9,15 +9,15 @@ use Rattle.acl_queries.specs.Faults.{SaysUsage}
 use Rattle.acl_queries.specs.RunFaults.{run_fault_words}
 use Rattle.acl_queries.specs.declared.command.run_fault.RunFault.TheVariants as run
 use Rattle.acl_service.specs.RunLine.{run_line}
-use Rattle.acl_service.specs.RunWords.{CanRun, IsTold, input_count, sessions_in, setup_in}
-use Rattle.acl_service.specs.TextsFaults.{SaysTexts}
-use Rattle.acl_service.specs.declared.files.FilesFault.{FilesFault}
-use Rattle.acl_service.specs.declared.files.FilesFault.TheVariants.{SessionCount}
-use Rattle.acl_service.specs.declared.files.FilesFault.TheVariants.{InputTwice}
-use Rattle.acl_service.specs.declared.files.FilesFault.TheVariants.{CannotRead, Memory}
+use Rattle.acl_service.specs.RunWords.{CanRun, HasBytes, input_count, sessions_in, setup_in}
+use Rattle.acl_service.specs.TextsFaults.{SaysTexts, too_many_sessions}
+use Rattle.acl_service.specs.declared.files.fault.FilesFault.{FilesFault}
+use Rattle.acl_service.specs.declared.files.fault.FilesFault.TheVariants.{SessionCount}
+use Rattle.acl_service.specs.declared.files.fault.FilesFault.TheVariants.{InputTwice}
+use Rattle.acl_service.specs.declared.files.fault.FilesFault.TheVariants.{CannotRead, Memory}
 
 abbrev pub files_fault_words : FilesFault → List ℕ
-files_fault_words SessionCount = codes "at most 64 sessions"
+files_fault_words SessionCount = too_many_sessions
 files_fault_words InputTwice = codes "- is given twice"
 files_fault_words (CannotRead name) = codes "cannot read " ++ name.now
 files_fault_words Memory = codes "run: " ++ run_fault_words run.Memory
@@ -61,7 +61,7 @@ IsFilesFault setup names Memory = CanRun names
 abbrev pub SaysFiles : (Text → Option (List ℕ)) → List Row → ℕ → Option (List ℕ) → Type 0
 SaysFiles bytes_of rows status line =
     SaysFault files_status files_line (IsFilesFault (setup_in rows) (sessions_in rows)) status line
-    ⊎ (CanRun (sessions_in rows) × ((setup : List ℕ) × IsTold (bytes_of (setup_in rows)) setup
+    ⊎ (CanRun (sessions_in rows) × ((setup : List ℕ) × HasBytes (bytes_of (setup_in rows)) setup
     × SaysTexts setup (length (sessions_in rows)) status line))
 
 -- and of the words: the parser refuses them, or it takes them and they name such files

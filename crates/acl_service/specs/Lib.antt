@@ -9,7 +9,7 @@ pub mod SetupFaults
 pub mod FilesFaults
 pub mod Sessions
 pub mod Cursor
-pub mod Told
+pub mod ReportOf
 pub mod Headline
 pub mod TextsFaults
 pub mod RunText

@@ -42,21 +42,22 @@ IsLimit (Some text) (Some errors) = errors ≡ digits_value 10 (without_leading_
 abbrev pub HasLimit : List Row → Option ℕ → Type 0
 HasLimit rows limit = IsLimit (first_of (codes "max-errors") rows) limit
 
--- the bytes are those that are told, if any are
-abbrev pub IsTold : Option (List ℕ) → List ℕ → Type 0
-IsTold told bytes = IfSome told (λ those. bytes ≡ those)
+-- the bytes are the known ones, if any are known
+abbrev pub HasBytes : Option (List ℕ) → List ℕ → Type 0
+HasBytes known bytes = IfSome known (λ those. bytes ≡ those)
 
--- what is told of a session's text: `-` is standard input
-abbrev pub session_told : (Text → Option (List ℕ)) → Option (List ℕ) → Text → Option (List ℕ)
-session_told bytes_of input name = if bytes_eq name (codes "-") then input else bytes_of name
+-- the bytes of a session's text, if they are known: `-` is standard input
+abbrev pub bytes_of_session : (Text → Option (List ℕ)) → Option (List ℕ) → Text → Option (List ℕ)
+bytes_of_session bytes_of input name = if bytes_eq name (codes "-") then input else bytes_of name
 
--- a text for each name, of the bytes that are told of it
-abbrev pub AreTold : (Text → Option (List ℕ)) → Option (List ℕ) → List Text → List (Vec ℕ Global)
+-- a text for each name, of its bytes
+abbrev pub HaveBytes : (Text → Option (List ℕ)) → Option (List ℕ) → List Text → List (Vec ℕ Global)
     → Type 0
-AreTold bytes_of input [] [] = ⊤
-AreTold bytes_of input (name ∷ names) (text ∷ texts) =
-    IsTold (session_told bytes_of input name) text.items × AreTold bytes_of input names texts
-AreTold bytes_of input _ _ = ⊥
+HaveBytes bytes_of input [] [] = ⊤
+HaveBytes bytes_of input (name ∷ names) (text ∷ texts) =
+    HasBytes (bytes_of_session bytes_of input name) text.items
+    × HaveBytes bytes_of input names texts
+HaveBytes bytes_of input _ _ = ⊥
 
 -- what the files print that the fields name went out so: all of it, or a front
 pub record RunsRows (bytes_of : Text → Option (List ℕ)) (input : Option (List ℕ)) (rows : List Row)
@@ -66,8 +67,8 @@ pub record RunsRows (bytes_of : Text → Option (List ℕ)) (input : Option (Lis
   pub texts : List (Vec ℕ Global)
   pub limit : Option ℕ
   pub limit_is : HasLimit rows limit
-  pub setup_is : IsTold (bytes_of (setup_in rows)) setup
-  pub texts_are : AreTold bytes_of input (sessions_in rows) texts
+  pub setup_is : HasBytes (bytes_of (setup_in rows)) setup
+  pub texts_are : HaveBytes bytes_of input (sessions_in rows) texts
   pub runs : RunsTexts setup texts (flag_in (codes "journal") rows) limit WentOut
 
 -- the words are taken, and what the files print that they name went out so

@@ -62,6 +62,6 @@ IsBadField reading (Parts fault) = ⊥
 IsBadField reading Memory = ⊤
 
 -- the result is the value of the reading, or says why there is none
-abbrev pub Answers : {T A : Type 0} → (T → A) → Option A → Result T SetupError → Type 0
-Answers shown reading result = MatchResult result (λ value. reading ≡ Some (shown value))
+abbrev pub IsReadingOf : {T A : Type 0} → (T → A) → Option A → Result T SetupError → Type 0
+IsReadingOf shown reading result = MatchResult result (λ value. reading ≡ Some (shown value))
     (IsBadField reading)

@@ -1,5 +1,5 @@
 -- The lines and the exit statuses of runs that come to nothing.
-use Rattle.std.specs.Prelude.{◌≢◌, ◌<◌, ◌≤◌, ◌++◌, ⊤, ℕ, List, Option, Some, codes}
+use Rattle.std.specs.Prelude.{◌≢◌, ◌<◌, ◌≤◌, ◌++◌, ⊤, ℕ, List, Option, Some, codes, decimal}
 use Rattle.acl_broker.specs.declared.limits.TheConstants.{SESSIONS}
 use Rattle.acl_service.specs.Opened.{IsRefusedSetup}
 use Rattle.acl_service.specs.SetupFaults.{setup_error_words}
@@ -16,8 +16,12 @@ use Rattle.acl_runs.specs.declared.stop.ServeFault.TheVariants as serve
 use Rattle.acl_service.specs.declared.setup.fault.SetupError.{SetupError}
 use Rattle.acl_service.specs.declared.setup.fault.SetupError.TheVariants as setup
 
+-- how many sessions there may be
+abbrev pub too_many_sessions : List ℕ
+too_many_sessions = codes "at most " ++ decimal SESSIONS ++ codes " sessions"
+
 abbrev pub texts_fault_words : TextsFault → List ℕ
-texts_fault_words TooManySessions = codes "at most 64 sessions"
+texts_fault_words TooManySessions = too_many_sessions
 texts_fault_words (Setup error) = codes "setup: " ++ setup_error_words error
 texts_fault_words (Run fault) = codes "run: " ++ run_fault_words fault
 

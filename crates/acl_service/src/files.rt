@@ -1,71 +1,25 @@
 //! The files of a setup and of sessions.
-ghost use Rattle.std.specs.Prelude.{◌≡◌, ◌≤◌, ℕ, All, IfErr, IfOk, List, OnOk, Option, Some};
+ghost use Rattle.std.specs.Prelude.{◌≡◌, ◌≤◌, All, IfErr, IfOk, OnOk};
 ghost use Rattle.std.specs.Prelude.{bytes_eq, codes, false, length, map};
-ghost use Rattle.std.specs.Io.KnownBytes.{Appends};
 ghost use Rattle.acl_lang.specs.declared.limits.TheConstants.{MAX_TEXT_LEN};
 ghost use Rattle.acl_service.specs.FilesFaults.{IsFilesFault, IsReadFault, IsReadFaultAmong};
 ghost use Rattle.acl_service.specs.FilesFaults.{files_status};
-ghost use Rattle.acl_service.specs.RunWords.{AreTold, CanRun, IsTold, input_count, session_told};
+ghost use Rattle.acl_service.specs.RunWords.{CanRun, HasBytes, HaveBytes, bytes_of_session};
+ghost use Rattle.acl_service.specs.RunWords.{input_count};
 
-use crate::{CapFault, RunFault, read_capped};
+pub(crate) mod fault;
+mod open_files;
+
+use crate::{CapFault, read_capped};
 use acl_broker::SESSIONS;
 use acl_lang::MAX_TEXT_LEN;
-use acl_queries::{CommandFault, ErrorOutput};
+pub use fault::FilesFault;
+pub use open_files::OpenFiles;
 use std::alloc::Global;
-use std::io::{self, Read, Write};
+use std::io::Read;
 
 /// The name of standard input as a session.
 const INPUT: &str = "-";
-
-/// Where files are opened by their names.
-pub trait OpenFiles {
-    type File: Read + Drop;
-
-    /// The bytes of the file of a name, if they are known.
-    ghost bytes_of: { Self → List ℕ → Option (List ℕ) };
-
-    /// Opens the file of this name to be read.
-    fn open(&self, name: &str) -> io::Result<Self::File>
-        ensures { IfOk result (λ file. Self.File.remaining file ≡ bytes_of self.now name.now) };
-}
-
-/// Why files give no texts.
-#[derive(Clone, Copy, Debug, PartialEq, Eq)]
-pub enum FilesFault<'a> {
-    /// There are more sessions than there may be; or none, which the parser of command lines
-    /// doesn't let through.
-    SessionCount,
-    /// Standard input is named as more than one session.
-    InputTwice,
-    /// The file of this name can't be opened or read, or it is too long.
-    CannotRead(&'a str),
-    Memory,
-}
-
-impl<'a> CommandFault for FilesFault<'a> {
-    ghost use Rattle.acl_service.specs.FilesFaults.{files_line, files_status};
-
-    ghost status_of = { files_status };
-
-    ghost line_of = { files_line };
-
-    fn status(&self) -> u8 {
-        match self {
-            FilesFault::CannotRead(_) => 1,
-            FilesFault::SessionCount | FilesFault::InputTwice => 2,
-            FilesFault::Memory => 3,
-        }
-    }
-
-    fn tell<E: Write + Drop>(&self, err: &mut ErrorOutput<E>) {
-        match self {
-            FilesFault::SessionCount => err.write_line("at most 64 sessions", ""),
-            FilesFault::InputTwice => err.write_line("- is given twice", ""),
-            FilesFault::CannotRead(name) => err.write_line("cannot read ", name),
-            FilesFault::Memory => RunFault::Memory.tell(err),
-        }
-    }
-}
 
 /// What sessions work on: the bytes of the setup, and of each session in the order of their names.
 #[derive(Drop)]
@@ -81,7 +35,7 @@ fn read_all<'a, I: Read>(
     reader: &mut I,
 ) -> Result<Vec<u8>, FilesFault<'a>>
     ensures capped { IfOk result (λ bytes. length bytes.items ≤ MAX_TEXT_LEN) }
-    ensures told { IfOk result (λ bytes. IsTold (I.remaining reader.old) bytes.items) }
+    ensures told { IfOk result (λ bytes. HasBytes (I.remaining reader.old) bytes.items) }
     ensures refused { IfErr result (IsReadFault name.entry.now) }
 {
     match read_capped(alloc, reader, MAX_TEXT_LEN) {
@@ -98,7 +52,7 @@ pub fn read_file<'a, F: OpenFiles>(
     name: &'a str,
 ) -> Result<Vec<u8>, FilesFault<'a>>
     ensures capped { IfOk result (λ bytes. length bytes.items ≤ MAX_TEXT_LEN) }
-    ensures told { IfOk result (λ bytes. IsTold (F.bytes_of files.now name.entry.now) bytes.items) }
+    ensures told { IfOk result (λ bytes. HasBytes (F.bytes_of files.now name.entry.now) bytes.items) }
     ensures refused { IfErr result (IsReadFault name.entry.now) }
 {
     match files.open(name) {
@@ -117,7 +71,7 @@ fn read_session<'a, F: OpenFiles, I: Read>(
 ) -> Result<Vec<u8>, FilesFault<'a>>
     ensures capped { IfOk result (λ text. length text.items ≤ MAX_TEXT_LEN) }
     ensures told { IfOk result (λ text.
-        IsTold (session_told (F.bytes_of files.now) (I.remaining input.old) name.entry.now)
+        HasBytes (bytes_of_session (F.bytes_of files.now) (I.remaining input.old) name.entry.now)
         text.items) }
     ensures untouched { bytes_eq name.entry.now (codes "-") ≡ false → input.new ≡ input.old }
     ensures refused { IfErr result (IsReadFault name.entry.now) }
@@ -141,7 +95,7 @@ pub fn read_sessions<'a, F: OpenFiles, I: Read>(
     ensures count { IfOk result (λ texts. length texts.items ≡ length names.now) }
     ensures capped { IfOk result (λ texts. All (λ text. length text.items ≤ MAX_TEXT_LEN)
         texts.items) }
-    ensures told { IfOk result (λ texts. AreTold (F.bytes_of files.now) (I.remaining input.old)
+    ensures told { IfOk result (λ texts. HaveBytes (F.bytes_of files.now) (I.remaining input.old)
         (map (λ name. name.now) names.now) texts.items) }
     ensures untouched { input_count (map (λ name. name.now) names.now) ≡ 0 → input.new ≡ input.old }
     ensures refused { IfErr result (IsReadFaultAmong (map (λ name. name.now) names.now)) }
@@ -177,10 +131,10 @@ pub fn read_texts<'a, F: OpenFiles, I: Read>(
     ensures count { IfOk result (λ texts. length texts.sessions.items ≡ length names.now) }
     ensures capped { IfOk result (λ texts. All (λ text. length text.items ≤ MAX_TEXT_LEN)
         texts.sessions.items) }
-    ensures setup { IfOk result (λ texts. IsTold (F.bytes_of files.now setup.entry.now)
+    ensures setup { IfOk result (λ texts. HasBytes (F.bytes_of files.now setup.entry.now)
         texts.setup.items) }
-    ensures sessions { IfOk result (λ texts. AreTold (F.bytes_of files.now) (I.remaining input.old)
-        (map (λ name. name.now) names.now) texts.sessions.items) }
+    ensures sessions { IfOk result (λ texts. HaveBytes (F.bytes_of files.now)
+        (I.remaining input.old) (map (λ name. name.now) names.now) texts.sessions.items) }
     ensures untouched { input_count (map (λ name. name.now) names.now) ≡ 0 → input.new ≡ input.old }
 
     // Before any file is opened.

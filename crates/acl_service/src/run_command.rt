@@ -13,7 +13,7 @@ mod printing;
 mod texts;
 
 use crate::files::{FilesFault, OpenFiles, read_texts};
-use acl_queries::options::flag_field;
+use acl_queries::fields::flag_field;
 use acl_queries::{ErrorOutput, parse, report};
 use acl_runs::{Gate, OpenGate};
 use clap::ArgMatches;
@@ -32,7 +32,7 @@ use texts::{Options, print_texts};
 /// line `session K`, from 0 in the order of the texts. With `journal` there follow the line
 /// `journal` and, for each command in the order in which they took effect, a line `K N`: its
 /// session and its line's number. With `max_errors` of K, a session ends at its K-th answer that is
-/// an error. A single session of which neither is asked runs without threads.
+/// an error. A single session with neither option runs without threads.
 ///
 /// Nothing is written before the run has ended. What is wrong goes to `err` in one line; a fault
 /// while writing there changes nothing.

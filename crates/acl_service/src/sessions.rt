@@ -4,7 +4,7 @@ ghost use Rattle.acl_broker.specs.declared.limits.TheConstants.{SESSIONS};
 ghost use Rattle.acl_lang.specs.declared.limits.TheConstants.{MAX_TEXT_LEN};
 ghost use Rattle.acl_runs.specs.Rounds.{AreRounds};
 ghost use Rattle.acl_service.specs.Sessions.{ExplainsSessions, requests_of_each};
-ghost use Rattle.acl_service.specs.Told.{told};
+ghost use Rattle.acl_service.specs.ReportOf.{report_of};
 
 mod cursor;
 mod printer;
@@ -67,8 +67,8 @@ pub fn serve<R: Threads + Wait + Clock + Sync, G: Gate>(
     Ok(report)
 }
 
-/// The same, of whose answers nothing is wanted but their text: none is kept, so that long sessions
-/// take less memory.
+/// Like `serve`, but it keeps only the printed text of each answer, so that long sessions take less
+/// memory.
 pub(crate) fn serve_in_print<'a, R: Threads + Wait + Clock + Sync, G: Gate>(
     rt: &R,
     alloc: Global,
@@ -82,7 +82,7 @@ pub(crate) fn serve_in_print<'a, R: Threads + Wait + Clock + Sync, G: Gate>(
     requires short { All (λ text. length text.items ≤ MAX_TEXT_LEN) texts.now }
     requires some { max_errors ≢ Some 0 }
     ensures { IfOk result (λ run. ExplainsSessions directory.now tree max_errors texts.now
-        (told run)) }
+        (report_of run)) }
 {
     let sessions = open_all(alloc, directory, texts)?;
     let alone = Printer::<PrintedAnswer> {

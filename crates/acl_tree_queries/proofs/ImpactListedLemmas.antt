@@ -9,14 +9,14 @@ use Rattle.acl_listings.specs.Cursor.{coming, handed}
 use Rattle.acl_listings.specs.Listing.{Block, blocks_of}
 use Rattle.acl_listings.proofs.HandedLemmas.{file-handed, path-handed}
 use Rattle.acl_service.specs.RunWords.{input_count}
-use Rattle.acl_service.specs.declared.files.FilesFault.TheVariants.{SessionCount, InputTwice, CannotRead, Memory}
+use Rattle.acl_service.specs.declared.files.fault.FilesFault.TheVariants.{SessionCount, InputTwice, CannotRead, Memory}
 use Rattle.acl_tree_queries.specs.ChangeSteps.{TellsOfKnown}
 use Rattle.acl_tree_queries.specs.ImpactAnswer.{asks_impact}
 use Rattle.acl_tree_queries.specs.ImpactListing.{Item, TellsBetween, TellsItem, items_of}
 use Rattle.acl_tree_queries.specs.ImpactListingLine.{impact_listing_line}
 use Rattle.acl_tree_queries.specs.ListingFaults.{IsBlocksFault, IsListingFault, IsListingsFault, IsReadingFault, fault_of_blocks}
 use Rattle.acl_tree_queries.specs.Listings.{after_listing_in, listing_in, two_listings_in}
-use Rattle.acl_tree_queries.specs.QuestionFaults.{Asks, question_status}
+use Rattle.acl_tree_queries.specs.QuestionFaults.{AsksQuestion, question_status}
 use Rattle.acl_tree_queries.specs.Readings.{Reading, reading_of}
 use Rattle.acl_tree_queries.specs.declared.blocks.BlocksFault.{BlocksFault}
 use Rattle.acl_tree_queries.specs.declared.blocks.BlocksFault.TheVariants as blocks
@@ -55,7 +55,7 @@ both_inputs before after first second = by (bytes_eq before (codes "-")) first (
     by false first c second = cc
 
 -- what is refused of the listings is refused of the words
-module _ (bytes_of : Text → Option (List ℕ)) (words : List Text) (asks : Asks impact_listing_line asks_impact words) where
+module _ (bytes_of : Text → Option (List ℕ)) (words : List Text) (asks : AsksQuestion impact_listing_line asks_impact words) where
   abbrev own : List Row
   own = matches_of impact_listing_line words
 

@@ -12,7 +12,7 @@ use Rattle.acl_listings.specs.Listing.{Block, blocks_of}
 use Rattle.acl_listings.specs.declared.fault.BlockFault.{BlockFault}
 use Rattle.acl_listings.proofs.HandedLemmas.{file-handed, path-handed}
 use Rattle.acl_service.specs.Opened.{Opens}
-use Rattle.acl_service.specs.RunWords.{IsTold, setup_in}
+use Rattle.acl_service.specs.RunWords.{HasBytes, setup_in}
 use Rattle.acl_tree.specs.Tree.{NodesUnderUmask}
 use Rattle.acl_tree_queries.specs.Listings.{SaysWhoThereIs}
 use Rattle.acl_tree_queries.specs.ListingText.{AreAll, AreFirst, TellsInTurn, TellsOfFront, TellsOfListing, fault_text}
@@ -59,11 +59,11 @@ module _ (known : Known) (perms : Option ℕ) where
 
 -- who there is by the setup that the words name
 pub says_who : (bytes_of : Text → Option (List ℕ)) (rows : List Row) (directory : Known) (name : Text) → name ≡ setup_in rows
-    → (setup : List ℕ) × (tree : NodesUnderUmask) × IsTold (bytes_of name) setup × Opens setup directory tree
+    → (setup : List ℕ) × (tree : NodesUnderUmask) × HasBytes (bytes_of name) setup × Opens setup directory tree
     → IsAscending (slice_cmp nat_cmp) (λ user. user.name) directory.users → SaysWhoThereIs bytes_of rows directory
 says_who bytes_of rows directory name is (setup, tree, told, opened) users = record {
   setup = setup;
-  setup_is = subst (λ name. IsTold (bytes_of name) setup) is told;
+  setup_is = subst (λ name. HasBytes (bytes_of name) setup) is told;
   tree = tree;
   opened = opened;
   users = users;

@@ -3,16 +3,16 @@ use Rattle.std.proofs.Common.{◌≡◌, ◌≢◌, ◌∙◌, ◌+◌, ℕ, suc
 use Rattle.clap.specs.Words.{App, Row, Text, matches_of}
 use Rattle.acl_queries.specs.declared.command.query_fault.FieldFault.{FieldFault}
 use Rattle.acl_service.specs.RunWords.{input_count, setup_in}
-use Rattle.acl_service.specs.declared.files.FilesFault.TheVariants.{SessionCount, InputTwice, CannotRead, Memory}
+use Rattle.acl_service.specs.declared.files.fault.FilesFault.TheVariants.{SessionCount, InputTwice, CannotRead, Memory}
 use Rattle.acl_tree_queries.specs.AnswerFaults.{IsLack}
 use Rattle.acl_tree_queries.specs.ListingFaults.{IsDirectoryFault, IsListingFault, IsNamedFault}
-use Rattle.acl_tree_queries.specs.QuestionFaults.{Asks, question_status}
+use Rattle.acl_tree_queries.specs.QuestionFaults.{AsksQuestion, question_status}
 use Rattle.acl_queries.specs.CommandLine.{Takes}
 use Rattle.acl_tree_queries.specs.declared.question.fault.QuestionFault.{QuestionFault}
 use Rattle.acl_tree_queries.specs.declared.question.fault.QuestionFault.TheVariants.{Words, Files, Setup, LineTooLong, Unread, Run}
 
 module _ {Q : Type 0} (listings_in : List Row → List Text) (line : App) (asked_in : List Row → Result Q FieldFault) (bytes_of : Text → Option (List ℕ)) (words : List Text)
-    (asks : Asks line asked_in words) where
+    (asks : AsksQuestion line asked_in words) where
   abbrev own : List Row
   own = matches_of line words
 
@@ -56,7 +56,7 @@ module _ {Q : Type 0} (listings_in : List Row → List Text) (line : App) (asked
     refused_for_listing name there fault is = of_listing name (subst (λ rows. Contains (listings_in rows) name) are there) fault is
 
 pub asks_of : {Q : Type 0} (line : App) (asked_in : List Row → Result Q FieldFault) (words : List Text) (rows : List Row) → rows ≡ matches_of line words
-    → Takes line words → (question : Q) → asked_in rows ≡ Ok question → Asks line asked_in words
+    → Takes line words → (question : Q) → asked_in rows ≡ Ok question → AsksQuestion line asked_in words
 asks_of line asked_in words rows are taken question asked =
     record { taken = taken; read = subst (λ reading. IsOk reading) (sym asked ∙ ap asked_in are) refl }
 

@@ -13,8 +13,8 @@ use Rattle.acl_queries.proofs.MeaningLemmas.{Ends-fault}
 use Rattle.acl_queries.proofs.QueryLemmas.{query_bounds}
 use Rattle.acl_service.proofs.FaultLemmas.{files_bounds}
 use Rattle.acl_tree_queries.specs.AnswerFaults.{IsAnswerFault, answer_status}
-use Rattle.acl_tree_queries.specs.QuestionFaults.{Asks, IsQuestionFault, fault_of_answer, question_line, question_status}
-use Rattle.acl_tree_queries.specs.Questions.{Answers}
+use Rattle.acl_tree_queries.specs.QuestionFaults.{AsksQuestion, IsQuestionFault, fault_of_answer, question_line, question_status}
+use Rattle.acl_tree_queries.specs.Questions.{AnswersQuestion}
 use Rattle.acl_tree_queries.specs.Trees.{AreTreesOf}
 use Rattle.acl_tree_queries.specs.declared.question.answer_fault.AnswerFault.{AnswerFault}
 use Rattle.acl_tree_queries.specs.declared.question.answer_fault.AnswerFault.TheVariants as answer
@@ -27,7 +27,7 @@ module _ {Q : Type 0} (line : App) (asked_in : List Row → Result Q FieldFault)
   pub answered : {T : Type 0} (Gives : (Text → Option (List ℕ)) → Option (List ℕ) → List Row → T → Type 0) (IsAnswer : Q → T → List ℕ → Type 0)
       (input : Option (List ℕ)) (WentOut : List ℕ → Type 0) (rows : List Row) → rows ≡ matches_of line words
       → Takes line words → (question : Q) → asked_in rows ≡ Ok question → (subject : T) → Gives bytes_of input rows subject
-      → (text : List ℕ) × IsAnswer question subject text × WentOut text → Answers line asked_in Gives IsAnswer bytes_of input words WentOut
+      → (text : List ℕ) × IsAnswer question subject text × WentOut text → AnswersQuestion line asked_in Gives IsAnswer bytes_of input words WentOut
   answered Gives IsAnswer input WentOut rows are taken question asked subject given (text, answers, out) = record {
     taken = taken;
     question = question;
@@ -84,7 +84,7 @@ module _ {T : Type 0} (result : Result T QuestionFault) (fault : AnswerFault) (b
   module _ {Q : Type 0} (line : App) (asked_in : List Row → Result Q FieldFault) (IsRefused : Q → Trees → Type 0) (bytes_of : Text → Option (List ℕ))
       (input : Option (List ℕ)) (words : List Text) (rows : List Row) (are : rows ≡ matches_of line words) (taken : Takes line words) (question : Q)
       (asked : asked_in rows ≡ Ok question) (trees : Trees) (trees_are : AreTreesOf bytes_of input rows trees) where
-    asks : Asks line asked_in words
+    asks : AsksQuestion line asked_in words
     asks = record { taken = taken; read = subst (λ reading. IsOk reading) (sym asked ∙ ap asked_in are) refl }
 
     fault_is : (fault : AnswerFault) → IsAnswerFault (IsRefused question trees) fault → IsQuestionFault line asked_in IsRefused bytes_of input words (fault_of_answer fault)

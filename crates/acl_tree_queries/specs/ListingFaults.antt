@@ -9,12 +9,12 @@ use Rattle.acl_queries.specs.declared.command.query_fault.FieldFault.{FieldFault
 use Rattle.acl_queries.specs.declared.command.run_fault.RunFault.{RunFault}
 use Rattle.acl_queries.specs.declared.command.run_fault.RunFault.TheVariants as run
 use Rattle.acl_service.specs.FilesFaults.{IsReadFault}
-use Rattle.acl_service.specs.RunWords.{IsTold, input_count, setup_in}
+use Rattle.acl_service.specs.RunWords.{HasBytes, input_count, setup_in}
 use Rattle.acl_service.specs.TextsFaults.{IsRefusedBy}
-use Rattle.acl_service.specs.declared.files.FilesFault.{FilesFault}
-use Rattle.acl_service.specs.declared.files.FilesFault.TheVariants as files
+use Rattle.acl_service.specs.declared.files.fault.FilesFault.{FilesFault}
+use Rattle.acl_service.specs.declared.files.fault.FilesFault.TheVariants as files
 use Rattle.acl_tree_queries.specs.AnswerFaults.{IsLack}
-use Rattle.acl_tree_queries.specs.QuestionFaults.{Asks, IsTreesFault}
+use Rattle.acl_tree_queries.specs.QuestionFaults.{AsksQuestion, IsTreesFault}
 use Rattle.acl_tree_queries.specs.declared.blocks.BlocksFault.{BlocksFault}
 use Rattle.acl_tree_queries.specs.declared.blocks.BlocksFault.TheVariants as blocks
 use Rattle.acl_tree_queries.specs.declared.question.fault.QuestionFault.{QuestionFault}
@@ -61,7 +61,7 @@ fault_of_blocks name (blocks.Run fault) = Run fault
 abbrev pub IsDirectoryFault : (Text → Option (List ℕ)) → Text → QuestionFault → Type 0
 IsDirectoryFault bytes_of name (Files fault) = IsReadFault name fault
 IsDirectoryFault bytes_of name (Setup error) =
-    (bytes : List ℕ) × IsTold (bytes_of name) bytes × IsRefusedBy bytes error
+    (bytes : List ℕ) × HasBytes (bytes_of name) bytes × IsRefusedBy bytes error
 IsDirectoryFault bytes_of name (Run fault) = fault ≡ run.Memory
 IsDirectoryFault bytes_of name _ = ⊥
 
@@ -93,11 +93,11 @@ abbrev pub IsListingFault : {Q : Type 0} → (List Row → List Text) → App
 IsListingFault listings_in line asked_in bytes_of words (Words fault) =
     IsRefusedFor (fault_of line words) (asked_in (matches_of line words)) fault
 IsListingFault listings_in line asked_in bytes_of words (Files fault) =
-    Asks line asked_in words × IsListedFault listings_in (matches_of line words) fault
+    AsksQuestion line asked_in words × IsListedFault listings_in (matches_of line words) fault
 IsListingFault listings_in line asked_in bytes_of words (Setup error) =
-    Asks line asked_in words × IsTreesFault bytes_of (matches_of line words) (Setup error)
+    AsksQuestion line asked_in words × IsTreesFault bytes_of (matches_of line words) (Setup error)
 IsListingFault listings_in line asked_in bytes_of words LineTooLong = ⊥
 IsListingFault listings_in line asked_in bytes_of words (Unread name) =
-    Asks line asked_in words × Contains (listings_in (matches_of line words)) name.now
+    AsksQuestion line asked_in words × Contains (listings_in (matches_of line words)) name.now
 IsListingFault listings_in line asked_in bytes_of words (Run fault) =
-    Asks line asked_in words × IsLack fault
+    AsksQuestion line asked_in words × IsLack fault

@@ -9,7 +9,7 @@ use Rattle.acl_names.specs.Ascending.{IsAscending}
 use Rattle.acl_names.specs.Directory.{Known}
 use Rattle.acl_tree.specs.Tree.{NodesUnderUmask}
 use Rattle.acl_service.specs.Opened.{Opens}
-use Rattle.acl_service.specs.RunWords.{IsTold, session_told, setup_in}
+use Rattle.acl_service.specs.RunWords.{HasBytes, bytes_of_session, setup_in}
 
 -- the option that asks of a listing: `--listing NAME` or `--listing=NAME`
 abbrev pub is_listing_option : Text → Bool
@@ -39,7 +39,7 @@ two_listings_in rows = listing_in rows ∷ after_listing_in rows ∷ []
 pub record SaysWhoThereIs (bytes_of : Text → Option (List ℕ)) (rows : List Row)
     (directory : Known) : Type 0 where
   pub setup : List ℕ
-  pub setup_is : IsTold (bytes_of (setup_in rows)) setup
+  pub setup_is : HasBytes (bytes_of (setup_in rows)) setup
   pub tree : NodesUnderUmask
   pub opened : Opens setup directory tree
   pub users : IsAscending (slice_cmp nat_cmp) (λ user. user.name) directory.users
@@ -53,7 +53,7 @@ pub record Listed : Type 0 where
 pub record AreListed (bytes_of : Text → Option (List ℕ)) (input : Option (List ℕ))
     (rows : List Row) (listed : Listed) : Type 0 where
   pub who : SaysWhoThereIs bytes_of rows listed.directory
-  pub listing_is : listed.listing ≡ session_told bytes_of input (listing_in rows)
+  pub listing_is : listed.listing ≡ bytes_of_session bytes_of input (listing_in rows)
 
 -- and of two listings
 pub record ListedTwice : Type 0 where
@@ -64,5 +64,5 @@ pub record ListedTwice : Type 0 where
 pub record AreListedTwice (bytes_of : Text → Option (List ℕ)) (input : Option (List ℕ))
     (rows : List Row) (listed : ListedTwice) : Type 0 where
   pub who : SaysWhoThereIs bytes_of rows listed.directory
-  pub before_is : listed.before ≡ session_told bytes_of input (listing_in rows)
-  pub after_is : listed.after ≡ session_told bytes_of input (after_listing_in rows)
+  pub before_is : listed.before ≡ bytes_of_session bytes_of input (listing_in rows)
+  pub after_is : listed.after ≡ bytes_of_session bytes_of input (after_listing_in rows)

@@ -13,10 +13,10 @@ use Rattle.acl_queries.specs.declared.command.query_fault.QueryFault.TheVariants
 use Rattle.acl_queries.specs.declared.command.run_fault.RunFault.TheVariants as run
 use Rattle.acl_service.specs.FilesFaults.{files_line, files_status}
 use Rattle.acl_service.specs.TextsFaults.{IsRefusedBy}
-use Rattle.acl_service.specs.RunWords.{IsTold, setup_in}
+use Rattle.acl_service.specs.RunWords.{HasBytes, setup_in}
 use Rattle.acl_service.specs.SetupFaults.{setup_error_words}
-use Rattle.acl_service.specs.declared.files.FilesFault.{FilesFault}
-use Rattle.acl_service.specs.declared.files.FilesFault.TheVariants as files
+use Rattle.acl_service.specs.declared.files.fault.FilesFault.{FilesFault}
+use Rattle.acl_service.specs.declared.files.fault.FilesFault.TheVariants as files
 use Rattle.acl_service.specs.declared.setup.fault.SetupError.{SetupError}
 use Rattle.acl_service.specs.declared.setup.fault.SetupError.TheVariants as setup
 use Rattle.acl_tree_queries.specs.AnswerFaults.{IsLack}
@@ -86,13 +86,13 @@ abbrev pub IsTreesFault : (Text → Option (List ℕ)) → List Row → Question
 IsTreesFault bytes_of rows (Words fault) = ⊥
 IsTreesFault bytes_of rows (Files fault) = IsNamesFault rows fault
 IsTreesFault bytes_of rows (Setup error) =
-    (bytes : List ℕ) × IsTold (bytes_of (setup_in rows)) bytes × IsRefusedBy bytes error
+    (bytes : List ℕ) × HasBytes (bytes_of (setup_in rows)) bytes × IsRefusedBy bytes error
 IsTreesFault bytes_of rows LineTooLong = ⊥
 IsTreesFault bytes_of rows (Unread name) = ⊥
 IsTreesFault bytes_of rows (Run fault) = fault ≡ run.Memory
 
 -- the words ask a question
-pub record Asks {Q : Type 0} (line : App) (asked_in : List Row → Result Q FieldFault)
+pub record AsksQuestion {Q : Type 0} (line : App) (asked_in : List Row → Result Q FieldFault)
     (words : List Text) : Type 0 where
   pub taken : Takes line words
   pub read : IsOk (asked_in (matches_of line words))
@@ -116,14 +116,14 @@ abbrev pub IsQuestionFault : {Q : Type 0} → App → (List Row → Result Q Fie
 IsQuestionFault line asked_in IsRefused bytes_of input words (Words fault) =
     IsRefusedFor (fault_of line words) (asked_in (matches_of line words)) fault
 IsQuestionFault line asked_in IsRefused bytes_of input words (Files fault) =
-    Asks line asked_in words × IsNamesFault (matches_of line words) fault
+    AsksQuestion line asked_in words × IsNamesFault (matches_of line words) fault
 IsQuestionFault line asked_in IsRefused bytes_of input words (Setup error) =
-    Asks line asked_in words × IsTreesFault bytes_of (matches_of line words) (Setup error)
+    AsksQuestion line asked_in words × IsTreesFault bytes_of (matches_of line words) (Setup error)
 IsQuestionFault line asked_in IsRefused bytes_of input words LineTooLong =
     IsRefusedOfTrees line asked_in IsRefused bytes_of input words
 IsQuestionFault line asked_in IsRefused bytes_of input words (Unread name) = ⊥
 IsQuestionFault line asked_in IsRefused bytes_of input words (Run fault) =
-    Asks line asked_in words × IsLack fault
+    AsksQuestion line asked_in words × IsLack fault
 
 -- no question is refused
 abbrev pub IsNeverRefused : {Q : Type 0} → Q → Trees → Type 0

@@ -7,7 +7,7 @@ use Rattle.acl_queries.specs.declared.command.query_fault.FieldFault.{FieldFault
 use Rattle.acl_service.specs.RunWords.{input_count}
 use Rattle.acl_tree_queries.specs.ListingFaults.{IsListingFault}
 use Rattle.acl_tree_queries.specs.QuestionFaults.{IsQuestionFault, question_line, question_status}
-use Rattle.acl_tree_queries.specs.Questions.{Answers}
+use Rattle.acl_tree_queries.specs.Questions.{AnswersQuestion}
 use Rattle.acl_tree_queries.specs.Trees.{AreTreesOf, inputs_in}
 use Rattle.acl_tree_queries.specs.declared.trees.Trees.{Trees}
 
@@ -17,8 +17,8 @@ abbrev pub tree_meaning : {Q : Type 0} → App → (List Row → Result Q FieldF
     → (Q → Trees → List ℕ → Type 0) → (Q → Trees → List ℕ → Type 0) → (Q → Trees → Type 0)
     → (Text → Option (List ℕ)) → Option (List ℕ) → List Text → Meaning
 tree_meaning line asked_in IsAnswer IsBegun IsRefused bytes_of input words = record {
-  Answers = Answers line asked_in AreTreesOf IsAnswer bytes_of input words;
-  Begins = Answers line asked_in AreTreesOf IsBegun bytes_of input words;
+  Answers = AnswersQuestion line asked_in AreTreesOf IsAnswer bytes_of input words;
+  Begins = AnswersQuestion line asked_in AreTreesOf IsBegun bytes_of input words;
   Says = SaysFault question_status question_line
       (IsQuestionFault line asked_in IsRefused bytes_of input words);
   inputs = inputs_in (matches_of line words);
@@ -31,8 +31,8 @@ abbrev pub listing_meaning : {Q L : Type 0} → (List Row → List Text) → App
     → (Q → L → List ℕ → Type 0) → (Q → L → List ℕ → Type 0)
     → (Text → Option (List ℕ)) → Option (List ℕ) → List Text → Meaning
 listing_meaning listings_in line asked_in Gives IsAnswer IsBegun bytes_of input words = record {
-  Answers = Answers line asked_in Gives IsAnswer bytes_of input words;
-  Begins = Answers line asked_in Gives IsBegun bytes_of input words;
+  Answers = AnswersQuestion line asked_in Gives IsAnswer bytes_of input words;
+  Begins = AnswersQuestion line asked_in Gives IsBegun bytes_of input words;
   Says = SaysFault question_status question_line
       (IsListingFault listings_in line asked_in bytes_of words);
   inputs = input_count (listings_in (matches_of line words));

@@ -7,7 +7,7 @@ use Rattle.acl_queries.specs.declared.command.query_fault.FieldFault.{FieldFault
 -- By a command's line, by what its fields ask, by what the files that the words name give, and by
 -- what answers of that: the words are taken and ask a question, the files give what it is about,
 -- and a text that answers went out so.
-pub record Answers {Q T : Type 0} (line : App) (asked_in : List Row → Result Q FieldFault)
+pub record AnswersQuestion {Q T : Type 0} (line : App) (asked_in : List Row → Result Q FieldFault)
     (Gives : (Text → Option (List ℕ)) → Option (List ℕ) → List Row → T → Type 0)
     (IsAnswer : Q → T → List ℕ → Type 0) (bytes_of : Text → Option (List ℕ))
     (input : Option (List ℕ)) (words : List Text) (WentOut : List ℕ → Type 0) : Type 0 where

@@ -12,7 +12,7 @@ use Rattle.acl_tree.specs.Tree.{NodesUnderUmask}
 use Rattle.acl_lang.specs.Texts.{requests_of}
 use Rattle.acl_service.specs.Opened.{Opens}
 use Rattle.acl_service.specs.Runs.{tree_after}
-use Rattle.acl_service.specs.RunWords.{AreTold, IsTold, input_count, setup_in}
+use Rattle.acl_service.specs.RunWords.{HasBytes, HaveBytes, input_count, setup_in}
 use Rattle.acl_tree_queries.specs.declared.trees.Trees.{Trees}
 
 -- the names that there are, if any
@@ -52,9 +52,9 @@ pub record AreTreesOf (bytes_of : Text → Option (List ℕ)) (input : Option (L
   pub setup : List ℕ
   pub earlier : List (Vec ℕ Global)
   pub later : List (Vec ℕ Global)
-  pub setup_is : IsTold (bytes_of (setup_in rows)) setup
-  pub earlier_are : AreTold bytes_of input (before_in rows) earlier
-  pub later_are : AreTold bytes_of input (after_in rows) later
+  pub setup_is : HasBytes (bytes_of (setup_in rows)) setup
+  pub earlier_are : HaveBytes bytes_of input (before_in rows) earlier
+  pub later_are : HaveBytes bytes_of input (after_in rows) later
   pub tree : NodesUnderUmask
   pub opened : Opens setup trees.directory tree
   pub users : IsAscending (slice_cmp nat_cmp) (λ user. user.name) trees.directory.users

@@ -10,19 +10,19 @@ ghost use Rattle.acl_listings.specs.Cursor.{coming};
 ghost use Rattle.acl_listings.specs.Listing.{Block as BlockValue};
 ghost use Rattle.acl_queries.specs.Output.{AppendsFront};
 ghost use Rattle.acl_service.specs.Opened.{Opens};
-ghost use Rattle.acl_service.specs.RunWords.{IsTold, session_told};
+ghost use Rattle.acl_service.specs.RunWords.{HasBytes, bytes_of_session};
 ghost use Rattle.acl_tree.specs.Tree.{NodesUnderUmask};
 ghost use Rattle.acl_tree_queries.specs.Listings.{asks_of_listing, is_listing_option, listing_in};
 ghost use Rattle.acl_tree_queries.specs.ListingFaults.{IsDirectoryFault, IsNamedFault};
 ghost use Rattle.acl_tree_queries.specs.ListingFaults.{fault_of_blocks};
 ghost use Rattle.acl_tree_queries.specs.ListingText.{AreAll, AreFirst, TellsInTurn};
 ghost use Rattle.acl_tree_queries.specs.QuestionFaults.{fault_of_files, question_status};
-ghost use Rattle.acl_service.specs.declared.files.FilesFault.TheVariants.{CannotRead};
+ghost use Rattle.acl_service.specs.declared.files.fault.FilesFault.TheVariants.{CannotRead};
 
 use crate::blocks::{BlockText, BlocksFault, write_blocks};
 use crate::question::QuestionFault;
 use acl_names::Directory;
-use acl_queries::options::text_field;
+use acl_queries::fields::text_field;
 use acl_service::{FilesFault, OpenFiles, read_file, read_setup};
 use clap::ArgMatches;
 use std::alloc::Global;
@@ -70,7 +70,7 @@ pub(crate) fn read_directory<'a, F: OpenFiles>(
     name: &'a str,
 ) -> Result<Directory, QuestionFault<'a>>
     ensures opened { IfOk result (λ directory. (setup : List ℕ) × (tree : NodesUnderUmask)
-        × IsTold (F.bytes_of files.now name.entry.now) setup × Opens setup directory tree) }
+        × HasBytes (F.bytes_of files.now name.entry.now) setup × Opens setup directory tree) }
     ensures users { IfOk result (λ directory. IsAscending (slice_cmp nat_cmp) (λ user. user.name)
         directory.users) }
     ensures refused { IfErr result (IsDirectoryFault (F.bytes_of files.now) name.entry.now) }
@@ -118,12 +118,12 @@ pub(crate) fn write_listing<'a, F: OpenFiles, I: Read, T: BlockText, W: Write>(
     requires { T.Told teller.old [] teller.old }
     ensures written { OnOk result ((seen : List BlockValue) × (text : List ℕ)
         × AreAll (coming 1
-        (session_told (F.bytes_of files.now) (I.remaining input.old) name.entry.now)) seen
+        (bytes_of_session (F.bytes_of files.now) (I.remaining input.old) name.entry.now)) seen
         × TellsInTurn (T.Tells teller.old) seen text
         × Appends (W.contents out.old) (W.contents out.new) text) }
     ensures cut { OnErr result ((seen : List BlockValue) × (text : List ℕ)
         × AreFirst (coming 1
-        (session_told (F.bytes_of files.now) (I.remaining input.old) name.entry.now)) seen
+        (bytes_of_session (F.bytes_of files.now) (I.remaining input.old) name.entry.now)) seen
         × TellsInTurn (T.Tells teller.old) seen text
         × AppendsFront (W.contents out.old) (W.contents out.new) text) }
     ensures silent { IfErr result (λ fault. question_status fault ≤ 2

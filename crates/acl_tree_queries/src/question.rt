@@ -10,7 +10,7 @@ ghost use Rattle.acl_queries.specs.declared.command.query_fault.FieldFault.{Fiel
 ghost use Rattle.acl_tree_queries.specs.AnswerFaults.{IsAnswerFault, answer_status};
 ghost use Rattle.acl_tree_queries.specs.QuestionFaults.{IsQuestionFault, question_status};
 ghost use Rattle.acl_tree_queries.specs.QuestionMeaning.{tree_meaning};
-ghost use Rattle.acl_tree_queries.specs.Questions.{Answers};
+ghost use Rattle.acl_tree_queries.specs.Questions.{AnswersQuestion};
 ghost use Rattle.acl_tree_queries.specs.Trees.{AreTreesOf, inputs_in};
 ghost use Rattle.acl_tree_queries.specs.declared.trees.Trees.{Trees as TreesValue};
 
@@ -71,13 +71,13 @@ where
     S: AsStr,
     I: Read,
     W: Write,
-    ensures answered { OnOk result (Answers Q.line Q.asked_in AreTreesOf Q.IsAnswer
+    ensures answered { OnOk result (AnswersQuestion Q.line Q.asked_in AreTreesOf Q.IsAnswer
         (F.bytes_of files.now) (I.remaining input.old) (map S.text words.entry.now)
         (Appends (W.contents out.old) (W.contents out.new))) }
     ensures silent { IfErr result (λ fault. question_status fault ≤ 2
         → Keeps (W.contents out.old) (W.contents out.new)) }
     ensures cut { OnErr result (Keeps (W.contents out.old) (W.contents out.new)
-        ⊎ Answers Q.line Q.asked_in AreTreesOf Q.IsBegun (F.bytes_of files.now)
+        ⊎ AnswersQuestion Q.line Q.asked_in AreTreesOf Q.IsBegun (F.bytes_of files.now)
         (I.remaining input.old) (map S.text words.entry.now)
         (AppendsFront (W.contents out.old) (W.contents out.new))) }
     ensures untouched { inputs_in (matches_of Q.line (map S.text words.entry.now)) ≡ 0
@@ -93,7 +93,7 @@ where
     Ok(())
 }
 
-/// Answers what the words ask, or tells what is wrong, and returns the exit status.
+/// AnswersQuestion what the words ask, or tells what is wrong, and returns the exit status.
 pub(crate) fn ask<Q, F, S, I, W, E>(
     alloc: Global,
     files: &F,

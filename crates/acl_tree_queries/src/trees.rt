@@ -6,7 +6,7 @@ ghost use Rattle.clap.specs.Words.{all_of, found_of, rows_of};
 ghost use Rattle.acl_names.specs.Ascending.{IsAscending};
 ghost use Rattle.acl_lang.specs.declared.limits.TheConstants.{MAX_TEXT_LEN};
 ghost use Rattle.acl_service.specs.FilesFaults.{IsReadFaultAmong, files_status};
-ghost use Rattle.acl_service.specs.RunWords.{AreTold, IsTold, input_count, setup_in};
+ghost use Rattle.acl_service.specs.RunWords.{HasBytes, HaveBytes, input_count, setup_in};
 ghost use Rattle.acl_tree_queries.specs.QuestionFaults.{IsNamesFault, IsTreesFault};
 ghost use Rattle.acl_tree_queries.specs.QuestionFaults.{question_status};
 ghost use Rattle.acl_tree_queries.specs.Trees.{AreTreesOf, after_in, before_in, inputs_in};
@@ -67,7 +67,7 @@ fn read_named<'a, F: OpenFiles, I: Read>(
     requires { input_count (all_names (option_map shown_names names)) ≤ 1 }
     ensures short { IfOk result (λ texts. All (λ text. length text.items ≤ MAX_TEXT_LEN)
         texts.items) }
-    ensures told { IfOk result (λ texts. AreTold (F.bytes_of files.now) (I.remaining input.old)
+    ensures told { IfOk result (λ texts. HaveBytes (F.bytes_of files.now) (I.remaining input.old)
         (all_names (option_map shown_names names.entry)) texts.items) }
     ensures untouched { input_count (all_names (option_map shown_names names.entry)) ≡ 0
         → input.new ≡ input.old }
@@ -93,11 +93,11 @@ fn read_texts<'a, F: OpenFiles, I: Read>(
     ensures short_after { IfOk result (λ texts. All (λ text. length text.items ≤ MAX_TEXT_LEN)
         texts.after.items) }
     ensures setup { IfOk result (λ texts.
-        IsTold (F.bytes_of files.now (setup_in (rows_of (found_of matches.now))))
+        HasBytes (F.bytes_of files.now (setup_in (rows_of (found_of matches.now))))
         texts.setup.items) }
-    ensures before { IfOk result (λ texts. AreTold (F.bytes_of files.now) (I.remaining input.old)
+    ensures before { IfOk result (λ texts. HaveBytes (F.bytes_of files.now) (I.remaining input.old)
         (before_in (rows_of (found_of matches.now))) texts.before.items) }
-    ensures after { IfOk result (λ texts. AreTold (F.bytes_of files.now) (I.remaining input.old)
+    ensures after { IfOk result (λ texts. HaveBytes (F.bytes_of files.now) (I.remaining input.old)
         (after_in (rows_of (found_of matches.now))) texts.after.items) }
     ensures untouched { inputs_in (rows_of (found_of matches.now)) ≡ 0 → input.new ≡ input.old }
     ensures unread { IfErr result (λ fault. files_status fault ≡ 2 → input.new ≡ input.old) }

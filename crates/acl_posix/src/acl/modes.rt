@@ -90,6 +90,7 @@ impl Acl {
     pub fn chmod(&mut self, mode: Mode)
         ensures { self.new ≡ chmod self.old mode }
     {
+        // For the proof only: reading a field brings the invariant of `mode` into scope.
         let _ = &mode.user;
         let group_class = self.group_class_tag();
         set_all(self.sorted.as_mut_slice(), &group_class, mode);

@@ -5,7 +5,7 @@ ghost use Rattle.clap.specs.Words.{found_of, rows_of};
 ghost use Rattle.acl_queries.specs.Asked.{gids_in, gids_of, id_in, id_of};
 ghost use Rattle.acl_queries.specs.Faults.{Explains};
 
-use super::options::text_field;
+use super::fields::text_field;
 use super::query_fault::{FieldFault, QueryFault};
 use acl_names::{Gid, MAX_GROUPS_OF_USER, Uid, read_decimal};
 use clap::ArgMatches;

@@ -5,7 +5,7 @@ ghost use Rattle.acl_queries.specs.ListField.{aces_of, list_in, list_of, style_o
 ghost use Rattle.acl_queries.specs.Faults.{Explains};
 
 use super::acl::{empty_directory, read_acl};
-use super::options::text_field;
+use super::fields::text_field;
 use super::query_fault::{FieldFault, QueryFault};
 use acl_nfs4::{Acl4, read_aces};
 use acl_posix::Acl;

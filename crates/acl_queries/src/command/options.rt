@@ -1,11 +1,10 @@
-//! Options of the program's commands, and what the parser of command lines finds for them.
-ghost use Rattle.std.specs.Prelude.{◌≡◌, codes, false, option_map};
-ghost use Rattle.clap.specs.Words.{first_of, found_of, rows_of, rule_of};
-ghost use Rattle.acl_queries.specs.Asked.{flag_in};
+//! Options of the program's commands, as the parser of command lines is told of them.
+ghost use Rattle.std.specs.Prelude.{◌≡◌, codes, false};
+ghost use Rattle.clap.specs.Words.{rule_of};
 ghost use Rattle.acl_queries.specs.CommandLine.{flag, optional_option, required_option};
 ghost use Rattle.acl_queries.specs.CommandLine.{optional_word, required_word};
 
-use clap::{Arg, ArgAction, ArgMatches};
+use clap::{Arg, ArgAction};
 use std::alloc::Global;
 
 /// An option that has to be given, with what help calls its value.
@@ -117,22 +116,4 @@ pub fn required_word<'a>(alloc: Global, name: &'a str, value: &'a str, help: &'a
     ensures local { result.global ≡ false }
 {
     optional_word(alloc, name, value, help).required(true)
-}
-
-/// The text that the words give for a name.
-pub fn text_field<'a>(matches: &ArgMatches<'a>, name: &str) -> Option<&'a str>
-    ensures { option_map (λ text. text.now) result
-        ≡ first_of name.now (rows_of (found_of matches.now)) }
-{
-    matches.get_str(name)
-}
-
-/// Whether a flag is set.
-pub fn flag_field(matches: &ArgMatches<'_>, name: &str) -> bool
-    ensures { result ≡ flag_in name.now (rows_of (found_of matches.now)) }
-{
-    match text_field(matches, name) {
-        Some(text) => text == "true",
-        None => false,
-    }
 }

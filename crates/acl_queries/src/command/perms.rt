@@ -4,7 +4,7 @@ ghost use Rattle.clap.specs.Words.{found_of, rows_of};
 ghost use Rattle.acl_posix.specs.Perms.{bits_of};
 ghost use Rattle.acl_queries.specs.Asked.{optional_perms_in, perms_in, perms_of};
 
-use super::options::text_field;
+use super::fields::text_field;
 use super::query_fault::FieldFault;
 use acl_posix::{Perms, read_perms};
 use clap::ArgMatches;

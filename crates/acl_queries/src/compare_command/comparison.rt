@@ -40,7 +40,7 @@ impl Model for Comparison {
 }
 
 /// A difference as it is in the other direction.
-fn swapped(difference: Difference) -> Difference
+fn reverse(difference: Difference) -> Difference
     ensures { result ≡ record {
       asker = difference.asker;
       lost = difference.gained;
@@ -88,7 +88,7 @@ fn towards_posix(
         (list.Posix second.now)))) }
 {
     match difference_from_posix(alloc, second, owners, first, owners)? {
-        Some(difference) => Ok(Some(swapped(difference))),
+        Some(difference) => Ok(Some(reverse(difference))),
         None => Ok(None),
     }
 }
@@ -149,11 +149,11 @@ impl Comparison {
 
 impl Query for Comparison {
     ghost use Rattle.acl_queries.specs.Compared.{compared_in};
-    ghost use Rattle.acl_queries.specs.Differences.{Answers};
+    ghost use Rattle.acl_queries.specs.Differences.{IsComparison};
 
     ghost asked_in = { compared_in };
 
-    ghost IsAnswer = { Answers };
+    ghost IsAnswer = { IsComparison };
 
     #[tactic(auto, unfolding(crate::specs::Compared::compared_in))]
     fn read(alloc: Global, matches: &ArgMatches<'_>) -> Result<Comparison, QueryFault> {

@@ -1,6 +1,6 @@
 //! The text that `compare` answers with.
 ghost use Rattle.std.specs.Prelude.{◌≡◌, ◌++◌, IfOk, OnOk};
-ghost use Rattle.acl_queries.specs.Differences.{difference_text, told_text};
+ghost use Rattle.acl_queries.specs.Differences.{comparison_text, difference_text};
 
 use crate::command::change_text::{push_bits, push_gids};
 use acl_names::push_id;
@@ -25,7 +25,7 @@ fn push_difference(difference: &Difference, out: &mut Vec<u8>) -> Result<(), All
 
 /// The text for a difference that was found, if any.
 pub(super) fn answer_text(alloc: Global, found: Option<Difference>) -> Result<Vec<u8>, AllocError>
-    ensures { IfOk result (λ text. text.items ≡ told_text found) }
+    ensures { IfOk result (λ text. text.items ≡ comparison_text found) }
 {
     let mut text = Vec::new(alloc);
     match found {

@@ -5,7 +5,8 @@ ghost use Rattle.acl_service.specs.RunLine.{limit_option, session_words};
 ghost use Rattle.acl_service.specs.RunWords.{HasLimit, IsLimit, setup_in};
 
 use acl_queries::CommandLine;
-use acl_queries::options::{flag, optional_option, required_word, setup_option, text_field};
+use acl_queries::fields::text_field;
+use acl_queries::options::{flag, optional_option, required_word, setup_option};
 use clap::builder::ValueParser;
 use clap::{Arg, ArgMatches, Command};
 use std::alloc::{AllocError, Global};

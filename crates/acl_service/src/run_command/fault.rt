@@ -1,6 +1,7 @@
 //! Why sessions print nothing, or not all of it.
 ghost use Rattle.std.specs.Prelude.{◌≡◌};
 
+use crate::files::fault::TOO_MANY_SESSIONS;
 use crate::{OneFault, RunFault, SetupError};
 use acl_queries::{CommandFault, ErrorOutput};
 use acl_runs::ServeFault;
@@ -34,7 +35,7 @@ impl CommandFault for TextsFault {
 
     fn tell<E: Write + Drop>(&self, err: &mut ErrorOutput<E>) {
         match self {
-            TextsFault::TooManySessions => err.write_line("at most 64 sessions", ""),
+            TextsFault::TooManySessions => err.write_line(TOO_MANY_SESSIONS, ""),
             TextsFault::Setup(error) => err.write_line("setup: ", error.words()),
             TextsFault::Run(fault) => fault.tell(err),
         }

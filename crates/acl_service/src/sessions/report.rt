@@ -1,6 +1,6 @@
 //! What is reported of sessions.
 ghost use Rattle.std.specs.Prelude.{◌≡◌, IfOk};
-ghost use Rattle.acl_service.specs.Told.{IsToldOf, told};
+ghost use Rattle.acl_service.specs.ReportOf.{IsReportOf, report_of};
 
 use crate::sessions::PrintedAnswer;
 use crate::{Served, ServedInPrint};
@@ -33,7 +33,7 @@ pub struct Report {
 
 /// The report of a run over the tree.
 pub(super) fn report_of(run: RunReport<Served<'_>, JournalEntry<Numbered>, Answer>) -> Report
-    ensures { result ≡ told run.entry }
+    ensures { result ≡ report_of run.entry }
 {
     let RunReport {
         journal,
@@ -70,7 +70,7 @@ pub(super) fn report_of_kept(
     alloc: Global,
     run: RunReport<Served<'_>, KeptEntry<Served<'_>>, Answer>,
 ) -> Result<Report, ServeFault>
-    ensures { IfOk result (IsToldOf run.entry) }
+    ensures { IfOk result (IsReportOf run.entry) }
 {
     let RunReport {
         journal,

@@ -2,7 +2,7 @@
 ghost use Rattle.std.specs.Prelude.{◌≡◌, option_map};
 ghost use Rattle.toml.specs.View.{table_view};
 ghost use Rattle.acl_service.specs.Setup.{mode_of, root_in, setup_in, style_of};
-ghost use Rattle.acl_service.specs.SetupTable.{Answers};
+ghost use Rattle.acl_service.specs.SetupTable.{IsReadingOf};
 ghost use Rattle.acl_service.specs.Shown.{root_shown, setup_shown};
 
 use super::fault::SetupError;
@@ -96,7 +96,7 @@ pub fn read_style(text: &str) -> Option<Style>
 
 #[tactic(auto, unfolding(crate::specs::Setup::root_in))]
 fn read_root(alloc: Global, table: &Table) -> Result<Root, SetupError>
-    ensures { Answers root_shown (root_in (table_view table.now)) result }
+    ensures { IsReadingOf root_shown (root_in (table_view table.now)) result }
 {
     let owner = text_at(table, "owner").ok_or(SetupError::BadField)?;
     let group = text_at(table, "group").ok_or(SetupError::BadField)?;
@@ -118,7 +118,7 @@ fn read_root(alloc: Global, table: &Table) -> Result<Root, SetupError>
 /// isn't one that it may have; `Memory` if memory runs out; and no other fault.
 #[tactic(auto, unfolding(crate::specs::Setup::setup_in))]
 pub fn read_table(alloc: Global, table: &Table) -> Result<Setup, SetupError>
-    ensures { Answers setup_shown (setup_in (table_view table.now)) result }
+    ensures { IsReadingOf setup_shown (setup_in (table_view table.now)) result }
 {
     let domain = text_at(table, "domain").ok_or(SetupError::BadField)?;
     let umask = text_at(table, "umask")

@@ -3,7 +3,7 @@ ghost use Rattle.std.specs.Prelude.{◌≡◌, ◌≤◌, Option, IfSome, option
 ghost use Rattle.toml.specs.Data.{Data, as_str, get_member};
 ghost use Rattle.toml.specs.View.{items_view, table_view, view};
 ghost use Rattle.acl_names.specs.declared.limits.TheConstants.{MAX_ID};
-ghost use Rattle.acl_service.specs.SetupTable.{Answers, each_item, id_at, id_of, items_at};
+ghost use Rattle.acl_service.specs.SetupTable.{IsReadingOf, each_item, id_at, id_of, items_at};
 ghost use Rattle.acl_service.specs.SetupTable.{table_at, text_at, texts_at};
 ghost use Rattle.acl_service.specs.Shown.{texts_shown};
 
@@ -17,7 +17,7 @@ pub(super) trait FromValue: Drop {
     ghost reading: { Data → Option Self };
 
     fn from_value(alloc: Global, value: &Value) -> Result<Self, SetupError>
-        ensures { Answers (λ read. read) (reading (view value.now)) result };
+        ensures { IsReadingOf (λ read. read) (reading (view value.now)) result };
 }
 
 /// The value at a key.
@@ -91,7 +91,7 @@ pub(super) fn gid_at(table: &Table, key: &str) -> Option<Gid>
 
 /// The texts that these values are.
 fn read_texts(alloc: Global, values: &[Value]) -> Result<Vec<String>, SetupError>
-    ensures { Answers texts_shown (each_item as_str (items_view values.now)) result }
+    ensures { IsReadingOf texts_shown (each_item as_str (items_view values.now)) result }
 {
     let mut texts = Vec::new(alloc);
     for value in values {
@@ -104,7 +104,7 @@ fn read_texts(alloc: Global, values: &[Value]) -> Result<Vec<String>, SetupError
 /// The texts at a key.
 #[tactic(auto, unfolding(crate::specs::SetupTable::texts_at))]
 pub(super) fn texts_at(alloc: Global, table: &Table, key: &str) -> Result<Vec<String>, SetupError>
-    ensures { Answers texts_shown (texts_at key.now (table_view table.now)) result }
+    ensures { IsReadingOf texts_shown (texts_at key.now (table_view table.now)) result }
 {
     let value = value_at(table, key).ok_or(SetupError::BadField)?;
     let values = value.as_array().ok_or(SetupError::BadField)?;
@@ -112,7 +112,8 @@ pub(super) fn texts_at(alloc: Global, table: &Table, key: &str) -> Result<Vec<St
 }
 
 fn read_items<T: FromValue>(alloc: Global, values: &[Value]) -> Result<Vec<T>, SetupError>
-    ensures { Answers (λ items. items.items) (each_item T.reading (items_view values.now)) result }
+    ensures { IsReadingOf (λ items. items.items) (each_item T.reading (items_view values.now))
+        result }
 {
     let mut items = Vec::new(alloc);
     for value in values {
@@ -128,7 +129,7 @@ pub(super) fn items_at<T: FromValue>(
     table: &Table,
     key: &str,
 ) -> Result<Vec<T>, SetupError>
-    ensures { Answers (λ items. items.items) (items_at T.reading key.now (table_view table.now))
+    ensures { IsReadingOf (λ items. items.items) (items_at T.reading key.now (table_view table.now))
         result }
 {
     match value_at(table, key) {

@@ -22,8 +22,8 @@ fn granted(may: bool) -> Reply
     if may { Reply::Granted } else { Reply::Denied }
 }
 
-/// The user with the stranger's uid as one who asks. The stranger, who is in no group, asks if no
-/// user has the uid.
+/// The requester for the uid of `stranger`: the directory's own, or `stranger`, who is in no group,
+/// if the directory has no such user.
 fn asking<'a>(directory: &'a Directory, stranger: &'a Requester) -> &'a Requester
     requires { stranger.now.gids ≡ [] }
     ensures { result.now ≡ requester_of directory.now stranger.now.uid }

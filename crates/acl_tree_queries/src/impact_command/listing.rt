@@ -7,7 +7,7 @@ ghost use Rattle.acl_listings.specs.Cursor.{coming};
 ghost use Rattle.acl_queries.specs.ErrorOutput.{Reports};
 ghost use Rattle.acl_queries.specs.Meaning.{Ends, LeavesInput};
 ghost use Rattle.acl_queries.specs.Output.{AppendsFront};
-ghost use Rattle.acl_service.specs.RunWords.{input_count, session_told};
+ghost use Rattle.acl_service.specs.RunWords.{bytes_of_session, input_count};
 ghost use Rattle.acl_tree_queries.specs.ChangeSteps.{TellsOfKnown};
 ghost use Rattle.acl_tree_queries.specs.ImpactAnswer.{asks_impact};
 ghost use Rattle.acl_tree_queries.specs.ImpactListing.{impact_of_listings};
@@ -26,7 +26,8 @@ use crate::listing::{INPUT, fault_of, listing_field, open, read_directory};
 use crate::question::QuestionFault;
 use acl_audit::requesters_of;
 use acl_names::Directory;
-use acl_queries::options::{required_option, required_word, setup_option, text_field};
+use acl_queries::fields::text_field;
+use acl_queries::options::{required_option, required_word, setup_option};
 use acl_queries::{CommandLine, ErrorOutput, parse, report};
 use acl_service::{FilesFault, OpenFiles, setup_field};
 use clap::{ArgMatches, Command};
@@ -133,13 +134,17 @@ fn write_listings<'a, F: OpenFiles, I: Read, W: Write>(
 ) -> Result<(), QuestionFault<'a>>
     requires { bytes_eq before.now (codes "-") ≡ true → bytes_eq after.now (codes "-") ≡ false }
     ensures written { OnOk result ((text : List ℕ) × TellsOfKnown TellsOfEach directory.now
-        (coming 1 (session_told (F.bytes_of files.now) (I.remaining input.old) before.entry.now))
-        (coming 1 (session_told (F.bytes_of files.now) (I.remaining input.old) after.entry.now))
+        (coming 1
+        (bytes_of_session (F.bytes_of files.now) (I.remaining input.old) before.entry.now))
+        (coming 1
+        (bytes_of_session (F.bytes_of files.now) (I.remaining input.old) after.entry.now))
         text × Appends (W.contents out.old) (W.contents out.new) text) }
     ensures cut { OnErr result (Keeps (W.contents out.old) (W.contents out.new)
         ⊎ ((text : List ℕ) × TellsOfKnown TellsOfFirst directory.now
-        (coming 1 (session_told (F.bytes_of files.now) (I.remaining input.old) before.entry.now))
-        (coming 1 (session_told (F.bytes_of files.now) (I.remaining input.old) after.entry.now))
+        (coming 1
+        (bytes_of_session (F.bytes_of files.now) (I.remaining input.old) before.entry.now))
+        (coming 1
+        (bytes_of_session (F.bytes_of files.now) (I.remaining input.old) after.entry.now))
         text × AppendsFront (W.contents out.old) (W.contents out.new) text)) }
     ensures silent { IfErr result (λ fault. question_status fault ≤ 2
         → Keeps (W.contents out.old) (W.contents out.new)) }

@@ -2,8 +2,8 @@ use Rattle.std.proofs.Common.{rules, ◌≡◌, ◌≤◌, ◌+◌, ◌++◌, �
 use Rattle.clap.specs.Words.{Text}
 use Rattle.acl_lang.specs.declared.limits.TheConstants.{MAX_TEXT_LEN}
 use Rattle.acl_service.specs.FilesFaults.{IsReadFaultAmong}
-use Rattle.acl_service.specs.RunWords.{AreTold, input_count}
-use Rattle.acl_service.proofs.FileLemmas.{AreTold-more, input_count-next, input_count-take, map-take_more, none_so_far, refused_among, shown, told_before}
+use Rattle.acl_service.specs.RunWords.{HaveBytes, input_count}
+use Rattle.acl_service.proofs.FileLemmas.{HaveBytes-more, input_count-next, input_count-take, map-take_more, none_so_far, refused_among, shown, told_before}
 use Rattle.acl_runs.proofs.PlaceLemmas.{each_after_push}
 use Rattle.acl_service.proofs.files.read_sessions.Goals as goal
 
@@ -34,9 +34,9 @@ loop-name-preserved g c =
           let (none_before, other) = none_so_far so_far name (sym (ap input_count next) ∙ none) in
           c.read_session.ensures.untouched other ∙ was.untouched none_before;
       told =
-          subst (λ (given : List Text). AreTold bytes_of first given after) (sym next)
-          (subst (λ (texts : List (Vec ℕ Global)). AreTold bytes_of first (so_far ++ name ∷ []) texts) (sym c.push_reserved.ensures.items)
-          (AreTold-more bytes_of first so_far before name text was.told
+          subst (λ (given : List Text). HaveBytes bytes_of first given after) (sym next)
+          (subst (λ (texts : List (Vec ℕ Global)). HaveBytes bytes_of first (so_far ++ name ∷ []) texts) (sym c.push_reserved.ensures.items)
+          (HaveBytes-more bytes_of first so_far before name text was.told
           (told_before bytes_of (g.I.Read.remaining c.loop-name.input) first name text.items
           (λ is. ap g.I.Read.remaining (was.untouched (omega (arith, few, input_count-next so_far name is))))
           c.in_ok-text.ensures.told)));

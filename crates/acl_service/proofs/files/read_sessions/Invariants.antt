@@ -1,6 +1,6 @@
 use Rattle.std.proofs.Common.{◌≡◌, ◌≤◌, All, length, map, take}
 use Rattle.acl_lang.specs.declared.limits.TheConstants.{MAX_TEXT_LEN}
-use Rattle.acl_service.specs.RunWords.{AreTold, input_count}
+use Rattle.acl_service.specs.RunWords.{HaveBytes, input_count}
 use Rattle.acl_service.proofs.files.read_sessions.Given as goal
 
 -- there is a text for each name so far, of the bytes that are told of it; and standard input is as it was, unless one was it
@@ -9,5 +9,5 @@ invariant-loop-name g l = record {
   count : length l.texts.items ≡ l.name-index;
   capped : All (λ text. length text.items ≤ MAX_TEXT_LEN) l.texts.items;
   untouched : input_count (map (λ name. name.now) (take l.name-index l.names)) ≡ 0 → l.input ≡ l.initial.input;
-  told : AreTold (g.F.OpenFiles.bytes_of l.files) (g.I.Read.remaining l.initial.input) (map (λ name. name.now) (take l.name-index l.names)) l.texts.items;
+  told : HaveBytes (g.F.OpenFiles.bytes_of l.files) (g.I.Read.remaining l.initial.input) (map (λ name. name.now) (take l.name-index l.names)) l.texts.items;
 }

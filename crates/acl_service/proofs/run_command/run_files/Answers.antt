@@ -8,9 +8,9 @@ use Rattle.acl_queries.proofs.MeaningLemmas.{Ends-map}
 use Rattle.acl_service.specs.FilesFaults.{IsFilesFault, SaysFiles}
 use Rattle.acl_service.specs.RunMeaning.{files_meaning, texts_meaning}
 use Rattle.acl_service.specs.RunTexts.{RunsTexts}
-use Rattle.acl_service.specs.RunWords.{AreTold, CanRun, IsTold, RunsRows, input_count, sessions_in, setup_in}
+use Rattle.acl_service.specs.RunWords.{CanRun, HasBytes, HaveBytes, RunsRows, input_count, sessions_in, setup_in}
 use Rattle.acl_service.specs.TextsFaults.{SaysTexts}
-use Rattle.acl_service.specs.declared.files.FilesFault.TheVariants.{SessionCount}
+use Rattle.acl_service.specs.declared.files.fault.FilesFault.TheVariants.{SessionCount}
 use Rattle.acl_service.proofs.FaultLemmas.{Ends-files, Reports-files}
 use Rattle.acl_service.proofs.FileLemmas.{shown}
 use Rattle.acl_service.proofs.run_command.run_files.Given as given
@@ -51,8 +51,8 @@ runs_rows g c WentOut runs =
       texts = texts;
       limit = limit;
       limit_is = c.limit_field.ensures.is;
-      setup_is = subst (λ (name : Text). IsTold (bytes_of name) setup) c.setup_field.ensures told.setup;
-      texts_are = subst (λ (these : List Text). AreTold bytes_of input these texts) names_are told.sessions;
+      setup_is = subst (λ (name : Text). HasBytes (bytes_of name) setup) c.setup_field.ensures told.setup;
+      texts_are = subst (λ (these : List Text). HaveBytes bytes_of input these texts) names_are told.sessions;
       runs =
           subst (λ (journal : Bool). RunsTexts setup texts journal limit WentOut) c.flag_field.ensures
           (subst (λ (bytes : List ℕ). RunsTexts bytes texts c.flag_field.result limit WentOut) c.as_slice.ensures.value
@@ -119,7 +119,7 @@ returns-in-Ok-clause-told g c =
     let names_are = sessions_given rows _ _ c.in-Some.is c.session_fields.ensures in
     let told = c.in-Ok.ensures in
     let may_run = subst CanRun names_are told.taken in
-    let setup_is = subst (λ (name : Text). IsTold (bytes_of name) c.in-Ok.texts.setup.items) c.setup_field.ensures told.setup in
+    let setup_is = subst (λ (name : Text). HasBytes (bytes_of name) c.in-Ok.texts.setup.items) c.setup_field.ensures told.setup in
     let count : length c.as_slice-in-Ok.result.now ≡ length (sessions_in rows) =
     ap length c.as_slice-in-Ok.ensures.value ∙ told.count ∙ sym (length-map c.in-Some.names.now (λ name. name.now)) ∙ ap length names_are in
     Reports-map _ (SaysFiles bytes_of rows) _ _ _

@@ -1,6 +1,6 @@
 use Rattle.std.proofs.Common.{map, refl}
 use Rattle.acl_service.specs.Cursor.{rest_of}
-use Rattle.acl_service.specs.Told.{told}
+use Rattle.acl_service.specs.ReportOf.{report_of}
 use Rattle.acl_service.specs.declared.served.Served.{Served}
 use Rattle.acl_service.proofs.SessionLemmas.{explained, explained_by}
 use Rattle.acl_service.proofs.sessions.serve.Goals as goal
@@ -10,4 +10,4 @@ returns g c =
     let served : Served = record { alloc = c.args.alloc; directory = c.args.directory; tree = c.args.tree } in
     let run = c.in_ok-run.run' in
     explained_by c.args.directory.now c.args.tree c.args.max_errors c.args.texts.now run c.in_ok-report.report c.in_ok-report.ensures
-    (explained served c.args.max_errors c.args.texts.now (map rest_of c.in_ok-sessions.sessions.items) run (told run) c.in_ok-sessions.ensures.requests refl c.in_ok-run.ensures)
+    (explained served c.args.max_errors c.args.texts.now (map rest_of c.in_ok-sessions.sessions.items) run (report_of run) c.in_ok-sessions.ensures.requests refl c.in_ok-run.ensures)

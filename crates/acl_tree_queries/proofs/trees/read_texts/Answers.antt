@@ -1,7 +1,7 @@
 use Rattle.std.proofs.Common.{rules, ◌≡◌, ◌≤◌, ◌<◌, ◌+◌, ◌∙◌, ℕ, ap, ap₂, arith, option_map, subst}
 use Rattle.std.proofs.lemmas.Grind.{common_steps}
 use Rattle.clap.specs.Words.{found_of, rows_of}
-use Rattle.acl_service.specs.RunWords.{AreTold, input_count}
+use Rattle.acl_service.specs.RunWords.{HaveBytes, input_count}
 use Rattle.acl_service.specs.FilesFaults.{IsReadFault, IsReadFaultAmong}
 use Rattle.acl_tree_queries.specs.QuestionFaults.{IsNamesFault}
 use Rattle.acl_tree_queries.specs.Trees.{after_in, all_names, before_in, shown_names}
@@ -54,7 +54,7 @@ returns-in_err-after-clause-refused g c =
 
 pub returns-clause-before : goal.returns-clause-before
 returns-clause-before g c =
-    subst (λ names. AreTold (g.F.OpenFiles.bytes_of c.args.files.now) (g.I.Read.remaining c.args.input.now) (all_names names) c.in_ok-before.before.items)
+    subst (λ names. HaveBytes (g.F.OpenFiles.bytes_of c.args.files.now) (g.I.Read.remaining c.args.input.now) (all_names names) c.in_ok-before.before.items)
     c.names_field-before.ensures c.in_ok-before.ensures.told
 
 pub returns-clause-after : goal.returns-clause-after
@@ -71,7 +71,7 @@ returns-clause-after g c =
     told_from_start bytes_of start later (input_count (before_in rows)) (after_in rows) c.in_ok-after.after.items
     (subst (λ n. n ≤ 1) (ap₂ (λ (a b : ℕ). a + b) before after) once)
     (λ none. ap g.I.Read.remaining (c.read_named.ensures.untouched (counted ∙ none)))
-    (subst (λ names. AreTold bytes_of later (all_names names) c.in_ok-after.after.items) c.names_field-after.ensures c.in_ok-after.ensures.told)
+    (subst (λ names. HaveBytes bytes_of later (all_names names) c.in_ok-after.after.items) c.names_field-after.ensures c.in_ok-after.ensures.told)
 
 pub returns-clause-untouched : goal.returns-clause-untouched
 returns-clause-untouched g c none =

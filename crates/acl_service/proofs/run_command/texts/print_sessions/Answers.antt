@@ -5,7 +5,7 @@ use Rattle.acl_tree.specs.Tree.{NodesUnderUmask}
 use Rattle.acl_service.specs.RunText.{run_text}
 use Rattle.acl_service.specs.RunTexts.{IsOfReport}
 use Rattle.acl_service.specs.Sessions.{ExplainsSessions}
-use Rattle.acl_service.specs.Told.{told}
+use Rattle.acl_service.specs.ReportOf.{report_of}
 use Rattle.acl_service.specs.declared.sessions.report.Report.{Report}
 use Rattle.acl_service.proofs.run_command.texts.print_sessions.Goals as goal
 
@@ -18,7 +18,7 @@ reported known tree texts journal limit report WentOut explains out =
 
 pub returns-clause-printed : goal.returns-clause-printed
 returns-clause-printed g c =
-    on_ok_weaker c.print_report.result (reported _ _ _ _ _ (told c.in_ok-report.report) _ c.in_ok-report.ensures) c.print_report.ensures.printed
+    on_ok_weaker c.print_report.result (reported _ _ _ _ _ (report_of c.in_ok-report.report) _ c.in_ok-report.ensures) c.print_report.ensures.printed
 
 pub returns-clause-cut : goal.returns-clause-cut
-returns-clause-cut g c lost = reported _ _ _ _ _ (told c.in_ok-report.report) _ c.in_ok-report.ensures (c.print_report.ensures.cut lost)
+returns-clause-cut g c lost = reported _ _ _ _ _ (report_of c.in_ok-report.report) _ c.in_ok-report.ensures (c.print_report.ensures.cut lost)

@@ -3,7 +3,7 @@ use Rattle.std.specs.Io.KnownBytes.{Appends}
 use Rattle.std.proofs.lemmas.Result.{IfErr-weaker, on_err_weaker, on_ok_weaker}
 use Rattle.clap.specs.Words.{found_of, rows_of}
 use Rattle.acl_queries.specs.Output.{AppendsFront}
-use Rattle.acl_service.specs.RunWords.{input_count, session_told}
+use Rattle.acl_service.specs.RunWords.{bytes_of_session, input_count}
 use Rattle.acl_tree_queries.specs.ChangeSteps.{TellsOfKnown}
 use Rattle.acl_listings.specs.Cursor.{coming}
 use Rattle.acl_tree_queries.specs.ImpactAnswer.{asks_impact}
@@ -12,7 +12,7 @@ use Rattle.acl_tree_queries.specs.ImpactListingLine.{impact_listing_line}
 use Rattle.acl_tree_queries.specs.ListingFaults.{IsListingsFault}
 use Rattle.acl_tree_queries.specs.Listings.{AreListedTwice, ListedTwice, SaysWhoThereIs, after_listing_in, listing_in, two_listings_in}
 use Rattle.acl_tree_queries.specs.Nodes.{TellsOfEach, TellsOfFirst}
-use Rattle.acl_tree_queries.specs.QuestionFaults.{Asks}
+use Rattle.acl_tree_queries.specs.QuestionFaults.{AsksQuestion}
 use Rattle.acl_tree_queries.proofs.ImpactListedLemmas.{listings_not_two, refused_for_listings, told_of_both}
 use Rattle.acl_tree_queries.proofs.ListedLemmas.{says_who}
 use Rattle.acl_tree_queries.proofs.ListingFaultLemmas.{asks_of, no_input}
@@ -26,8 +26,8 @@ returns-clause-answered g c =
     let words = map g.S.AsStr.text c.args.words.now in
     let rows = rows_of (found_of c.in_ok-matches.matches) in
     let directory = c.in_ok-directory.directory in
-    let first : Option (List ℕ) = session_told bytes_of input (listing_in rows) in
-    let second : Option (List ℕ) = session_told bytes_of input (after_listing_in rows) in
+    let first : Option (List ℕ) = bytes_of_session bytes_of input (listing_in rows) in
+    let second : Option (List ℕ) = bytes_of_session bytes_of input (after_listing_in rows) in
     let listed : ListedTwice = record { directory = directory; before = first; after = second } in
     let who : SaysWhoThereIs bytes_of rows directory =
     says_who bytes_of rows directory c.setup_field.result.now c.setup_field.ensures c.in_ok-directory.ensures.opened c.in_ok-directory.ensures.users in
@@ -39,9 +39,9 @@ returns-clause-answered g c =
     c.in_ok-matches.ensures.taken (record {}) refl listed are (
       written.0,
       told_of_both TellsOfEach directory written.0 first second
-          (subst (λ one. TellsOfKnown TellsOfEach directory (coming 1 one) (coming 1 second) written.0) (ap (session_told bytes_of input) c.listing_field-before.ensures)
-          (subst (λ one. TellsOfKnown TellsOfEach directory (coming 1 (session_told bytes_of input c.listing_field-before.result.now)) (coming 1 one) written.0)
-          (ap (session_told bytes_of input) c.after_field-after.ensures) written.1)),
+          (subst (λ one. TellsOfKnown TellsOfEach directory (coming 1 one) (coming 1 second) written.0) (ap (bytes_of_session bytes_of input) c.listing_field-before.ensures)
+          (subst (λ one. TellsOfKnown TellsOfEach directory (coming 1 (bytes_of_session bytes_of input c.listing_field-before.result.now)) (coming 1 one) written.0)
+          (ap (bytes_of_session bytes_of input) c.after_field-after.ensures) written.1)),
       written.2,
     ))
     c.write_listings.ensures.written
@@ -53,8 +53,8 @@ returns-clause-cut g c =
     let words = map g.S.AsStr.text c.args.words.now in
     let rows = rows_of (found_of c.in_ok-matches.matches) in
     let directory = c.in_ok-directory.directory in
-    let first : Option (List ℕ) = session_told bytes_of input (listing_in rows) in
-    let second : Option (List ℕ) = session_told bytes_of input (after_listing_in rows) in
+    let first : Option (List ℕ) = bytes_of_session bytes_of input (listing_in rows) in
+    let second : Option (List ℕ) = bytes_of_session bytes_of input (after_listing_in rows) in
     let listed : ListedTwice = record { directory = directory; before = first; after = second } in
     let who : SaysWhoThereIs bytes_of rows directory =
     says_who bytes_of rows directory c.setup_field.result.now c.setup_field.ensures c.in_ok-directory.ensures.opened c.in_ok-directory.ensures.users in
@@ -69,9 +69,9 @@ returns-clause-cut g c =
           c.in_ok-matches.ensures.taken (record {}) refl listed are (
             begun.0,
             told_of_both TellsOfFirst directory begun.0 first second
-                (subst (λ one. TellsOfKnown TellsOfFirst directory (coming 1 one) (coming 1 second) begun.0) (ap (session_told bytes_of input) c.listing_field-before.ensures)
-                (subst (λ one. TellsOfKnown TellsOfFirst directory (coming 1 (session_told bytes_of input c.listing_field-before.result.now)) (coming 1 one) begun.0)
-                (ap (session_told bytes_of input) c.after_field-after.ensures) begun.1)),
+                (subst (λ one. TellsOfKnown TellsOfFirst directory (coming 1 one) (coming 1 second) begun.0) (ap (bytes_of_session bytes_of input) c.listing_field-before.ensures)
+                (subst (λ one. TellsOfKnown TellsOfFirst directory (coming 1 (bytes_of_session bytes_of input c.listing_field-before.result.now)) (coming 1 one) begun.0)
+                (ap (bytes_of_session bytes_of input) c.after_field-after.ensures) begun.1)),
             begun.2,
           ))
     ])
@@ -94,7 +94,7 @@ pub returns-clause-refused : goal.returns-clause-refused
 returns-clause-refused g c =
     let rows = rows_of (found_of c.in_ok-matches.matches) in
     let words = map g.S.AsStr.text c.args.words.now in
-    let asks : Asks impact_listing_line asks_impact words =
+    let asks : AsksQuestion impact_listing_line asks_impact words =
     asks_of impact_listing_line asks_impact words rows c.in_ok-matches.ensures.fields c.in_ok-matches.ensures.taken (record {}) refl in
     IfErr-weaker c.write_listings.result (IsListingsFault c.listing_field-before.result.now c.after_field-after.result.now) _
     (λ fault is. refused_for_listings (g.F.OpenFiles.bytes_of c.args.files.now) words asks rows c.in_ok-matches.ensures.fields fault

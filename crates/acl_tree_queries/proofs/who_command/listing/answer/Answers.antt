@@ -5,10 +5,10 @@ use Rattle.clap.specs.Words.{found_of, rows_of}
 use Rattle.acl_posix.specs.Perms.{bits_of}
 use Rattle.acl_queries.specs.Asked.{optional_perms_in}
 use Rattle.acl_queries.specs.Output.{AppendsFront}
-use Rattle.acl_service.specs.RunWords.{input_count, session_told}
+use Rattle.acl_service.specs.RunWords.{bytes_of_session, input_count}
 use Rattle.acl_tree_queries.specs.Listings.{AreListed, Listed, SaysWhoThereIs, listing_in, one_listing_in}
 use Rattle.acl_tree_queries.specs.ListingFaults.{IsNamedFault}
-use Rattle.acl_tree_queries.specs.QuestionFaults.{Asks}
+use Rattle.acl_tree_queries.specs.QuestionFaults.{AsksQuestion}
 use Rattle.acl_tree_queries.specs.ListingText.{TellsOfFront, TellsOfListing}
 use Rattle.acl_tree_queries.specs.WhoListing.{IsWhoListed, IsWhoListedBegun, TellsBlock}
 use Rattle.acl_tree_queries.specs.WhoListingLine.{who_listing_line}
@@ -25,20 +25,20 @@ returns-clause-answered g c =
     let rows = rows_of (found_of c.in_ok-matches.matches) in
     let directory = c.in_ok-directory.directory in
     let perms = option_map bits_of c.in_ok-perms.perms in
-    let told : Option (List ℕ) = session_told bytes_of input (listing_in rows) in
+    let told : Option (List ℕ) = bytes_of_session bytes_of input (listing_in rows) in
     let listed : Listed = record { directory = directory; listing = told } in
     let who : SaysWhoThereIs bytes_of rows directory =
     says_who bytes_of rows directory c.setup_field.result.now c.setup_field.ensures c.in_ok-directory.ensures.opened c.in_ok-directory.ensures.users in
     let are : AreListed bytes_of input rows listed = record { who = who; listing_is = refl } in
     let old = g.W.Write.contents c.args.out.now in
     let new = g.W.Write.contents c.write_listing.new.out in
-    let same : session_told bytes_of input c.listing_field.result.now ≡ told = ap (session_told bytes_of input) c.listing_field.ensures in
+    let same : bytes_of_session bytes_of input c.listing_field.result.now ≡ told = ap (bytes_of_session bytes_of input) c.listing_field.ensures in
     on_ok_weaker c.write_listing.result
     (λ written. answered who_listing_line optional_perms_in bytes_of words AreListed IsWhoListed input (Appends old new) rows c.in_ok-matches.ensures.fields
     c.in_ok-matches.ensures.taken perms c.in_ok-perms.ensures.read listed are (
       written.1,
       subst (λ bytes. TellsOfListing (TellsBlock directory perms) bytes written.1) same
-          (told_of_listing directory perms (session_told bytes_of input c.listing_field.result.now) written.0 written.2 written.1 written.3),
+          (told_of_listing directory perms (bytes_of_session bytes_of input c.listing_field.result.now) written.0 written.2 written.1 written.3),
       written.4,
     ))
     c.write_listing.ensures.written
@@ -51,20 +51,20 @@ returns-clause-cut g c =
     let rows = rows_of (found_of c.in_ok-matches.matches) in
     let directory = c.in_ok-directory.directory in
     let perms = option_map bits_of c.in_ok-perms.perms in
-    let told : Option (List ℕ) = session_told bytes_of input (listing_in rows) in
+    let told : Option (List ℕ) = bytes_of_session bytes_of input (listing_in rows) in
     let listed : Listed = record { directory = directory; listing = told } in
     let who : SaysWhoThereIs bytes_of rows directory =
     says_who bytes_of rows directory c.setup_field.result.now c.setup_field.ensures c.in_ok-directory.ensures.opened c.in_ok-directory.ensures.users in
     let are : AreListed bytes_of input rows listed = record { who = who; listing_is = refl } in
     let old = g.W.Write.contents c.args.out.now in
     let new = g.W.Write.contents c.write_listing.new.out in
-    let same : session_told bytes_of input c.listing_field.result.now ≡ told = ap (session_told bytes_of input) c.listing_field.ensures in
+    let same : bytes_of_session bytes_of input c.listing_field.result.now ≡ told = ap (bytes_of_session bytes_of input) c.listing_field.ensures in
     on_err_weaker c.write_listing.result
     (λ cut. inr (answered who_listing_line optional_perms_in bytes_of words AreListed IsWhoListedBegun input (AppendsFront old new) rows c.in_ok-matches.ensures.fields
     c.in_ok-matches.ensures.taken perms c.in_ok-perms.ensures.read listed are (
       cut.1,
       subst (λ bytes. TellsOfFront (TellsBlock directory perms) bytes cut.1) same
-          (told_of_front directory perms (session_told bytes_of input c.listing_field.result.now) cut.0 cut.2 cut.1 cut.3),
+          (told_of_front directory perms (bytes_of_session bytes_of input c.listing_field.result.now) cut.0 cut.2 cut.1 cut.3),
       cut.4,
     )))
     c.write_listing.ensures.cut
@@ -84,7 +84,7 @@ pub returns-clause-refused : goal.returns-clause-refused
 returns-clause-refused g c =
     let rows = rows_of (found_of c.in_ok-matches.matches) in
     let words = map g.S.AsStr.text c.args.words.now in
-    let asks : Asks who_listing_line optional_perms_in words =
+    let asks : AsksQuestion who_listing_line optional_perms_in words =
     asks_of who_listing_line optional_perms_in words rows c.in_ok-matches.ensures.fields c.in_ok-matches.ensures.taken (option_map bits_of c.in_ok-perms.perms) c.in_ok-perms.ensures.read in
     let there : Contains (one_listing_in rows) (listing_in rows) = (0, omega arith, refl) in
     IfErr-weaker c.write_listing.result (IsNamedFault c.listing_field.result.now) _

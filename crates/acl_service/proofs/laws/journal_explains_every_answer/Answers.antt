@@ -2,7 +2,7 @@ use Rattle.std.proofs.Common.{refl}
 use Rattle.acl_bridge.proofs.TranslationDecides.{translation_decides_alike}
 use Rattle.acl_broker.proofs.HeadlineLemmas.{merges}
 use Rattle.acl_service.specs.Served.{next_served, reply_served}
-use Rattle.acl_service.proofs.headline.journal_explains_every_answer.Goals as goal
+use Rattle.acl_service.proofs.laws.journal_explains_every_answer.Goals as goal
 
 pub returns-clause-journal : goal.returns-clause-journal
 returns-clause-journal c = λ old history new run. merges next_served reply_served old new history run

@@ -1,12 +1,14 @@
-use Rattle.std.proofs.Common.{subst, sym}
-use Rattle.acl_queries.specs.ErrorOutput.{Tells}
+use Rattle.std.proofs.Common.{ℕ, List, subst, sym}
+use Rattle.acl_queries.specs.ErrorOutput.{Tells, line_of_words}
 use Rattle.acl_service.specs.FilesFaults.{files_fault_line}
-use Rattle.acl_service.specs.declared.files.FilesFault.{FilesFault}
-use Rattle.acl_service.proofs.files.FilesFaultCommandFault.tell.Goals as goal
+use Rattle.acl_service.specs.declared.files.fault.FilesFault.{FilesFault}
+use Rattle.acl_service.proofs.FaultLemmas.{too_many-is}
+use Rattle.acl_service.proofs.files.fault.FilesFaultCommandFault.tell.Goals as goal
 
 pub returns-in-SessionCount : goal.returns-in-SessionCount
 returns-in-SessionCount g c =
-    subst (λ (fault : FilesFault). Tells (files_fault_line fault) c.args.err.now c.write_line.new.self) (sym c.in-SessionCount.is) c.write_line.ensures
+    subst (λ (fault : FilesFault). Tells (files_fault_line fault) c.args.err.now c.write_line.new.self) (sym c.in-SessionCount.is)
+    (subst (λ (words : List ℕ). Tells (line_of_words words) c.args.err.now c.write_line.new.self) too_many-is c.write_line.ensures)
 
 pub returns-in-InputTwice : goal.returns-in-InputTwice
 returns-in-InputTwice g c =

@@ -1,5 +1,5 @@
 use Rattle.acl_queries.proofs.ExplanationLemmas.{classes_decide, first_speakers_decide, other_entries_dont_count, silent_entries_dont_count, later_entries_dont_count}
-use Rattle.acl_queries.proofs.explanation.explanation_laws.Goals as goal
+use Rattle.acl_queries.proofs.laws.explanation_laws.Goals as goal
 
 pub returns-clause-classes : goal.returns-clause-classes
 returns-clause-classes c = classes_decide
