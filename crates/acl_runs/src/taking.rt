@@ -10,7 +10,7 @@ use std::sync::Wait;
 use std::time::Clock;
 
 /// Takes and delivers for the sessions in turn, until all have ended and nothing is owed.
-pub(super) fn serve_until_done<R: Wait + Clock, P: Replies<Reply = S::Reply>, S: Service>(
+pub(crate) fn serve_until_done<R: Wait + Clock, P: Replies<Reply = S::Reply>, S: Service>(
     rt: &R,
     stop: &Stop,
     replies: &P,
