@@ -3,7 +3,7 @@ use Rattle.std.proofs.Common.{ap, sym, ◌∙◌, get_or, ◌≡◌, true, List,
 use Rattle.std.proofs.lemmas.Bool.{both_ways}
 use Rattle.rtrb.specs.Ring as ring
 use Rattle.acl_broker.specs.Messages.{items_of, has_end_mark}
-use Rattle.acl_broker.specs.Ends.{Each, EndsByClose, EndSeen, AreSeen, AreEndsOf, side_of, is_closed}
+use Rattle.acl_broker.specs.Ends.{EachLaneSatisfies, EndsByClose, EndSeen, AreSeen, AreEndsOf, side_of, is_closed}
 use Rattle.acl_broker.specs.declared.end.End.{End}
 use Rattle.acl_broker.specs.declared.end.End.TheVariants.{Open, Closed}
 use Rattle.acl_broker.specs.declared.taker_side.TakerSide.{TakerSide}
@@ -25,7 +25,7 @@ module _ {I R : Type 0} where
         sym (items_of-append_marked received known ended) ∙ ap items_of fifo,
       )
 
-  pub end_by_close : (ends ends' : List (End I R)) (sides sides' : List (TakerSide I R)) → AreEndsOf ends sides → AreSeen ends sides ends' sides' → Each EndsByClose ends sides
+  pub end_by_close : (ends ends' : List (End I R)) (sides sides' : List (TakerSide I R)) → AreEndsOf ends sides → AreSeen ends sides ends' sides' → EachLaneSatisfies EndsByClose ends sides
   end_by_close ends ends' sides sides' are seen = (
     are.0,
     λ s e t below. ends_by_close s (get_or ends s e) (get_or ends' s e) (get_or sides s t) (get_or sides' s t) (seen.each s e t below),

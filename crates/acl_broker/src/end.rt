@@ -1,4 +1,6 @@
 //! The end of a session, open or closed.
+ghost use Rattle.acl_broker.specs.Ends.{AreEndsOf, AreSeen};
+
 use crate::{ClosedEnd, Refused, SessionEnd, SubmitRefusal, TakerSide, lane};
 
 /// The end of a session, which may go to a thread of its own.
@@ -72,7 +74,7 @@ impl<I: Drop, R: Drop> End<I, R> {
     }
 
     /// Lets the taker know all that waits.
-    pub(crate) fn look_beside(&mut self, taker: &mut TakerSide<I, R>)
+    pub(crate) fn see_entries_beside(&mut self, taker: &mut TakerSide<I, R>)
         requires { IsPaired (side_of self.old) taker.old }
         ensures same { IsSamePair self.old taker.old self.new taker.new }
         ensures state { lane_of self.new taker.new ≡ lane_of self.old taker.old }
@@ -82,25 +84,39 @@ impl<I: Drop, R: Drop> End<I, R> {
         ensures unmoved { IsUnmoved taker.old taker.new }
     {
         match self {
-            End::Open(open) => lane::look(&mut open.side, taker),
-            End::Closed(closed) => lane::look(&mut closed.side, taker),
+            End::Open(open) => lane::see_entries(&mut open.side, taker),
+            End::Closed(closed) => lane::see_entries(&mut closed.side, taker),
         }
     }
 
     /// Lets both sides know all that lies in the rings. The session is closed if its end is.
-    pub(crate) fn see_beside(&mut self, taker: &mut TakerSide<I, R>)
+    pub(crate) fn see_rings_beside(&mut self, taker: &mut TakerSide<I, R>)
         requires { IsPaired (side_of self.old) taker.old }
         ensures { EndSeen self.old taker.old self.new taker.new }
     {
         match self {
             End::Open(open) => {
-                lane::see(&mut open.side, taker);
+                lane::see_rings(&mut open.side, taker);
                 taker.closed = false;
             }
             End::Closed(closed) => {
-                lane::see(&mut closed.side, taker);
+                lane::see_rings(&mut closed.side, taker);
                 taker.closed = true;
             }
         }
+    }
+}
+
+/// Lets both sides of each lane know all that lies in its rings. Nothing is moved, and nothing is
+/// refused.
+pub(crate) fn see_all_rings<I: Drop, R: Drop>(
+    ends: &mut Vec<End<I, R>>,
+    takers: &mut Vec<TakerSide<I, R>>,
+)
+    requires { AreEndsOf ends.old.items takers.old.items }
+    ensures { AreSeen ends.old.items takers.old.items ends.new.items takers.new.items }
+{
+    for session in 0..takers.len() {
+        ends[session].see_rings_beside(&mut takers[session]);
     }
 }

@@ -4,7 +4,7 @@ use Rattle.std.proofs.lemmas.List.{get_or-set_same, get_or-set_other, get_or_def
 use Rattle.std.proofs.lemmas.Bool.Decides.{leb_tells}
 use Rattle.acl_broker.specs.Ends.{KeepEnds}
 use Rattle.acl_broker.specs.TakerSides.{outbox, CancelsAlone}
-use Rattle.acl_broker.specs.Takers.{TakerState, Keeps, StillKeeps, AppendsOne, At, Of, SameExceptAt, TakeMoves, DeliverMoves}
+use Rattle.acl_broker.specs.Takers.{TakerState, Keeps, StillKeeps, AppendsOne, SideMoves, SideSatisfies, SameExceptAt, TakeMoves, DeliverMoves}
 use Rattle.acl_broker.specs.declared.taker_side.TakerSide.{TakerSide}
 use Rattle.acl_broker.specs.declared.steps.TakeRefused.{TakeRefused}
 use Rattle.acl_broker.specs.declared.steps.TakeRefused.TheVariants.{UnknownSession}
@@ -65,7 +65,7 @@ module _ {State I R : Type 0} (next : State → I → State) (reply : State → 
   }
 
   -- a take that is refused
-  pub takes_on_refused : (old new : TakerState State I R) (limits : ErrorLimits) (session : ℕ) (why : TakeRefused) → KeepEnds old.sides new.sides → StillKeeps next reply old new → At session old.sides new.sides (TakeMoves (Err why)) → SameExceptAt session old.sides new.sides → TakesOn next reply is_error old limits new limits
+  pub takes_on_refused : (old new : TakerState State I R) (limits : ErrorLimits) (session : ℕ) (why : TakeRefused) → KeepEnds old.sides new.sides → StillKeeps next reply old new → SideMoves session old.sides new.sides (TakeMoves (Err why)) → SameExceptAt session old.sides new.sides → TakesOn next reply is_error old limits new limits
   takes_on_refused old new limits session why pairs keeps moves others = record {
     pairs = pairs;
     keeps = keeps;
@@ -76,7 +76,7 @@ module _ {State I R : Type 0} (next : State → I → State) (reply : State → 
   }
 
   -- a delivery
-  pub takes_on_delivered : (old new : TakerState State I R) (limits : ErrorLimits) (session : ℕ) (delivered : Bool) → KeepEnds old.sides new.sides → StillKeeps next reply old new → At session old.sides new.sides (DeliverMoves delivered) → SameExceptAt session old.sides new.sides → TakesOn next reply is_error old limits new limits
+  pub takes_on_delivered : (old new : TakerState State I R) (limits : ErrorLimits) (session : ℕ) (delivered : Bool) → KeepEnds old.sides new.sides → StillKeeps next reply old new → SideMoves session old.sides new.sides (DeliverMoves delivered) → SameExceptAt session old.sides new.sides → TakesOn next reply is_error old limits new limits
   takes_on_delivered old new limits session delivered pairs keeps moves others = record {
     pairs = pairs;
     keeps = keeps;
@@ -86,7 +86,7 @@ module _ {State I R : Type 0} (next : State → I → State) (reply : State → 
         limit;
   }
 
-  module _ (old new : TakerState State I R) (limits : ErrorLimits) (session place : ℕ) (inside : session < length old.sides) (pairs : KeepEnds old.sides new.sides) (keeps : StillKeeps next reply old new) (appends : AppendsOne session old.journal new.journal) (moves : At session old.sides new.sides (TakeMoves (Ok place))) (others : SameExceptAt session old.sides new.sides) (failed : Bool) (last_fails : Of session new.sides (λ side. LastFails is_error failed (outbox side))) where
+  module _ (old new : TakerState State I R) (limits : ErrorLimits) (session place : ℕ) (inside : session < length old.sides) (pairs : KeepEnds old.sides new.sides) (keeps : StillKeeps next reply old new) (appends : AppendsOne session old.journal new.journal) (moves : SideMoves session old.sides new.sides (TakeMoves (Ok place))) (others : SameExceptAt session old.sides new.sides) (failed : Bool) (last_fails : SideSatisfies session new.sides (λ side. LastFails is_error failed (outbox side))) where
     -- what is owed after an accepted take, and whether it is an error
     more_of : (opening : State) (default : TakerSide I R) → Keeps next reply opening old → OwesMore (get_or old.sides session default) (get_or new.sides session default)
     more_of opening default kept = owes_more next reply opening old new session default inside kept (keeps opening kept) appends others.0 (moves default inside).answers
@@ -123,7 +123,7 @@ module _ {State I R : Type 0} (next : State → I → State) (reply : State → 
 
     -- one whose answer is the last error allowed, after which the session is cancelled
     pub takes_on_over : (limits' : ErrorLimits) (last : Bool) (after : TakerState State I R) → failed ≡ true → CountsDown session limits last limits' → last ≡ true
-        → KeepEnds new.sides after.sides → StillKeeps next reply new after → At session new.sides after.sides CancelsAlone → SameExceptAt session new.sides after.sides → TakesOn next reply is_error old limits after limits'
+        → KeepEnds new.sides after.sides → StillKeeps next reply new after → SideMoves session new.sides after.sides CancelsAlone → SameExceptAt session new.sides after.sides → TakesOn next reply is_error old limits after limits'
     takes_on_over limits' last after fails counts is_last pairs' keeps' cancels others' = record {
       pairs = λ ends are. pairs' ends (pairs ends are);
       keeps = λ opening kept. keeps' opening (keeps opening kept);

@@ -9,7 +9,7 @@ use Rattle.acl_broker.specs.Journal.{state_after, answers_to}
 use Rattle.acl_broker.proofs.Journals.{state_after-append}
 use Rattle.acl_broker.proofs.JournalEntries.{entry_of, more_answers, kept_answers}
 use Rattle.acl_runs.specs.Rounds.{entries_of, heads, rounds, Answered}
-use Rattle.acl_runs.specs.Turns.{rests, Answers, Turns, TurnsOfFirst, Rounds, AllRounds, WithRoundsLeft}
+use Rattle.acl_runs.specs.Turns.{rests, AnswersNext, Turns, TurnsOfFirst, Rounds, AllRounds, WithRoundsLeft}
 use Rattle.acl_runs.specs.declared.rounds.state.Progress.{Progress}
 use Rattle.acl_runs.specs.declared.rounds.state.Run.{Run}
 
@@ -72,7 +72,7 @@ module _ {C State I R : Type 0} (rest : C → List I) (next : State → I → St
 
   -- the turn of a session with a request
   pub turns_some : (old new : Run C State I R) (session : ℕ) (progress progress' : Progress C R) (item : I) → session < length old.sessions.items → ((d : Progress C R) → get_or old.sessions.items session d ≡ progress)
-      → new.sessions.items ≡ slice_set old.sessions.items session progress' → new.journal.items ≡ old.journal.items ++ entry_of session item ∷ [] → Answers rest next reply text old.service progress (Some item) new.service progress' → Turns rest next reply text session old true new
+      → new.sessions.items ≡ slice_set old.sessions.items session progress' → new.journal.items ≡ old.journal.items ++ entry_of session item ∷ [] → AnswersNext rest next reply text old.service progress (Some item) new.service progress' → Turns rest next reply text session old true new
   turns_some old new session progress progress' item below seat_is sessions journal answers =
       let wants : get_or (rests rest old) session [] ≡ item ∷ rest progress'.requests = get_or-map (λ (s : Progress C R). rest s.requests) old.sessions.items session progress [] below ∙ ap (λ (s : Progress C R). rest s.requests) (seat_is progress) ∙ answers.0 in
       record {
@@ -96,7 +96,7 @@ module _ {C State I R : Type 0} (rest : C → List I) (next : State → I → St
 
   -- the turn of a session that has no request left
   pub turns_none : (old new : Run C State I R) (session : ℕ) (progress progress' : Progress C R) → session < length old.sessions.items → ((d : Progress C R) → get_or old.sessions.items session d ≡ progress)
-      → new.sessions.items ≡ slice_set old.sessions.items session progress' → new.journal.items ≡ old.journal.items → Answers rest next reply text old.service progress None new.service progress' → Turns rest next reply text session old false new
+      → new.sessions.items ≡ slice_set old.sessions.items session progress' → new.journal.items ≡ old.journal.items → AnswersNext rest next reply text old.service progress None new.service progress' → Turns rest next reply text session old false new
   turns_none old new session progress progress' below seat_is sessions journal answers =
       let wants : get_or (rests rest old) session [] ≡ [] = get_or-map (λ (s : Progress C R). rest s.requests) old.sessions.items session progress [] below ∙ ap (λ (s : Progress C R). rest s.requests) (seat_is progress) ∙ answers.0 in
       record {

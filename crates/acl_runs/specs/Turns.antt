@@ -14,12 +14,12 @@ module _ {C State I R : Type 0} (rest : C → List I) where
 module _ {C State I R : Type 0} (rest : C → List I) (next : State → I → State)
     (reply : State → I → R) (text : R → List ℕ) where
   -- a session's next request was answered, if it had one
-  abbrev pub Answers : State → Progress C R → Option I → State → Progress C R → Type 0
-  Answers service progress None service' progress' =
+  abbrev pub AnswersNext : State → Progress C R → Option I → State → Progress C R → Type 0
+  AnswersNext service progress None service' progress' =
       (rest progress.requests ≡ []) × (rest progress'.requests ≡ []) × (service' ≡ service)
       × (progress'.answers.items ≡ progress.answers.items)
       × (progress'.output.items ≡ progress.output.items)
-  Answers service progress (Some item) service' progress' =
+  AnswersNext service progress (Some item) service' progress' =
       (rest progress.requests ≡ item ∷ rest progress'.requests) × (service' ≡ next service item)
       × (progress'.answers.items ≡ progress.answers.items ++ reply service item ∷ [])
       × (progress'.output.items ≡ progress.output.items ++ text (reply service item))

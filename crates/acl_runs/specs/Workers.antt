@@ -1,5 +1,5 @@
 -- What the worker of a session does.
-use Rattle.std.specs.Prelude.{◌≡◌, ◌⊎◌, ℕ, Bool, true, List, [], ◌∷◌, ◌++◌, length, map, Option}
+use Rattle.std.specs.Prelude.{◌≡◌, ◌⊎◌, ℕ, true, List, [], ◌∷◌, ◌++◌, length, map, Option}
 use Rattle.std.specs.Prelude.{Some, None, if◌then◌else◌, ◌-◌, flat_map}
 use mathlib.Core.List.{IsPrefix}
 use Rattle.acl_broker.specs.Ends.{sent_by, polled_by, is_closed, StaysEndOf}

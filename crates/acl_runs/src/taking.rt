@@ -3,13 +3,14 @@ ghost use Rattle.acl_broker.specs.Takers.{view};
 ghost use Rattle.acl_runs.specs.Taking.{TakesOn};
 ghost use Rattle.acl_runs.specs.declared.error_limits.ErrorLimits.{ErrorLimits};
 
-use crate::{ErrorLimits, Idle, Replies, ServeFault, Stop, error_limits};
+use crate::error_limits::take_within_limits;
+use crate::{ErrorLimits, Idle, Replies, ServeFault, Stop};
 use acl_broker::{SLOTS, Service, TakeRefused, Taker};
 use std::sync::Wait;
 use std::time::Clock;
 
 /// Takes and delivers for the sessions in turn, until all have ended and nothing is owed.
-pub(super) fn serve_until_done<R: Wait + Clock, P: Replies<Reply = S::Reply>, S: Service>(
+pub(crate) fn serve_until_done<R: Wait + Clock, P: Replies<Reply = S::Reply>, S: Service>(
     rt: &R,
     stop: &Stop,
     replies: &P,
@@ -107,7 +108,7 @@ fn take_some<P: Replies<Reply = S::Reply>, S: Service>(
 {
     let mut taken = false;
     for _ in 0..TURN {
-        match error_limits::take(replies, taker, limits, session) {
+        match take_within_limits(replies, taker, limits, session) {
             Ok(()) => taken = true,
             Err(TakeRefused::Memory) => return Err(ServeFault::Memory),
             Err(_) => return Ok(taken),

@@ -14,7 +14,7 @@ use std::time::Clock;
 
 /// That a worker serves a session by the end with which it began.
 #[derive(Drop)]
-pub(super) struct Serves<'a, C: RequestSource, P: Replies> {
+pub(crate) struct Serves<'a, C: RequestSource, P: Replies> {
     start: Snapshot<SessionEnd<C::Request, P::Reply>>,
     requests: Snapshot<C>,
     replies: &'a P,
@@ -29,7 +29,7 @@ impl<'a, C: RequestSource, P: Replies> Promise<
         (C.rest promise.requests.value)) };
 }
 
-pub(super) type Worker<'a, C, P> = PromisedHandle<
+pub(crate) type Worker<'a, C, P> = PromisedHandle<
     Result<
         Finished<<C as RequestSource>::Request, <P as Replies>::Reply, <P as Replies>::Kept>,
         ServeFault,
@@ -38,7 +38,7 @@ pub(super) type Worker<'a, C, P> = PromisedHandle<
 >;
 
 /// Starts a worker for each session. If one cannot be started, the others are told to stop.
-pub(super) fn start_workers<'s, E, R, G, P, C>(
+pub(crate) fn start_workers<'s, E, R, G, P, C>(
     scope: &Scope<'s, E>,
     setting: &Setting<'s, R, G, P>,
     sessions: Vec<C>,
@@ -139,14 +139,14 @@ where
 
 /// What the workers hand on, with a place for each session.
 #[derive(Drop)]
-pub(super) struct Gathered<I, A, K> {
-    pub(super) ends: Vec<End<I, A>>,
-    pub(super) answers: Vec<Vec<K>>,
-    pub(super) outputs: Vec<Vec<u8>>,
+pub(crate) struct Gathered<I, A, K> {
+    pub(crate) ends: Vec<End<I, A>>,
+    pub(crate) answers: Vec<Vec<K>>,
+    pub(crate) outputs: Vec<Vec<u8>>,
 }
 
 /// Joins the workers, in order.
-pub(super) fn join_workers<R: Threads, P: Replies, C: RequestSource>(
+pub(crate) fn join_workers<R: Threads, P: Replies, C: RequestSource>(
     rt: &R,
     alloc: Global,
     workers: Vec<Worker<'_, C, P>>,

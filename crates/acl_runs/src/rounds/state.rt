@@ -8,22 +8,22 @@ use std::alloc::{AllocError, Global};
 
 /// A session with what it was answered.
 #[derive(Drop)]
-pub(crate) struct Progress<C, A> {
-    pub(crate) requests: C,
-    pub(crate) answers: Vec<A>,
-    pub(crate) output: Vec<u8>,
+pub(super) struct Progress<C, A> {
+    pub(super) requests: C,
+    pub(super) answers: Vec<A>,
+    pub(super) output: Vec<u8>,
 }
 
 /// All sessions with the service and the journal.
 #[derive(Drop)]
-pub(crate) struct Run<C, S, I, A> {
-    pub(crate) service: S,
-    pub(crate) journal: Vec<JournalEntry<I>>,
-    pub(crate) sessions: Vec<Progress<C, A>>,
+pub(super) struct Run<C, S, I, A> {
+    pub(super) service: S,
+    pub(super) journal: Vec<JournalEntry<I>>,
+    pub(super) sessions: Vec<Progress<C, A>>,
 }
 
 /// All sessions, to which nothing was answered yet.
-pub(crate) fn begin_all<S: Service + Drop, C: RequestSource<Request = S::Request>>(
+pub(super) fn begin_all<S: Service + Drop, C: RequestSource<Request = S::Request>>(
     alloc: Global,
     service: S,
     sessions: Vec<C>,
@@ -46,7 +46,7 @@ pub(crate) fn begin_all<S: Service + Drop, C: RequestSource<Request = S::Request
 }
 
 /// What each session was answered, with the journal and the service.
-pub(crate) fn report_all<S: Service + Drop, C: RequestSource<Request = S::Request>>(
+pub(super) fn report_all<S: Service + Drop, C: RequestSource<Request = S::Request>>(
     alloc: Global,
     run: Run<C, S, S::Request, S::Reply>,
 ) -> Result<RunReport<S, JournalEntry<S::Request>, S::Reply>, AllocError>

@@ -1,6 +1,6 @@
 //! Rounds of turns.
 ghost use Rattle.std.specs.Prelude.{◌≡◌, ◌<◌, ◌≤◌, ◌^◌, All, None, length, map, IfOk, OnOk};
-ghost use Rattle.acl_runs.specs.Turns.{Answers, Turns, Rounds, AllRounds};
+ghost use Rattle.acl_runs.specs.Turns.{AnswersNext, Turns, Rounds, AllRounds};
 
 use super::state::{Progress, Run};
 use crate::{Replies, RequestSource};
@@ -13,7 +13,7 @@ fn answer_next<P: Replies<Reply = S::Reply>, S: Service, C: RequestSource<Reques
     service: &mut S,
     progress: &mut Progress<C, S::Reply>,
 ) -> Result<Option<S::Request>, AllocError>
-    ensures { IfOk result (λ taken. Answers C.rest S.next S.reply (P.handling replies.now).text
+    ensures { IfOk result (λ taken. AnswersNext C.rest S.next S.reply (P.handling replies.now).text
         service.old progress.old taken service.new progress.new) }
 {
     let Some(request) = progress.requests.next()? else {

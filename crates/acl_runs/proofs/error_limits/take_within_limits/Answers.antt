@@ -1,7 +1,7 @@
 use Rattle.std.proofs.Common.{length}
 use Rattle.acl_broker.specs.Takers.{view}
 use Rattle.acl_runs.proofs.TakingLemmas.{inside_of, takes_on_refused, takes_on_fine, takes_on_fewer, takes_on_over}
-use Rattle.acl_runs.proofs.error_limits.take.Goals as goal
+use Rattle.acl_runs.proofs.error_limits.take_within_limits.Goals as goal
 
 pub returns-in_err-take : goal.returns-in_err-take
 returns-in_err-take g c =
