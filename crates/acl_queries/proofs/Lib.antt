@@ -7,6 +7,7 @@ pub mod MeaningLemmas
 pub mod AskLemmas
 pub mod AcesLemmas
 pub mod QueryLemmas
+pub mod StatusLemmas
 pub mod DifferenceLemmas
 pub mod ComparedLemmas
 pub mod ExclusiveLemmas

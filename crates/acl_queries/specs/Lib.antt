@@ -20,3 +20,4 @@ pub mod Explanation
 pub mod ExplainLine
 pub mod Explained
 pub mod ExplainText
+pub mod QueryLaws

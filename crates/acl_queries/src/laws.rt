@@ -5,12 +5,27 @@ ghost use Rattle.acl_nfs4.specs.declared.comparison.Difference.{Difference};
 ghost use Rattle.acl_queries.specs.Ask.{Ask};
 ghost use Rattle.acl_queries.specs.Asked.{Asked, asked_in};
 ghost use Rattle.acl_queries.specs.CommandLine.{Takes};
-ghost use Rattle.acl_queries.specs.Compared.{Compared};
+ghost use Rattle.acl_queries.specs.CompareLine.{compare_line};
+ghost use Rattle.acl_queries.specs.Compared.{Compared, compared_in};
+ghost use Rattle.acl_queries.specs.DecideAnswer.{IsDecideText};
 ghost use Rattle.acl_queries.specs.DecideLine.{decide_line};
-ghost use Rattle.acl_queries.specs.Differences.{AreAlike, Differ};
+ghost use Rattle.acl_queries.specs.Differences.{AreAlike, Differ, IsComparison};
+ghost use Rattle.acl_queries.specs.ExplainLine.{explain_line};
+ghost use Rattle.acl_queries.specs.ExplainText.{IsExplanation};
+ghost use Rattle.acl_queries.specs.Explained.{explained_in};
 ghost use Rattle.acl_queries.specs.Explanation.{ClassesDecide, FirstSpeakersDecide};
 ghost use Rattle.acl_queries.specs.Explanation.{LaterEntriesDontCount, OtherEntriesDontCount};
 ghost use Rattle.acl_queries.specs.Explanation.{SilentEntriesDontCount};
+ghost use Rattle.acl_queries.specs.QueryLaws.{HasTheStatusOfItsWords};
+
+/// The exit status of `decide`, `explain` and `compare` is that of their words, unless something is
+/// lacking (3): 2 if the parser of command lines refuses them, 1 if a field doesn't read, and else
+/// 0. What ended as the words mean, and told what it has to say, has no other.
+pub fn statuses_are_those_of_the_words()
+    ensures decide { HasTheStatusOfItsWords decide_line asked_in IsDecideText }
+    ensures explain { HasTheStatusOfItsWords explain_line explained_in IsExplanation }
+    ensures compare { HasTheStatusOfItsWords compare_line compared_in IsComparison }
+{}
 
 /// Words of `decide` ask what their fields give, each field by itself, and nothing else.
 pub fn words_ask_what_they_give()

@@ -5,3 +5,4 @@ pub mod PrintLemmas
 pub mod FileLemmas
 pub mod CutLemmas
 pub mod FaultLemmas
+pub mod StatusLemmas

@@ -17,3 +17,4 @@ pub mod RunTexts
 pub mod RunLine
 pub mod RunWords
 pub mod RunMeaning
+pub mod RunLaws

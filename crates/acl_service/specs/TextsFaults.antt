@@ -59,10 +59,6 @@ pub record IsRefusedBy (bytes : List ℕ) (error : SetupError) : Type 0 where
   pub refused : IsRefusedSetup bytes error
   pub because : error ≢ setup.Memory
 
--- for anything
-abbrev pub RefusesSetup : List ℕ → Type 0
-RefusesSetup bytes = (error : SetupError) × IsRefusedBy bytes error
-
 -- so many sessions with this setup are refused for this: there are too many, or else for the setup;
 -- of a run that lacked something nothing is said but that there weren't too many
 abbrev pub IsTextsFault : List ℕ → ℕ → TextsFault → Type 0

@@ -11,6 +11,7 @@ ghost use Rattle.acl_bridge.specs.TranslationLaws.{TranslationDecidesAlike};
 ghost use Rattle.acl_lang.specs.declared.answer.Answer.{Answer};
 ghost use Rattle.acl_lang.specs.declared.text.Numbered.{Numbered};
 ghost use Rattle.acl_service.specs.Headline.{IsServedBy};
+ghost use Rattle.acl_service.specs.RunLaws.{StatusesTellTheWords};
 ghost use Rattle.acl_service.specs.Served.{next_served, reply_served};
 ghost use Rattle.acl_service.specs.Sessions.{ExplainsSessions, IsServedAlone};
 ghost use Rattle.acl_service.specs.declared.served.Served.{Served};
@@ -42,4 +43,13 @@ pub fn one_session_is_served_as_alone()
     ensures { (known : Known) (tree : NodesUnderUmask) (text : Vec ℕ Global) (report : Report)
         → ExplainsSessions known tree None (text ∷ []) report
         → IsServedAlone known tree text.items report }
+{}
+
+/// The exit status of `run` tells of its words. At 0 and 1 they were taken and the sessions that
+/// they name can run together; 2 is that of words that aren't taken, or that name no sessions, more
+/// than there may be, or standard input twice.
+///
+/// There is nothing to run here: a proof cites the contract.
+pub fn run_statuses_tell_the_words()
+    ensures { StatusesTellTheWords }
 {}

@@ -17,7 +17,9 @@ pub use acl_queries::{
 };
 pub use acl_runs::{Gate, OpenGate, ServeFault};
 pub use files::{FilesFault, OpenFiles, Texts, count_inputs, read_file, read_sessions, read_texts};
-pub use laws::{journal_explains_every_answer, one_session_is_served_as_alone};
+pub use laws::{
+    journal_explains_every_answer, one_session_is_served_as_alone, run_statuses_tell_the_words,
+};
 pub use one::{OneFault, apply_text, run_one};
 pub use run_command::{run, run_texts, session_fields, session_words, setup_field};
 pub use served::Served;
