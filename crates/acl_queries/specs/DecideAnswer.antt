@@ -30,9 +30,10 @@ abbrev pub answer_text : Asked → List ℕ
 answer_text asked = answer_line (is_granted asked)
     ++ (if asked.nfs4 then translation_text asked.acl else [])
 
--- what the words of `decide` mean
+-- the text is that answer
 abbrev pub IsDecideText : Asked → List ℕ → Type 0
 IsDecideText asked text = text ≡ answer_text asked
 
+-- what the words of `decide` mean
 abbrev pub decide_meaning : List Text → Meaning
 decide_meaning = query_meaning decide_line asked_in IsDecideText

@@ -93,7 +93,7 @@ where
     Ok(())
 }
 
-/// AnswersQuestion what the words ask, or tells what is wrong, and returns the exit status.
+/// Answers what the words ask, or tells what is wrong, and returns the exit status.
 pub(crate) fn ask<Q, F, S, I, W, E>(
     alloc: Global,
     files: &F,

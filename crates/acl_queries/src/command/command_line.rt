@@ -24,7 +24,8 @@ pub trait CommandLine {
     ghost line_free: { is_simple_and_free line ≡ true };
 }
 
-/// What the parser finds in the words, of which the first is the command's name.
+/// What the parser finds in the words, of which the first is the command's name. It fails with the
+/// parser's own error: if it refuses the words, if they ask for help, or if memory runs out.
 pub fn parse<'a, C: CommandLine, S: AsStr>(
     alloc: Global,
     words: &'a [S],
