@@ -1,5 +1,7 @@
 -- The dump of a tree makes it again.
-use Rattle.std.proofs.Common.{◌≡◌, ◌≢◌, ◌∙◌, ◌+◌, ◌≤◌, ℕ, Bool, true, false, cond, not, ◌&&◌, ◌||◌, List, [], ◌∷◌, All, Option, Some, None, option_map, is_some, unwrap_or, Ok, IsSomeAnd, nat_lt, length, refl, sym, ap, ap₂, subst, arith, bytes_eq, nat_cmp, Ordering}
+use Rattle.std.proofs.Common.{◌≡◌, ◌≢◌, ◌∙◌, ◌+◌, ◌≤◌, ℕ, Bool, true, false, cond, not, ◌&&◌, ◌||◌, List, []}
+use Rattle.std.proofs.Common.{◌∷◌, All, Option, Some, None, option_map, is_some, unwrap_or, Ok, IsSomeAnd}
+use Rattle.std.proofs.Common.{nat_lt, length, refl, sym, ap, ap₂, subst, arith, bytes_eq, nat_cmp, Ordering}
 use Rattle.std.specs.declared.cmp.Ordering.TheVariants.{Less, Equal, Greater}
 use Rattle.std.specs.Ordering.{is_lt}
 use Rattle.std.specs.Cmp.Lexicographic.{slice_cmp, nat_list_cmp_total}
@@ -32,22 +34,25 @@ use Rattle.acl_tree.specs.declared.limits.TheConstants.{MAX_NODES}
 use Rattle.acl_tree.specs.declared.node.Node.{Node}
 use Rattle.acl_tree.specs.declared.node_acl.NodeAcl.{NodeAcl}
 use Rattle.acl_tree.specs.declared.node_acl.NodeAcl.TheVariants.{Posix, Nfs4}
-use Rattle.acl_tree.specs.declared.node_acl.Style.{Style}
-use Rattle.acl_tree.specs.declared.node_acl.Style.TheVariants as style
+use Rattle.acl_bridge.specs.declared.style.Style.{Style}
+use Rattle.acl_bridge.specs.declared.style.Style.TheVariants as style
 use Rattle.acl_tree.specs.declared.request.Request.{Request}
 use Rattle.acl_tree.specs.declared.request.Request.TheVariants.{SetDefault}
 use Rattle.acl_tree.specs.declared.request.Request.TheVariants as request
 use Rattle.acl_tree.proofs.CommandLaws.{keeps_the_umask}
 use Rattle.acl_tree.proofs.TreeLaws.{files_never_have_a_default, nodes_stay, parents_are_directories, the_umask_stays, trees_are_within_the_limit, trees_have_paths_alone}
-use Rattle.acl_audit.specs.Dump.{DumpsMakeTheTree, closed, closing, creation, dump, dump_of, setting, no_mode, root, set_lists}
+use Rattle.acl_audit.specs.Dump.{DumpsMakeTheTree, closed_list, close_command, creation, dump, dump_of, set_commands, no_mode, root, set_lists}
 use Rattle.acl_audit.proofs.GroupsLemmas.{IsGroupBelow, groups_are_given}
 use Rattle.acl_audit.proofs.ParentLemmas.{parent_before, root_first}
 use Rattle.acl_audit.proofs.QuietLemmas.{files_inherit_nothing}
-use Rattle.acl_audit.proofs.SavedLemmas.{IsPut, IsReady, and_left, and_right, apart, ascend, at_its_path, below_all, changed-at, found_each, found_in, node_of, not_found, order, put-is, put-put-is, same, same-is, same-itself, shadowed, truth, weaker}
+use Rattle.acl_audit.proofs.SavedLemmas.{IsPut, IsReady, and_left, and_right, apart, ascend, at_its_path}
+use Rattle.acl_audit.proofs.SavedLemmas.{below_all, changed-at, found_each, found_in, node_of, not_found}
+use Rattle.acl_audit.proofs.SavedLemmas.{order, put-is, put-put-is, same, same-is, same-itself, shadowed}
+use Rattle.acl_audit.proofs.SavedLemmas.{truth, weaker}
 
 -- a node as it is created, before it is given its lists
 abbrev closed_of : Node → Node
-closed_of node = node_of node.kind node.owner node.group (Posix closed None)
+closed_of node = node_of node.kind node.owner node.group (Posix closed_list None)
 
 abbrev is_left : List ℕ → List Entry → Bool
 is_left q es = is_some (found_in q es)
@@ -78,7 +83,7 @@ not_left q es below = ap is_some (not_found q es below)
 nothing_without : (umask : ℕ) → without 0 umask ≡ 0
 nothing_without umask = no_bits (without 0 umask) (λ bit. has-without 0 umask bit ∙ ap (λ b. b && not (has umask bit)) (has-zero bit))
 
-closed_under : (umask : Classes) → of_mode (beyond_umask no_mode umask) ≡ closed
+closed_under : (umask : Classes) → of_mode (beyond_umask no_mode umask) ≡ closed_list
 closed_under umask =
     ap of_mode (λ i. record { user = nothing_without umask.user i; group = nothing_without umask.group i; other = nothing_without umask.other i })
 
@@ -171,7 +176,7 @@ module _ (directory : Known) (tree : NodesUnderUmask) where
 
   module _ (t : NodesUnderUmask) (path : List ℕ) (owner group : ℕ) where
     abbrev base : Kind → Node
-    base kind = node_of kind owner group (Posix closed None)
+    base kind = node_of kind owner group (Posix closed_list None)
 
     listed : (kind : Kind) (acl : NodeAcl) → map.get t.nodes path ≡ Some (base kind) → IsReady (node_of kind owner group acl)
         → IsPut t path (node_of kind owner group acl) (after_all directory t (set_lists path acl))
@@ -197,11 +202,11 @@ module _ (directory : Known) (tree : NodesUnderUmask) where
         subst (IsPut t path node) (sym (changed-at t path (with_nfs4 aces) (base Dir) node there refl)) (put-is t path node)
 
   one_listed : (t : NodesUnderUmask) (e : Entry) (rest : List Entry) → map.get tree.nodes e.0 ≡ Some e.1 → IsReady e.1 → below_all e.0 rest ≡ true
-      → IsListed t (e ∷ rest) → IsListed (after_all directory t (setting e)) rest
+      → IsListed t (e ∷ rest) → IsListed (after_all directory t (set_commands e)) rest
   one_listed t e rest there ready below now =
       let here : map.get t.nodes e.0 ≡ Some (closed_of e.1) =
       now.at e.0 ∙ ap₂ (λ (b : Bool) (o : Option Node). cond b (option_map closed_of o) o) (first_left e rest) there in
-      let is : IsPut t e.0 e.1 (after_all directory t (setting e)) = listed t e.0 e.1.owner e.1.group e.1.kind e.1.acl here ready in
+      let is : IsPut t e.0 e.1 (after_all directory t (set_commands e)) = listed t e.0 e.1.owner e.1.group e.1.kind e.1.acl here ready in
       record { at = λ q. is.at q ∙ by q (same q e.0) refl }
     where
       by : (q : List ℕ) (b : Bool) → same q e.0 ≡ b
@@ -214,11 +219,11 @@ module _ (directory : Known) (tree : NodesUnderUmask) where
           now.at q ∙ ap (λ b. cond b (option_map closed_of (map.get tree.nodes q)) (map.get tree.nodes q)) (others_left q e rest is)
 
   all_listed : (es : List Entry) (t : NodesUnderUmask) → ascend es ≡ true → AllByRecursion (λ e. map.get tree.nodes e.0 ≡ Some e.1) es
-      → AllByRecursion (λ e. IsReady e.1) es → IsListed t es → IsListed (after_all directory t (flat_map setting es)) []
+      → AllByRecursion (λ e. IsReady e.1) es → IsListed t es → IsListed (after_all directory t (flat_map set_commands es)) []
   all_listed [] t up there ready now = now
   all_listed (e ∷ es) t up (here, there) (is_ready, ready) now =
-      subst (λ (t' : NodesUnderUmask). IsListed t' []) (sym (fold-append (next directory) t (setting e) (flat_map setting es)))
-      (all_listed es (after_all directory t (setting e)) (and_right _ _ up) there ready (one_listed t e es here is_ready (and_left _ _ up) now))
+      subst (λ (t' : NodesUnderUmask). IsListed t' []) (sym (fold-append (next directory) t (set_commands e) (flat_map set_commands es)))
+      (all_listed es (after_all directory t (set_commands e)) (and_right _ _ up) there ready (one_listed t e es here is_ready (and_left _ _ up) now))
 
 -- ---- the whole
 
@@ -239,7 +244,7 @@ module _ (directory : Known) (tree : NodesUnderUmask) (made : IsMadeByCommands d
   root_node = node_of Dir made.owner made.group (root_acl made.style made.mode)
 
   abbrev closed_root : Node
-  closed_root = node_of Dir made.owner made.group (Posix closed None)
+  closed_root = node_of Dir made.owner made.group (Posix closed_list None)
 
   abbrev new : NodesUnderUmask
   new = root_alone made.owner made.group made.mode made.style made.umask
@@ -275,16 +280,16 @@ module _ (directory : Known) (tree : NodesUnderUmask) (made : IsMadeByCommands d
   root_there : map.get new.nodes root ≡ Some root_node
   root_there = get-insert nat_list_cmp_total map.empty root root_node root ∙ ap (λ b. cond b (Some root_node) (map.get {R = slice_cmp nat_cmp} map.empty root)) (same-itself root)
 
-  root_closed : next directory new closing ≡ put new root closed_root
+  root_closed : next directory new close_command ≡ put new root closed_root
   root_closed =
-      changed-at new root (with_access closed) root_node closed_root root_there
-      (ap (λ (d : Option (List EntryValue)). Ok (node_of Dir made.owner made.group (Posix closed d))) (no_default made.style made.mode))
+      changed-at new root (with_access closed_list) root_node closed_root root_there
+      (ap (λ (d : Option (List EntryValue)). Ok (node_of Dir made.owner made.group (Posix closed_list d))) (no_default made.style made.mode))
 
   -- what holds of the first entry, the root, and of those behind it
   module _ (r : Node) (keeps : KeepsKindAndOwners root_node r) (rest : List Entry) (below : below_all root rest ≡ true)
       (gets : (q : List ℕ) → map.get tree.nodes q ≡ found_in q ((root, r) ∷ rest)) (long : map.len tree.nodes ≡ length ((root, r) ∷ rest)) where
     closed_as_is : closed_root ≡ closed_of r
-    closed_as_is = λ i. node_of (sym keeps.kind i) (sym keeps.owner i) (sym keeps.group i) (Posix closed None)
+    closed_as_is = λ i. node_of (sym keeps.kind i) (sym keeps.owner i) (sym keeps.group i) (Posix closed_list None)
 
     started_at : (q : List ℕ) → map.get (put new root closed_root).nodes q ≡ cond (is_left q rest) None (option_map closed_of (map.get tree.nodes q))
     started_at q =
@@ -322,7 +327,7 @@ module _ (directory : Known) (tree : NodesUnderUmask) (made : IsMadeByCommands d
         omega (arith, one, still, long)
 
     abbrev first : NodesUnderUmask
-    first = next directory new closing
+    first = next directory new close_command
 
     started : IsCreated directory tree first rest
     started = subst (λ (t : NodesUnderUmask). IsCreated directory tree t rest) (sym root_closed) (record { at = started_at; count = started_count })
@@ -331,7 +336,7 @@ module _ (directory : Known) (tree : NodesUnderUmask) (made : IsMadeByCommands d
     made_again up (there, others) =
         let es : List Entry = (root, r) ∷ rest in
         let second : NodesUnderUmask = after_all directory first (flat_map creation rest) in
-        let third : NodesUnderUmask = after_all directory second (flat_map setting es) in
+        let third : NodesUnderUmask = after_all directory second (flat_map set_commands es) in
         let created : IsCreated directory tree second [] =
         all_created directory tree rest first (and_right _ _ up) (all_sound rest below others) (trees_are_within_the_limit directory tree made) started in
         let as_left : (o : Option Node) → option_map closed_of o ≡ cond (is_some o) (option_map closed_of o) o =
@@ -345,7 +350,7 @@ module _ (directory : Known) (tree : NodesUnderUmask) (made : IsMadeByCommands d
         let done : IsListed directory tree third [] =
         all_listed directory tree es second up all_there (weaker Found (λ e. IsReady e.1) ready_of es all_there) listed_yet in
         let whole : after_all directory new (dump_of es) ≡ third =
-        fold-append (next directory) first (flat_map creation es) (flat_map setting es) in
+        fold-append (next directory) first (flat_map creation es) (flat_map set_commands es) in
         let nodes_are : third.nodes ≡ tree.nodes =
         same_map nat_list_cmp_total (slice_cmp-IsAntisymmetric nat_cmp-IsAntisymmetric) third.nodes tree.nodes (λ q. done.at q) in
         let umask_is : third.umask ≡ tree.umask =

@@ -24,7 +24,7 @@ use Rattle.acl_tree.specs.declared.limits.TheConstants.{MAX_NODES}
 use Rattle.acl_tree.specs.declared.node.Node.{Node}
 use Rattle.acl_tree.specs.declared.node_acl.NodeAcl.{NodeAcl}
 use Rattle.acl_tree.specs.declared.node_acl.NodeAcl.TheVariants.{Posix, Nfs4}
-use Rattle.acl_tree.specs.declared.node_acl.Style.{Style}
+use Rattle.acl_bridge.specs.declared.style.Style.{Style}
 use Rattle.acl_tree.specs.declared.request.Request.{Request}
 use Rattle.acl_tree.specs.declared.request.Request.TheVariants as request
 use Rattle.acl_tree.proofs.FileLaws.{under}

@@ -13,7 +13,7 @@ use Rattle.acl_nfs4.specs.Evaluation.{allows}
 use Rattle.acl_nfs4.specs.Mask.{all_masks, mask_bits, mask_of, mode_bits}
 use Rattle.acl_nfs4.specs.Who.{matches}
 use Rattle.acl_bridge.specs.Comparison.{Granter, granted_by}
-use Rattle.acl_tree.specs.Commands.{granted}
+use Rattle.acl_tree.specs.Commands.{granted_or_denied}
 use Rattle.acl_tree.specs.NodeAcls.{grants4, list_grants, places_of}
 use Rattle.acl_tree.specs.Shape.{KeepsKindAndOwners}
 use Rattle.acl_tree.specs.TreeLaws.{after_all}
@@ -137,7 +137,7 @@ alike_nodes_are_checked_alike directory tree requests path old new was is alike 
     grants_alike new.owner new.group who old.acl new.acl perms at_new vouched
     ∙ ap₂ (λ (o g : ℕ). list_grants old.acl o g who perms) keeps.owner keeps.group in
     check-there directory (after_all directory tree requests) path new uid perms is
-    ∙ ap (λ (b : Bool). Ok (granted b)) same
+    ∙ ap (λ (b : Bool). Ok (granted_or_denied b)) same
     ∙ sym (check-there directory tree path old uid perms was)
 
 -- ---- of the findings at most one is right

@@ -3,7 +3,7 @@ use Rattle.std.proofs.Common.{◌≡◌, ◌∙◌, ℕ, List, Bool, true, false
 use Rattle.std.specs.FinMap as map
 use Rattle.acl_names.specs.Bits.{◌∪◌, has_all}
 use Rattle.acl_names.specs.Directory.{Known, requester_of}
-use Rattle.acl_tree.specs.Commands.{check, granted}
+use Rattle.acl_tree.specs.Commands.{check, granted_or_denied}
 use Rattle.acl_tree.specs.Nodes.{may}
 use Rattle.acl_tree.specs.Steps.{◌>>=◌, or_refused}
 use Rattle.acl_tree.specs.Tree.{NodesUnderUmask}
@@ -47,21 +47,21 @@ execute_there false false false = refl
 
 -- a check of a node that is there is answered by its list
 pub check-there : (directory : Known) (tree : NodesUnderUmask) (path : List ℕ) (node : Node) (uid perms : ℕ) → map.get tree.nodes path ≡ Some node
-    → check directory tree path uid perms ≡ Ok (granted (may node (requester_of directory uid) perms))
+    → check directory tree path uid perms ≡ Ok (granted_or_denied (may node (requester_of directory uid) perms))
 check-there directory tree path node uid perms there =
-    ap (λ (found : Option Node). or_refused NoSuchPath found >>= (λ node. Ok (granted (may node (requester_of directory uid) perms)))) there
+    ap (λ (found : Option Node). or_refused NoSuchPath found >>= (λ node. Ok (granted_or_denied (may node (requester_of directory uid) perms)))) there
 
 pub read_is_checked : LetterIsChecked 4
 read_is_checked directory tree path node uid there =
     let who = requester_of directory uid in
-    check-there directory tree path node uid 4 there ∙ ap (λ (b : Bool). Ok (granted b)) (read_there (may node who 4) (may node who 2) (may node who 1))
+    check-there directory tree path node uid 4 there ∙ ap (λ (b : Bool). Ok (granted_or_denied b)) (read_there (may node who 4) (may node who 2) (may node who 1))
 
 pub write_is_checked : LetterIsChecked 2
 write_is_checked directory tree path node uid there =
     let who = requester_of directory uid in
-    check-there directory tree path node uid 2 there ∙ ap (λ (b : Bool). Ok (granted b)) (write_there (may node who 4) (may node who 2) (may node who 1))
+    check-there directory tree path node uid 2 there ∙ ap (λ (b : Bool). Ok (granted_or_denied b)) (write_there (may node who 4) (may node who 2) (may node who 1))
 
 pub execute_is_checked : LetterIsChecked 1
 execute_is_checked directory tree path node uid there =
     let who = requester_of directory uid in
-    check-there directory tree path node uid 1 there ∙ ap (λ (b : Bool). Ok (granted b)) (execute_there (may node who 4) (may node who 2) (may node who 1))
+    check-there directory tree path node uid 1 there ∙ ap (λ (b : Bool). Ok (granted_or_denied b)) (execute_there (may node who 4) (may node who 2) (may node who 1))

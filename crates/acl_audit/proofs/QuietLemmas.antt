@@ -1,5 +1,7 @@
 -- No file of a tree that commands make has a list with an entry that something would inherit.
-use Rattle.std.proofs.Common.{◌≡◌, ◌∙◌, ℕ, Bool, true, false, cond, not, ◌&&◌, ◌||◌, ◌==◌, List, [], ◌∷◌, ◌++◌, length, nat_lt, flat_map, option_map, Option, Some, None, unwrap_or, Ok, Err, IfOk, codes, refl, sym, ap, ap₂, subst, eqb-true, eq-eqb}
+use Rattle.std.proofs.Common.{◌≡◌, ◌∙◌, ℕ, Bool, true, false, cond, not, ◌&&◌, ◌||◌, ◌==◌, List, [], ◌∷◌}
+use Rattle.std.proofs.Common.{◌++◌, length, nat_lt, flat_map, option_map, Option, Some, None, unwrap_or, Ok}
+use Rattle.std.proofs.Common.{Err, IfOk, codes, refl, sym, ap, ap₂, subst, eqb-true, eq-eqb}
 use Rattle.std.specs.List.{cons_option, list_any}
 use Rattle.std.specs.Ordering.{nat_cmp, eq_by_cmp}
 use Rattle.std.specs.Cmp.Lexicographic.{slice_cmp, nat_list_cmp_total}
@@ -11,10 +13,10 @@ use Rattle.acl_names.specs.Directory.{Known}
 use Rattle.acl_names.proofs.BitSets.{has-and, has-or, has-without, has-zero, no_bits}
 use Rattle.acl_posix.specs.Entry.{EntryValue}
 use Rattle.acl_posix.specs.Mode.{Classes}
-use Rattle.acl_nfs4.specs.Ace.{Nfsace4, decides, is_inheritable, plain, unless_empty}
+use Rattle.acl_nfs4.specs.Ace.{Nfsace4, decides, is_inheritable, plain_ace, unless_empty}
 use Rattle.acl_nfs4.specs.Flags.{inheritance_flags, file_inherit, directory_inherit, no_propagate_inherit}
 use Rattle.acl_nfs4.specs.Inheritance.{flags_below, has_inheritance, inherited_list, with_inheritance_flags}
-use Rattle.acl_nfs4.specs.ModeChange.{denial_of, denials, denied_to, for_others, for_owner, kept, kept_mask, named_in, restricted, split, with_mode as chmod4}
+use Rattle.acl_nfs4.specs.ModeChange.{denial_of, denials, denied_to, for_others, for_owner, kept_of_list, kept_mask, named_whos, kept_of_part, split, with_mode as chmod4}
 use Rattle.acl_nfs4.specs.Who.{flags_of_who}
 use Rattle.acl_nfs4.specs.Mask.{mask_of, rest_of}
 use Rattle.acl_nfs4.specs.declared.ace.AceType.{AceType}
@@ -36,7 +38,7 @@ use Rattle.acl_tree.specs.declared.limits.TheConstants.{MAX_NODES}
 use Rattle.acl_tree.specs.declared.node.Node.{Node}
 use Rattle.acl_tree.specs.declared.node_acl.NodeAcl.{NodeAcl}
 use Rattle.acl_tree.specs.declared.node_acl.NodeAcl.TheVariants.{Posix, Nfs4}
-use Rattle.acl_tree.specs.declared.node_acl.Style.{Style}
+use Rattle.acl_bridge.specs.declared.style.Style.{Style}
 use Rattle.acl_tree.specs.declared.request.Request.{Request}
 use Rattle.acl_tree.specs.declared.request.Request.TheVariants as request
 use Rattle.acl_tree.proofs.FileLaws.{under}
@@ -92,11 +94,11 @@ quiet-who whos.Everyone = refl
 quiet-who (whos.User uid) = refl
 quiet-who (whos.NamedGroup gid) = refl
 
-quiet-plain : (kind : AceType) (who : Who) (mask : ℕ) → list_any inherits (plain kind who mask) ≡ false
+quiet-plain : (kind : AceType) (who : Who) (mask : ℕ) → list_any inherits (plain_ace kind who mask) ≡ false
 quiet-plain kind who mask = quiet-unless_empty (record { kind = kind; flags = flags_of_who who; who = who; mask = mask }) (quiet-who who)
 
-quiet-restricted : (group : ℕ) (ace : Nfsace4) → inherits ace ≡ false → list_any inherits (restricted group ace) ≡ false
-unfolding restricted
+quiet-restricted : (group : ℕ) (ace : Nfsace4) → inherits ace ≡ false → list_any inherits (kept_of_part group ace) ≡ false
+unfolding kept_of_part
 quiet-restricted group ace quiet = by (decides ace)
   where
     by : (b : Bool) → list_any inherits (cond b (unless_empty (record ace { mask = kept_mask group ace })) (ace ∷ [])) ≡ false
@@ -137,21 +139,21 @@ quiet-split ace quiet =
     and_false true b e = e
     and_false false b e = refl
 
-quiet-kept : (group : ℕ) (aces : List Nfsace4) → has_inheritance aces ≡ false → list_any inherits (kept group aces) ≡ false
+quiet-kept : (group : ℕ) (aces : List Nfsace4) → has_inheritance aces ≡ false → list_any inherits (kept_of_list group aces) ≡ false
 quiet-kept group aces quiet =
-    any-flat_map inherits inherits (restricted group) (quiet-restricted group) (flat_map split aces)
+    any-flat_map inherits inherits (kept_of_part group) (quiet-restricted group) (flat_map split aces)
     (any-flat_map inherits inherits split quiet-split aces quiet)
 
 quiet-for_owner : (user : ℕ) → list_any inherits (for_owner user) ≡ false
 quiet-for_owner user =
-    any-append inherits (plain Allow whos.Owner (mask_of user)) (plain Deny whos.Owner (rest_of user))
+    any-append inherits (plain_ace Allow whos.Owner (mask_of user)) (plain_ace Deny whos.Owner (rest_of user))
     (quiet-plain Allow whos.Owner (mask_of user)) (quiet-plain Deny whos.Owner (rest_of user))
 
 quiet-for_others : (group other : ℕ) → list_any inherits (for_others group other) ≡ false
 quiet-for_others group other =
-    let first = plain Allow whos.Group (mask_of group) in
-    let second = plain Deny whos.Group (rest_of group) in
-    let third = plain Allow whos.Everyone (mask_of other) in
+    let first = plain_ace Allow whos.Group (mask_of group) in
+    let second = plain_ace Deny whos.Group (rest_of group) in
+    let third = plain_ace Allow whos.Everyone (mask_of other) in
     any-append inherits (first ++ second) third
     (any-append inherits first second (quiet-plain Allow whos.Group (mask_of group)) (quiet-plain Deny whos.Group (rest_of group)))
     (quiet-plain Allow whos.Everyone (mask_of other))
@@ -160,13 +162,13 @@ quiet-for_others group other =
 quiet-chmod4 : (aces : List Nfsace4) (mode : Classes) → has_inheritance aces ≡ false → has_inheritance (chmod4 aces mode) ≡ false
 quiet-chmod4 aces mode quiet =
     let first = for_owner mode.user in
-    let second = kept mode.group aces in
+    let second = kept_of_list mode.group aces in
     let third = denials mode.group aces in
     any-append inherits (first ++ second ++ third) (for_others mode.group mode.other)
     (any-append inherits (first ++ second) third
     (any-append inherits first second (quiet-for_owner mode.user) (quiet-kept mode.group aces quiet))
     (any-flat_map-all inherits (denial_of mode.group aces)
-    (λ who. quiet-plain Deny who (without (rest_of mode.group) (denied_to who aces))) (named_in aces)))
+    (λ who. quiet-plain Deny who (without (rest_of mode.group) (denied_to who aces))) (named_whos aces)))
     (quiet-for_others mode.group mode.other)
 
 -- ---- a list that a file inherits

@@ -10,7 +10,7 @@ use Rattle.acl_nfs4.specs.Comparison.{Decider, decided_by}
 use Rattle.acl_nfs4.specs.Mask.{all_masks, mask_bits, mode_bits}
 use Rattle.acl_nfs4.specs.declared.comparison.Difference.{Difference}
 use Rattle.acl_nfs4.specs.declared.owners.Owners.{Owners}
-use Rattle.acl_bridge.specs.Comparison.{Granter, granted_by, permission_bits, told_by}
+use Rattle.acl_bridge.specs.Comparison.{Granter, granted_by, permission_bits, mask_for}
 use Rattle.acl_bridge.specs.Comparison.{whole_requests}
 use Rattle.acl_tree.specs.NodeAcls.{list_grants}
 use Rattle.acl_tree.specs.declared.node.Node.{Node}
@@ -96,8 +96,8 @@ pub record ChangesBits (before after : Decider) (bits : ℕ) (requester : Identi
 pub record ChangesRequest (before after : Granter) (request : ℕ) (requester : Identity)
     (change : Change) : Type 0 where
   pub apart : before requester request ≢ after requester request
-  pub lost : mask_bits change.lost ≡ (if before requester request then told_by request else 0)
-  pub gained : mask_bits change.gained ≡ (if after requester request then told_by request else 0)
+  pub lost : mask_bits change.lost ≡ (if before requester request then mask_for request else 0)
+  pub gained : mask_bits change.gained ≡ (if after requester request then mask_for request else 0)
 
 -- it is the first of the requests that isn't granted alike
 abbrev pub ChangesFirst : Granter → Granter → List ℕ → Identity → Change → Type 0
@@ -108,8 +108,8 @@ ChangesFirst before after (request ∷ more) requester change =
     × ChangesFirst before after more requester change)
 
 -- what the requester loses and gains: bits, or if these are decided alike a whole request
-abbrev pub Changes : File → File → Identity → Change → Type 0
-Changes before after requester change =
+abbrev pub IsChangeFor : File → File → Identity → Change → Type 0
+IsChangeFor before after requester change =
     ChangesBits (decider_of before) (decider_of after) (bits_between before.acl after.acl) requester
     change
     ⊎ (BitsAlikeTo (decider_of before) (decider_of after) (bits_between before.acl after.acl)
@@ -126,7 +126,7 @@ change_of difference = record { lost = difference.lost; gained = difference.gain
 abbrev pub FindsAnybody : File → File → Option Difference → Type 0
 FindsAnybody before after found =
     MatchOption found (IsAlikeToAll before after)
-    (λ difference. Changes before after (identity_of difference.asker) (change_of difference))
+    (λ difference. IsChangeFor before after (identity_of difference.asker) (change_of difference))
 
 -- Files that decide alike about everyone who is in at most two groups decide alike about everyone.
 abbrev pub TwoGroupsSuffice : Type 0

@@ -24,12 +24,12 @@ root = codes "/"
 abbrev pub no_mode : Classes
 no_mode = record { user = 0; group = 0; other = 0 }
 
-abbrev pub closed : List EntryValue
-closed = of_mode no_mode
+abbrev pub closed_list : List EntryValue
+closed_list = of_mode no_mode
 
 -- `set / access u::-,g::-,o::-`, under which nothing that is created inherits
-abbrev pub closing : Request
-closing = SetAccess root closed
+abbrev pub close_command : Request
+close_command = SetAccess root closed_list
 
 -- `create KIND P UID 000`, of each node but the root
 abbrev pub creation : Entry → List Request
@@ -46,22 +46,22 @@ abbrev pub set_lists : List ℕ → NodeAcl → List Request
 set_lists path (Posix access default) = SetAccess path access ∷ set_default path default
 set_lists path (Nfs4 acl) = SetNfs4 path acl ∷ []
 
-abbrev pub setting : Entry → List Request
-setting entry = set_lists entry.0 entry.1.acl
+abbrev pub set_commands : Entry → List Request
+set_commands entry = set_lists entry.0 entry.1.acl
 
 -- each node created, then each given its lists, in the order of the paths
-abbrev pub making_of : List Entry → List Request
-making_of entries = flat_map creation entries ++ flat_map setting entries
+abbrev pub make_commands_of : List Entry → List Request
+make_commands_of entries = flat_map creation entries ++ flat_map set_commands entries
 
-abbrev pub making : NodesUnderUmask → List Request
-making tree = making_of (map.entries tree.nodes)
+abbrev pub make_commands : NodesUnderUmask → List Request
+make_commands tree = make_commands_of (map.entries tree.nodes)
 
 -- the root closed, and then the nodes made
 abbrev pub dump_of : List Entry → List Request
-dump_of entries = closing ∷ making_of entries
+dump_of entries = close_command ∷ make_commands_of entries
 
 abbrev pub dump : NodesUnderUmask → List Request
-dump tree = closing ∷ making tree
+dump tree = close_command ∷ make_commands tree
 
 -- Over the tree that commands began with, the dump of the tree that they made makes it again.
 abbrev pub DumpsMakeTheTree : Type 0

@@ -12,7 +12,7 @@ use Rattle.acl_tree.specs.declared.node.Node.{Node}
 use Rattle.acl_tree.specs.declared.node_acl.NodeAcl.{NodeAcl}
 use Rattle.acl_tree.specs.declared.node_acl.NodeAcl.TheVariants.{Posix, Nfs4}
 use Rattle.acl_tree.specs.declared.request.Request.{Request}
-use Rattle.acl_audit.specs.Changes.{Changes, File, IsAlikeTo, IsAlikeToAll, file_of}
+use Rattle.acl_audit.specs.Changes.{IsChangeFor, File, IsAlikeTo, IsAlikeToAll, file_of}
 use Rattle.acl_audit.specs.declared.changes.Change.{Change}
 use Rattle.acl_audit.specs.declared.impact.Impact.{Impact}
 use Rattle.acl_audit.specs.declared.impact.Impact.TheVariants.{New, User, Somebody}
@@ -22,7 +22,7 @@ use Rattle.acl_audit.specs.declared.impact.Impact.TheVariants.{New, User, Somebo
 pub record IsFirstChanged (before after : File) (users : List Identity) (place : ℕ)
     (change : Change) : Type 0 where
   pub earlier : All (IsAlikeTo before after) (take place users)
-  pub here : IsSomeAnd (slice_get users place) (λ user. Changes before after user change)
+  pub here : IsSomeAnd (slice_get users place) (λ user. IsChangeFor before after user change)
 
 -- what it means for access that one file became another; nothing is told where everyone is decided
 -- about alike
@@ -32,7 +32,7 @@ IsImpact before after users (Some New) = ⊥
 IsImpact before after users (Some (User place change)) =
     IsFirstChanged before after users place change
 IsImpact before after users (Some (Somebody asker change)) =
-    All (IsAlikeTo before after) users × Changes before after (identity_of asker) change
+    All (IsAlikeTo before after) users × IsChangeFor before after (identity_of asker) change
 
 -- what it means that one node, if there was one, became another, if there is one
 abbrev pub IsImpactOn : List Identity → Option Node → Option Node → Option Impact → Type 0
@@ -69,4 +69,4 @@ AlikeNodesAreCheckedAlike =
 abbrev pub ChangesAreNotAlike : Type 0
 ChangesAreNotAlike =
     (before after : File) (requester : Identity) (change : Change)
-    → IsAlikeTo before after requester → Changes before after requester change → ⊥
+    → IsAlikeTo before after requester → IsChangeFor before after requester change → ⊥

@@ -4,7 +4,7 @@ use Rattle.std.specs.FinMap as map
 use Rattle.acl_names.specs.Bits.{◌∪◌, has_all}
 use Rattle.acl_names.specs.Directory.{Known, requester_of}
 use Rattle.acl_names.specs.Requester.{Identity}
-use Rattle.acl_tree.specs.Commands.{check, granted}
+use Rattle.acl_tree.specs.Commands.{check, granted_or_denied}
 use Rattle.acl_tree.specs.Nodes.{may}
 use Rattle.acl_tree.specs.Tree.{NodesUnderUmask}
 use Rattle.acl_tree.specs.declared.node.Node.{Node}
@@ -24,4 +24,4 @@ LetterIsChecked letter =
     (directory : Known) (tree : NodesUnderUmask) (path : List ℕ) (node : Node) (uid : ℕ)
     → map.get tree.nodes path ≡ Some node
     → check directory tree path uid letter ≡ Ok
-    (granted (has_all (effective node (requester_of directory uid)) letter))
+    (granted_or_denied (has_all (effective node (requester_of directory uid)) letter))

@@ -26,8 +26,8 @@ abbrev pub saved_lists : List ℕ × Node → List Request
 saved_lists entry = lists_of entry.0 entry.1.kind entry.1.acl
 
 -- those of each node, in the order of the paths
-abbrev pub saved : NodesUnderUmask → List Request
-saved tree = flat_map saved_lists (map.entries tree.nodes)
+abbrev pub saved_commands : NodesUnderUmask → List Request
+saved_commands tree = flat_map saved_lists (map.entries tree.nodes)
 
 -- no file has a list with an entry that something would inherit
 abbrev pub FilesInheritNothing : NodesUnderUmask → Type 0
@@ -49,5 +49,6 @@ abbrev pub SavedListsComeBack : Type 0
 SavedListsComeBack =
     (directory : Known) (tree : NodesUnderUmask) → IsMadeByCommands directory tree
     → (requests : List Request) (path : List ℕ)
-    → map.get (after_all directory (after_all directory tree requests) (saved tree)).nodes path
+    → map.get
+    (after_all directory (after_all directory tree requests) (saved_commands tree)).nodes path
     ≡ or_else (map.get tree.nodes path) (map.get (after_all directory tree requests).nodes path)

@@ -3,9 +3,9 @@ ghost use Rattle.std.specs.Prelude.{◌≡◌, IfOk, IsTrue, List, MatchOption, 
 ghost use Rattle.acl_nfs4.specs.Mask.{mask_bits, mode_bits};
 ghost use Rattle.acl_posix.specs.Entry.{EntryValue};
 ghost use Rattle.acl_posix.specs.Perms.{bits_of};
-ghost use Rattle.acl_bridge.specs.Comparison.{permission_bits, told_by, whole_requests};
+ghost use Rattle.acl_bridge.specs.Comparison.{permission_bits, mask_for, whole_requests};
 ghost use Rattle.acl_tree.specs.declared.node_acl.NodeAcl.TheVariants.{Posix, Nfs4};
-ghost use Rattle.acl_audit.specs.Changes.{BitsAlikeTo, Changes, ChangesBits, ChangesFirst};
+ghost use Rattle.acl_audit.specs.Changes.{BitsAlikeTo, IsChangeFor, ChangesBits, ChangesFirst};
 ghost use Rattle.acl_audit.specs.Changes.{ChangesRequest, FindsAnybody, IsAlikeTo, RequestsAlikeTo};
 ghost use Rattle.acl_audit.specs.Changes.{bits_between, decider_of, file_of, file_with, granter_of};
 ghost use Rattle.acl_audit.specs.Changes.{requests_between};
@@ -14,7 +14,7 @@ use crate::allowed::allowed;
 use acl_bridge::{difference_from_posix, posix_difference, whole_request_difference};
 use acl_names::Requester;
 use acl_nfs4::{Acl4, Difference, Mask, Owners, mask_of};
-use acl_posix::{Acl, Perms};
+use acl_posix::{Acl, Perms, without};
 use acl_tree::{Node, NodeAcl};
 use bitflags::Flags;
 use std::alloc::{AllocError, Global};
@@ -66,8 +66,8 @@ fn whole_requests() -> [Perms; 4]
 }
 
 /// The bits by which a request is told.
-fn told_by(request: Perms) -> Mask
-    ensures { mask_bits result ≡ told_by (bits_of request) }
+fn mask_for(request: Perms) -> Mask
+    ensures { mask_bits result ≡ mask_for (bits_of request) }
 {
     mask_of(request).intersection(permission_bits())
 }
@@ -87,8 +87,8 @@ fn change_of_bits(before: &Node, after: &Node, requester: &Requester) -> Option<
         return None;
     }
     Some(Change {
-        lost: was.without(is),
-        gained: is.without(was),
+        lost: without(was, is),
+        gained: without(is, was),
     })
 }
 
@@ -105,7 +105,7 @@ fn change_in(before: &Node, after: &Node, requester: &Requester, request: Perms)
     if was == is {
         return None;
     }
-    let told = told_by(request);
+    let told = mask_for(request);
     Some(if was {
         Change {
             lost: told,
@@ -164,7 +164,7 @@ fn change_of_requests(before: &Node, after: &Node, requester: &Requester) -> Opt
 pub fn change_for(before: &Node, after: &Node, requester: &Requester) -> Option<Change>
     ensures { MatchOption result
         (IsAlikeTo (file_of before.now) (file_of after.now) requester.now)
-        (Changes (file_of before.now) (file_of after.now) requester.now) }
+        (IsChangeFor (file_of before.now) (file_of after.now) requester.now) }
 {
     match change_of_bits(before, after, requester) {
         Some(change) => Some(change),
@@ -173,7 +173,7 @@ pub fn change_for(before: &Node, after: &Node, requester: &Requester) -> Option<
 }
 
 /// A difference as it is in the other direction.
-fn swapped(difference: Difference) -> Difference
+fn reverse(difference: Difference) -> Difference
     ensures { result ≡ record {
       asker = difference.asker;
       lost = difference.gained;
@@ -202,7 +202,7 @@ fn between_posix_lists(
 {
     match posix_difference(alloc, first, owners, second, other_owners)? {
         Some(difference) => Ok(Some(difference)),
-        None => whole_request_difference(alloc, first, owners, second, other_owners),
+        None => Ok(whole_request_difference(first, owners, second, other_owners)),
     }
 }
 
@@ -234,7 +234,7 @@ fn towards_posix(
         (file_with other_owners.now (Posix second.now inherited))) }
 {
     match difference_from_posix(alloc, second, other_owners, first, owners)? {
-        Some(difference) => Ok(Some(swapped(difference))),
+        Some(difference) => Ok(Some(reverse(difference))),
         None => Ok(None),
     }
 }

@@ -2,7 +2,7 @@
 ghost use Rattle.std.specs.Prelude.{◌≡◌, ◌++◌, [], ◌∷◌, IfOk, OnOk};
 ghost use Rattle.acl_posix.specs.Entry.{EntryValue};
 ghost use Rattle.acl_tree.specs.declared.request.Request.TheVariants.{Create, SetAccess};
-ghost use Rattle.acl_audit.specs.Dump.{closed, creation, no_mode, set_default, set_lists};
+ghost use Rattle.acl_audit.specs.Dump.{closed_list, creation, no_mode, set_default, set_lists};
 
 use crate::saved::{set_access, set_default, set_nfs4};
 use acl_posix::{Acl, Mode, Perms};
@@ -24,7 +24,7 @@ fn no_mode() -> Mode
 /// The command that closes the directory at the path, so that nothing that is created in it
 /// inherits: `set P access u::-,g::-,o::-`. It fails only if memory runs out.
 pub fn close(alloc: Global, path: &Path) -> Result<Request, AllocError>
-    ensures { IfOk result (λ request. request ≡ SetAccess path.now closed) }
+    ensures { IfOk result (λ request. request ≡ SetAccess path.now closed_list) }
 {
     let acl = Boxed::new(alloc, Acl::of_mode(alloc, no_mode())?)?;
     Ok(Request::SetAccess(path.try_clone(alloc)?, acl))

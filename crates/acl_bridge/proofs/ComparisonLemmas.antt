@@ -1,5 +1,5 @@
 -- A list may stand for its translation in a comparison.
-use Rattle.std.proofs.Common.{◌≡◌, ◌↔◌, ℕ, Bool, true, false, not, ◌&&◌, ◌||◌, refl, sym, ap, ap₂, ◌∙◌, List, Option, None, Result, Ok, Err, IfOk, IfSome, subst}
+use Rattle.std.proofs.Common.{◌≡◌, ◌↔◌, ℕ, Bool, true, false, not, ◌&&◌, ◌||◌, refl, sym, ap, ap₂, ◌∙◌, List, Option, None, IfSome, subst}
 use Rattle.std.proofs.lemmas.Option.{IfSome_then}
 use Rattle.acl_names.specs.Asker.{identity_of}
 use Rattle.acl_names.specs.Bits.{has}
@@ -48,7 +48,3 @@ module _ {before before' after after' : Decider} {bits bits' : ℕ} (same_before
 
   pub some_through : (found : Option Difference) → IfSome found (IsDifference before' after' bits') → IfSome found (IsDifference before after bits)
   some_through found is = IfSome_then found (subst (λ (b : ℕ). IfSome found (IsDifference before' after' b)) same_bits is) difference_through
-
-pub ok_then : {T E : Type 0} (r : Result T E) (P Q : T → Type 0) → IfOk r P → ((x : T) → P x → Q x) → IfOk r Q
-ok_then (Ok x) P Q is then = then x is
-ok_then (Err e) P Q is then = tt

@@ -1,11 +1,13 @@
 -- A request as one bit: the list that lets read whom a list grants the request.
-use Rattle.std.proofs.Common.{◌≡◌, ◌≤◌, ◌^◌, ◌⊎◌, inl, inr, ℕ, zero, suc, Bool, true, false, cond, ◌||◌, refl, sym, ap, ap₂, subst, ◌∙◌, List, [], ◌∷◌, Some, length, arith, ◌==◌, map, find, option_map, true≢false}
+use Rattle.std.proofs.Common.{◌≡◌, ◌≤◌, ◌^◌, ◌⊎◌, inl, inr, ℕ, zero, suc, Bool, true, false, cond, ◌||◌, refl}
+use Rattle.std.proofs.Common.{sym, ap, ap₂, subst, ◌∙◌, List, [], ◌∷◌, Some, length, arith, ◌==◌, map, find}
+use Rattle.std.proofs.Common.{option_map, true≢false}
 use Rattle.std.specs.List.{filter, list_any}
 use Rattle.acl_names.specs.Bits.{has, has_all, ◌∩◌}
 use Rattle.acl_names.specs.Requester.{Identity}
 use Rattle.acl_names.proofs.AnyLemmas.{list_any-map, list_any-agree}
 use Rattle.acl_names.proofs.BitSets.{has-above}
-use Rattle.acl_posix.specs.Access.{effective_perms, deciding_set, first_nonempty, is_for_group_of, is_under_mask, masked, grants}
+use Rattle.acl_posix.specs.Access.{effective_perms, deciding_set, first_nonempty, is_for_group_of, is_under_mask, under_mask, grants}
 use Rattle.acl_posix.specs.Entry.{EntryValue, same_tag, entries_of, perms_of, is_named}
 use Rattle.acl_posix.specs.Validity.{IsValid, count_of}
 use Rattle.acl_posix.specs.declared.entry.Tag.{Tag}
@@ -88,7 +90,7 @@ as_reading request acl = map (with_perms (reading request acl)) acl
 
 module _ (request : ℕ) (acl : List EntryValue) where
   -- its mask lets read
-  mask_reads : (others : List EntryValue) (perms : ℕ) → (perms ≡ 0) ⊎ (perms ≡ 2 ^ 2) → masked (perms_of Mask (map (with_perms (reading request acl)) others)) perms ≡ perms
+  mask_reads : (others : List EntryValue) (perms : ℕ) → (perms ≡ 0) ⊎ (perms ≡ 2 ^ 2) → under_mask (perms_of Mask (map (with_perms (reading request acl)) others)) perms ≡ perms
   mask_reads [] perms few = refl
   mask_reads (entry ∷ others) perms few = go (same_tag entry.tag Mask) refl (mask_reads others perms few)
     where
@@ -97,8 +99,8 @@ module _ (request : ℕ) (acl : List EntryValue) where
       reads p (inr all) = ap (λ (n : ℕ). n ∩ 2 ^ 2) all ∙ sym all
 
       go : (b : Bool) → same_tag entry.tag Mask ≡ b
-          → masked (perms_of Mask (map (with_perms (reading request acl)) others)) perms ≡ perms
-          → masked (option_map (λ (other : EntryValue). other.perms) (cond b (Some (with_perms (reading request acl) entry))
+          → under_mask (perms_of Mask (map (with_perms (reading request acl)) others)) perms ≡ perms
+          → under_mask (option_map (λ (other : EntryValue). other.perms) (cond b (Some (with_perms (reading request acl) entry))
           (find (λ other. same_tag other.tag Mask) (map (with_perms (reading request acl)) others)))) perms
           ≡ perms
       go true e rest = ap (λ b. perms ∩ cond (b || has_all (effective_perms acl entry) request) (2 ^ 2) 0) e ∙ reads perms few
@@ -111,7 +113,7 @@ module _ (request : ℕ) (acl : List EntryValue) where
   effective_reading : (entry : EntryValue) → effective_perms (as_reading request acl) (with_perms (reading request acl) entry) ≡ reading request acl entry
   effective_reading entry = go (is_under_mask entry.tag)
     where
-      go : (b : Bool) → cond b (masked (perms_of Mask (as_reading request acl)) (reading request acl entry)) (reading request acl entry) ≡ reading request acl entry
+      go : (b : Bool) → cond b (under_mask (perms_of Mask (as_reading request acl)) (reading request acl entry)) (reading request acl entry) ≡ reading request acl entry
       go true = mask_reads acl (reading request acl entry) (few_read (same_tag entry.tag Mask || has_all (effective_perms acl entry) request))
       go false = refl
 

@@ -11,7 +11,7 @@ use Rattle.acl_nfs4.specs.declared.ace.AceType.{AceType}
 use Rattle.acl_nfs4.specs.declared.inheritance.Kind.{Kind}
 use Rattle.acl_nfs4.specs.declared.inheritance.Kind.TheVariants.{File, Dir}
 use Rattle.acl_nfs4.specs.declared.who.Who.{Who}
-use Rattle.acl_bridge.specs.Translation.{translation, default_translation, with_flags, handed_down, handed_on}
+use Rattle.acl_bridge.specs.Translation.{translation, default_translation, with_flags, only_inheriting_flags, inheriting_flags}
 use Rattle.acl_bridge.proofs.PassLemmas.{All-translation, bare}
 use Rattle.acl_nfs4.proofs.AceLemmas.{by_flags_of_who}
 
@@ -24,28 +24,35 @@ AllPlain-translation acl = All-translation (λ who. Unit {0}) IsPlain (λ kind w
 
 -- what a new file and a new directory take over from an entry handed down
 file_takes : (kind : AceType) (who : Who) (mask : ℕ)
-    → inherited_entry File (with_flags handed_down (bare kind who mask))
+    → inherited_entry File (with_flags only_inheriting_flags (bare kind who mask))
     ≡ Some (bare kind who mask)
 unfolding has without
 file_takes kind who mask =
-    by_flags_of_who (λ flags. let ace : Nfsace4 = record { kind = kind; flags = flags; who = who; mask = mask } in inherited_entry File (with_flags handed_down ace) ≡ Some ace) refl refl who
+    by_flags_of_who (λ flags. let ace : Nfsace4 = record { kind = kind; flags = flags; who = who; mask = mask } in inherited_entry File (with_flags only_inheriting_flags ace) ≡ Some ace) refl refl who
 
 directory_takes : (kind : AceType) (who : Who) (mask : ℕ)
-    → inherited_entry Dir (with_flags handed_down (bare kind who mask))
-    ≡ Some (with_flags handed_on (bare kind who mask))
+    → inherited_entry Dir (with_flags only_inheriting_flags (bare kind who mask))
+    ≡ Some (with_flags inheriting_flags (bare kind who mask))
 unfolding has without
 directory_takes kind who mask =
-    by_flags_of_who (λ flags. let ace : Nfsace4 = record { kind = kind; flags = flags; who = who; mask = mask } in inherited_entry Dir (with_flags handed_down ace) ≡ Some (with_flags handed_on ace)) refl refl who
+    by_flags_of_who (λ flags. let ace : Nfsace4 = record {
+      kind = kind;
+      flags = flags;
+      who = who;
+      mask =
+          mask;
+    } in inherited_entry Dir (with_flags only_inheriting_flags ace) ≡ Some
+    (with_flags inheriting_flags ace)) refl refl who
 
 inherited_list-handed_down : (kind : Kind) (taken : Nfsace4 → Nfsace4)
     → ((k : AceType) (who : Who) (mask : ℕ)
-    → inherited_entry kind (with_flags handed_down (bare k who mask))
+    → inherited_entry kind (with_flags only_inheriting_flags (bare k who mask))
     ≡ Some (taken (bare k who mask)))
-    → (aces : List Nfsace4) → All IsPlain aces → inherited_list kind (map (with_flags handed_down) aces) ≡ map taken aces
+    → (aces : List Nfsace4) → All IsPlain aces → inherited_list kind (map (with_flags only_inheriting_flags) aces) ≡ map taken aces
 inherited_list-handed_down kind taken takes [] plain = refl
 inherited_list-handed_down kind taken takes (ace ∷ aces) plain =
     ap₂ cons_option
-    (let P = λ (flags : ℕ). inherited_entry kind (with_flags handed_down (record ace { flags = flags })) ≡ Some (taken (record ace { flags = flags })) in
+    (let P = λ (flags : ℕ). inherited_entry kind (with_flags only_inheriting_flags (record ace { flags = flags })) ≡ Some (taken (record ace { flags = flags })) in
     subst P (sym (All-head IsPlain ace aces plain)) (takes ace.kind ace.who ace.mask))
     (inherited_list-handed_down kind taken takes aces (All-tail IsPlain ace aces plain))
 
@@ -59,6 +66,6 @@ inherited_by_file acl =
     inherited_list-handed_down File (λ ace. ace) file_takes (translation acl) (AllPlain-translation acl) ∙ map-same (translation acl)
 
 -- a directory inherits it as its own, and hands it on
-pub inherited_by_directory : (acl : List EntryValue) → inherited_list Dir (default_translation acl) ≡ map (with_flags handed_on) (translation acl)
+pub inherited_by_directory : (acl : List EntryValue) → inherited_list Dir (default_translation acl) ≡ map (with_flags inheriting_flags) (translation acl)
 inherited_by_directory acl =
-    inherited_list-handed_down Dir (with_flags handed_on) directory_takes (translation acl) (AllPlain-translation acl)
+    inherited_list-handed_down Dir (with_flags inheriting_flags) directory_takes (translation acl) (AllPlain-translation acl)

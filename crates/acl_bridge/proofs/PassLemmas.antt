@@ -1,21 +1,23 @@
 -- What the passes make.
-use Rattle.std.proofs.Common.{◌≡◌, ℕ, suc, ◌^◌, ◌≤◌, Bool, true, false, cond, ◌||◌, ◌<◌, refl, sym, ap, ◌∙◌, ap₂, subst, List, [], ◌∷◌, ◌++◌, length, get_or, drop, ◌+◌, append-nil, length-append, arith, drop-cons, flat_map, ◌==◌, Result, Ok, Err, IfOk, All}
+use Rattle.std.proofs.Common.{◌≡◌, ℕ, suc, ◌^◌, ◌≤◌, Bool, true, false, cond, ◌||◌, ◌<◌, refl, sym, ap, ◌∙◌}
+use Rattle.std.proofs.Common.{ap₂, subst, List, [], ◌∷◌, ◌++◌, length, get_or, drop, ◌+◌, append-nil}
+use Rattle.std.proofs.Common.{length-append, arith, drop-cons, flat_map, ◌==◌, Result, Ok, Err, IfOk, All}
 use Rattle.std.proofs.lemmas.List.Elements.{All-nil, All-cons, All-head, All-tail, All-append, All-filter}
 use Rattle.acl_names.specs.Bits.{has, without, ◌∩◌, ◌∪◌}
 use Rattle.acl_names.proofs.AnyLemmas.{or_false}
 use Rattle.acl_names.proofs.BitSets.{has-or, has-zero, same_bits}
 use Rattle.acl_posix.specs.Access.{effective_perms}
 use Rattle.acl_posix.specs.Entry.{EntryValue}
-use Rattle.acl_nfs4.specs.Ace.{Nfsace4, ace_of, flags_for, is_idle, plain, unless_empty}
+use Rattle.acl_nfs4.specs.Ace.{Nfsace4, ace_of, flags_for, is_idle, plain_ace, unless_empty}
 use Rattle.acl_nfs4.specs.Flags.{all_flags, identifier_group}
 use Rattle.acl_nfs4.specs.Mask.{all_masks, mask_of, rest_of}
-use Rattle.acl_nfs4.specs.Who.{flags_of_who}
+use Rattle.acl_nfs4.specs.Who.{flags_of_who, who_of}
 use Rattle.acl_nfs4.proofs.ListLemmas.{drop-here}
 use Rattle.acl_nfs4.specs.declared.ace.AceType.{AceType}
 use Rattle.acl_nfs4.specs.declared.ace.AceType.TheVariants.{Allow, Deny}
 use Rattle.acl_nfs4.specs.declared.who.Who.{Who}
 use Rattle.acl_bridge.specs.Effects.{flags_of, with_effect}
-use Rattle.acl_bridge.specs.Translation.{who_of, is_in, in_class, made_for, made_by, made_by_pass, passes, translation, with_flags}
+use Rattle.acl_bridge.specs.Translation.{is_in, in_class, aces_for, aces_of_entry, aces_of_pass, passes, translation, with_flags}
 use Rattle.acl_bridge.specs.declared.passes.Class.{Class}
 use Rattle.acl_bridge.specs.declared.passes.Part.{Part}
 use Rattle.acl_bridge.specs.declared.passes.Part.TheVariants.{Allowed, Denied, Settled}
@@ -47,11 +49,11 @@ is_idle-effect kind Here who mask = by_flags_of_who (λ flags. is_idle (with_fla
 is_idle-effect kind Below who mask = by_flags_of_who (λ flags. is_idle (with_flags (flags_of Below) (record { kind = kind; flags = flags; who = who; mask = mask })) ≡ false) refl refl who
 
 -- an entry is left out if its mask is empty, and else stands
-pub plain-empty : (kind : AceType) (who : Who) (mask : ℕ) → (mask == 0) ≡ true → plain kind who mask ≡ []
+pub plain-empty : (kind : AceType) (who : Who) (mask : ℕ) → (mask == 0) ≡ true → plain_ace kind who mask ≡ []
 unfolding unless_empty
 plain-empty kind who mask empty = ap (λ (b : Bool). cond b [] (bare kind who mask ∷ [])) empty
 
-pub plain-full : (kind : AceType) (who : Who) (mask : ℕ) → (mask == 0) ≡ false → plain kind who mask ≡ bare kind who mask ∷ []
+pub plain-full : (kind : AceType) (who : Who) (mask : ℕ) → (mask == 0) ≡ false → plain_ace kind who mask ≡ bare kind who mask ∷ []
 unfolding unless_empty
 plain-full kind who mask full = ap (λ (b : Bool). cond b [] (bare kind who mask ∷ [])) full
 
@@ -76,22 +78,22 @@ with_effect-here (x ∷ xs) = ap₂ (λ (f : ℕ) (rest : List Nfsace4). record 
 -- ---- one more entry
 
 pub made-empty : (effect : Effect) (old : List Nfsace4) (kind : AceType) (who : Who) (mask : ℕ) → (mask == 0) ≡ true
-    → old ≡ old ++ with_effect effect (plain kind who mask)
+    → old ≡ old ++ with_effect effect (plain_ace kind who mask)
 made-empty effect old kind who mask empty =
     sym (ap (λ (xs : List Nfsace4). old ++ with_effect effect xs) (plain-empty kind who mask empty) ∙ append-nil old)
 
 pub made-full : (effect : Effect) (old : List Nfsace4) (kind : AceType) (who : Who) (mask : ℕ) (ace : Nfsace4) → (mask == 0) ≡ false
-    → ace ≡ with_flags (flags_of effect) (bare kind who mask) → old ++ ace ∷ [] ≡ old ++ with_effect effect (plain kind who mask)
+    → ace ≡ with_flags (flags_of effect) (bare kind who mask) → old ++ ace ∷ [] ≡ old ++ with_effect effect (plain_ace kind who mask)
 made-full effect old kind who mask ace full is =
     ap (λ (made : Nfsace4). old ++ made ∷ []) is
     ∙ sym (ap (λ (xs : List Nfsace4). old ++ with_effect effect xs) (plain-full kind who mask full))
 
 pub room-full : {most : ℕ} (effect : Effect) (old : List Nfsace4) (kind : AceType) (who : Who) (mask : ℕ) → (mask == 0) ≡ false
-    → length (old ++ with_effect effect (plain kind who mask)) ≤ most → length old < most
+    → length (old ++ with_effect effect (plain_ace kind who mask)) ≤ most → length old < most
 room-full {most} effect old kind who mask full room =
-    let one : length (plain kind who mask) ≡ 1 = ap (λ (xs : List Nfsace4). length xs) (plain-full kind who mask full) in
-    let same = length-with_effect effect (plain kind who mask) in
-    let both = length-append old (with_effect effect (plain kind who mask)) in
+    let one : length (plain_ace kind who mask) ≡ 1 = ap (λ (xs : List Nfsace4). length xs) (plain-full kind who mask full) in
+    let same = length-with_effect effect (plain_ace kind who mask) in
+    let both = length-append old (with_effect effect (plain_ace kind who mask)) in
     omega arith
 
 -- ---- a pass, and all of them
@@ -112,21 +114,21 @@ module _ (effect : Effect) (acl : List EntryValue) (old whole : List Nfsace4) wh
   -- the entry at hand makes no more than the pass
   pub pass-room : (class : Class) (part : Part) (entries : List EntryValue) (i : ℕ) (entry : EntryValue)
       → i < length entries → entry ≡ get_or entries i entry → is_in class entry.tag ≡ true
-      → old ++ with_effect effect (flat_map (made_by part acl) (in_class class (drop i entries))) ≡ whole
-      → length (old ++ with_effect effect (made_by part acl entry)) ≤ length whole
+      → old ++ with_effect effect (flat_map (aces_of_entry part acl) (in_class class (drop i entries))) ≡ whole
+      → length (old ++ with_effect effect (aces_of_entry part acl entry)) ≤ length whole
   pass-room class part entries i entry inside here taken =
       let rest = in_class class (drop (i + 1) entries) in
-      room-next _ (made_by part acl entry) (flat_map (made_by part acl) rest)
-      (ap (λ (xs : List EntryValue). flat_map (made_by part acl) (in_class class xs)) (drop-here entries i entry inside here)
-      ∙ ap (λ (b : Bool). flat_map (made_by part acl) (cond b (entry ∷ rest) rest)) taken)
+      room-next _ (aces_of_entry part acl entry) (flat_map (aces_of_entry part acl) rest)
+      (ap (λ (xs : List EntryValue). flat_map (aces_of_entry part acl) (in_class class xs)) (drop-here entries i entry inside here)
+      ∙ ap (λ (b : Bool). flat_map (aces_of_entry part acl) (cond b (entry ∷ rest) rest)) taken)
 
   -- the pass at hand makes no more than all of them
   pub passes-room : (i : ℕ) (default : Class × Part) → i < length passes
-      → old ++ with_effect effect (flat_map (λ pass. made_by_pass pass acl) (drop i passes)) ≡ whole
-      → length (old ++ with_effect effect (made_by_pass (get_or passes i default) acl)) ≤ length whole
+      → old ++ with_effect effect (flat_map (λ pass. aces_of_pass pass acl) (drop i passes)) ≡ whole
+      → length (old ++ with_effect effect (aces_of_pass (get_or passes i default) acl)) ≤ length whole
   passes-room i default inside =
-      room-next _ (made_by_pass (get_or passes i default) acl) (flat_map (λ pass. made_by_pass pass acl) (drop (suc i) passes))
-      (ap (flat_map (λ pass. made_by_pass pass acl)) (drop-cons passes i default inside))
+      room-next _ (aces_of_pass (get_or passes i default) acl) (flat_map (λ pass. aces_of_pass pass acl) (drop (suc i) passes))
+      (ap (flat_map (λ pass. aces_of_pass pass acl)) (drop-cons passes i default inside))
 
 -- ---- each entry of a translation
 
@@ -138,25 +140,25 @@ All-flat_map P Q f each (x ∷ xs) all =
 
 -- if each who that entries stand for has a property, and an entry for one who has it has another, each entry made has that
 module _ (P : Who → Type 0) (Q : Nfsace4 → Type 0) (each : (kind : AceType) (who : Who) (mask : ℕ) → P who → Q (bare kind who mask)) where
-  All-plain : (kind : AceType) (who : Who) (mask : ℕ) → P who → All Q (plain kind who mask)
+  All-plain : (kind : AceType) (who : Who) (mask : ℕ) → P who → All Q (plain_ace kind who mask)
   unfolding unless_empty
   All-plain kind who mask holds =
       elim (mask == 0) as (λ b. All Q (cond b [] (bare kind who mask ∷ [])))
       [ true ↦ All-nil Q | false ↦ All-cons Q (bare kind who mask) [] (each kind who mask holds) (All-nil Q) ]
 
-  All-made_for : (part : Part) (who : Who) (perms : ℕ) → P who → All Q (made_for part who perms)
+  All-made_for : (part : Part) (who : Who) (perms : ℕ) → P who → All Q (aces_for part who perms)
   All-made_for Allowed who perms holds = All-plain Allow who (mask_of perms) holds
   All-made_for Denied who perms holds = All-plain Deny who (rest_of perms) holds
   All-made_for Settled who perms holds =
-      All-append Q (plain Allow who (mask_of perms)) (plain Deny who (rest_of perms))
+      All-append Q (plain_ace Allow who (mask_of perms)) (plain_ace Deny who (rest_of perms))
       (All-plain Allow who (mask_of perms) holds) (All-plain Deny who (rest_of perms) holds)
 
   pub All-translation : (acl : List EntryValue) → All (λ entry. P (who_of entry.tag)) acl → All Q (translation acl)
-  All-translation acl all = All-flat_map (λ pass. Unit {0}) Q (λ pass. made_by_pass pass acl) of_pass passes (λ k d inside. tt)
+  All-translation acl all = All-flat_map (λ pass. Unit {0}) Q (λ pass. aces_of_pass pass acl) of_pass passes (λ k d inside. tt)
     where
-      of_pass : (pass : Class × Part) → Unit {0} → All Q (made_by_pass pass acl)
+      of_pass : (pass : Class × Part) → Unit {0} → All Q (aces_of_pass pass acl)
       of_pass (class, part) any =
-          All-flat_map (λ (entry : EntryValue). P (who_of entry.tag)) Q (made_by part acl)
+          All-flat_map (λ (entry : EntryValue). P (who_of entry.tag)) Q (aces_of_entry part acl)
           (λ entry. All-made_for part (who_of entry.tag) (effective_perms acl entry)) (in_class class acl)
           (All-filter (λ (entry : EntryValue). is_in class entry.tag) (λ (entry : EntryValue). P (who_of entry.tag)) acl all)
 

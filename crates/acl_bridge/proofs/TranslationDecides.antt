@@ -14,11 +14,11 @@ use Rattle.acl_posix.specs.declared.entry.Tag.TheVariants.{UserObj, User, GroupO
 use Rattle.acl_posix.proofs.ValidityLemmas.{IsValid-count_of}
 use Rattle.acl_nfs4.specs.Evaluation.{allows, Grants}
 use Rattle.acl_nfs4.specs.Mask.{mode_bits, mask_of}
-use Rattle.acl_nfs4.specs.Who.{matches}
+use Rattle.acl_nfs4.specs.Who.{matches, who_of}
 use Rattle.acl_nfs4.specs.declared.who.Who.{Who}
 use Rattle.acl_nfs4.proofs.MaskOfModes.{permission_of, has-mask_of, mask_of-within}
 use Rattle.acl_nfs4.proofs.MaskBits.{contains-one}
-use Rattle.acl_bridge.specs.Translation.{who_of, is_in, translation}
+use Rattle.acl_bridge.specs.Translation.{is_in, translation}
 use Rattle.acl_bridge.specs.declared.passes.Class.{Class}
 use Rattle.acl_bridge.specs.declared.passes.Class.TheVariants.{Owner, Users, Groups, Others}
 use Rattle.acl_bridge.specs.TranslationLaws.{AgreeOn, DecideAlike, GrantsAsMuch, TranslationGrantsEach}

@@ -9,12 +9,13 @@ use Rattle.acl_posix.specs.Entry.{EntryValue, same_tag, is_named}
 use Rattle.acl_posix.specs.Validity.{count_of, names_someone}
 use Rattle.acl_posix.specs.declared.entry.Tag.{Tag}
 use Rattle.acl_posix.specs.declared.entry.Tag.TheVariants.{UserObj, User, GroupObj, Group, Mask, Other}
-use Rattle.acl_nfs4.specs.Ace.{Nfsace4, plain, unless_empty}
+use Rattle.acl_nfs4.specs.Ace.{Nfsace4, plain_ace, unless_empty}
 use Rattle.acl_nfs4.specs.Mask.{mask_of, rest_of}
+use Rattle.acl_nfs4.specs.Who.{who_of}
 use Rattle.acl_nfs4.specs.declared.ace.AceType.{AceType}
 use Rattle.acl_nfs4.specs.declared.ace.AceType.TheVariants.{Allow, Deny}
 use Rattle.acl_nfs4.specs.declared.who.Who.{Who}
-use Rattle.acl_bridge.specs.Translation.{who_of, is_in, in_class, made_for, made_by, made_by_pass, passes, translation}
+use Rattle.acl_bridge.specs.Translation.{is_in, in_class, aces_for, aces_of_entry, aces_of_pass, passes, translation}
 use Rattle.acl_bridge.specs.declared.passes.Class.{Class}
 use Rattle.acl_bridge.specs.declared.passes.Class.TheVariants.{Owner, Users, Groups, Others}
 use Rattle.acl_bridge.specs.declared.passes.Part.{Part}
@@ -27,7 +28,7 @@ length-unless_empty : (ace : Nfsace4) → length (unless_empty ace) ≤ 1
 unfolding unless_empty
 length-unless_empty ace = elim (ace.mask == 0) as (λ b. length (cond b [] (ace ∷ [])) ≤ 1) [ true ↦ omega arith | false ↦ omega arith ]
 
-length-plain : (kind : AceType) (who : Who) (mask : ℕ) → length (plain kind who mask) ≤ 1
+length-plain : (kind : AceType) (who : Who) (mask : ℕ) → length (plain_ace kind who mask) ≤ 1
 length-plain kind who mask = length-unless_empty _
 
 length-flat_map-most : {X Y : Type 0} (most : ℕ) (f : X → List Y) → ((x : X) → length (f x) ≤ most) → (xs : List X)
@@ -41,19 +42,19 @@ abbrev most_of : Part → ℕ
 most_of Settled = 2
 most_of _ = 1
 
-length-made_for : (part : Part) (who : Who) (perms : ℕ) → length (made_for part who perms) ≤ most_of part
+length-made_for : (part : Part) (who : Who) (perms : ℕ) → length (aces_for part who perms) ≤ most_of part
 length-made_for Allowed who perms = length-plain Allow who (mask_of perms)
 length-made_for Denied who perms = length-plain Deny who (rest_of perms)
 length-made_for Settled who perms =
-    let both = length-append (plain Allow who (mask_of perms)) (plain Deny who (rest_of perms)) in
+    let both = length-append (plain_ace Allow who (mask_of perms)) (plain_ace Deny who (rest_of perms)) in
     let allowed = length-plain Allow who (mask_of perms) in
     let denied = length-plain Deny who (rest_of perms) in
     omega arith
 
 length-pass : (class : Class) (part : Part) (acl : List EntryValue)
-    → length (made_by_pass (class, part) acl) ≤ most_of part * length (in_class class acl)
+    → length (aces_of_pass (class, part) acl) ≤ most_of part * length (in_class class acl)
 length-pass class part acl =
-    length-flat_map-most (most_of part) (made_by part acl) (λ entry. length-made_for part (who_of entry.tag) (effective_perms acl entry))
+    length-flat_map-most (most_of part) (aces_of_entry part acl) (λ entry. length-made_for part (who_of entry.tag) (effective_perms acl entry))
     (in_class class acl)
 
 -- two of each entry at most but of the mask and the others'
@@ -61,7 +62,7 @@ length-translation : (acl : List EntryValue)
     → length (translation acl)
     ≤ 2 * length (in_class Owner acl) + 2 * length (in_class Users acl) + 2 * length (in_class Groups acl) + length (in_class Others acl)
 length-translation acl =
-    let whole = length-flat_map (λ (pass : Class × Part). made_by_pass pass acl) passes in
+    let whole = length-flat_map (λ (pass : Class × Part). aces_of_pass pass acl) passes in
     let owners = length-pass Owner Settled acl in
     let users = length-pass Users Settled acl in
     let allowed = length-pass Groups Allowed acl in

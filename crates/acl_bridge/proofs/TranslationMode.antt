@@ -4,7 +4,7 @@ use Rattle.std.specs.List.{filter, list_any}
 use Rattle.std.proofs.lemmas.Nat.{and_le_l}
 use Rattle.acl_names.specs.Bits.{has}
 use Rattle.acl_names.proofs.AnyLemmas.{or_false}
-use Rattle.acl_posix.specs.Access.{effective_perms, first_nonempty, is_under_mask, masked}
+use Rattle.acl_posix.specs.Access.{effective_perms, first_nonempty, is_under_mask, under_mask}
 use Rattle.acl_posix.specs.Entry.{EntryValue, same_tag, entries_of, perms_of, HavePermissions}
 use Rattle.acl_posix.specs.Mode.{perms_at}
 use Rattle.acl_posix.specs.Perms.{IsPermissions}
@@ -13,11 +13,12 @@ use Rattle.acl_posix.proofs.TagLemmas.{same_tag-true}
 use Rattle.acl_posix.specs.declared.entry.Tag.{Tag}
 use Rattle.acl_posix.specs.declared.entry.Tag.TheVariants.{UserObj, User, GroupObj, Group, Mask, Other}
 use Rattle.acl_nfs4.specs.Evaluation.{shown_to, of_class, mode_of}
+use Rattle.acl_nfs4.specs.Who.{who_of}
 use Rattle.acl_nfs4.specs.declared.who.Who.{Who}
 use Rattle.acl_nfs4.specs.declared.who.Who.TheVariants as whos
 use Rattle.acl_nfs4.proofs.MaskOfModes.{permission_of}
 use Rattle.acl_nfs4.proofs.EvaluationMode.{shown_to-allows}
-use Rattle.acl_bridge.specs.Translation.{who_of, is_in, translation}
+use Rattle.acl_bridge.specs.Translation.{is_in, translation}
 use Rattle.acl_bridge.specs.declared.passes.Class.{Class}
 use Rattle.acl_bridge.specs.declared.passes.Class.TheVariants.{Owner, Users, Groups, Others}
 use Rattle.acl_bridge.specs.TranslationLaws.{translated_mode}
@@ -25,18 +26,18 @@ use Rattle.acl_bridge.proofs.TranslationDecides.{few, owners_alone}
 use Rattle.acl_bridge.proofs.TranslationVerdicts.{allows-translation, matching, deciding}
 use Rattle.acl_bridge.proofs.FilterLemmas.{length-filter, filter_twice, filter_twice-none, the_one, find-passes}
 
-masked-small : (mask : Option ℕ) (perms : ℕ) → perms < 8 → masked mask perms < 8
+masked-small : (mask : Option ℕ) (perms : ℕ) → perms < 8 → under_mask mask perms < 8
 masked-small None perms small = small
 masked-small (Some mask) perms small = let below = and_le_l perms mask in omega arith
 
-effective-small : (limited : Bool) (mask : Option ℕ) (perms : ℕ) → perms < 8 → cond limited (masked mask perms) perms < 8
+effective-small : (limited : Bool) (mask : Option ℕ) (perms : ℕ) → perms < 8 → cond limited (under_mask mask perms) perms < 8
 effective-small true mask perms small = masked-small mask perms small
 effective-small false mask perms small = small
 
 module _ (acl : List EntryValue) (valid : IsValid acl) (small : HavePermissions acl) where
   -- what permissions an entry of a tag has that stand in it
   abbrev limited : Tag → ℕ → ℕ
-  limited tag perms = cond (is_under_mask tag) (masked (perms_of Mask acl) perms) perms
+  limited tag perms = cond (is_under_mask tag) (under_mask (perms_of Mask acl) perms) perms
 
   -- what is shown to those for whom one entry alone decides is what it has
   shown_by_one : (class : Who) (tag : Tag) → count_of tag acl ≡ 1
@@ -107,7 +108,7 @@ module _ (acl : List EntryValue) (valid : IsValid acl) (small : HavePermissions 
       the_owner (User uid) = refl
       the_owner _ = refl
 
-  shown_to_group : shown_to (of_class whos.Group) (translation acl) ≡ masked (perms_of Mask acl) (perms_at GroupObj acl)
+  shown_to_group : shown_to (of_class whos.Group) (translation acl) ≡ under_mask (perms_of Mask acl) (perms_at GroupObj acl)
   shown_to_group =
       shown_by_one whos.Group GroupObj valid.group_obj (no_named whos.Group (λ uid. refl))
       (λ entry one.

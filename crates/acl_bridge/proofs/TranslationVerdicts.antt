@@ -7,10 +7,11 @@ use Rattle.acl_posix.specs.Access.{effective_perms, first_nonempty}
 use Rattle.acl_posix.specs.Entry.{EntryValue}
 use Rattle.acl_nfs4.specs.Mask.{mode_bits, mask_of, rest_of}
 use Rattle.acl_nfs4.specs.Evaluation.{verdict, allows}
+use Rattle.acl_nfs4.specs.Who.{who_of}
 use Rattle.acl_nfs4.specs.declared.who.Who.{Who}
 use Rattle.acl_nfs4.proofs.MaskOfModes.{permission_of, has-mask_of, has-rest_of}
 use Rattle.acl_nfs4.proofs.EvaluationLemmas.{or_else, verdict-append, verdict-allow, verdict-deny}
-use Rattle.acl_bridge.specs.Translation.{who_of, in_class, made_by, made_by_pass, passes, translation}
+use Rattle.acl_bridge.specs.Translation.{in_class, aces_of_entry, aces_of_pass, passes, translation}
 use Rattle.acl_bridge.specs.declared.passes.Class.{Class}
 use Rattle.acl_bridge.specs.declared.passes.Class.TheVariants.{Owner, Users, Groups, Others}
 use Rattle.acl_bridge.specs.declared.passes.Part.{Part}
@@ -59,13 +60,13 @@ module _ (acl : List EntryValue) (applies : Who → Bool) (bit : ℕ) (of_mode :
   has_permission entry = has (effective_perms acl entry) (permission_of bit)
 
   verdict-allowed : (entry : EntryValue)
-      → verdict applies bit (made_by Allowed acl entry) ≡ cond (is_for entry && has_permission entry) (Some true) None
+      → verdict applies bit (aces_of_entry Allowed acl entry) ≡ cond (is_for entry && has_permission entry) (Some true) None
   verdict-allowed entry =
       verdict-allow applies bit (who_of entry.tag) (mask_of (effective_perms acl entry))
       ∙ ap (λ b. cond (is_for entry && b) (Some true) None) (has-mask_of (effective_perms acl entry) bit of_mode)
 
   verdict-denied : (entry : EntryValue)
-      → verdict applies bit (made_by Denied acl entry) ≡ cond (is_for entry && not (has_permission entry)) (Some false) None
+      → verdict applies bit (aces_of_entry Denied acl entry) ≡ cond (is_for entry && not (has_permission entry)) (Some false) None
   verdict-denied entry =
       verdict-deny applies bit (who_of entry.tag) (rest_of (effective_perms acl entry))
       ∙ ap (λ b. cond (is_for entry && b) (Some false) None) (has-rest_of (effective_perms acl entry) bit of_mode)
@@ -75,22 +76,22 @@ module _ (acl : List EntryValue) (applies : Who → Bool) (bit : ℕ) (of_mode :
   allow_then_deny true false = refl
   allow_then_deny false h = refl
 
-  verdict-settled : (entry : EntryValue) → verdict applies bit (made_by Settled acl entry) ≡ cond (is_for entry) (Some (has_permission entry)) None
+  verdict-settled : (entry : EntryValue) → verdict applies bit (aces_of_entry Settled acl entry) ≡ cond (is_for entry) (Some (has_permission entry)) None
   verdict-settled entry =
-      verdict-append applies bit (made_by Allowed acl entry) (made_by Denied acl entry)
+      verdict-append applies bit (aces_of_entry Allowed acl entry) (aces_of_entry Denied acl entry)
       ∙ ap₂ or_else (verdict-allowed entry) (verdict-denied entry)
       ∙ allow_then_deny (is_for entry) (has_permission entry)
 
   -- what is said of the entries of a class: the first of the answers on each
   verdict-first : (part : Part) (entry : EntryValue) (entries : List EntryValue) (here after : Option Bool)
-      → verdict applies bit (made_by part acl entry) ≡ here → verdict applies bit (flat_map (made_by part acl) entries) ≡ after
-      → verdict applies bit (flat_map (made_by part acl) (entry ∷ entries)) ≡ or_else here after
+      → verdict applies bit (aces_of_entry part acl entry) ≡ here → verdict applies bit (flat_map (aces_of_entry part acl) entries) ≡ after
+      → verdict applies bit (flat_map (aces_of_entry part acl) (entry ∷ entries)) ≡ or_else here after
   verdict-first part entry entries here after is rest =
-      verdict-append applies bit (made_by part acl entry) (flat_map (made_by part acl) entries) ∙ ap₂ or_else is rest
+      verdict-append applies bit (aces_of_entry part acl entry) (flat_map (aces_of_entry part acl) entries) ∙ ap₂ or_else is rest
 
   -- if at most one entry is for the requester, it decides
   settled : (entries : List EntryValue) → length (filter is_for entries) ≤ 1
-      → verdict applies bit (flat_map (made_by Settled acl) entries) ≡ said_by has_permission (filter is_for entries)
+      → verdict applies bit (flat_map (aces_of_entry Settled acl) entries) ≡ said_by has_permission (filter is_for entries)
   settled [] few = refl
   settled (entry ∷ entries) few =
       verdict-first Settled entry entries _ _ (verdict-settled entry) refl ∙ go (is_for entry) few (settled entries)
@@ -101,8 +102,8 @@ module _ (acl : List EntryValue) (applies : Who → Bool) (bit : ℕ) (of_mode :
 
       go : (b : Bool) → length (cond b (entry ∷ filter is_for entries) (filter is_for entries)) ≤ 1
           → (length (filter is_for entries) ≤ 1
-          → verdict applies bit (flat_map (made_by Settled acl) entries) ≡ said_by has_permission (filter is_for entries))
-          → or_else (cond b (Some (has_permission entry)) None) (verdict applies bit (flat_map (made_by Settled acl) entries))
+          → verdict applies bit (flat_map (aces_of_entry Settled acl) entries) ≡ said_by has_permission (filter is_for entries))
+          → or_else (cond b (Some (has_permission entry)) None) (verdict applies bit (flat_map (aces_of_entry Settled acl) entries))
           ≡ said_by has_permission (cond b (entry ∷ filter is_for entries) (filter is_for entries))
       go true few rest = alone (filter is_for entries) few
       go false few rest = rest few
@@ -113,13 +114,13 @@ module _ (acl : List EntryValue) (applies : Who → Bool) (bit : ℕ) (of_mode :
 
   -- if all entries of a class give one answer or none, it is given if one of them gives it
   joined : (part : Part) (answer : Bool) (says : EntryValue → Bool)
-      → ((entry : EntryValue) → verdict applies bit (made_by part acl entry) ≡ cond (is_for entry && says entry) (Some answer) None)
+      → ((entry : EntryValue) → verdict applies bit (aces_of_entry part acl entry) ≡ cond (is_for entry && says entry) (Some answer) None)
       → (entries : List EntryValue)
-      → verdict applies bit (flat_map (made_by part acl) entries) ≡ cond (list_any says (filter is_for entries)) (Some answer) None
+      → verdict applies bit (flat_map (aces_of_entry part acl) entries) ≡ cond (list_any says (filter is_for entries)) (Some answer) None
   joined part answer says each entries = go entries ∙ ap (λ b. cond b (Some answer) None) (list_any-filter is_for says entries)
     where
       go : (entries : List EntryValue)
-          → verdict applies bit (flat_map (made_by part acl) entries)
+          → verdict applies bit (flat_map (aces_of_entry part acl) entries)
           ≡ cond (list_any (λ entry. is_for entry && says entry) entries) (Some answer) None
       go [] = refl
       go (entry ∷ entries) = verdict-first part entry entries _ _ (each entry) (go entries) ∙ or_else-cond answer _ _
@@ -141,9 +142,9 @@ module _ (acl : List EntryValue) (applies : Who → Bool) (bit : ℕ) (of_mode :
 
   -- a pass, and then those that follow
   one_pass : (pass : Class × Part) (more : List (Class × Part))
-      → verdict applies bit (flat_map (λ p. made_by_pass p acl) (pass ∷ more))
-      ≡ or_else (verdict applies bit (made_by_pass pass acl)) (verdict applies bit (flat_map (λ p. made_by_pass p acl) more))
-  one_pass pass more = verdict-append applies bit (made_by_pass pass acl) (flat_map (λ p. made_by_pass p acl) more)
+      → verdict applies bit (flat_map (λ p. aces_of_pass p acl) (pass ∷ more))
+      ≡ or_else (verdict applies bit (aces_of_pass pass acl)) (verdict applies bit (flat_map (λ p. aces_of_pass p acl) more))
+  one_pass pass more = verdict-append applies bit (aces_of_pass pass acl) (flat_map (λ p. aces_of_pass p acl) more)
 
   -- the translation allows a bit if a deciding entry has its permission
   pub allows-translation : FewFor acl applies Owner → FewFor acl applies Users
@@ -156,7 +157,7 @@ module _ (acl : List EntryValue) (applies : Who → Bool) (bit : ℕ) (of_mode :
       (last_class (matching applies acl Others))))
     where
       says : Class → Part → Option Bool
-      says class part = verdict applies bit (made_by_pass (class, part) acl)
+      says class part = verdict applies bit (aces_of_pass (class, part) acl)
 
       some_allow : Option Bool
       some_allow = cond (list_any has_permission (matching applies acl Groups)) (Some true) None

@@ -1,24 +1,19 @@
 -- What a POSIX list decides, bit by bit, so that it can be compared with a list of either style.
-use Rattle.std.specs.Prelude.{◌≡◌, ◌≢◌, ◌≤◌, ◌⊎◌, ◌==◌, ℕ, zero, suc, ◌+◌, ◌^◌, Bool, false, not}
-use Rattle.std.specs.Prelude.{Some, List, [], ◌∷◌, length, if◌then◌else◌}
-use Rattle.std.specs.List.{All, list_any}
+use Rattle.std.specs.Prelude.{◌≡◌, ◌≢◌, ◌≤◌, ◌⊎◌, ℕ, zero, suc, ◌+◌, ◌^◌, Bool, not, List, [], ◌∷◌}
+use Rattle.std.specs.Prelude.{length, if◌then◌else◌}
 use Rattle.acl_names.specs.Asker.{identity_of}
 use Rattle.acl_names.specs.Bits.{◌∩◌}
 use Rattle.acl_names.specs.Requester.{Identity}
 use Rattle.acl_posix.specs.Access.{grants}
 use Rattle.acl_posix.specs.Entry.{EntryValue}
 use Rattle.acl_posix.specs.Validity.{IsValid}
-use Rattle.acl_posix.specs.declared.entry.Tag.{Tag}
-use Rattle.acl_posix.specs.declared.entry.Tag.TheVariants.{UserObj, User}
 use Rattle.acl_nfs4.specs.Ace.{Nfsace4}
-use Rattle.acl_nfs4.specs.Comparison.{Decider, DecideAlike, asker_for, decided_by, needed_uid}
+use Rattle.acl_nfs4.specs.Comparison.{Decider, DecideAlike, OfEachAsker, decided_by}
 use Rattle.acl_nfs4.specs.Mask.{mask_bits, mask_of, mode_bits, read_data, write_data, execute}
 use Rattle.acl_nfs4.specs.Mask.{read_permission, write_permission, execute_permission}
+use Rattle.acl_nfs4.specs.Who.{who_of}
 use Rattle.acl_nfs4.specs.declared.comparison.Difference.{Difference}
 use Rattle.acl_nfs4.specs.declared.owners.Owners.{Owners}
-use Rattle.acl_nfs4.specs.declared.who.Who.{Who}
-use Rattle.acl_nfs4.specs.declared.who.Who.TheVariants.{Everyone}
-use Rattle.acl_bridge.specs.Translation.{who_of}
 use Rattle.acl_bridge.specs.declared.requests.Unlike.{Unlike}
 
 -- the place of the permission that a bit of a file mode stands for
@@ -73,39 +68,14 @@ TwoGroupsSuffice =
     → GrantAlike (grants_at first owners) (grants_at second other_owners) request requester)
     → GrantAlikeToAll (grants_at first owners) (grants_at second other_owners) request
 
--- it holds of each who that entries stand for, and of everyone
-abbrev pub OfEachTag : List EntryValue → (Who → Type 0) → Type 0
-OfEachTag acl P = All (λ entry. P (who_of entry.tag)) acl × P Everyone
-
--- whether an entry is this user's
-abbrev pub is_of_user : ℕ → ℕ → Tag → Bool
-is_of_user owner uid UserObj = owner == uid
-is_of_user owner uid (User named) = named == uid
-is_of_user owner uid _ = false
-
-abbrev pub asks_for : ℕ → ℕ → List EntryValue → Bool
-asks_for owner uid acl = list_any (λ entry. is_of_user owner uid entry.tag) acl
-
--- no entry is this user's
-abbrev pub IsStranger : ℕ → List EntryValue → ℕ → Type 0
-IsStranger owner acl uid = All (λ entry. needed_uid owner (who_of entry.tag) ≢ Some uid) acl
-
--- both lists grant the request alike to the asker of these two
-abbrev pub GrantAlikeAt : List EntryValue → List EntryValue → Owners → Owners → ℕ → ℕ → Who → Who
-    → Type 0
-GrantAlikeAt first second owners other_owners request stranger who other =
-    GrantAlike (grants_at first owners) (grants_at second other_owners) request
-    (asker_for owners other_owners stranger who other)
-
 -- Lists that grant a request, of however many permissions, alike to the asker of each pair of
 -- entries grant it alike to everyone, each for a file of its own owners.
 abbrev pub PairsSuffice : Type 0
 PairsSuffice =
     (first second : List EntryValue) → IsValid first → IsValid second
-    → (owners other_owners : Owners) (request stranger : ℕ)
-    → IsStranger owners.owner first stranger → IsStranger other_owners.owner second stranger
-    → OfEachTag first (λ who. OfEachTag second
-    (λ other. GrantAlikeAt first second owners other_owners request stranger who other))
+    → (owners other_owners : Owners) (request : ℕ)
+    → OfEachAsker (λ entry. who_of entry.tag) first second owners other_owners
+    (GrantAlike (grants_at first owners) (grants_at second other_owners) request)
     → GrantAlikeToAll (grants_at first owners) (grants_at second other_owners) request
 
 -- one grants the asker the request, and the other doesn't
@@ -119,8 +89,8 @@ abbrev pub whole_requests : List ℕ
 whole_requests = 6 ∷ 5 ∷ 3 ∷ 7 ∷ []
 
 -- the bits by which a request is told
-abbrev pub told_by : ℕ → ℕ
-told_by request = mask_of request ∩ permission_bits
+abbrev pub mask_for : ℕ → ℕ
+mask_for request = mask_of request ∩ permission_bits
 
 -- the asker is granted the request before or after, and not both: it is lost as a whole, or gained
 pub record IsWholeDifference (before after : Granter) (request : ℕ) (difference : Difference) : Type
@@ -128,9 +98,9 @@ pub record IsWholeDifference (before after : Granter) (request : ℕ) (differenc
   pub apart : before (identity_of difference.asker) request
       ≢ after (identity_of difference.asker) request
   pub lost : mask_bits difference.lost ≡ (if before (identity_of difference.asker) request
-      then told_by request else 0)
+      then mask_for request else 0)
   pub gained : mask_bits difference.gained ≡ (if after (identity_of difference.asker) request
-      then told_by request else 0)
+      then mask_for request else 0)
 
 -- the difference is in the first of the requests that isn't granted alike to everyone
 abbrev pub IsFirstDifference : Granter → Granter → List ℕ → Difference → Type 0

@@ -2,3 +2,4 @@ pub mod Translation
 pub mod TranslationLaws
 pub mod Comparison
 pub mod Effects
+pub mod Style

@@ -7,24 +7,16 @@ use Rattle.acl_posix.specs.Access.{effective_perms}
 use Rattle.acl_posix.specs.Entry.{EntryValue}
 use Rattle.acl_posix.specs.declared.entry.Tag.{Tag}
 use Rattle.acl_posix.specs.declared.entry.Tag.TheVariants.{UserObj, User, GroupObj, Group, Other}
-use Rattle.acl_nfs4.specs.Ace.{Nfsace4, plain}
+use Rattle.acl_nfs4.specs.Ace.{Nfsace4, plain_ace}
 use Rattle.acl_nfs4.specs.Flags.{file_inherit, directory_inherit, inherit_only}
 use Rattle.acl_nfs4.specs.Mask.{mask_of, rest_of}
+use Rattle.acl_nfs4.specs.Who.{who_of}
 use Rattle.acl_nfs4.specs.declared.ace.AceType.TheVariants.{Allow, Deny}
 use Rattle.acl_nfs4.specs.declared.who.Who.{Who}
-use Rattle.acl_nfs4.specs.declared.who.Who.TheVariants as whos
 use Rattle.acl_bridge.specs.declared.passes.Class.{Class}
 use Rattle.acl_bridge.specs.declared.passes.Class.TheVariants.{Owner, Users, Groups, Others}
 use Rattle.acl_bridge.specs.declared.passes.Part.{Part}
 use Rattle.acl_bridge.specs.declared.passes.Part.TheVariants.{Allowed, Denied, Settled}
-
--- whom the entries that are made of one with this tag are about; of a mask none are made
-abbrev pub who_of : Tag → Who
-who_of UserObj = whos.Owner
-who_of (User uid) = whos.User uid
-who_of GroupObj = whos.Group
-who_of (Group gid) = whos.NamedGroup gid
-who_of _ = whos.Everyone
 
 -- whether an entry with this tag is of the class; a mask is of none
 abbrev pub is_in : Class → Tag → Bool
@@ -41,18 +33,19 @@ in_class class acl = filter (λ entry. is_in class entry.tag) acl
 
 -- what is made for one who has these permissions: what they allow, the rest, which is denied, or
 -- the one and then the other
-abbrev pub made_for : Part → Who → ℕ → List Nfsace4
-made_for Allowed who perms = plain Allow who (mask_of perms)
-made_for Denied who perms = plain Deny who (rest_of perms)
-made_for Settled who perms = plain Allow who (mask_of perms) ++ plain Deny who (rest_of perms)
+abbrev pub aces_for : Part → Who → ℕ → List Nfsace4
+aces_for Allowed who perms = plain_ace Allow who (mask_of perms)
+aces_for Denied who perms = plain_ace Deny who (rest_of perms)
+aces_for Settled who perms = plain_ace Allow who (mask_of perms)
+    ++ plain_ace Deny who (rest_of perms)
 
 -- what is made of an entry under the mask
-abbrev pub made_by : Part → List EntryValue → EntryValue → List Nfsace4
-made_by part acl entry = made_for part (who_of entry.tag) (effective_perms acl entry)
+abbrev pub aces_of_entry : Part → List EntryValue → EntryValue → List Nfsace4
+aces_of_entry part acl entry = aces_for part (who_of entry.tag) (effective_perms acl entry)
 
 -- what a pass over a list makes of the entries of its class
-abbrev pub made_by_pass : Class × Part → List EntryValue → List Nfsace4
-made_by_pass (class, part) acl = flat_map (made_by part acl) (in_class class acl)
+abbrev pub aces_of_pass : Class × Part → List EntryValue → List Nfsace4
+aces_of_pass (class, part) acl = flat_map (aces_of_entry part acl) (in_class class acl)
 
 -- The owner and each user are settled one by one. Entries for groups join, so that none of them
 -- denies before all of them have allowed.
@@ -61,20 +54,20 @@ passes = (Owner, Settled) ∷ (Users, Settled) ∷ (Groups, Allowed) ∷ (Groups
     ∷ (Others, Allowed) ∷ []
 
 abbrev pub translation : List EntryValue → List Nfsace4
-translation acl = flat_map (λ pass. made_by_pass pass acl) passes
+translation acl = flat_map (λ pass. aces_of_pass pass acl) passes
 
 -- the entry with further flags
 abbrev pub with_flags : ℕ → Nfsace4 → Nfsace4
 with_flags flags ace = record ace { flags = ace.flags ∪ flags }
 
 -- the flags of what takes effect where it stands, and is handed on to files and directories below
-abbrev pub handed_on : ℕ
-handed_on = 2 ^ file_inherit + 2 ^ directory_inherit
+abbrev pub inheriting_flags : ℕ
+inheriting_flags = 2 ^ file_inherit + 2 ^ directory_inherit
 
 -- and of what takes effect only below
-abbrev pub handed_down : ℕ
-handed_down = handed_on + 2 ^ inherit_only
+abbrev pub only_inheriting_flags : ℕ
+only_inheriting_flags = inheriting_flags + 2 ^ inherit_only
 
 -- a default list: its translation, which is only inherited
 abbrev pub default_translation : List EntryValue → List Nfsace4
-default_translation acl = map (with_flags handed_down) (translation acl)
+default_translation acl = map (with_flags only_inheriting_flags) (translation acl)

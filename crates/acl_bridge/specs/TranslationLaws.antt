@@ -2,7 +2,7 @@
 use Rattle.std.specs.Prelude.{◌≡◌, ℕ, ◌^◌, ◌*◌, ◌-◌, ◌≤◌, ◌↔◌, IsTrue, List, length, map}
 use Rattle.acl_names.specs.Bits.{has}
 use Rattle.acl_names.specs.Requester.{Identity}
-use Rattle.acl_posix.specs.Access.{grants, masked}
+use Rattle.acl_posix.specs.Access.{grants, under_mask}
 use Rattle.acl_posix.specs.Canonical.{IsAcl}
 use Rattle.acl_posix.specs.Entry.{EntryValue, HavePermissions, perms_of}
 use Rattle.acl_posix.specs.Mode.{Classes, perms_at}
@@ -16,7 +16,8 @@ use Rattle.acl_nfs4.specs.Inheritance.{inherited_list}
 use Rattle.acl_nfs4.specs.Mask.{mask_of, read_permission, write_permission, execute_permission}
 use Rattle.acl_nfs4.specs.Who.{matches}
 use Rattle.acl_nfs4.specs.declared.inheritance.Kind.TheVariants.{File, Dir}
-use Rattle.acl_bridge.specs.Translation.{translation, default_translation, with_flags, handed_on}
+use Rattle.acl_bridge.specs.Translation.{translation, default_translation, with_flags}
+use Rattle.acl_bridge.specs.Translation.{inheriting_flags}
 
 -- for every owner, group and requester the one grants the permissions if the other does
 abbrev pub AgreeOn : List EntryValue → List Nfsace4 → ℕ → Type 0
@@ -42,7 +43,7 @@ GrantsAsMuch acl aces =
 abbrev pub translated_mode : List EntryValue → Classes
 translated_mode acl = record {
   user = perms_at UserObj acl;
-  group = masked (perms_of Mask acl) (perms_at GroupObj acl);
+  group = under_mask (perms_of Mask acl) (perms_at GroupObj acl);
   other = perms_at Other acl;
 }
 
@@ -84,4 +85,4 @@ FileInheritsTheTranslation = (acl : List EntryValue)
 abbrev pub DirectoryHandsItOn : Type 0
 DirectoryHandsItOn =
     (acl : List EntryValue) → inherited_list Dir (default_translation acl)
-    ≡ map (with_flags handed_on) (translation acl)
+    ≡ map (with_flags inheriting_flags) (translation acl)

@@ -25,7 +25,7 @@ pub(crate) fn permission_bits() -> Mask
 }
 
 /// The list as an NFSv4 list, which decides each of these bits as the list decides its permission.
-fn translated(alloc: Global, acl: &Acl) -> Result<Acl4, AllocError>
+fn as_nfs4(alloc: Global, acl: &Acl) -> Result<Acl4, AllocError>
     ensures { IfOk result (DecidesEachBit acl.now) }
 {
     // For the proof only: calling a reader brings the invariant of `acl` into scope.
@@ -51,7 +51,7 @@ pub fn difference_from_posix(
         (IsDifference (granted_at acl.now owners.now) (decided_at aces.now other_owners.now)
         mode_bits)) }
 {
-    let before = translated(alloc, acl)?;
+    let before = as_nfs4(alloc, acl)?;
     Ok(before.difference(owners, aces, other_owners, mode_bits()))
 }
 
@@ -74,7 +74,7 @@ pub fn posix_difference(
         (IsDifference (granted_at first.now owners.now) (granted_at second.now other_owners.now)
         permission_bits)) }
 {
-    let before = translated(alloc, first)?;
-    let after = translated(alloc, second)?;
+    let before = as_nfs4(alloc, first)?;
+    let after = as_nfs4(alloc, second)?;
     Ok(before.difference(owners, &after, other_owners, permission_bits()))
 }

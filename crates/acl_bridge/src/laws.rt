@@ -1,4 +1,6 @@
-//! The laws of a translation, over the definitions alone.
+//! Laws of the definitions: of a translation, and of a comparison.
+
+ghost use Rattle.acl_bridge.specs.Comparison.{PairsSuffice, TwoGroupsSuffice};
 ghost use Rattle.acl_bridge.specs.TranslationLaws.{TranslationDecidesAlike};
 ghost use Rattle.acl_bridge.specs.TranslationLaws.{TranslationGrantsAsMuch, TranslationGrantsEach};
 ghost use Rattle.acl_bridge.specs.TranslationLaws.{TranslationShowsTheClasses, TranslationIsShort};
@@ -26,4 +28,13 @@ pub fn translation_laws()
 pub fn default_translation_laws()
     ensures file { FileInheritsTheTranslation }
     ensures directory { DirectoryHandsItOn }
+{}
+
+/// Two POSIX lists, each for a file of its own owners, grant a request, of however many
+/// permissions, to the same requesters if they grant it alike to the asker of each pair of entries,
+/// one of each list. So they do if they grant it alike to everyone who is in at most two groups.
+/// There is nothing to run here: a proof cites the contract.
+pub fn posix_comparison_laws()
+    ensures pairs { PairsSuffice }
+    ensures two_groups { TwoGroupsSuffice }
 {}

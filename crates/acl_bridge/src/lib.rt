@@ -1,15 +1,17 @@
-//! POSIX access control lists as NFSv4 lists that decide alike.
+//! The two styles of access control list, and POSIX lists as NFSv4 lists that decide alike.
 #![tactic(auto)]
 
 mod comparison;
 mod laws;
 mod passes;
 mod requests;
+mod style;
 mod translation;
 mod whole_requests;
 
 pub use comparison::{difference_from_posix, posix_difference};
-pub use laws::{default_translation_laws, translation_laws};
-pub use requests::{Unlike, posix_comparison_laws, request_difference};
+pub use laws::{default_translation_laws, posix_comparison_laws, translation_laws};
+pub use requests::{Unlike, request_difference};
+pub use style::Style;
 pub use translation::{translate, translate_default};
 pub use whole_requests::whole_request_difference;

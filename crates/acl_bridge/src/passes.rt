@@ -2,16 +2,16 @@
 ghost use Rattle.std.specs.Prelude.{◌≡◌, ◌<◌, ◌≤◌, false, [], ◌∷◌, ◌++◌, length, option_map};
 ghost use Rattle.std.specs.Prelude.{if◌then◌else◌, IsOk, OnOk};
 ghost use Rattle.acl_names.specs.Bits.{◌∩◌};
-ghost use Rattle.acl_posix.specs.Access.{is_under_mask, masked};
+ghost use Rattle.acl_posix.specs.Access.{is_under_mask, under_mask};
 ghost use Rattle.acl_posix.specs.Perms.{bits_of};
-ghost use Rattle.acl_nfs4.specs.Ace.{is_idle, plain};
-ghost use Rattle.acl_nfs4.specs.declared.limits.TheConstants.{MAX_ACES};
+ghost use Rattle.acl_nfs4.specs.Ace.{is_idle, plain_ace};
+ghost use Rattle.acl_nfs4.specs.declared.limits.TheConstants.{INLINE_ACES, MAX_ACES};
 ghost use Rattle.acl_nfs4.specs.Flags.{flag_bits};
 ghost use Rattle.acl_nfs4.specs.Mask.{mask_bits, all_masks};
 ghost use Rattle.acl_bridge.specs.Effects.{flags_of, with_effect};
-ghost use Rattle.acl_bridge.specs.Translation.{who_of, is_in, made_for, made_by_pass};
+ghost use Rattle.acl_bridge.specs.Translation.{is_in, aces_for, aces_of_pass};
 
-use acl_nfs4::{Ace, AceFault, AceType, Acl4, Flags, Mask, Who, mask_of, rest_of};
+use acl_nfs4::{AboutWho, Ace, AceFault, AceType, Acl4, Flags, Mask, Who, mask_of, rest_of};
 use acl_posix::{Acl, Entry, Perms, Tag};
 use bitflags::Flags as FlagSet;
 use std::alloc::AllocError;
@@ -86,24 +86,10 @@ impl Effect {
     }
 }
 
-/// Whom the entries made of one with this tag are about.
-pub(crate) fn who_of(tag: Tag) -> Who
-    ensures { result ≡ who_of tag }
-{
-    match tag {
-        Tag::UserObj => Who::Owner,
-        Tag::User(uid) => Who::User(uid),
-        Tag::GroupObj => Who::Group,
-        Tag::Group(gid) => Who::NamedGroup(gid),
-        Tag::Mask => Who::Everyone,
-        Tag::Other => Who::Everyone,
-    }
-}
-
 /// An entry's permissions as far as the mask, if there is one, leaves them.
 fn effective_perms(entry: &Entry, mask: Option<Perms>) -> Perms
     ensures { bits_of result
-        ≡ (if is_under_mask entry.now.tag then masked (option_map bits_of mask) entry.now.perms
+        ≡ (if is_under_mask entry.now.tag then under_mask (option_map bits_of mask) entry.now.perms
         else entry.now.perms) }
 {
     if !entry.tag.is_under_mask() {
@@ -121,7 +107,7 @@ fn push(aces: &mut Acl4, ace: Ace) -> Result<(), AllocError>
     requires room { length aces.old < MAX_ACES }
     requires effective { is_idle ace ≡ false }
     ensures ok { OnOk result (aces.new ≡ aces.old ++ ace ∷ []) }
-    ensures short { length aces.old < 16 → IsOk result }
+    ensures short { length aces.old < INLINE_ACES → IsOk result }
 {
     match aces.push(ace) {
         Ok(()) => Ok(()),
@@ -139,12 +125,12 @@ fn push_made(
     effect: Effect,
 ) -> Result<(), AllocError>
     requires known { mask_bits mask ∩ all_masks ≡ mask_bits mask }
-    requires room { length (aces.old ++ with_effect effect (plain kind who (mask_bits mask)))
+    requires room { length (aces.old ++ with_effect effect (plain_ace kind who (mask_bits mask)))
         ≤ MAX_ACES }
     ensures ok { OnOk result (aces.new ≡ aces.old
-        ++ with_effect effect (plain kind who (mask_bits mask))) }
-    ensures short { length (aces.old ++ with_effect effect (plain kind who (mask_bits mask))) ≤ 16
-        → IsOk result }
+        ++ with_effect effect (plain_ace kind who (mask_bits mask))) }
+    ensures short { length (aces.old ++ with_effect effect (plain_ace kind who (mask_bits mask)))
+        ≤ INLINE_ACES → IsOk result }
 {
     if mask.is_empty() {
         return Ok(());
@@ -155,11 +141,11 @@ fn push_made(
 /// Appends what these permissions allow.
 fn append_allowed(aces: &mut Acl4, who: Who, perms: Perms, effect: Effect) -> Result<(), AllocError>
     requires room { length (aces.old ++ with_effect effect
-        (made_for Part.Allowed who (bits_of perms))) ≤ MAX_ACES }
+        (aces_for Part.Allowed who (bits_of perms))) ≤ MAX_ACES }
     ensures ok { OnOk result (aces.new ≡ aces.old
-        ++ with_effect effect (made_for Part.Allowed who (bits_of perms))) }
+        ++ with_effect effect (aces_for Part.Allowed who (bits_of perms))) }
     ensures short { length (aces.old ++ with_effect effect
-        (made_for Part.Allowed who (bits_of perms))) ≤ 16 → IsOk result }
+        (aces_for Part.Allowed who (bits_of perms))) ≤ INLINE_ACES → IsOk result }
 {
     push_made(aces, AceType::Allow, who, mask_of(perms), effect)
 }
@@ -167,11 +153,11 @@ fn append_allowed(aces: &mut Acl4, who: Who, perms: Perms, effect: Effect) -> Re
 /// Appends the rest, which is denied.
 fn append_denied(aces: &mut Acl4, who: Who, perms: Perms, effect: Effect) -> Result<(), AllocError>
     requires room { length (aces.old ++ with_effect effect
-        (made_for Part.Denied who (bits_of perms))) ≤ MAX_ACES }
+        (aces_for Part.Denied who (bits_of perms))) ≤ MAX_ACES }
     ensures ok { OnOk result (aces.new ≡ aces.old
-        ++ with_effect effect (made_for Part.Denied who (bits_of perms))) }
+        ++ with_effect effect (aces_for Part.Denied who (bits_of perms))) }
     ensures short { length (aces.old ++ with_effect effect
-        (made_for Part.Denied who (bits_of perms))) ≤ 16 → IsOk result }
+        (aces_for Part.Denied who (bits_of perms))) ≤ INLINE_ACES → IsOk result }
 {
     push_made(aces, AceType::Deny, who, rest_of(perms), effect)
 }
@@ -184,12 +170,12 @@ fn append_made(
     perms: Perms,
     effect: Effect,
 ) -> Result<(), AllocError>
-    requires room { length (aces.old ++ with_effect effect (made_for part who (bits_of perms)))
+    requires room { length (aces.old ++ with_effect effect (aces_for part who (bits_of perms)))
         ≤ MAX_ACES }
     ensures ok { OnOk result (aces.new ≡ aces.old
-        ++ with_effect effect (made_for part who (bits_of perms))) }
-    ensures short { length (aces.old ++ with_effect effect (made_for part who (bits_of perms))) ≤ 16
-        → IsOk result }
+        ++ with_effect effect (aces_for part who (bits_of perms))) }
+    ensures short { length (aces.old ++ with_effect effect (aces_for part who (bits_of perms)))
+        ≤ INLINE_ACES → IsOk result }
 {
     match part {
         Part::Allowed => append_allowed(aces, who, perms, effect),
@@ -210,10 +196,10 @@ pub(crate) fn append_pass(
     pass: (Class, Part),
     effect: Effect,
 ) -> Result<(), AllocError>
-    requires room { length (aces.old ++ with_effect effect (made_by_pass pass acl.now)) ≤ MAX_ACES }
-    ensures ok { OnOk result (aces.new ≡ aces.old ++ with_effect effect (made_by_pass pass acl.now)) }
-    ensures short { length (aces.old ++ with_effect effect (made_by_pass pass acl.now)) ≤ 16
-        → IsOk result }
+    requires room { length (aces.old ++ with_effect effect (aces_of_pass pass acl.now)) ≤ MAX_ACES }
+    ensures ok { OnOk result (aces.new ≡ aces.old ++ with_effect effect (aces_of_pass pass acl.now)) }
+    ensures short { length (aces.old ++ with_effect effect (aces_of_pass pass acl.now))
+        ≤ INLINE_ACES → IsOk result }
 {
     let (class, part) = pass;
     let mask = acl.mask();
@@ -222,7 +208,7 @@ pub(crate) fn append_pass(
             append_made(
                 aces,
                 part,
-                who_of(entry.tag),
+                entry.who(),
                 effective_perms(entry, mask),
                 effect,
             )?;

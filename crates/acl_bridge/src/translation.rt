@@ -1,11 +1,12 @@
 //! POSIX access control lists as NFSv4 lists.
 ghost use Rattle.std.specs.Prelude.{◌≡◌, ◌≤◌, length, map, IfOk, IsOk};
 ghost use Rattle.acl_posix.specs.Canonical.{IsAcl};
+ghost use Rattle.acl_posix.specs.declared.limits.TheConstants.{INLINE_ENTRIES};
 ghost use Rattle.acl_nfs4.specs.Evaluation.{mode_of};
 ghost use Rattle.acl_nfs4.specs.Inheritance.{inherited_list};
 ghost use Rattle.acl_bridge.specs.Effects.{with_effect};
 ghost use Rattle.acl_bridge.specs.Translation.{translation, default_translation, with_flags};
-ghost use Rattle.acl_bridge.specs.Translation.{handed_on};
+ghost use Rattle.acl_bridge.specs.Translation.{inheriting_flags};
 ghost use Rattle.acl_bridge.specs.TranslationLaws.{DecideAlike, GrantsAsMuch, translated_mode};
 ghost use Rattle.acl_bridge.specs.TranslationLaws.{most_translated};
 
@@ -22,7 +23,7 @@ const _: () = prove!(2 * MAX_ENTRIES - 3 <= MAX_ACES);
 fn translation_for(alloc: Global, acl: &Acl, effect: Effect) -> Result<Acl4, AllocError>
     ensures list { IfOk result (λ aces. aces ≡ with_effect effect (translation acl.now)) }
     ensures acl { IsAcl acl.now }
-    ensures short { length acl.now ≤ 8 → IsOk result }
+    ensures short { length acl.now ≤ INLINE_ENTRIES → IsOk result }
 {
     // No entry makes more than two.
     let entries = acl.entries();
@@ -41,7 +42,7 @@ fn translation_for(alloc: Global, acl: &Acl, effect: Effect) -> Result<Acl4, All
 /// fails only if memory runs out.
 pub fn translate(alloc: Global, acl: &Acl) -> Result<Acl4, AllocError>
     ensures list { IfOk result (λ aces. aces ≡ translation acl.now) }
-    ensures short { length acl.now ≤ 8 → IsOk result }
+    ensures short { length acl.now ≤ INLINE_ENTRIES → IsOk result }
     ensures alike { IfOk result (DecideAlike acl.now) }
     ensures as_much { IfOk result (GrantsAsMuch acl.now) }
     ensures mode { IfOk result (λ aces. mode_of aces ≡ translated_mode acl.now) }
@@ -55,10 +56,10 @@ pub fn translate(alloc: Global, acl: &Acl) -> Result<Acl4, AllocError>
 /// inherits the translation. It fails only if memory runs out.
 pub fn translate_default(alloc: Global, acl: &Acl) -> Result<Acl4, AllocError>
     ensures list { IfOk result (λ aces. aces ≡ default_translation acl.now) }
-    ensures short { length acl.now ≤ 8 → IsOk result }
+    ensures short { length acl.now ≤ INLINE_ENTRIES → IsOk result }
     ensures file { IfOk result (λ aces. inherited_list Kind.File aces ≡ translation acl.now) }
     ensures directory { IfOk result (λ aces. inherited_list Kind.Dir aces
-        ≡ map (with_flags handed_on) (translation acl.now)) }
+        ≡ map (with_flags inheriting_flags) (translation acl.now)) }
     ensures length { IfOk result (λ aces. length aces ≤ most_translated) }
 {
     translation_for(alloc, acl, Effect::Below)

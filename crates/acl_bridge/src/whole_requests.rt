@@ -1,11 +1,11 @@
 //! Comparing POSIX lists for everyone, by the requests of more than one permission.
-ghost use Rattle.std.specs.Prelude.{◌≡◌, IfOk, MatchOption, map};
+ghost use Rattle.std.specs.Prelude.{◌≡◌, MatchOption, map};
 ghost use Rattle.std.specs.List.{AllByRecursion};
 ghost use Rattle.acl_names.specs.Bits.{◌∩◌};
 ghost use Rattle.acl_nfs4.specs.Mask.{mask_bits};
 ghost use Rattle.acl_posix.specs.Perms.{bits_of};
 ghost use Rattle.acl_bridge.specs.Comparison.{GrantAlikeToAll, IsFirstDifference};
-ghost use Rattle.acl_bridge.specs.Comparison.{IsWholeDifference, grants_at, told_by};
+ghost use Rattle.acl_bridge.specs.Comparison.{IsWholeDifference, grants_at, mask_for};
 ghost use Rattle.acl_bridge.specs.Comparison.{whole_requests};
 
 use crate::comparison::permission_bits;
@@ -13,7 +13,6 @@ use crate::requests::request_difference;
 use acl_nfs4::{Difference, Mask, Owners, mask_of};
 use acl_posix::{Acl, Perms};
 use bitflags::Flags;
-use std::alloc::{AllocError, Global};
 
 /// The requests, in the order in which they are compared: rw, rx, wx, rwx.
 fn whole_requests() -> [Perms; 4]
@@ -28,33 +27,29 @@ fn whole_requests() -> [Perms; 4]
 }
 
 /// The bits that stand for a request.
-fn told_by(request: Perms) -> Mask
-    ensures { mask_bits result ≡ told_by (bits_of request) }
+fn mask_for(request: Perms) -> Mask
+    ensures { mask_bits result ≡ mask_for (bits_of request) }
 {
     mask_of(request).intersection(permission_bits())
 }
 
 /// To whom the lists grant one request differently.
 fn difference_in(
-    alloc: Global,
     first: &Acl,
     owners: &Owners,
     second: &Acl,
     other_owners: &Owners,
     request: Perms,
-) -> Result<Option<Difference>, AllocError>
-    ensures { IfOk result (λ found. MatchOption found
+) -> Option<Difference>
+    ensures { MatchOption result
         (GrantAlikeToAll (grants_at first.now owners.now) (grants_at second.now other_owners.now)
         (bits_of request))
         (IsWholeDifference (grants_at first.now owners.now) (grants_at second.now other_owners.now)
-        (bits_of request))) }
+        (bits_of request)) }
 {
-    let Some(unlike) = request_difference(alloc, first, owners, second, other_owners, request)?
-    else {
-        return Ok(None);
-    };
-    let told = told_by(request);
-    Ok(Some(if unlike.before {
+    let unlike = request_difference(first, owners, second, other_owners, request)?;
+    let told = mask_for(request);
+    Some(if unlike.before {
         Difference {
             asker: unlike.asker,
             lost: told,
@@ -66,38 +61,30 @@ fn difference_in(
             lost: Mask::empty(),
             gained: told,
         }
-    }))
+    })
 }
 
 /// To whom the lists grant the first of the requests differently that they don't grant alike to
 /// everyone.
 fn first_difference(
-    alloc: Global,
     first: &Acl,
     owners: &Owners,
     second: &Acl,
     other_owners: &Owners,
     requests: &[Perms],
-) -> Result<Option<Difference>, AllocError>
-    ensures { IfOk result (λ found. MatchOption found
+) -> Option<Difference>
+    ensures { MatchOption result
         (AllByRecursion (GrantAlikeToAll (grants_at first.now owners.now)
         (grants_at second.now other_owners.now)) (map bits_of requests.now))
         (IsFirstDifference (grants_at first.now owners.now) (grants_at second.now other_owners.now)
-        (map bits_of requests.now))) }
+        (map bits_of requests.now)) }
 {
     for request in requests {
-        if let Some(difference) = difference_in(
-            alloc,
-            first,
-            owners,
-            second,
-            other_owners,
-            *request,
-        )? {
-            return Ok(Some(difference));
+        if let Some(difference) = difference_in(first, owners, second, other_owners, *request) {
+            return Some(difference);
         }
     }
-    Ok(None)
+    None
 }
 
 /// What two POSIX lists decide differently, each for a file of its own owners, of the requests of
@@ -105,20 +92,19 @@ fn first_difference(
 /// whatever uid and groups; else someone in at most two groups, who loses or gains the first that
 /// isn't, in the order rw, rx, wx, rwx. Lists that decide each single permission alike may differ
 /// so, since one entry has to grant the whole of a request. One bit stands for each permission:
-/// READ_DATA, WRITE_DATA and EXECUTE. It fails only if memory runs out.
+/// READ_DATA, WRITE_DATA and EXECUTE. It takes no memory.
 pub fn whole_request_difference(
-    alloc: Global,
     first: &Acl,
     owners: &Owners,
     second: &Acl,
     other_owners: &Owners,
-) -> Result<Option<Difference>, AllocError>
-    ensures { IfOk result (λ found. MatchOption found
+) -> Option<Difference>
+    ensures { MatchOption result
         (AllByRecursion (GrantAlikeToAll (grants_at first.now owners.now)
         (grants_at second.now other_owners.now)) whole_requests)
         (IsFirstDifference (grants_at first.now owners.now) (grants_at second.now other_owners.now)
-        whole_requests)) }
+        whole_requests) }
 {
     let requests = whole_requests();
-    first_difference(alloc, first, owners, second, other_owners, &requests)
+    first_difference(first, owners, second, other_owners, &requests)
 }

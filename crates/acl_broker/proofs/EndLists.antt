@@ -15,7 +15,9 @@ module _ {I R : Type 0} where
   first_ends_none sides session end side below = absurd (omega arith)
 
   -- the end of the next session came back
-  pub first_ends_push : (ends : List (End I R)) (end : End I R) (sides : List (TakerSide I R)) → AreFirstEndsOf ends sides → ((side : TakerSide I R) → IsEndOf (length ends) end (get_or sides (length ends) side)) → AreFirstEndsOf (ends ++ end ∷ []) sides
+  pub first_ends_push : (ends : List (End I R)) (end : End I R) (sides : List (TakerSide I R))
+      → AreFirstEndsOf ends sides → ((side : TakerSide I R)
+      → IsEndOf (length ends) end (get_or sides (length ends) side)) → AreFirstEndsOf (ends ++ end ∷ []) sides
   first_ends_push ends end sides first next session default side below =
       elim (eqb_tells session (length ends)) [
         | inl same ↦ subst (λ at. IsEndOf at (get_or (ends ++ end ∷ []) at default) (get_or sides at side)) (sym same.1)
@@ -36,7 +38,9 @@ module _ {I R : Type 0} where
       (first_ends_push [] end' sides (first_ends_none sides) (λ side. stays 0 (get_or sides 0 side) (are.1 0 end side (omega (arith, are.0)))))
 
   -- two ends are all
-  pub two_ends_stay : (first second first' second' : End I R) (sides : List (TakerSide I R)) → AreEndsOf (first ∷ second ∷ []) sides → StaysEndOf first first' → StaysEndOf second second' → AreEndsOf (first' ∷ second' ∷ []) sides
+  pub two_ends_stay : (first second first' second' : End I R) (sides : List (TakerSide I R))
+      → AreEndsOf (first ∷ second ∷ []) sides → StaysEndOf first first' → StaysEndOf second second'
+      → AreEndsOf (first' ∷ second' ∷ []) sides
   two_ends_stay first second first' second' sides are stays stays' =
       first_ends_all (first' ∷ second' ∷ []) sides are.0
       (first_ends_push (first' ∷ []) second' sides
@@ -49,6 +53,8 @@ popped_only all rest popped x y items is same none =
     items ∙ ap (λ front. front ++ option_to_list popped) (nil_from_length rest none) ∙ ap (λ found. option_to_list found) (is ∙ ap (λ found. Some found) same)
 
 -- a list of which two were popped, the second first, and nothing is left
-pub popped_both : {A : Type 0} (all more rest : List A) (popped popped' : Option A) (first second : A) → all ≡ more ++ option_to_list popped → popped ≡ Some second → more ≡ rest ++ option_to_list popped' → popped' ≡ Some first → length rest ≡ 0 → all ≡ first ∷ second ∷ []
+pub popped_both : {A : Type 0} (all more rest : List A) (popped popped' : Option A) (first second : A)
+    → all ≡ more ++ option_to_list popped → popped ≡ Some second → more ≡ rest ++ option_to_list popped'
+    → popped' ≡ Some first → length rest ≡ 0 → all ≡ first ∷ second ∷ []
 popped_both all more rest popped popped' first second items is items' is' none =
     items ∙ ap (λ found. more ++ option_to_list found) is ∙ ap (λ front. front ++ second ∷ []) (popped_only more rest popped' first first items' is' refl none)

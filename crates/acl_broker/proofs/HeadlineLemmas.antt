@@ -1,5 +1,7 @@
 -- A run of steps merges what its sessions submitted.
-use Rattle.std.proofs.Common.{ap, sym, ◌∙◌, subst, eqb, get_or, inl, inr, ◌≡◌, ℕ, ◌<◌, Bool, true, false, List, [], ◌∷◌, ◌++◌, ◌||◌, length, drop, Option, Some, None, Result, Ok, Err, nat_lt, ◌==◌, if◌then◌else◌, refl}
+use Rattle.std.proofs.Common.{ap, sym, ◌∙◌, subst, eqb, get_or, inl, inr, ◌≡◌, ℕ, ◌<◌, Bool, true, false}
+use Rattle.std.proofs.Common.{List, [], ◌∷◌, ◌++◌, ◌||◌, length, drop, Option, Some, None, Result, Ok, Err}
+use Rattle.std.proofs.Common.{nat_lt, ◌==◌, if◌then◌else◌, refl}
 use Rattle.std.proofs.lemmas.Bool.Decides.{eqb_tells}
 use Rattle.std.specs.List.{AllByRecursion}
 use mathlib.Core.List.{IsPrefix}
@@ -66,16 +68,22 @@ not_first false rest isnt = refl
 
 module _ {State I R : Type 0} (next : State → I → State) (reply : State → I → R) where
   -- an accepted item is of another session than one that is closed or cancelled
-  submits_other : (point : Point State I R) (session other : ℕ) (item : I) (done : Unit) → is_among session point.closed || is_among session point.cancelled ≡ true → Ok done ≡ submit_result next reply point other item → eqb other session ≡ false
+  submits_other : (point : Point State I R) (session other : ℕ) (item : I) (done : Unit)
+      → is_among session point.closed || is_among session point.cancelled ≡ true
+      → Ok done ≡ submit_result next reply point other item → eqb other session ≡ false
   submits_other point session other item done shut met = elim (eqb_tells other session) [
-    | inl same ↦ absurd (shut_refuses (nat_lt session point.sessions) (is_among session point.closed) (is_among session point.cancelled) (waiting_at next reply point session) item done shut (subst (λ at. Ok done ≡ submit_result next reply point at item) same.1 met))
+    | inl same ↦ absurd (shut_refuses (nat_lt session point.sessions) (is_among session point.closed)
+        (is_among session point.cancelled) (waiting_at next reply point session) item done shut
+        (subst (λ at. Ok done ≡ submit_result next reply point at item) same.1 met))
     | inr differs ↦ differs.0
   ]
 
   -- a place in the journal is that of another session than one that is cancelled
   takes_other : (point : Point State I R) (session other place : ℕ) → is_among session point.cancelled ≡ true → TakeMeets next reply point other (Ok place) → eqb other session ≡ false
   takes_other point session other place shut (inl met) = elim (eqb_tells other session) [
-    | inl same ↦ absurd (cancel_refuses (nat_lt session point.sessions) (is_among session point.cancelled) (drop (length (items_from session point.journal)) (point.accepted session)) place (length point.journal) shut (subst (λ at. Ok place ≡ take_result next reply point at) same.1 met))
+    | inl same ↦ absurd (cancel_refuses (nat_lt session point.sessions) (is_among session point.cancelled)
+        (drop (length (items_from session point.journal)) (point.accepted session)) place
+        (length point.journal) shut (subst (λ at. Ok place ≡ take_result next reply point at) same.1 met))
     | inr differs ↦ differs.0
   ]
   takes_other point session other place shut (inr met) = absurd (no_place place take_refused.Memory met.1)
@@ -84,10 +92,13 @@ module _ {State I R : Type 0} (next : State → I → State) (reply : State → 
   record Leaves (point : Point State I R) (step : Step I) (result : StepResult I R) : Type 0 where
     pub closed : (session : ℕ) → is_among session point.closed ≡ true → is_among session (after_step next reply point step result).closed ≡ true
     pub cancelled : (session : ℕ) → is_among session point.cancelled ≡ true → is_among session (after_step next reply point step result).cancelled ≡ true
-    pub accepts : (session : ℕ) (later : History I R) → is_among session point.closed || is_among session point.cancelled ≡ true → accepted_in ((step, result) ∷ later) session ≡ accepted_in later session
+    pub accepts : (session : ℕ) (later : History I R) → is_among session point.closed
+        || is_among session point.cancelled ≡ true → accepted_in
+        ((step, result) ∷ later) session ≡ accepted_in later session
     pub takes : (session : ℕ) (later : History I R) → is_among session point.cancelled ≡ true → is_among session (taken_in ((step, result) ∷ later)) ≡ is_among session (taken_in later)
 
-  leaves_submit : (point : Point State I R) (other : ℕ) (item : I) (result : Result Unit (Refused I)) → result ≡ submit_result next reply point other item → Leaves point (Submit other item) (Submitted result)
+  leaves_submit : (point : Point State I R) (other : ℕ) (item : I) (result : Result Unit (Refused I))
+      → result ≡ submit_result next reply point other item → Leaves point (Submit other item) (Submitted result)
   leaves_submit point other item (Ok done) met = record {
     closed = λ session is. is;
     cancelled = λ session is. is;
@@ -110,11 +121,24 @@ module _ {State I R : Type 0} (next : State → I → State) (reply : State → 
   leaves_answer point other None = record { closed = λ session is. is; cancelled = λ session is. is; accepts = λ session later shut. refl; takes = λ session later shut. refl }
 
   leaves_close : (point : Point State I R) (other : ℕ) (result : Result Unit CloseRefused) → Leaves point (Close other) (ClosedNow result)
-  leaves_close point other (Ok done) = record { closed = λ session. among_more point.closed (other ∷ []) session; cancelled = λ session is. is; accepts = λ session later shut. refl; takes = λ session later shut. refl }
+  leaves_close point other (Ok done) = record {
+    closed = λ session. among_more point.closed
+        (other ∷ []) session;
+    cancelled = λ session is. is;
+    accepts = λ session later shut. refl;
+    takes =
+        λ session later shut. refl;
+  }
   leaves_close point other (Err why) = record { closed = λ session is. is; cancelled = λ session is. is; accepts = λ session later shut. refl; takes = λ session later shut. refl }
 
   leaves_cancel : (point : Point State I R) (other : ℕ) (result : Result Unit CancelRefused) → Leaves point (Cancel other) (CancelledNow result)
-  leaves_cancel point other (Ok done) = record { closed = λ session is. is; cancelled = λ session. among_more point.cancelled (other ∷ []) session; accepts = λ session later shut. refl; takes = λ session later shut. refl }
+  leaves_cancel point other (Ok done) = record {
+    closed = λ session is. is;
+    cancelled = λ session. among_more
+        point.cancelled (other ∷ []) session;
+    accepts = λ session later shut. refl;
+    takes = λ session later shut. refl;
+  }
   leaves_cancel point other (Err why) = record { closed = λ session is. is; cancelled = λ session is. is; accepts = λ session later shut. refl; takes = λ session later shut. refl }
 
   leaves : (point : Point State I R) (step : Step I) (result : StepResult I R) → Meets next reply point step result → Leaves point step result
@@ -130,22 +154,30 @@ module _ {State I R : Type 0} (next : State → I → State) (reply : State → 
   accepted_of_closed point [] session met shut = refl
   accepted_of_closed point (done ∷ later) session met shut =
       let step = leaves point done.0 done.1 met.0 in
-      step.accepts session later (left_true (is_among session point.closed) (is_among session point.cancelled) shut) ∙ accepted_of_closed (after_step next reply point done.0 done.1) later session met.1 (step.closed session shut)
+      step.accepts session later (left_true (is_among session point.closed)
+      (is_among session point.cancelled) shut) ∙ accepted_of_closed
+      (after_step next reply point done.0 done.1) later session met.1 (step.closed session shut)
 
   accepted_of_cancelled : (point : Point State I R) (later : History I R) (session : ℕ) → AllMeet next reply point later → is_among session point.cancelled ≡ true → accepted_in later session ≡ []
   accepted_of_cancelled point [] session met shut = refl
   accepted_of_cancelled point (done ∷ later) session met shut =
       let step = leaves point done.0 done.1 met.0 in
-      step.accepts session later (right_true (is_among session point.closed) (is_among session point.cancelled) shut) ∙ accepted_of_cancelled (after_step next reply point done.0 done.1) later session met.1 (step.cancelled session shut)
+      step.accepts session later (right_true (is_among session point.closed)
+      (is_among session point.cancelled) shut) ∙ accepted_of_cancelled
+      (after_step next reply point done.0 done.1) later session met.1 (step.cancelled session shut)
 
-  taken_of_cancelled : (point : Point State I R) (later : History I R) (session : ℕ) → AllMeet next reply point later → is_among session point.cancelled ≡ true → is_among session (taken_in later) ≡ false
+  taken_of_cancelled : (point : Point State I R) (later : History I R) (session : ℕ)
+      → AllMeet next reply point later → is_among session point.cancelled ≡ true
+      → is_among session (taken_in later) ≡ false
   taken_of_cancelled point [] session met shut = refl
   taken_of_cancelled point (done ∷ later) session met shut =
       let step = leaves point done.0 done.1 met.0 in
       step.takes session later shut ∙ taken_of_cancelled (after_step next reply point done.0 done.1) later session met.1 (step.cancelled session shut)
 
   -- the steps behind a cut go on from the point at the cut
-  all_meet_cut : (point : Point State I R) (before later : History I R) → AllMeet next reply point (before ++ later) → AllMeet next reply point before × AllMeet next reply (after next reply point before) later
+  all_meet_cut : (point : Point State I R) (before later : History I R)
+      → AllMeet next reply point (before ++ later) → AllMeet next reply point before
+      × AllMeet next reply (after next reply point before) later
   all_meet_cut point [] later met = (tt, met)
   all_meet_cut point (done ∷ before) later met =
       let rest = all_meet_cut (after_step next reply point done.0 done.1) before later met.1 in
@@ -156,17 +188,23 @@ module _ {State I R : Type 0} (next : State → I → State) (reply : State → 
     none_after_close : NoneAcceptedAfter closed_in point.closed history
     none_after_close session before later cut ended =
         let parts = all_meet_cut point before later (subst (λ steps. AllMeet next reply point steps) cut met) in
-        accepted_of_closed (after next reply point before) later session parts.1 (ap (λ (there : Point State I R). is_among session there.closed) (adds next reply point before parts.0).point_is ∙ ended)
+        accepted_of_closed (after next reply point before) later session parts.1
+        (ap (λ (there : Point State I R). is_among session there.closed)
+        (adds next reply point before parts.0).point_is ∙ ended)
 
     none_after_cancel : NoneAcceptedAfter cancelled_in point.cancelled history
     none_after_cancel session before later cut ended =
         let parts = all_meet_cut point before later (subst (λ steps. AllMeet next reply point steps) cut met) in
-        accepted_of_cancelled (after next reply point before) later session parts.1 (ap (λ (there : Point State I R). is_among session there.cancelled) (adds next reply point before parts.0).point_is ∙ ended)
+        accepted_of_cancelled (after next reply point before) later session parts.1
+        (ap (λ (there : Point State I R). is_among session there.cancelled)
+        (adds next reply point before parts.0).point_is ∙ ended)
 
     none_taken_after_cancel : NoneTakenAfter cancelled_in point.cancelled history
     none_taken_after_cancel session before later cut ended =
         let parts = all_meet_cut point before later (subst (λ steps. AllMeet next reply point steps) cut met) in
-        taken_of_cancelled (after next reply point before) later session parts.1 (ap (λ (there : Point State I R). is_among session there.cancelled) (adds next reply point before parts.0).point_is ∙ ended)
+        taken_of_cancelled (after next reply point before) later session parts.1
+        (ap (λ (there : Point State I R). is_among session there.cancelled)
+        (adds next reply point before parts.0).point_is ∙ ended)
 
   -- the headline, of steps that meet the table
   pub merges : (old new : BrokerState State I R) (history : History I R) → GoesOnAll next reply old history new → Merges next reply old history new
@@ -177,12 +215,18 @@ module _ {State I R : Type 0} (next : State → I → State) (reply : State → 
       record {
         merge = (
           subst (λ journal. AllByRecursion (λ entry. entry.session < point.sessions) journal) (sym stood.journal) stood.known,
-          λ session below. subst (λ journal. IsPrefix (items_from session journal) (point.accepted session ++ accepted_in history session)) (sym stood.journal) (stood.each session fresh_lane below).merged,
+          λ session below. subst (λ journal. IsPrefix (items_from session journal)
+              (point.accepted session ++ accepted_in history session)) (sym stood.journal)
+              (stood.each session fresh_lane below).merged,
         );
         takes = (added.entries, stood.journal, added.taken);
         none_after_close = none_after_close point history ran.0;
         none_after_cancel = none_after_cancel point history ran.0;
         none_taken_after_cancel = none_taken_after_cancel point history ran.0;
-        answers = λ session below. ((get_or new.lanes session fresh_lane).owed, (stood.each session fresh_lane below).answered ∙ ap (λ journal. answers_to next reply session point.opening journal) (sym stood.journal));
+        answers = λ session below. (
+          (get_or new.lanes session fresh_lane).owed,
+          (stood.each session fresh_lane below).answered
+              ∙ ap (λ journal. answers_to next reply session point.opening journal) (sym stood.journal),
+        );
         state = stood.state ∙ ap (λ journal. state_after next point.opening journal) (sym stood.journal);
       }

@@ -30,26 +30,47 @@ module _ {State I R K : Type 0} {service : Ghosts State I R K} (broker : Broker 
   lies_beside side below read = lies_at ends sides session side broker.lanes (omega (arith, below, broker.taker.sides.ok.0)) read
 
   -- the taker's side of a lane changed alone
-  pub lanes_beside : (side side' : TakerSide I R) → session < vec_len broker.taker.sides → side ≡ get_or sides session side → SameTaker side side' → (side.closed ≡ true → side'.closed ≡ true) → AreLanes ends (set sides session side')
+  pub lanes_beside : (side side' : TakerSide I R) → session < vec_len broker.taker.sides
+      → side ≡ get_or sides session side → SameTaker side side' → (side.closed ≡ true → side'.closed ≡ true)
+      → AreLanes ends (set sides session side')
   lanes_beside side side' below read = lanes_after_side (lies_beside side below read).1 side'
 
   -- a session above all lanes is unknown, wherever the broker stands
   pub unknown_lane : vec_len broker.taker.sides ≤ session → (point : Point State I R) → StandsAt service.next service.reply point (view broker) → nat_lt session point.sessions ≡ false
-  unknown_lane above point stands = unknown_session service.next service.reply point (view broker) session stands (omega (arith, above, length-lanes ends sides broker.lanes.0, broker.taker.sides.ok.0))
+  unknown_lane above point stands = unknown_session service.next service.reply point
+      (view broker) session stands (omega (
+        arith,
+        above,
+        length-lanes ends sides broker.lanes.0,
+        broker.taker.sides.ok.0,
+      ))
 
   lane_in : {end : End I R} {side : TakerSide I R} → Lies ends sides session end side → Lane service.next service.reply (view broker) session (lane_of end side)
   lane_in lies = record { below = lane_below lies; read = lane_read lies }
 
   -- both sides of the lane changed
-  pub goes_on_with : (service' : State) (journal' : List (JournalEntry I)) {end : End I R} (end' : End I R) {side : TakerSide I R} (side' : TakerSide I R) → Lies ends sides session end side → (step : Step I) (result : StepResult I R)
-      → (Lane service.next service.reply (view broker) session (lane_of end side) → GoesOn service.next service.reply (view broker) step result (record { service = service'; journal = journal'; lanes = set (lanes_of ends sides) session (lane_of end' side') }))
+  pub goes_on_with : (service' : State) (journal' : List (JournalEntry I)) {end : End I R} (end' : End I R)
+      {side : TakerSide I R} (side' : TakerSide I R) → Lies ends sides session end side
+      → (step : Step I) (result : StepResult I R)
+      → (Lane service.next service.reply (view broker) session (lane_of end side)
+      → GoesOn service.next service.reply (view broker) step result
+      (record {
+        service = service';
+        journal = journal';
+        lanes = set (lanes_of ends sides) session
+            (lane_of end' side');
+      }))
       → GoesOn service.next service.reply (view broker) step result (record { service = service'; journal = journal'; lanes = lanes_of (set ends session end') (set sides session side') })
   goes_on_with service' journal' end' side' lies step result goes =
-      subst (λ lanes. GoesOn service.next service.reply (view broker) step result (record { service = service'; journal = journal'; lanes = lanes })) (sym (lanes-set ends sides session end' side')) (goes (lane_in lies))
+      subst (λ lanes. GoesOn service.next service.reply (view broker) step result
+      (record { service = service'; journal = journal'; lanes = lanes }))
+      (sym (lanes-set ends sides session end' side')) (goes (lane_in lies))
 
   -- the taker's side of the lane changed alone
   pub goes_on_beside : (side side' : TakerSide I R) → session < vec_len broker.taker.sides → side ≡ get_or sides session side → (step : Step I) (result : StepResult I R)
-      → ((end : End I R) → Lane service.next service.reply (view broker) session (lane_of end side) → GoesOn service.next service.reply (view broker) step result (record (view broker) { lanes = set (lanes_of ends sides) session (lane_of end side') }))
+      → ((end : End I R) → Lane service.next service.reply (view broker) session (lane_of end side)
+      → GoesOn service.next service.reply (view broker) step result
+      (record (view broker) { lanes = set (lanes_of ends sides) session (lane_of end side') }))
       → GoesOn service.next service.reply (view broker) step result (record (view broker) { lanes = lanes_of ends (set sides session side') })
   goes_on_beside side side' below read step result goes =
       let lies = lies_beside side below read in

@@ -60,6 +60,8 @@ module _ {State I R : Type 0} (opening : State) (taker : TakerState State I R) (
           get_or-map sent_by ends session end [] within,
           get_or-map polled_by ends session end [] within,
           among_those (λ session. get_or (map is_closed ends) session false) (length taker.sides) session below ∙ get_or-map is_closed ends session end false within,
-          among_those (λ session. get_or (map (λ (side : TakerSide I R). side.cancelled) taker.sides) session false) (length taker.sides) session below ∙ get_or-map (λ (side : TakerSide I R). side.cancelled) taker.sides session side false below,
+          among_those (λ session. get_or (map (λ (side : TakerSide I R). side.cancelled) taker.sides) session
+              false) (length taker.sides) session below
+              ∙ get_or-map (λ (side : TakerSide I R). side.cancelled) taker.sides session side false below,
         );
   }

@@ -1,11 +1,12 @@
 -- The line of a printable request is read as that request, and a session of such lines as those requests.
-use Rattle.std.proofs.Common.{◌≡◌, ◌≢◌, ◌∙◌, ℕ, ◌==◌, ◌+◌, ◌-◌, ◌<◌, ◌≤◌, true, false, List, [], ◌∷◌, ◌++◌, length, length-append, map, subst, Option, None, Some, Ok, ap, refl, arith, codes, decimal, nat_le, le-ltb, append_assoc}
+use Rattle.std.proofs.Common.{◌≡◌, ◌≢◌, ◌∙◌, ℕ, ◌==◌, ◌+◌, ◌-◌, ◌<◌, ◌≤◌, true, false, List, [], ◌∷◌, ◌++◌}
+use Rattle.std.proofs.Common.{length, length-append, map, subst, Option, None, Some, Ok, ap, refl, arith}
+use Rattle.std.proofs.Common.{codes, decimal, nat_le, le-ltb, append_assoc}
 use Rattle.std.specs.Prelude.{nat_lt}
 use Rattle.std.specs.List.{All, join_with_byte}
 use Rattle.std.proofs.lemmas.Bool.Decides.{nat_tests}
 use Rattle.std.proofs.lemmas.List.Elements.{All-head, All-tail}
 use Rattle.std.proofs.lemmas.List.Splits.{slice_split_at}
-use Rattle.std.proofs.lemmas.List.Sorted.{IsPermutation-refl}
 use Rattle.acl_names.specs.Bytes.{digit_0, newline, space}
 use Rattle.acl_names.specs.Directory.{Known, uid_of}
 use Rattle.acl_names.specs.Letters.{letters_text, HasBitsOf}
@@ -25,16 +26,18 @@ use Rattle.acl_nfs4.specs.declared.limits.TheConstants.{MAX_ACES}
 use Rattle.acl_nfs4.specs.declared.mask.Mask.{Mask}
 use Rattle.acl_nfs4.proofs.LetterLemmas.{mask_table_is}
 use Rattle.acl_nfs4.proofs.RoundTrip as aces_again
+use Rattle.acl_posix.specs.AclText.{SpellsAcl}
 use Rattle.acl_posix.specs.Canonical.{IsAcl}
 use Rattle.acl_posix.specs.Entry.{EntryValue}
 use Rattle.acl_posix.specs.EntryText.{entry_of}
 use Rattle.acl_posix.specs.Mode.{Classes, AreClasses}
+use Rattle.acl_posix.specs.ModeText.{is_octal}
 use Rattle.acl_posix.specs.Perms.{bits_of, IsPermissions}
 use Rattle.acl_posix.specs.PermsText.{perms_text}
 use Rattle.acl_posix.specs.PrintedText.{short_text}
 use Rattle.acl_posix.specs.declared.limits.TheConstants.{MAX_ENTRIES}
 use Rattle.acl_posix.specs.declared.perms.Perms.{Perms}
-use Rattle.acl_posix.proofs.InOrderLemmas.{in_order-acl}
+use Rattle.acl_posix.proofs.AclTextLemmas.{spells_itself}
 use Rattle.acl_posix.proofs.RoundTrip.{perms_again}
 use Rattle.acl_posix.proofs.ShortRoundTrip.{short_spells}
 use Rattle.acl_tree.specs.declared.faults.LineFault.TheVariants.{UnknownName}
@@ -42,11 +45,11 @@ use Rattle.acl_tree.specs.declared.request.Request.{Request}
 use Rattle.acl_tree.specs.declared.request.Request.TheVariants.{Get, SetAccess, SetDefault, SetNfs4, Chmod, Create, Check, Check4, Translate, Bad}
 use Rattle.acl_lang.specs.CommandText.{aces_field, command_text, default_field, numbered_from, session_text, words_of, HasShortLine, IsDefault, IsPrintable, ReadsAgain}
 use Rattle.acl_lang.specs.Commands.{asked_by}
-use Rattle.acl_lang.specs.Fields.{mask_of, mode_of, octal, perms_of, user_of}
+use Rattle.acl_lang.specs.Fields.{mask_of, mode_of, perms_of, user_of}
 use Rattle.acl_lang.specs.Lines.{line_of, line_of_trimmed, request_of}
 use Rattle.acl_lang.specs.Printed.{kind_text, mode_text}
 use Rattle.acl_lang.specs.ReadAgain.{NameIds, NameIdsOfAces}
-use Rattle.acl_lang.specs.Shapes.{Asks, Says, Sets, SpellsAcl, SpellsDefault}
+use Rattle.acl_lang.specs.Shapes.{AsksFor, Says, Sets, SpellsDefault}
 use Rattle.acl_lang.specs.Texts.{requests_from, requests_of}
 use Rattle.acl_lang.specs.Words.{words}
 use Rattle.acl_lang.specs.declared.limits.TheConstants.{MAX_LINE_LEN}
@@ -60,15 +63,19 @@ use Rattle.acl_lang.proofs.ShapeLemmas.{asks-asked_by}
 user_again : (known : Known) (user : ℕ) → user ≤ MAX_ID → user_of known (decimal user) ≡ Ok user
 user_again known user small = ap (or_fault UnknownName) (decimal_again (uid_of known) user small)
 
-octal_again : (digit : ℕ) → digit < 8 → octal (digit_0 + digit) ≡ Some digit
-octal_again digit small =
+is_octal-digit : (digit : ℕ) → digit < 8 → is_octal (digit_0 + digit) ≡ true
+is_octal-digit digit small =
     let low : nat_le digit_0 (digit_0 + digit) ≡ true = grind (arith, nat_tests) in
     let high : nat_le (digit_0 + digit) 55 ≡ true = grind (arith, nat_tests) in
-    let same : digit_0 + digit - digit_0 ≡ digit = omega arith in
-    rw (low, high) (ap Some same)
+    rw (low, high) refl
+
+digit_again : (digit : ℕ) → digit_0 + digit - digit_0 ≡ digit
+digit_again digit = omega arith
 
 mode_again : (mode : Classes) → AreClasses mode → mode_of (mode_text mode) ≡ Ok mode
-mode_again mode are = rw (octal_again mode.user are.user_is, octal_again mode.group are.group_is, octal_again mode.other are.other_is) refl
+mode_again mode are =
+    rw (is_octal-digit mode.user are.user_is, is_octal-digit mode.group are.group_is, is_octal-digit mode.other are.other_is)
+    (rw (digit_again mode.user, digit_again mode.group, digit_again mode.other) refl)
 
 perms_field-again : (perms : Perms) → IsPermissions (bits_of perms) → perms_of (perms_text (bits_of perms)) ≡ Ok perms
 perms_field-again perms has = rw (perms_again (bits_of perms) has) refl
@@ -77,12 +84,7 @@ mask_field-again : (mask : Mask) → HasBitsOf mask_table (mask_bits mask) → m
 mask_field-again mask has = rw (letters_again mask_table (mask_bits mask) mask_table_is has) refl
 
 acl_again : (known : Known) (acl : List EntryValue) → IsAcl acl → NameIds acl → SpellsAcl known (short_text acl) acl
-acl_again known acl is ids = record {
-  entries = acl;
-  spelt = short_spells known acl ids is.permissions is.within;
-  valid = is.valid;
-  in_order_is = in_order-acl acl acl is (IsPermutation-refl acl);
-}
+acl_again known acl is ids = spells_itself known (short_text acl) acl is (short_spells known acl ids is.permissions is.within)
 
 aces_field-again : (known : Known) (aces : List Nfsace4) → AreAces aces → NameIdsOfAces aces → Spells (piece_value known) MAX_ACES (aces_field aces) aces
 aces_field-again known [] are ids = record { said = refl; within = are.within }
@@ -140,7 +142,7 @@ module _ (path kind text : List ℕ) (are : All IsWord (codes "set" ∷ path ∷
     filled = some_text;
   }
 
-asks : (known : Known) (request : Request) → IsPrintable request → Asks known (command_text request) request
+asks : (known : Known) (request : Request) → IsPrintable request → AsksFor known (command_text request) request
 unfolding line
 asks known (Get path) is = (said (codes "get") path [] (are_words known (Get path) is), is)
 asks known (Translate path) is = (said (codes "translate") path [] (are_words known (Translate path) is), is)

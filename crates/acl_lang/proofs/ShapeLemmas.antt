@@ -1,36 +1,33 @@
 -- What a line asks for is what its words say, both ways.
-use Rattle.std.proofs.Common.{◌≡◌, ◌≢◌, ◌∙◌, ℕ, List, [], ◌∷◌, Option, Some, None, Ok, Err, Bool, true, false, ◌⊎◌, ap, ap₂, codes, inl, inr, refl, subst, Result, is_none, if◌then◌else◌, bytes_eq}
+use Rattle.std.proofs.Common.{◌≡◌, ◌≢◌, ◌∙◌, ℕ, List, [], ◌∷◌, Option, Some, None, Ok, Err, Bool, true, false, ◌⊎◌, ap, ap₂, codes, inl, inr, refl, subst, Result, if◌then◌else◌, bytes_eq}
 use Rattle.std.proofs.lemmas.Slice.Eq.{bytes_eq-Decides}
 use Rattle.acl_names.proofs.ReadListLemmas.{spelt-read}
-use Rattle.acl_names.proofs.StepLemmas.{bind_ok, if_then, is_none-true}
+use Rattle.acl_names.proofs.StepLemmas.{bind_ok, if_then, map_fault-ok}
 use Rattle.acl_names.specs.Directory.{Known}
 use Rattle.acl_names.specs.ListText.{Spells}
-use Rattle.acl_names.specs.Pieces.{after_word, first_word}
-use Rattle.acl_names.specs.Steps.{◌>>=◌}
+use Rattle.acl_names.specs.Pieces.{after_word, first_word, pieces}
+use Rattle.acl_names.specs.Steps.{◌>>=◌, map_fault}
 use Rattle.acl_nfs4.specs.Ace.{Nfsace4}
 use Rattle.acl_nfs4.specs.AceText.{piece_value}
 use Rattle.acl_nfs4.specs.declared.inheritance.Kind.{Kind}
 use Rattle.acl_nfs4.specs.declared.inheritance.Kind.TheVariants.{File, Dir}
 use Rattle.acl_nfs4.specs.declared.limits.TheConstants.{MAX_ACES}
 use Rattle.acl_nfs4.specs.declared.reading.PieceFault as aces
-use Rattle.acl_posix.proofs.ValidityLemmas.{valid_iff}
+use Rattle.acl_posix.proofs.AclTextLemmas as posix
+use Rattle.acl_posix.specs.AclText.{SpellsAcl}
+use Rattle.acl_posix.specs.AclText.{acl_of as posix_acl_of}
 use Rattle.acl_posix.specs.Entry.{EntryValue}
-use Rattle.acl_posix.specs.EntryText.{entry_of}
-use Rattle.acl_posix.specs.Validity.{fault_of}
-use Rattle.acl_posix.specs.declared.limits.TheConstants.{MAX_ENTRIES}
-use Rattle.acl_posix.specs.declared.reading.PieceFault as entries
 use Rattle.acl_tree.specs.Path.{is_path}
-use Rattle.acl_tree.specs.declared.faults.LineFault.TheVariants.{BadPath, InvalidAcl, Syntax, TooMany}
+use Rattle.acl_tree.specs.declared.faults.LineFault.TheVariants.{BadPath, Syntax, TooMany}
 use Rattle.acl_tree.specs.declared.request.Request.{Request}
 use Rattle.acl_tree.specs.declared.request.Request.TheVariants.{Get, SetAccess, SetDefault, SetNfs4, Chmod, Create, Check, Check4, Translate, Bad}
 use Rattle.acl_lang.specs.Commands.{asked_by, check, check4, chmod, command, create, get, set, set_access, set_default, set_list, set_nfs4, translate}
-use Rattle.acl_lang.specs.Fields.{accepted, acl_of, aces_of, as_ace, as_entry, default_of, entries_of, kind_of, mask_of, mode_of, path_of, perms_of, user_of}
-use Rattle.acl_posix.specs.InOrder.{in_order}
+use Rattle.acl_lang.specs.Fields.{acl_of, aces_of, as_ace, default_of, kind_of, mask_of, mode_of, path_of, perms_of, user_of}
 use Rattle.acl_lang.specs.Printed.{kind_text}
-use Rattle.acl_lang.specs.Refusals.{Asked}
-use Rattle.acl_lang.specs.Shapes.{Asks, IsPath, Says, Sets, SpellsAcl, SpellsDefault}
+use Rattle.acl_lang.specs.Refusals.{Asked, acl_line_fault}
+use Rattle.acl_lang.specs.Shapes.{AsksFor, IsPath, Says, Sets, SpellsDefault}
 use Rattle.acl_lang.specs.Words.{words}
-use Rattle.acl_lang.proofs.ListLemmas.{aces_of-spelt, entries_of-spelt}
+use Rattle.acl_lang.proofs.ListLemmas.{aces_of-spelt}
 
 -- Tests that gave a value.
 
@@ -52,37 +49,20 @@ other_is false text word same other = refl
 
 -- Lists that are read.
 
-as_entry-ok : (r : Result EntryValue entries.PieceFault) (entry : EntryValue) → as_entry r ≡ Ok entry → r ≡ Ok entry
-as_entry-ok (Ok x) entry is = cc
-as_entry-ok (Err fault) entry is = cc
-
 as_ace-ok : (r : Result Nfsace4 aces.PieceFault) (ace : Nfsace4) → as_ace r ≡ Ok ace → r ≡ Ok ace
 as_ace-ok (Ok x) ace is = cc
 as_ace-ok (Err fault) ace is = cc
 
 module _ (known : Known) where
-  entries_of-ok : (text : List ℕ) (list : List EntryValue) → entries_of known text ≡ Ok list → Spells (entry_of known) MAX_ENTRIES text list
-  entries_of-ok text =
-      spelt-read (entry_of known) (λ piece. as_entry (entry_of known piece)) TooMany MAX_ENTRIES text (λ piece entry. as_entry-ok (entry_of known piece) entry)
-
   aces_of-ok : (text : List ℕ) (list : List Nfsace4) → aces_of known text ≡ Ok list → Spells (piece_value known) MAX_ACES text list
   aces_of-ok text =
       spelt-read (piece_value known) (λ piece. as_ace (piece_value known piece)) TooMany MAX_ACES text (λ piece ace. as_ace-ok (piece_value known piece) ace)
 
   acl_of-ok : (text : List ℕ) (acl : List EntryValue) → acl_of known text ≡ Ok acl → SpellsAcl known text acl
-  acl_of-ok text acl is =
-      let read = bind_ok (entries_of known text) accepted acl is in
-      let test = if_then (is_none (fault_of read.0)) InvalidAcl (in_order read.0) acl read.2 in
-      record {
-        entries = read.0;
-        spelt = entries_of-ok text read.0 read.1;
-        valid = (valid_iff read.0).1 (is_none-true (fault_of read.0) test.0);
-        in_order_is = test.1;
-      }
+  acl_of-ok text acl is = posix.acl_of-ok known text acl (map_fault-ok acl_line_fault (posix_acl_of known (pieces text)) acl is)
 
   acl_of-spelt : (text : List ℕ) (acl : List EntryValue) → SpellsAcl known text acl → acl_of known text ≡ Ok acl
-  acl_of-spelt text acl spells =
-      rw (entries_of-spelt known text spells.entries spells.spelt, (valid_iff spells.entries).0 spells.valid) (ap Ok spells.in_order_is)
+  acl_of-spelt text acl spells = ap (map_fault acl_line_fault) (posix.acl_of-spelt known text acl spells)
 
   default_of-ok : (text : List ℕ) (default : Option (List EntryValue)) → default_of known text ≡ Ok default → SpellsDefault known text default
   default_of-ok text default is =
@@ -130,25 +110,25 @@ path_read text rest request read =
     (at.0, there.0, there.1, at.2)
 
 module _ (known : Known) (line : List ℕ) where
-  get-asks : first_word line ≡ codes "get" → (fields : List (List ℕ)) → words (after_word line) ≡ fields → (request : Request) → get fields ≡ Ok request → Asks known line request
+  get-asks : first_word line ≡ codes "get" → (fields : List (List ℕ)) → words (after_word line) ≡ fields → (request : Request) → get fields ≡ Ok request → AsksFor known line request
   unfolding get
   get-asks word [] are request read = cc
   get-asks word (path ∷ []) are request read =
       let at = path_read path _ request read in
       let same : Get at.0 ≡ request = cc in
-      subst (Asks known line) same (record { command_is = word; fields_are = are ∙ ap (λ p. p ∷ []) at.1 }, at.2)
+      subst (AsksFor known line) same (record { command_is = word; fields_are = are ∙ ap (λ p. p ∷ []) at.1 }, at.2)
   get-asks word (path ∷ (more ∷ rest)) are request read = cc
 
-  translate-asks : first_word line ≡ codes "translate" → (fields : List (List ℕ)) → words (after_word line) ≡ fields → (request : Request) → translate fields ≡ Ok request → Asks known line request
+  translate-asks : first_word line ≡ codes "translate" → (fields : List (List ℕ)) → words (after_word line) ≡ fields → (request : Request) → translate fields ≡ Ok request → AsksFor known line request
   unfolding translate
   translate-asks word [] are request read = cc
   translate-asks word (path ∷ []) are request read =
       let at = path_read path _ request read in
       let same : Translate at.0 ≡ request = cc in
-      subst (Asks known line) same (record { command_is = word; fields_are = are ∙ ap (λ p. p ∷ []) at.1 }, at.2)
+      subst (AsksFor known line) same (record { command_is = word; fields_are = are ∙ ap (λ p. p ∷ []) at.1 }, at.2)
   translate-asks word (path ∷ (more ∷ rest)) are request read = cc
 
-  chmod-asks : first_word line ≡ codes "chmod" → (fields : List (List ℕ)) → words (after_word line) ≡ fields → (request : Request) → chmod fields ≡ Ok request → Asks known line request
+  chmod-asks : first_word line ≡ codes "chmod" → (fields : List (List ℕ)) → words (after_word line) ≡ fields → (request : Request) → chmod fields ≡ Ok request → AsksFor known line request
   unfolding chmod
   chmod-asks word [] are request read = cc
   chmod-asks word (path ∷ []) are request read = cc
@@ -156,10 +136,10 @@ module _ (known : Known) (line : List ℕ) where
       let at = path_read path _ request read in
       let mode = bind_ok (mode_of digits) _ request at.3 in
       let same : Chmod at.0 mode.0 ≡ request = cc in
-      subst (Asks known line) same (digits, record { command_is = word; fields_are = are ∙ ap (λ p. p ∷ digits ∷ []) at.1 }, at.2, mode.1)
+      subst (AsksFor known line) same (digits, record { command_is = word; fields_are = are ∙ ap (λ p. p ∷ digits ∷ []) at.1 }, at.2, mode.1)
   chmod-asks word (path ∷ (digits ∷ (more ∷ rest))) are request read = cc
 
-  create-asks : first_word line ≡ codes "create" → (fields : List (List ℕ)) → words (after_word line) ≡ fields → (request : Request) → create known fields ≡ Ok request → Asks known line request
+  create-asks : first_word line ≡ codes "create" → (fields : List (List ℕ)) → words (after_word line) ≡ fields → (request : Request) → create known fields ≡ Ok request → AsksFor known line request
   unfolding create
   create-asks word [] are request read = cc
   create-asks word (kind ∷ []) are request read = cc
@@ -171,7 +151,7 @@ module _ (known : Known) (line : List ℕ) where
       let user = bind_ok (user_of known name) _ request at.3 in
       let mode = bind_ok (mode_of digits) _ request user.2 in
       let same : Create made.0 at.0 user.0 mode.0 ≡ request = cc in
-      subst (Asks known line) same (
+      subst (AsksFor known line) same (
         name,
         digits,
         record { command_is = word; fields_are = are ∙ ap₂ (λ k p. k ∷ p ∷ name ∷ digits ∷ []) (kind_of-ok kind made.0 made.1) at.1 },
@@ -184,18 +164,18 @@ module _ (known : Known) (line : List ℕ) where
   -- `check` and `check4`, whose last fields are read each in its way
   of_user-asks : {A : Type 0} (command : List ℕ) (read_last : List ℕ → Asked A) (ask : List ℕ → ℕ → A → Request)
       → ((path : List ℕ) (user : ℕ) (asked : A) → (name : List ℕ) × (letters : List ℕ) × Says line command (path ∷ name ∷ letters ∷ []) × IsPath path
-      × (user_of known name ≡ Ok user) × (read_last letters ≡ Ok asked) → Asks known line (ask path user asked))
+      × (user_of known name ≡ Ok user) × (read_last letters ≡ Ok asked) → AsksFor known line (ask path user asked))
       → first_word line ≡ command → (path name letters : List ℕ) → words (after_word line) ≡ path ∷ name ∷ letters ∷ [] → (request : Request)
-      → (path_of path >>= (λ path. user_of known name >>= (λ user. read_last letters >>= (λ asked. Ok (ask path user asked))))) ≡ Ok request → Asks known line request
+      → (path_of path >>= (λ path. user_of known name >>= (λ user. read_last letters >>= (λ asked. Ok (ask path user asked))))) ≡ Ok request → AsksFor known line request
   of_user-asks command read_last ask says word path name letters are request read =
       let at = path_read path _ request read in
       let user = bind_ok (user_of known name) _ request at.3 in
       let last = bind_ok (read_last letters) _ request user.2 in
       let same : ask at.0 user.0 last.0 ≡ request = cc in
       let fields = are ∙ ap (λ p. p ∷ name ∷ letters ∷ []) at.1 in
-      subst (Asks known line) same (says at.0 user.0 last.0 (name, letters, record { command_is = word; fields_are = fields }, at.2, user.1, last.1))
+      subst (AsksFor known line) same (says at.0 user.0 last.0 (name, letters, record { command_is = word; fields_are = fields }, at.2, user.1, last.1))
 
-  check-asks : first_word line ≡ codes "check" → (fields : List (List ℕ)) → words (after_word line) ≡ fields → (request : Request) → check known fields ≡ Ok request → Asks known line request
+  check-asks : first_word line ≡ codes "check" → (fields : List (List ℕ)) → words (after_word line) ≡ fields → (request : Request) → check known fields ≡ Ok request → AsksFor known line request
   unfolding check
   check-asks word [] are request read = cc
   check-asks word (path ∷ []) are request read = cc
@@ -203,7 +183,7 @@ module _ (known : Known) (line : List ℕ) where
   check-asks word (path ∷ (name ∷ (letters ∷ []))) are request read = of_user-asks (codes "check") perms_of Check (λ path user asked says. says) word path name letters are request read
   check-asks word (path ∷ (name ∷ (letters ∷ (more ∷ rest)))) are request read = cc
 
-  check4-asks : first_word line ≡ codes "check4" → (fields : List (List ℕ)) → words (after_word line) ≡ fields → (request : Request) → check4 known fields ≡ Ok request → Asks known line request
+  check4-asks : first_word line ≡ codes "check4" → (fields : List (List ℕ)) → words (after_word line) ≡ fields → (request : Request) → check4 known fields ≡ Ok request → AsksFor known line request
   unfolding check4
   check4-asks word [] are request read = cc
   check4-asks word (path ∷ []) are request read = cc
@@ -213,16 +193,16 @@ module _ (known : Known) (line : List ℕ) where
 
   -- `set`, whose words are cut one by one, and whose kinds of lists are read each in its way
   of_list-asks : {A : Type 0} (read_list : List ℕ → Asked A) (ask : List ℕ → A → Request) (path kind text : List ℕ) (request : Request)
-      → ((path : List ℕ) (list : A) → Sets line path kind text → IsPath path → read_list text ≡ Ok list → Asks known line (ask path list))
-      → Sets line path kind text → (path_of path >>= (λ path. read_list text >>= (λ list. Ok (ask path list)))) ≡ Ok request → Asks known line request
+      → ((path : List ℕ) (list : A) → Sets line path kind text → IsPath path → read_list text ≡ Ok list → AsksFor known line (ask path list))
+      → Sets line path kind text → (path_of path >>= (λ path. read_list text >>= (λ list. Ok (ask path list)))) ≡ Ok request → AsksFor known line request
   of_list-asks read_list ask path kind text request says sets read =
       let at = path_read path _ request read in
       let list = bind_ok (read_list text) _ request at.3 in
       let same : ask at.0 list.0 ≡ request = cc in
-      subst (Asks known line) same (says at.0 list.0 (subst (λ p. Sets line p kind text) at.1 sets) at.2 list.1)
+      subst (AsksFor known line) same (says at.0 list.0 (subst (λ p. Sets line p kind text) at.1 sets) at.2 list.1)
 
   set-asks : first_word line ≡ codes "set" → (path kind text : List ℕ) → first_word (after_word line) ≡ path → first_word (after_word (after_word line)) ≡ kind
-      → after_word (after_word (after_word line)) ≡ text → (request : Request) → set_list known path kind text ≡ Ok request → Asks known line request
+      → after_word (after_word (after_word line)) ≡ text → (request : Request) → set_list known path kind text ≡ Ok request → AsksFor known line request
   unfolding set_access set_default set_nfs4
   set-asks word path kind [] path_is kind_is text_is request read = cc
   set-asks word path kind (byte ∷ bytes) path_is kind_is text_is request read =
@@ -236,20 +216,26 @@ module _ (known : Known) (line : List ℕ) where
       } in
       elim (branch (bytes_eq kind (codes "access")) (set_access known path text) _ request read) [
         | inl access ↦
-            of_list-asks (acl_of known) SetAccess path (codes "access") text request (λ path acl says there is. (text, says, there, acl_of-ok known text acl is)) (sets (codes "access") access.0) access.1
+            of_list-asks (acl_of known) SetAccess path (codes "access") text request
+            (λ path acl says there is. (text, says, there, acl_of-ok known text acl is))
+            (sets (codes "access") access.0) access.1
         | inr other ↦ elim (branch (bytes_eq kind (codes "default")) (set_default known path text) _ request other.1) [
           | inl default ↦
-              of_list-asks (default_of known) SetDefault path (codes "default") text request (λ path acl says there is. (text, says, there, default_of-ok known text acl is)) (sets (codes "default") default.0) default.1
+              of_list-asks (default_of known) SetDefault path (codes "default") text request
+              (λ path acl says there is. (text, says, there, default_of-ok known text acl is))
+              (sets (codes "default") default.0) default.1
           | inr another ↦ elim (branch (bytes_eq kind (codes "nfs4")) (set_nfs4 known path text) _ request another.1) [
             | inl nfs4 ↦
-                of_list-asks (aces_of known) SetNfs4 path (codes "nfs4") text request (λ path aces says there is. (text, says, there, aces_of-ok known text aces is)) (sets (codes "nfs4") nfs4.0) nfs4.1
+                of_list-asks (aces_of known) SetNfs4 path (codes "nfs4") text request
+                (λ path aces says there is. (text, says, there, aces_of-ok known text aces is))
+                (sets (codes "nfs4") nfs4.0) nfs4.1
             | inr none ↦ let wrong = none.1 in cc
           ]
         ]
       ]
 
   -- what is asked for, the words say
-  pub asked_by-asks : (request : Request) → asked_by known line ≡ Ok request → Asks known line request
+  pub asked_by-asks : (request : Request) → asked_by known line ≡ Ok request → AsksFor known line request
   unfolding command
   asked_by-asks request read =
       let word = first_word line in
@@ -289,7 +275,7 @@ module _ (known : Known) (line : List ℕ) where
   list_said read_list list path kind [] request says read reads = absurd (says.filled refl)
   list_said read_list list path kind (byte ∷ bytes) request says read reads = rw (says.command_is, says.path_is, says.kind_is, says.text_is) (reads byte bytes read)
 
-  pub asks-asked_by : (request : Request) → Asks known line request → asked_by known line ≡ Ok request
+  pub asks-asked_by : (request : Request) → AsksFor known line request → asked_by known line ≡ Ok request
   unfolding command get translate chmod create check check4 set_access set_default set_nfs4
   asks-asked_by (Get path) (says, there) = rw (says.command_is, says.fields_are, path_of-is path there) refl
   asks-asked_by (Translate path) (says, there) = rw (says.command_is, says.fields_are, path_of-is path there) refl
@@ -303,7 +289,8 @@ module _ (known : Known) (line : List ℕ) where
   asks-asked_by (SetAccess path acl) (text, says, there, spells) =
       list_said (acl_of known) acl path (codes "access") text (SetAccess path acl) says (acl_of-spelt known text acl spells) (λ byte bytes read. rw (path_of-is path there, read) refl)
   asks-asked_by (SetDefault path default) (text, says, there, spells) =
-      list_said (default_of known) default path (codes "default") text (SetDefault path default) says (default_of-spelt known text default spells) (λ byte bytes read. rw (path_of-is path there, read) refl)
+      list_said (default_of known) default path (codes "default") text (SetDefault path default) says
+      (default_of-spelt known text default spells) (λ byte bytes read. rw (path_of-is path there, read) refl)
   asks-asked_by (SetNfs4 path aces) (text, says, there, spells) =
       list_said (aces_of known) aces path (codes "nfs4") text (SetNfs4 path aces) says (aces_of-spelt known text aces spells) (λ byte bytes read. rw (path_of-is path there, read) refl)
   asks-asked_by (Bad fault) never = absurd never

@@ -109,5 +109,5 @@ abbrev pub answer_text : Known → Answer → List ℕ
 answer_text known answer = decimal answer.line ++ space ∷ reply_text known answer.reply
 
 -- answers in order
-abbrev pub printed : Known → List Answer → List ℕ
-printed known = flat_map (answer_text known)
+abbrev pub answers_text : Known → List Answer → List ℕ
+answers_text known = flat_map (answer_text known)

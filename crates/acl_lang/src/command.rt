@@ -17,8 +17,8 @@ ghost use Rattle.acl_lang.specs.Printed.{kind_text, mode_text};
 ghost use Rattle.acl_lang.specs.ReadAgain.{NameIds, NameIdsOfAces};
 ghost use Rattle.acl_lang.specs.Shapes.{IsPath};
 
-use crate::answer::{kind_text, mode_text};
-use acl_names::{Uid, push_id};
+use crate::printing::{kind_text, mode_text};
+use acl_names::{Uid, push_decimal};
 use acl_nfs4::{Acl4, Kind, Mask, push_mask};
 use acl_posix::{Acl, Mode, Perms, push_perms};
 use acl_tree::{Boxed, Path, Request};
@@ -84,7 +84,7 @@ fn push_user(user: Uid, out: &mut Vec<u8>) -> Result<(), AllocError>
 {
     let number = user.value();
     out.extend_from_slice(b" ")?;
-    push_id(None, number, out)
+    push_decimal(number, out)
 }
 
 /// Appends a space and the mode.

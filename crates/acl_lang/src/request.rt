@@ -4,7 +4,7 @@ ghost use Rattle.std.specs.Prelude.{◌≡◌};
 ghost use Rattle.acl_lang.specs.Commands.{asked_by, check, check4, chmod, command, create, get};
 ghost use Rattle.acl_lang.specs.Commands.{set, set_access, set_default, set_list, set_nfs4};
 ghost use Rattle.acl_lang.specs.Commands.{translate};
-ghost use Rattle.acl_lang.specs.Refusals.{Reads};
+ghost use Rattle.acl_lang.specs.Refusals.{ReadsAs};
 ghost use Rattle.acl_lang.specs.Words.{words};
 
 use crate::fields::{
@@ -23,7 +23,7 @@ pub(crate) fn read_request(
     line: &[u8],
     directory: &Directory,
 ) -> Result<Request, Refusal>
-    ensures { Reads (asked_by directory.now line.now) result }
+    ensures { ReadsAs (asked_by directory.now line.now) result }
 {
     let (word, fields) = split_word(line);
     read_command(alloc, word, fields, directory)
@@ -36,7 +36,7 @@ fn read_command(
     fields: &[u8],
     directory: &Directory,
 ) -> Result<Request, Refusal>
-    ensures { Reads (command directory.now word.now fields.now) result }
+    ensures { ReadsAs (command directory.now word.now fields.now) result }
 {
     if word == b"get".as_slice() {
         read_get(alloc, fields)
@@ -60,7 +60,7 @@ fn read_command(
 /// `get P`
 #[tactic(auto, unfolding(crate::specs::Commands::get))]
 fn read_get(alloc: Global, fields: &[u8]) -> Result<Request, Refusal>
-    ensures { Reads (get (words fields.now)) result }
+    ensures { ReadsAs (get (words fields.now)) result }
 {
     let mut words = Words::new(fields);
     match (words.next(), words.next()) {
@@ -72,7 +72,7 @@ fn read_get(alloc: Global, fields: &[u8]) -> Result<Request, Refusal>
 /// `translate P`
 #[tactic(auto, unfolding(crate::specs::Commands::translate))]
 fn read_translate(alloc: Global, fields: &[u8]) -> Result<Request, Refusal>
-    ensures { Reads (translate (words fields.now)) result }
+    ensures { ReadsAs (translate (words fields.now)) result }
 {
     let mut words = Words::new(fields);
     match (words.next(), words.next()) {
@@ -84,7 +84,7 @@ fn read_translate(alloc: Global, fields: &[u8]) -> Result<Request, Refusal>
 /// `chmod P OOO`
 #[tactic(auto, unfolding(crate::specs::Commands::chmod))]
 fn read_chmod(alloc: Global, fields: &[u8]) -> Result<Request, Refusal>
-    ensures { Reads (chmod (words fields.now)) result }
+    ensures { ReadsAs (chmod (words fields.now)) result }
 {
     let mut words = Words::new(fields);
     match (words.next(), words.next(), words.next()) {
@@ -100,7 +100,7 @@ fn read_chmod(alloc: Global, fields: &[u8]) -> Result<Request, Refusal>
 /// `create file P USER OOO`, `create dir P USER OOO`
 #[tactic(auto, unfolding(crate::specs::Commands::create))]
 fn read_create(alloc: Global, fields: &[u8], directory: &Directory) -> Result<Request, Refusal>
-    ensures { Reads (create directory.now (words fields.now)) result }
+    ensures { ReadsAs (create directory.now (words fields.now)) result }
 {
     let mut words = Words::new(fields);
     match (
@@ -124,7 +124,7 @@ fn read_create(alloc: Global, fields: &[u8], directory: &Directory) -> Result<Re
 /// `check P USER PERMS`
 #[tactic(auto, unfolding(crate::specs::Commands::check))]
 fn read_check(alloc: Global, fields: &[u8], directory: &Directory) -> Result<Request, Refusal>
-    ensures { Reads (check directory.now (words fields.now)) result }
+    ensures { ReadsAs (check directory.now (words fields.now)) result }
 {
     let mut words = Words::new(fields);
     match (words.next(), words.next(), words.next(), words.next()) {
@@ -141,7 +141,7 @@ fn read_check(alloc: Global, fields: &[u8], directory: &Directory) -> Result<Req
 /// `check4 P USER LETTERS`
 #[tactic(auto, unfolding(crate::specs::Commands::check4))]
 fn read_check4(alloc: Global, fields: &[u8], directory: &Directory) -> Result<Request, Refusal>
-    ensures { Reads (check4 directory.now (words fields.now)) result }
+    ensures { ReadsAs (check4 directory.now (words fields.now)) result }
 {
     let mut words = Words::new(fields);
     match (words.next(), words.next(), words.next(), words.next()) {
@@ -157,7 +157,7 @@ fn read_check4(alloc: Global, fields: &[u8], directory: &Directory) -> Result<Re
 
 /// `set P KIND TEXT`
 fn read_set(alloc: Global, fields: &[u8], directory: &Directory) -> Result<Request, Refusal>
-    ensures { Reads (set directory.now fields.now) result }
+    ensures { ReadsAs (set directory.now fields.now) result }
 {
     let (path, fields) = split_word(fields);
     let (kind, text) = split_word(fields);
@@ -171,7 +171,7 @@ fn read_set_list(
     text: &[u8],
     directory: &Directory,
 ) -> Result<Request, Refusal>
-    ensures { Reads (set_list directory.now path.now kind.now text.now) result }
+    ensures { ReadsAs (set_list directory.now path.now kind.now text.now) result }
 {
     if text.is_empty() {
         Err(Refusal::Fault(LineFault::Syntax))
@@ -193,7 +193,7 @@ fn read_set_access(
     text: &[u8],
     directory: &Directory,
 ) -> Result<Request, Refusal>
-    ensures { Reads (set_access directory.now path.now text.now) result }
+    ensures { ReadsAs (set_access directory.now path.now text.now) result }
 {
     let path = read_path(alloc, path)?;
     let acl = Boxed::new(alloc, read_acl(alloc, text, directory)?)?;
@@ -207,7 +207,7 @@ fn read_set_default(
     text: &[u8],
     directory: &Directory,
 ) -> Result<Request, Refusal>
-    ensures { Reads (set_default directory.now path.now text.now) result }
+    ensures { ReadsAs (set_default directory.now path.now text.now) result }
 {
     let path = read_path(alloc, path)?;
     let default = read_default(alloc, text, directory)?;
@@ -221,7 +221,7 @@ fn read_set_nfs4(
     text: &[u8],
     directory: &Directory,
 ) -> Result<Request, Refusal>
-    ensures { Reads (set_nfs4 directory.now path.now text.now) result }
+    ensures { ReadsAs (set_nfs4 directory.now path.now text.now) result }
 {
     let path = read_path(alloc, path)?;
     let acl = Boxed::new(alloc, read_acl4(alloc, text, directory)?)?;

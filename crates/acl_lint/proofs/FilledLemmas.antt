@@ -5,19 +5,23 @@ use Rattle.std.specs.List.{list_any}
 use Rattle.acl_names.specs.Bytes.{colon, space}
 use Rattle.acl_names.specs.Directory.{KnownGroup, KnownUser}
 use Rattle.acl_names.specs.Ids.{has_domain_shape}
-use Rattle.acl_names.specs.declared.directory.SetupFault.{SetupFault}
-use Rattle.acl_names.specs.declared.directory.SetupFault.TheVariants as parts
+use Rattle.acl_names.specs.declared.directory.fault.SetupFault.{SetupFault}
+use Rattle.acl_names.specs.declared.directory.fault.SetupFault.TheVariants as parts
 use Rattle.acl_names.specs.declared.limits.TheConstants.{MAX_GROUPS, MAX_USERS}
 use Rattle.acl_service.specs.Setup.{Setup, setup_in}
 use Rattle.acl_service.specs.SetupTable.{id_at, table_at, text_at, texts_at}
 use Rattle.acl_service.specs.declared.setup.fault.SetupError.{SetupError}
 use Rattle.acl_service.specs.declared.setup.fault.SetupError.TheVariants.{NotToml, BadField, Parts, Memory}
 use Rattle.toml.specs.Data.{Data, Items, Members, as_array, as_table, get_member, item, no_items}
-use Rattle.acl_lint.specs.FieldKeys.{key_in_group, key_in_root, key_in_user, key_of_array, key_of_fields, key_of_root, key_of_table, key_of_tables, key_of_value, mode_at, or_key, style_at, unless_read}
+use Rattle.acl_lint.specs.FieldKeys.{key_in_group, key_in_root, key_in_user, key_of_array, key_of_fields}
+use Rattle.acl_lint.specs.FieldKeys.{key_of_root, key_of_table, key_of_tables, key_of_value, mode_at, or_key}
+use Rattle.acl_lint.specs.FieldKeys.{style_at, unless_read}
 use Rattle.acl_lint.specs.Keys.{Key, group_of_user, in_table, index_text, named}
 use Rattle.acl_lint.specs.LintLaws.{TellsAPlace}
 use Rattle.acl_lint.specs.LintText.{place_text, shown_piece}
-use Rattle.acl_lint.specs.PartsKeys.{groups_share_id, groups_share_name, is_in_too_many, is_misnamed_group, is_misnamed_user, key_of_groups, key_of_parts, of_group, of_user, repeated_in, unknown_in, users_share_id, users_share_name}
+use Rattle.acl_lint.specs.PartsKeys.{groups_share_id, groups_share_name, is_in_too_many, is_misnamed_group}
+use Rattle.acl_lint.specs.PartsKeys.{is_misnamed_user, key_of_groups, key_of_parts, of_group, of_user}
+use Rattle.acl_lint.specs.PartsKeys.{repeated_in, unknown_in, users_share_id, users_share_name}
 use Rattle.acl_lint.specs.Places.{Piece}
 use Rattle.acl_lint.specs.SetupPlace.{IsPlace, key_of_reading, key_of_setup, key_of_table_for, shown_key}
 use Rattle.acl_lint.specs.Spots.{spot_after}

@@ -5,8 +5,8 @@ use Rattle.acl_names.specs.Directory.{Known, requester_of}
 use Rattle.acl_names.specs.Pieces.{lines_of}
 use Rattle.acl_nfs4.specs.Mask.{mask_bits}
 use Rattle.acl_posix.specs.Perms.{bits_of}
-use Rattle.acl_tree.specs.Apply.{done, next, reply, told}
-use Rattle.acl_tree.specs.Commands.{change_mode, create, granted, node_at, set_access, set_default, set_nfs4, translated}
+use Rattle.acl_tree.specs.Apply.{reply_to_change, next, reply, reply_to_question}
+use Rattle.acl_tree.specs.Commands.{change_mode, create, granted_or_denied, node_at, set_access, set_default, set_nfs4, translation_reply}
 use Rattle.acl_tree.specs.NodeAcls.{PosixLists, grants4, nfs4_list, posix_lists}
 use Rattle.acl_tree.specs.Nodes.{may, view_of}
 use Rattle.acl_tree.specs.Steps.{Outcome, ◌>>=◌}
@@ -18,7 +18,7 @@ use Rattle.acl_tree.specs.declared.reply.View.{View}
 use Rattle.acl_tree.specs.declared.request.Request.{Request}
 use Rattle.acl_tree.specs.declared.request.Request.TheVariants as request
 use Rattle.acl_lang.specs.Lines.{line_of}
-use Rattle.acl_lang.specs.Texts.{numbered, requests_from}
+use Rattle.acl_lang.specs.Texts.{numbered_request, requests_from}
 use Rattle.acl_lang.specs.declared.line.Line.{Line}
 use Rattle.acl_lang.specs.declared.line.Line.TheVariants.{Nothing, Command}
 use Rattle.acl_lang.specs.declared.text.Numbered.{Numbered}
@@ -28,41 +28,41 @@ use Rattle.acl_lint.specs.LintText.{Found, found_from, found_in_read, found_in_r
 
 -- the reply to a command is none of a faulty line
 module _ (line : ℕ) where
-  none_of_change : (outcome : Outcome NodesUnderUmask) → fault_replied line (done outcome) ≡ []
+  none_of_change : (outcome : Outcome NodesUnderUmask) → fault_replied line (reply_to_change outcome) ≡ []
   none_of_change (Ok changed) = refl
   none_of_change (Err fault) = refl
 
-  none_of_view : (found : Outcome Node) (view : Node → View) → fault_replied line (told (found >>= (λ node. Ok (reply.Node (view node))))) ≡ []
+  none_of_view : (found : Outcome Node) (view : Node → View) → fault_replied line (reply_to_question (found >>= (λ node. Ok (reply.Node (view node))))) ≡ []
   none_of_view (Ok node) view = refl
   none_of_view (Err fault) view = refl
 
-  none_of_grant : (grants : Bool) → fault_replied line (granted grants) ≡ []
+  none_of_grant : (grants : Bool) → fault_replied line (granted_or_denied grants) ≡ []
   none_of_grant true = refl
   none_of_grant false = refl
 
-  none_of_check : (found : Outcome Node) (grants : Node → Bool) → fault_replied line (told (found >>= (λ node. Ok (granted (grants node))))) ≡ []
+  none_of_check : (found : Outcome Node) (grants : Node → Bool) → fault_replied line (reply_to_question (found >>= (λ node. Ok (granted_or_denied (grants node))))) ≡ []
   none_of_check (Ok node) grants = none_of_grant (grants node)
   none_of_check (Err fault) grants = refl
 
-  none_of_list : {A : Type 0} (list : Outcome A) (grants : A → Bool) → fault_replied line (told (list >>= (λ acl. Ok (granted (grants acl))))) ≡ []
+  none_of_list : {A : Type 0} (list : Outcome A) (grants : A → Bool) → fault_replied line (reply_to_question (list >>= (λ acl. Ok (granted_or_denied (grants acl))))) ≡ []
   none_of_list (Ok acl) grants = none_of_grant (grants acl)
   none_of_list (Err fault) grants = refl
 
   none_of_check4 : {A : Type 0} (found : Outcome Node) (list : Node → Outcome A) (grants : Node → A → Bool)
-      → fault_replied line (told (found >>= (λ node. list node >>= (λ acl. Ok (granted (grants node acl)))))) ≡ []
+      → fault_replied line (reply_to_question (found >>= (λ node. list node >>= (λ acl. Ok (granted_or_denied (grants node acl)))))) ≡ []
   none_of_check4 (Ok node) list grants = none_of_list (list node) (grants node)
   none_of_check4 (Err fault) list grants = refl
 
-  none_of_lists : (lists : Outcome PosixLists) → fault_replied line (told (lists >>= (λ lists. Ok (translated lists.access lists.default)))) ≡ []
+  none_of_lists : (lists : Outcome PosixLists) → fault_replied line (reply_to_question (lists >>= (λ lists. Ok (translation_reply lists.access lists.default)))) ≡ []
   none_of_lists (Ok lists) = go lists.default
     where
-      go : (default : _) → fault_replied line (translated lists.access default) ≡ []
+      go : (default : _) → fault_replied line (translation_reply lists.access default) ≡ []
       go None = refl
       go (Some default) = refl
   none_of_lists (Err fault) = refl
 
   none_of_translation : (found : Outcome Node) (lists : Node → Outcome PosixLists)
-      → fault_replied line (told (found >>= (λ node. lists node >>= (λ lists. Ok (translated lists.access lists.default))))) ≡ []
+      → fault_replied line (reply_to_question (found >>= (λ node. lists node >>= (λ lists. Ok (translation_reply lists.access lists.default))))) ≡ []
   none_of_translation (Ok node) lists = none_of_lists (lists node)
   none_of_translation (Err fault) lists = refl
 
@@ -86,7 +86,7 @@ of_request known tree line bytes (request.Bad fault) = refl
 -- one line's, and those of the lines after it
 answered-next : (known : Known) (tree : NodesUnderUmask) (number : ℕ) (bytes : List ℕ) (more : List Found) (requests : List Numbered)
     → ((tree : NodesUnderUmask) → map told_of more ≡ faults_answered (answers_of known tree requests))
-    → (read : Line) → map told_of (found_in_read known number bytes read ++ more) ≡ faults_answered (answers_of known tree (numbered number read ++ requests))
+    → (read : Line) → map told_of (found_in_read known number bytes read ++ more) ≡ faults_answered (answers_of known tree (numbered_request number read ++ requests))
 answered-next known tree number bytes more requests rest Nothing = rest tree
 answered-next known tree number bytes more requests rest (Command asked) =
     map-append told_of (found_in_request known number bytes asked) more

@@ -4,7 +4,7 @@ use Rattle.std.specs.Prelude.{IsSome}
 use Rattle.acl_names.specs.Directory.{Known, gid_of, uid_of}
 use Rattle.acl_names.specs.Directory.{fault_of as parts_fault}
 use Rattle.acl_names.specs.Steps.{◌>>=◌, or_fault}
-use Rattle.acl_names.specs.declared.directory.SetupFault.{SetupFault}
+use Rattle.acl_names.specs.declared.directory.fault.SetupFault.{SetupFault}
 use Rattle.acl_service.specs.Opened.{opened_by, unless}
 use Rattle.acl_service.specs.Setup.{Setup, setup_in}
 use Rattle.acl_service.specs.declared.setup.fault.SetupError.{SetupError}

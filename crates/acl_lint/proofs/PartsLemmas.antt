@@ -11,13 +11,17 @@ use Rattle.acl_names.proofs.Counting.{count_by-cons}
 use Rattle.acl_names.specs.Ascending.{repeats}
 use Rattle.acl_names.specs.Ids.{has_domain_shape}
 use Rattle.acl_names.specs.Directory.{KnownGroup, KnownUser, has_bad_name, has_unknown_group, is_too_many, repeats_id, repeats_name}
-use Rattle.acl_names.specs.declared.directory.SetupFault.{SetupFault}
-use Rattle.acl_names.specs.declared.directory.SetupFault.TheVariants.{BadName, RepeatedName, RepeatedId, UnknownGroup, TooMany}
+use Rattle.acl_names.specs.declared.directory.fault.SetupFault.{SetupFault}
+use Rattle.acl_names.specs.declared.directory.fault.SetupFault.TheVariants.{BadName, RepeatedName, RepeatedId, UnknownGroup, TooMany}
 use Rattle.acl_names.specs.declared.limits.TheConstants.{MAX_GROUPS, MAX_USERS}
 use Rattle.acl_lint.specs.FieldKeys.{or_key}
 use Rattle.acl_lint.specs.Keys.{Key, group_of_user}
 use Rattle.acl_lint.specs.LintLaws.{TellsAPart}
-use Rattle.acl_lint.specs.PartsKeys.{has_name, is_in_too_many, is_misnamed_group, is_misnamed_user, key_of_bad_name, key_of_groups, key_of_parts, key_of_repeated_id, key_of_repeated_name, key_of_too_many, key_of_unknown_group, of_group, of_user, repeated_from, repeated_in, unknown_in, users_share_name, groups_share_name}
+use Rattle.acl_lint.specs.PartsKeys.{has_name, is_in_too_many, is_misnamed_group, is_misnamed_user}
+use Rattle.acl_lint.specs.PartsKeys.{key_of_bad_name, key_of_groups, key_of_parts, key_of_repeated_id}
+use Rattle.acl_lint.specs.PartsKeys.{key_of_repeated_name, key_of_too_many, key_of_unknown_group, of_group}
+use Rattle.acl_lint.specs.PartsKeys.{of_user, repeated_from, repeated_in, unknown_in, users_share_name}
+use Rattle.acl_lint.specs.PartsKeys.{groups_share_name}
 
 -- ---- indexes
 

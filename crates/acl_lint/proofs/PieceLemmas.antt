@@ -1,5 +1,7 @@
 -- Where a line sets a list and has a fault of a piece, the piece that is told is the first that doesn't read, and has that fault.
-use Rattle.std.proofs.Common.{◌≡◌, ◌≢◌, ◌∙◌, ◌+◌, ◌++◌, ◌==◌, ◌&&◌, ℕ, Bool, true, false, cond, List, [], ◌∷◌, Option, Some, None, Result, Ok, Err, ap, ap₂, append_assoc, arith, bytes_eq, codes, drop, is_none, length, refl, subst, sym, take}
+use Rattle.std.proofs.Common.{◌≡◌, ◌≢◌, ◌∙◌, ◌+◌, ◌++◌, ◌==◌, ◌&&◌, ℕ, Bool, true, false, cond, List, [], ◌∷◌}
+use Rattle.std.proofs.Common.{Option, Some, None, Result, Ok, Err, ap, ap₂, append_assoc, arith, bytes_eq}
+use Rattle.std.proofs.Common.{codes, drop, is_none, length, refl, subst, sym, take}
 use Rattle.std.specs.Prelude.{All, IsSomeAnd, nat_lt}
 use Rattle.std.proofs.lemmas.List.{take-append-drop}
 use Rattle.std.proofs.lemmas.List.Elements.{All-cons, All-nil}
@@ -8,15 +10,19 @@ use Rattle.acl_names.specs.Bytes.{hash}
 use Rattle.acl_names.specs.Directory.{Known}
 use Rattle.acl_names.specs.Pieces.{after_word, first_word, pieces, trim}
 use Rattle.acl_names.specs.ReadList.{at_most_read, each_read}
-use Rattle.acl_names.specs.Steps.{◌>>=◌}
+use Rattle.acl_names.specs.Steps.{◌>>=◌, map_fault}
+use Rattle.acl_names.proofs.ReadListLemmas.{at_most_read-map_fault}
 use Rattle.acl_nfs4.specs.Ace.{Nfsace4}
 use Rattle.acl_nfs4.specs.AceText.{piece_value}
 use Rattle.acl_nfs4.specs.declared.limits.TheConstants.{MAX_ACES}
 use Rattle.acl_nfs4.specs.declared.reading.PieceFault as aces
+use Rattle.acl_posix.specs.AclText.{accepted, entries_of, entry_in, piece_fault}
 use Rattle.acl_posix.specs.Entry.{EntryValue}
 use Rattle.acl_posix.specs.EntryText.{entry_of}
 use Rattle.acl_posix.specs.InOrder.{in_order}
 use Rattle.acl_posix.specs.Validity.{fault_of as entries_fault}
+use Rattle.acl_posix.specs.declared.acl_text.AclFault.{AclFault}
+use Rattle.acl_posix.specs.declared.acl_text.AclFault.TheVariants as acl
 use Rattle.acl_posix.specs.declared.limits.TheConstants.{MAX_ENTRIES}
 use Rattle.acl_posix.specs.declared.reading.PieceFault as entries
 use Rattle.acl_tree.specs.Path.{is_path}
@@ -24,9 +30,9 @@ use Rattle.acl_tree.specs.declared.faults.LineFault.{LineFault}
 use Rattle.acl_tree.specs.declared.faults.LineFault.TheVariants.{BadPath, InvalidAcl, LineTooLong, Syntax, TooMany}
 use Rattle.acl_tree.specs.declared.request.Request.TheVariants.{Bad, SetAccess, SetDefault, SetNfs4}
 use Rattle.acl_lang.specs.Commands.{asked_by, command, set, set_access, set_default, set_list, set_nfs4}
-use Rattle.acl_lang.specs.Fields.{accepted, acl_of, ace_fault, aces_of, as_ace, as_entry, default_of, entries_of, entry_fault}
+use Rattle.acl_lang.specs.Fields.{acl_of, ace_fault, aces_of, as_ace, default_of}
 use Rattle.acl_lang.specs.Lines.{line_of_trimmed, request_of}
-use Rattle.acl_lang.specs.Refusals.{Asked}
+use Rattle.acl_lang.specs.Refusals.{Asked, acl_line_fault}
 use Rattle.acl_lang.specs.declared.limits.TheConstants.{MAX_LINE_LEN}
 use Rattle.acl_lang.specs.declared.line.Line.TheVariants.{Nothing, Command}
 use Rattle.acl_lint.specs.LintLaws.{IsFirstAtFault, IsFirstOfFields, TellsThePiece, fault_of, fault_of_piece}
@@ -111,11 +117,15 @@ module _ {A B F : Type 0} (read : List ℕ → Result A F) (said : Result A F �
 
 -- ---- the pieces of a list's text
 
+-- what is read of a piece of a POSIX list, as the line has it
+abbrev as_entry : Result EntryValue entries.PieceFault → Asked EntryValue
+as_entry read = map_fault acl_line_fault (map_fault piece_fault read)
+
 entry_oks : (entry : EntryValue) → (value : EntryValue) × (as_entry (Ok entry) ≡ Ok value)
 entry_oks entry = (entry, refl)
 
 entry_errs : (cause : entries.PieceFault) → (fault : LineFault) × (as_entry (Err cause) ≡ Err fault)
-entry_errs cause = (entry_fault cause, refl)
+entry_errs cause = (acl_line_fault (piece_fault cause), refl)
 
 ace_oks : (ace : Nfsace4) → (value : Nfsace4) × (as_ace (Ok ace) ≡ Ok value)
 ace_oks ace = (ace, refl)
@@ -166,10 +176,16 @@ module _ (known : Known) (kind text : List ℕ) (fault : LineFault) where
     other : (not_of_piece : LineFault) → is_of_piece not_of_piece ≡ false → fault ≢ not_of_piece
     other not_of_piece is same = cc (ap is_of_piece same)
 
+    -- the entries that the text spells, as the line has them
+    abbrev entries_read : Asked (List EntryValue)
+    entries_read = map_fault acl_line_fault (entries_of known (pieces text))
+
     -- a fault of a piece comes of the pieces
-    of_entries : bytes_eq kind (codes "nfs4") ≡ false → entries_of known text ≡ Err fault → IsSomeAnd (unread_of_kind known kind text) (IsFirstAtFault known kind text fault)
+    of_entries : bytes_eq kind (codes "nfs4") ≡ false → entries_read ≡ Err fault → IsSomeAnd (unread_of_kind known kind text) (IsFirstAtFault known kind text fault)
     of_entries posix is =
-        let most = most_fault (entry_of known) as_entry entry_oks entry_errs MAX_ENTRIES (pieces text) fault is (other TooMany refl) in
+        let told : at_most_read TooMany MAX_ENTRIES (λ piece. as_entry (entry_of known piece)) (pieces text) ≡ Err fault =
+        sym (at_most_read-map_fault acl_line_fault (entry_in known) acl.TooMany MAX_ENTRIES (pieces text)) ∙ is in
+        let most = most_fault (entry_of known) as_entry entry_oks entry_errs MAX_ENTRIES (pieces text) fault told (other TooMany refl) in
         subst (λ (b : Bool). IsSomeAnd (cond b (unread_in (piece_value known) MAX_ACES text) (unread_in (entry_of known) MAX_ENTRIES text)) (IsFirstAtFault known kind text fault))
         (sym posix)
         (entries_first posix _ (unread-first (entry_of known) as_entry entry_oks entry_errs (take MAX_ENTRIES (pieces text)) 0 fault most))
@@ -181,17 +197,17 @@ module _ (known : Known) (kind text : List ℕ) (fault : LineFault) where
         (sym nfs4)
         (aces_first nfs4 _ (unread-first (piece_value known) as_ace ace_oks ace_errs (take MAX_ACES (pieces text)) 0 fault most))
 
-    accepted_fault : (entries : Asked (List EntryValue)) → entries >>= accepted ≡ Err fault → entries ≡ Err fault
+    accepted_fault : (entries : Result (List EntryValue) AclFault) → map_fault acl_line_fault (entries >>= accepted) ≡ Err fault → map_fault acl_line_fault entries ≡ Err fault
     accepted_fault (Ok entries) is = absurd (of_test (is_none (entries_fault entries)) is)
       where
-        of_test : (b : Bool) → cond b (Ok (in_order entries)) (Err InvalidAcl) ≡ Err fault → ⊥
+        of_test : (b : Bool) → map_fault acl_line_fault (cond b (Ok (in_order entries)) (Err acl.InvalidAcl)) ≡ Err fault → ⊥
         of_test true is = cc
         of_test false is = other InvalidAcl refl (cc)
     accepted_fault (Err cause) is = is
 
     -- a request isn't `Bad` but for a fault
 
-    access_fault : (path : List ℕ) → request_of (set_access known path text) ≡ Bad fault → entries_of known text ≡ Err fault
+    access_fault : (path : List ℕ) → request_of (set_access known path text) ≡ Bad fault → entries_read ≡ Err fault
     unfolding set_access
     access_fault path is = of_path (is_path path) is
       where
@@ -200,11 +216,11 @@ module _ (known : Known) (kind text : List ℕ) (fault : LineFault) where
         of_acl (Err cause) is = cc
 
         of_path : (b : Bool) → request_of (cond b (Ok path) (Err BadPath) >>= (λ path. acl_of known text >>= (λ acl. Ok (SetAccess path acl)))) ≡ Bad fault
-            → entries_of known text ≡ Err fault
-        of_path true is = accepted_fault (entries_of known text) (of_acl (acl_of known text) is)
+            → entries_read ≡ Err fault
+        of_path true is = accepted_fault (entries_of known (pieces text)) (of_acl (acl_of known text) is)
         of_path false is = absurd (other BadPath refl (cc))
 
-    default_fault : (path : List ℕ) → request_of (set_default known path text) ≡ Bad fault → entries_of known text ≡ Err fault
+    default_fault : (path : List ℕ) → request_of (set_default known path text) ≡ Bad fault → entries_read ≡ Err fault
     unfolding set_default
     default_fault path is = of_path (is_path path) is
       where
@@ -216,12 +232,12 @@ module _ (known : Known) (kind text : List ℕ) (fault : LineFault) where
         of_acl (Ok acl) is = cc
         of_acl (Err cause) is = cc
 
-        of_none : (b : Bool) → cond b (Ok None) (acl_of known text >>= (λ acl. Ok (Some acl))) ≡ Err fault → entries_of known text ≡ Err fault
+        of_none : (b : Bool) → cond b (Ok None) (acl_of known text >>= (λ acl. Ok (Some acl))) ≡ Err fault → entries_read ≡ Err fault
         of_none true is = cc
-        of_none false is = accepted_fault (entries_of known text) (of_acl (acl_of known text) is)
+        of_none false is = accepted_fault (entries_of known (pieces text)) (of_acl (acl_of known text) is)
 
         of_path : (b : Bool) → request_of (cond b (Ok path) (Err BadPath) >>= (λ path. default_of known text >>= (λ default. Ok (SetDefault path default)))) ≡ Bad fault
-            → entries_of known text ≡ Err fault
+            → entries_read ≡ Err fault
         of_path true is = of_none (bytes_eq text (codes "none")) (of_default (default_of known text) is)
         of_path false is = absurd (other BadPath refl (cc))
 

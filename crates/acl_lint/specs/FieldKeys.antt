@@ -4,15 +4,16 @@ use Rattle.std.specs.Prelude.{if◌then◌else◌}
 use Rattle.std.specs.List.{list_any}
 use Rattle.acl_names.specs.Directory.{KnownUser}
 use Rattle.toml.specs.Data.{Data, Items, Members, as_array, as_table, get_member, item, no_items}
+use Rattle.acl_bridge.specs.Style.{style_of}
+use Rattle.acl_bridge.specs.declared.style.Style.{Style}
 use Rattle.acl_posix.specs.Mode.{Classes}
-use Rattle.acl_tree.specs.declared.node_acl.Style.{Style}
-use Rattle.acl_service.specs.Setup.{mode_of, style_of}
+use Rattle.acl_posix.specs.ModeText.{mode_of_octal}
 use Rattle.acl_service.specs.SetupTable.{◌>>=◌, id_at, table_at, text_at, texts_at}
 use Rattle.acl_lint.specs.Keys.{Key, in_table, named}
 
 -- the mode and the style at a key
 abbrev pub mode_at : List ℕ → Members → Option Classes
-mode_at key table = text_at key table >>= mode_of
+mode_at key table = text_at key table >>= mode_of_octal
 
 abbrev pub style_at : List ℕ → Members → Option Style
 style_at key table = text_at key table >>= style_of

@@ -5,10 +5,11 @@ use Rattle.std.specs.Prelude.{if◌then◌else◌}
 use Rattle.std.specs.List.{list_any, position_from}
 use Rattle.acl_names.specs.Directory.{KnownGroup, KnownUser}
 use Rattle.acl_names.specs.Ids.{has_domain_shape, has_name_shape}
-use Rattle.acl_names.specs.declared.directory.SetupFault.{SetupFault}
-use Rattle.acl_names.specs.declared.directory.SetupFault.TheVariants.{BadName, RepeatedName}
-use Rattle.acl_names.specs.declared.directory.SetupFault.TheVariants.{RepeatedId, UnknownGroup}
-use Rattle.acl_names.specs.declared.directory.SetupFault.TheVariants.{TooMany, Memory}
+use Rattle.acl_names.specs.declared.directory.fault.SetupFault.{SetupFault}
+use Rattle.acl_names.specs.declared.directory.fault.SetupFault.TheVariants.{BadName, RepeatedName}
+use Rattle.acl_names.specs.declared.directory.fault.SetupFault.TheVariants.{RepeatedId}
+use Rattle.acl_names.specs.declared.directory.fault.SetupFault.TheVariants.{UnknownGroup}
+use Rattle.acl_names.specs.declared.directory.fault.SetupFault.TheVariants.{TooMany, Memory}
 use Rattle.acl_names.specs.declared.limits.TheConstants.{MAX_USERS, MAX_GROUPS, MAX_GROUPS_OF_USER}
 use Rattle.acl_lint.specs.FieldKeys.{or_key}
 use Rattle.acl_lint.specs.Keys.{Key, group_of_user, in_table, named}

@@ -9,8 +9,10 @@ ghost use Rattle.acl_lint.specs.FieldKeys.{key_of_root, key_of_table, key_of_tab
 ghost use Rattle.acl_lint.specs.Keys.{Key as KeyValue};
 
 use crate::key::Key;
+use acl_bridge::Style;
 use acl_names::User;
-use acl_service::{id_at, read_mode, read_style, table_at, text_at, value_at};
+use acl_posix::Mode;
+use acl_service::{id_at, table_at, text_at, value_at};
 use toml::{Table, Value};
 
 /// Which key of a table in an array doesn't read.
@@ -140,7 +142,7 @@ fn has_mode(table: &Table, key: &str) -> bool
     ensures { result ≡ is_some (mode_at key.now (table_view table.now)) }
 {
     match text_at(table, key) {
-        Some(text) => read_mode(text).is_some(),
+        Some(text) => Mode::from_octal(text.as_bytes()).is_some(),
         None => false,
     }
 }
@@ -150,7 +152,7 @@ fn has_style(table: &Table, key: &str) -> bool
     ensures { result ≡ is_some (style_at key.now (table_view table.now)) }
 {
     match text_at(table, key) {
-        Some(text) => read_style(text).is_some(),
+        Some(text) => Style::read(text).is_some(),
         None => false,
     }
 }

@@ -5,7 +5,7 @@ ghost use Rattle.acl_lint.specs.LintText.{found_in_line, found_text, place_text}
 
 use crate::piece::{Piece, piece_at_fault};
 use acl_lang::{Line, line_fault_word, read_line};
-use acl_names::{Directory, push_id};
+use acl_names::{Directory, push_decimal};
 use acl_tree::{LineFault, Request};
 use std::alloc::{AllocError, Global};
 
@@ -17,7 +17,7 @@ fn push_place(piece: &Option<Piece<'_>>, out: &mut Vec<u8>) -> Result<(), AllocE
         out.push(b'-')?;
         return Ok(());
     };
-    push_id(None, piece.number, out)?;
+    push_decimal(piece.number, out)?;
     out.push(b' ')?;
     if piece.text.is_empty() {
         out.push(b'-')?;
@@ -39,7 +39,7 @@ fn push_found(
 {
     out.extend_from_slice(name.as_bytes())?;
     out.push(b':')?;
-    push_id(None, line, out)?;
+    push_decimal(line, out)?;
     out.extend_from_slice(b": ")?;
     out.extend_from_slice(line_fault_word(fault))?;
     out.push(b' ')?;

@@ -1,41 +1,24 @@
--- What the reader of lists says of a text, as what a block's list says; and the pieces of lines.
-use Rattle.std.proofs.Common.{◌≡◌, ℕ, ◌==◌, ◌||◌, Bool, true, false, not, cond, List, [], ◌∷◌, ◌++◌, Ok, Err, ap, refl, sym, ◌∙◌, append_assoc, filter, flat_map}
+-- What the reader of lists says of a text, as what a block says; and the pieces of lines.
+use Rattle.std.proofs.Common.{◌≡◌, ℕ, ◌==◌, ◌||◌, Bool, true, false, not, cond, List, [], ◌∷◌, ◌++◌, Err, ap, refl, sym, ◌∙◌, append_assoc, filter, flat_map}
 use Rattle.std.specs.List.{All, list_any, onto_first}
 use Rattle.std.proofs.lemmas.List.Elements.{All-nil, All-cons, All-head, All-tail}
 use Rattle.std.proofs.lemmas.List.Splits.{slice_split_at}
 use Rattle.std.specs.Prelude.{Result}
 use Rattle.acl_names.specs.Bytes.{newline}
-use Rattle.acl_names.specs.Directory.{Known}
-use Rattle.acl_names.specs.ListText.{Spells}
 use Rattle.acl_names.specs.Pieces.{content, parts, pieces, pieces_of_content}
-use Rattle.acl_names.proofs.ReadListLemmas.{read-fault, read-many, read-spelt}
-use Rattle.acl_posix.specs.Entry.{EntryValue}
-use Rattle.acl_posix.specs.EntryText.{entry_of}
-use Rattle.acl_posix.specs.ReadFault.{IsTextFault}
-use Rattle.acl_posix.specs.declared.entries.TextFault.{TextFault}
-use Rattle.acl_posix.specs.declared.entries.TextFault.TheVariants as refusal
-use Rattle.acl_posix.specs.declared.limits.TheConstants.{MAX_ENTRIES}
-use Rattle.acl_listings.specs.Access.{access_pieces, as_entry, entries_of, is_default}
-use Rattle.acl_listings.specs.Faults.{Reads, text_fault}
-use Rattle.acl_listings.specs.declared.fault.BlockFault.{BlockFault}
-use Rattle.acl_listings.specs.declared.fault.BlockFault.TheVariants.{TooMany}
+use Rattle.acl_names.specs.Steps.{map_fault}
+use Rattle.acl_posix.specs.AclText as posix
+use Rattle.acl_posix.specs.declared.acl_text.AclFault.{AclFault}
+use Rattle.acl_posix.specs.declared.acl_text.ReadAclFault.{ReadAclFault}
+use Rattle.acl_posix.specs.declared.acl_text.ReadAclFault.TheVariants as read
+use Rattle.acl_listings.specs.Access.{access_pieces, is_default}
+use Rattle.acl_listings.specs.Faults.{ReadsAs, acl_fault}
+use Rattle.acl_listings.specs.declared.fault.BlockFault.TheVariants.{Acl}
 
-module _ (known : Known) (text : List ℕ) where
-  abbrev entry_in : List ℕ → Result EntryValue BlockFault
-  entry_in piece = as_entry (entry_of known piece)
-
-  entry_in-ok : (piece : List ℕ) (entry : EntryValue) → entry_of known piece ≡ Ok entry → entry_in piece ≡ Ok entry
-  entry_in-ok piece entry is = ap as_entry is
-
-  pub entries_of-spelt : (entries : List EntryValue) → Spells (entry_of known) MAX_ENTRIES text entries → entries_of known (pieces text) ≡ Ok entries
-  entries_of-spelt = read-spelt (entry_of known) entry_in TooMany MAX_ENTRIES text entry_in-ok
-
-  -- a text that is refused doesn't read
-  pub entries_of-refused : (fault : TextFault) → IsTextFault known text fault → Reads (entries_of known (pieces text)) (Err (text_fault fault))
-  entries_of-refused refusal.Syntax is = read-fault (entry_of known) entry_in TooMany MAX_ENTRIES text entry_in-ok _ _ is (λ piece is. ap as_entry is)
-  entries_of-refused refusal.UnknownName is = read-fault (entry_of known) entry_in TooMany MAX_ENTRIES text entry_in-ok _ _ is (λ piece is. ap as_entry is)
-  entries_of-refused refusal.TooMany is = read-many (entry_of known) entry_in TooMany MAX_ENTRIES text entry_in-ok is
-  entries_of-refused refusal.Memory is = tt
+-- a call that reads no list refuses the block for what it tells of the text
+pub Reads-acl : {A : Type 0} (spelt : Result A AclFault) (fault : ReadAclFault) → posix.ReadsAs spelt (Err fault) → ReadsAs (map_fault (λ fault. Acl fault) spelt) (Err (acl_fault fault))
+Reads-acl spelt (read.Acl fault) is = ap (map_fault (λ fault. Acl fault)) is
+Reads-acl spelt read.Memory is = tt
 
 -- the pieces of a line
 abbrev pub line_pieces : List ℕ → List (List ℕ)
@@ -87,7 +70,9 @@ pub pieces-of_lines : (lines : List (List ℕ)) → All LacksNewline lines → p
 pieces-of_lines [] each = refl
 pieces-of_lines (line ∷ lines) each = by_first (is_default line) (pieces-of_lines lines (All-tail LacksNewline line lines each))
   where
-    by_first : (b : Bool) → pieces (ended (filter is_access lines)) ≡ flat_map line_pieces (filter is_access lines) → pieces (ended (cond (not b) (line ∷ filter is_access lines) (filter is_access lines)))
+    by_first : (b : Bool) → pieces (ended (filter is_access lines)) ≡ flat_map line_pieces
+        (filter is_access lines) → pieces (ended (cond (not b) (line ∷ filter is_access lines)
+        (filter is_access lines)))
         ≡ flat_map line_pieces (cond (not b) (line ∷ filter is_access lines) (filter is_access lines))
     by_first true rest = rest
     by_first false rest = pieces-ended line (ended (filter is_access lines)) (All-head LacksNewline line lines each) ∙ ap (λ more. line_pieces line ++ more) rest

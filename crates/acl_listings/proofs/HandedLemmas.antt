@@ -4,7 +4,7 @@ use Rattle.std.proofs.lemmas.Bool.{cases_lt}
 use Rattle.std.proofs.lemmas.Bool.Decides.{nat_tests}
 use Rattle.std.proofs.lemmas.List.{take_all}
 use Rattle.acl_names.specs.Directory.{Known, gid_of, uid_of}
-use Rattle.acl_names.specs.Ids.{resolved}
+use Rattle.acl_names.specs.Ids.{id_of_written}
 use Rattle.acl_names.specs.Steps.{◌>>=◌, or_fault}
 use Rattle.acl_posix.specs.Entry.{EntryValue}
 use Rattle.acl_listings.specs.Access.{access_of}
@@ -43,10 +43,10 @@ abbrev pub from_group : Known → Header → ℕ → ℕ → Result FileValue Bl
 from_group known header owner group = access_of known header.list >>= from_access header owner group
 
 abbrev pub from_owner : Known → Header → ℕ → Result FileValue BlockFault
-from_owner known header owner = or_fault UnknownGroup (resolved (gid_of known) header.group) >>= from_group known header owner
+from_owner known header owner = or_fault UnknownGroup (id_of_written (gid_of known) header.group) >>= from_group known header owner
 
 abbrev pub from_header : Known → Header → Result FileValue BlockFault
-from_header known header = or_fault UnknownOwner (resolved (uid_of known) header.owner) >>= from_owner known header
+from_header known header = or_fault UnknownOwner (id_of_written (uid_of known) header.owner) >>= from_owner known header
 
 abbrev pub from_block : Known → List ℕ → Result FileValue BlockFault
 from_block known block = or_fault BadHeader (header_of block) >>= from_header known

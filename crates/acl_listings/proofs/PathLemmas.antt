@@ -2,7 +2,7 @@
 use Rattle.std.proofs.Common.{◌≡◌, ◌∙◌, ◌≤◌, ℕ, Bool, true, false, cond, nat_le, List, [], length, length-take, Option, Some, None, Result, Ok, Err, ap, arith, option_and_then, refl, subst, sym}
 use Rattle.std.proofs.lemmas.Bool.Decides.{nat_tests}
 use Rattle.acl_names.specs.Directory.{Known, gid_of, uid_of}
-use Rattle.acl_names.specs.Ids.{Written, resolved}
+use Rattle.acl_names.specs.Ids.{Written, id_of_written}
 use Rattle.acl_names.specs.Steps.{or_fault}
 use Rattle.acl_names.proofs.StepLemmas.{bind_ok, given, some_from_cond}
 use Rattle.acl_listings.specs.Access.{access_of}
@@ -48,8 +48,8 @@ path_of-file known text file is =
     let (block, taken, of_block) = bind_ok (or_fault TooLong (within_limit text)) (from_block known) file is in
     let (same, short) = limited text block (given TooLong (within_limit text) block taken) in
     let (header, read, of_header) = bind_ok (or_fault BadHeader (header_of block)) (from_header known) file of_block in
-    let (owner, its, of_owner) = bind_ok (or_fault UnknownOwner (resolved (uid_of known) header.owner)) (from_owner known header) file of_header in
-    let (group, theirs, of_group) = bind_ok (or_fault UnknownGroup (resolved (gid_of known) header.group)) (from_group known header owner) file of_owner in
+    let (owner, its, of_owner) = bind_ok (or_fault UnknownOwner (id_of_written (uid_of known) header.owner)) (from_owner known header) file of_header in
+    let (group, theirs, of_group) = bind_ok (or_fault UnknownGroup (id_of_written (gid_of known) header.group)) (from_group known header owner) file of_owner in
     let (access, listed, made) = bind_ok (access_of known header.list) (from_access header owner group) file of_group in
     let front : path_in (first_line block) ≡ Some header.path = path_in_header (path_in (first_line block)) _ _ _ header (given BadHeader (header_of block) header read) in
     let line_is : length (first_line text) ≤ MAX_BLOCK = omega (arith, short, length-take {A = ℕ}) in

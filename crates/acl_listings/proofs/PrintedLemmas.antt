@@ -1,42 +1,41 @@
 -- Files that are printed are read again.
-use Rattle.std.proofs.Common.{◌≡◌, ℕ, ◌+◌, ◌<◌, ◌≤◌, ◌||◌, ◌&&◌, Bool, true, false, cond, not, nat_le, List, [], ◌∷◌, ◌++◌, length, map, Option, Some, None, Ok, codes, option_and_then, ap, ap₂, refl, sym, ◌∙◌, append_assoc, append-nil, length-append, arith, subst, flat_map}
+use Rattle.std.proofs.Common.{◌≡◌, ℕ, ◌+◌, ◌<◌, ◌≤◌, ◌||◌, ◌&&◌, Bool, true, false, cond, not, nat_le, List}
+use Rattle.std.proofs.Common.{[], ◌∷◌, ◌++◌, length, map, Option, Some, None, Ok, codes, option_and_then, ap}
+use Rattle.std.proofs.Common.{ap₂, refl, sym, ◌∙◌, append_assoc, append-nil, length-append, arith, subst}
+use Rattle.std.proofs.Common.{flat_map}
 use Rattle.std.specs.List.{All, join_with_byte, list_all, list_any}
 use Rattle.std.proofs.lemmas.Bool.Decides.{nat_tests}
 use Rattle.std.proofs.lemmas.List.Elements.{All-append, All-cons, All-head, All-nil, All-tail}
-use Rattle.std.proofs.lemmas.List.Sorted.{IsPermutation-refl}
 use Rattle.std.proofs.lemmas.List.Splits.{slice_split_at, slice_split_none}
 use Rattle.acl_names.specs.Bytes.{newline}
-use Rattle.acl_names.specs.Directory.{Known, TellsNamesApart, gid_of, group_name, uid_of, user_name}
-use Rattle.acl_names.specs.Ids.{ReadBack, Written, id_text, resolved, written_id}
+use Rattle.acl_names.specs.Directory.{Known, NamesReadBack, gid_of, group_name, uid_of, user_name}
+use Rattle.acl_names.specs.Ids.{ReadBack, Written, id_text, id_of_written, written_id}
 use Rattle.acl_names.specs.Pieces.{parts, pieces}
-use Rattle.acl_names.specs.Steps.{◌>>=◌, or_fault}
+use Rattle.acl_names.specs.Steps.{◌>>=◌, map_fault, or_fault}
 use Rattle.acl_names.specs.declared.limits.TheConstants.{MAX_ID}
 use Rattle.acl_names.proofs.AnyLemmas.{flat_map-append}
 use Rattle.acl_names.proofs.Fields.{field_plain, id_field}
 use Rattle.acl_names.proofs.IdTexts.{id_again}
 use Rattle.acl_names.proofs.PlainLines.{mark_lacks_newline, plain_lacks_newline}
-use Rattle.acl_posix.proofs.InOrderLemmas.{in_order-acl}
+use Rattle.acl_posix.proofs.AclTextLemmas.{acl_of-again}
 use Rattle.acl_posix.proofs.RoundTrip.{IsLine, line_is, text_spells}
-use Rattle.acl_posix.proofs.ValidityLemmas.{valid_iff}
 use Rattle.acl_posix.specs.Canonical.{IsAcl}
 use Rattle.acl_posix.specs.Entry.{EntryValue, perms_of}
-use Rattle.acl_posix.specs.InOrder.{in_order}
 use Rattle.acl_posix.specs.PrintedText.{HaveIds, HasId, effective_mark, effective_text, entry_text, qualifier_text, word_text}
 use Rattle.acl_posix.specs.PermsText.{perms_text}
-use Rattle.acl_posix.specs.Validity.{fault_of}
 use Rattle.acl_posix.specs.declared.entry.Tag.{Tag}
 use Rattle.acl_posix.specs.declared.entry.Tag.TheVariants.{UserObj, User, GroupObj, Group, Mask, Other}
 use Rattle.acl_names.specs.Bytes.{colon}
-use Rattle.acl_listings.specs.Access.{access_of, access_pieces, acl_of, entries_of, is_default}
+use Rattle.acl_listings.specs.Access.{access_of, access_pieces, acl_of, is_default}
 use Rattle.acl_listings.specs.Block.{FileValue, file_of, within_limit}
 use Rattle.acl_listings.specs.Extent.{HasFullLines, newlines_in}
 use Rattle.acl_listings.specs.Header.{Header, as_header, header_of, id_of, path_in}
 use Rattle.acl_listings.specs.Lines.{after_line, first_line}
 use Rattle.acl_listings.specs.Listing.{blocks_from}
 use Rattle.acl_listings.specs.Printed.{IsPrintable, block_text, line_text, listing_text}
-use Rattle.acl_listings.specs.declared.fault.BlockFault.TheVariants.{TooLong, BadHeader, UnknownOwner, UnknownGroup}
+use Rattle.acl_listings.specs.declared.fault.BlockFault.TheVariants.{TooLong, BadHeader, UnknownOwner, UnknownGroup, Acl}
 use Rattle.acl_listings.specs.declared.limits.TheConstants.{MAX_BLOCK}
-use Rattle.acl_listings.proofs.AccessLemmas.{ended, entries_of-spelt, line_pieces, pieces-whole}
+use Rattle.acl_listings.proofs.AccessLemmas.{ended, line_pieces, pieces-whole}
 use Rattle.acl_listings.proofs.ExtentLemmas.{LacksNewline, full-append, full-line, is_newline}
 use Rattle.acl_listings.proofs.HandedLemmas.{from_access, from_block, from_group, from_header, from_owner}
 use Rattle.acl_listings.proofs.LineLemmas.{after-of, first-of}
@@ -86,15 +85,16 @@ effective_lines known mask [] = refl
 effective_lines known mask (entry ∷ entries) =
     ap₂ (λ line more. line ++ more) (sym (append_assoc (entry_text known entry) (effective_mark mask entry) (newline ∷ []))) (effective_lines known mask entries)
 
-one_line : (known : Known) (mask : Option ℕ) (entry : EntryValue) → TellsNamesApart known → HasId entry.tag → IsOneLine (entry_line known mask entry)
+one_line : (known : Known) (mask : Option ℕ) (entry : EntryValue) → NamesReadBack known → HasId entry.tag → IsOneLine (entry_line known mask entry)
 one_line known mask entry names has =
     let is : IsLine known mask entry = line_is known mask entry names has in
     record {
       some = omega (arith, is.0, length-append (entry_text known entry) (effective_mark mask entry));
-      lacks = All-append (λ x. is_newline x ≡ false) (entry_text known entry) (effective_mark mask entry) (plain_lacks_newline (entry_text known entry) is.1) (mark_lacks_newline (effective_mark mask entry) is.2);
+      lacks = All-append (λ x. is_newline x ≡ false) (entry_text known entry) (effective_mark mask entry)
+          (plain_lacks_newline (entry_text known entry) is.1) (mark_lacks_newline (effective_mark mask entry) is.2);
     }
 
-entry_lines : (known : Known) (mask : Option ℕ) (entries : List EntryValue) → TellsNamesApart known → HaveIds entries → All IsOneLine (map (entry_line known mask) entries)
+entry_lines : (known : Known) (mask : Option ℕ) (entries : List EntryValue) → NamesReadBack known → HaveIds entries → All IsOneLine (map (entry_line known mask) entries)
 entry_lines known mask [] names ids = All-nil IsOneLine
 entry_lines known mask (entry ∷ entries) names ids =
     All-cons IsOneLine (entry_line known mask entry) (map (entry_line known mask) entries)
@@ -124,7 +124,7 @@ no_default_line known mask (entry ∷ entries) =
     ∙ no_default_line known mask entries
 
 -- the access list of a block
-access_again : (known : Known) (mask : Option ℕ) (first : EntryValue) (more : List EntryValue) → TellsNamesApart known → IsAcl (first ∷ more) → HaveIds (first ∷ more)
+access_again : (known : Known) (mask : Option ℕ) (first : EntryValue) (more : List EntryValue) → NamesReadBack known → IsAcl (first ∷ more) → HaveIds (first ∷ more)
     → access_of known (joined (map (entry_line known mask) (first ∷ more))) ≡ Ok (first ∷ more)
 access_again known mask first more names is ids =
     let acl = first ∷ more in
@@ -135,11 +135,8 @@ access_again known mask first more names is ids =
     let same_pieces : access_pieces list ≡ pieces (effective_text known mask acl) =
     sym (pieces-whole list none) ∙ sym (pieces-ended list)
     ∙ ap pieces (sym (effective_lines known mask acl ∙ ended-joined (entry_line known mask first) lines)) in
-    let spelt : entries_of known (pieces (effective_text known mask acl)) ≡ Ok acl =
-    entries_of-spelt known (effective_text known mask acl) acl (text_spells known mask acl names ids is.permissions is.within) in
-    let right : fault_of acl ≡ None = (valid_iff acl).0 is.valid in
-    let same : in_order acl ≡ acl = in_order-acl acl acl is (IsPermutation-refl acl) in
-    ap (acl_of known) same_pieces ∙ rw (spelt, right, same) refl
+    ap (acl_of known) same_pieces
+    ∙ ap (map_fault (λ fault. Acl fault)) (acl_of-again known (effective_text known mask acl) acl is (text_spells known mask acl names ids is.permissions is.within))
 
 -- the header of a block
 
@@ -147,9 +144,9 @@ access_again known mask first more names is ids =
 record HasWritten (id_of_name : List ℕ → Option ℕ) (text : List ℕ) (id : ℕ) : Type 0 where
   pub written : Written
   pub is : written_id text ≡ Some written
-  pub names : resolved id_of_name written ≡ Some id
+  pub names : id_of_written id_of_name written ≡ Some id
 
-written_by : (id_of_name : List ℕ → Option ℕ) (text : List ℕ) (id : ℕ) (found : Option Written) → written_id text ≡ found → option_and_then (resolved id_of_name) found ≡ Some id
+written_by : (id_of_name : List ℕ → Option ℕ) (text : List ℕ) (id : ℕ) (found : Option Written) → written_id text ≡ found → option_and_then (id_of_written id_of_name) found ≡ Some id
     → HasWritten id_of_name text id
 written_by id_of_name text id None is names = cc
 written_by id_of_name text id (Some written) is names = record { written = written; is = is; names = names }
@@ -186,7 +183,9 @@ header-headed first second third list one two three =
     let rest = third ++ newline ∷ list in
     let behind = second ++ newline ∷ rest in
     let text = first ++ newline ∷ behind in
-    ap (λ line. as_header (path_in line) (id_of owner_word (first_line (after_line text))) (id_of group_word (first_line (after_line (after_line text)))) (after_line (after_line (after_line text)))) (first-of first behind one)
+    ap (λ line. as_header (path_in line) (id_of owner_word (first_line (after_line text)))
+    (id_of group_word (first_line (after_line (after_line text))))
+    (after_line (after_line (after_line text)))) (first-of first behind one)
     ∙ ap (λ more. as_header (path_in first) (id_of owner_word (first_line more)) (id_of group_word (first_line (after_line more))) (after_line (after_line more))) (after-of first behind one)
     ∙ ap (λ line. as_header (path_in first) (id_of owner_word line) (id_of group_word (first_line (after_line behind))) (after_line (after_line behind))) (first-of second rest two)
     ∙ ap (λ more. as_header (path_in first) (id_of owner_word second) (id_of group_word (first_line more)) (after_line more)) (after-of second rest two)
@@ -233,7 +232,7 @@ regrouped one text two more three last list rest = simp append_assoc
 at_most : (a b : ℕ) → a ≤ b → nat_le a b ≡ true
 at_most a b h = grind (arith, nat_tests)
 
-module _ (known : Known) (names : TellsNamesApart known) (path : List ℕ) (owner group : ℕ) (first : EntryValue) (more : List EntryValue) where
+module _ (known : Known) (names : NamesReadBack known) (path : List ℕ) (owner group : ℕ) (first : EntryValue) (more : List EntryValue) where
   abbrev file : FileValue
   file = record { path = path; owner = owner; group = group; access = first ∷ more }
 
@@ -313,7 +312,7 @@ module _ (known : Known) (names : TellsNamesApart known) (path : List ℕ) (owne
 no_acl : IsAcl [] → ⊥
 no_acl is = let one = is.valid.user_obj in cc
 
-block_of_file : (known : Known) → TellsNamesApart known → (file : FileValue) → IsPrintable known file → IsBlockOf known file
+block_of_file : (known : Known) → NamesReadBack known → (file : FileValue) → IsPrintable known file → IsBlockOf known file
 block_of_file known names file is = by_access file.access refl
   where
     by_access : (access : List EntryValue) → file.access ≡ access → IsBlockOf known file
@@ -322,7 +321,7 @@ block_of_file known names file is = by_access file.access refl
         let same : file ≡ record file { access = first ∷ more } = ap (λ access. record file { access = access }) some in
         subst (IsBlockOf known) (sym same) (printed_block known names file.path file.owner file.group first more (subst (IsPrintable known) same is))
 
-pub files_again : (known : Known) → TellsNamesApart known → (number : ℕ) (files : List FileValue) → All (IsPrintable known) files
+pub files_again : (known : Known) → NamesReadBack known → (number : ℕ) (files : List FileValue) → All (IsPrintable known) files
     → map (λ block. file_of known block.text) (blocks_from number (listing_text known files)) ≡ map Ok files
 files_again known names number [] each = refl
 files_again known names number (file ∷ files) each =

@@ -1,12 +1,14 @@
 -- The steps of a cursor, on what is told of the bytes that are still to come.
-use Rattle.std.proofs.Common.{◌≡◌, ℕ, ◌+◌, ◌≤◌, true, cond, List, [], ◌∷◌, ◌++◌, length, drop, get_or, Option, Some, None, IfSome, ap, sym, ◌∙◌, ◌⊎◌, inl, inr, append_assoc, append-nil, length-append, arith, subst}
+use Rattle.std.proofs.Common.{◌≡◌, ℕ, ◌+◌, ◌≤◌, true, cond, List, [], ◌∷◌, ◌++◌, length, drop, get_or, Option}
+use Rattle.std.proofs.Common.{Some, None, IfSome, ap, sym, ◌∙◌, ◌⊎◌, inl, inr, append_assoc, append-nil}
+use Rattle.std.proofs.Common.{length-append, arith, subst}
 use Rattle.std.specs.Io.KnownBytes.{Consumes, IsAtEnd, Keeps, prepend_known}
 use Rattle.std.proofs.KnownBytes.{Consumes-kept, Consumes-trans}
 use Rattle.std.proofs.Math.Seq.{drop-append_seam}
 use Rattle.std.proofs.lemmas.List.Sums.{sum_by-cons}
 use Rattle.acl_names.specs.Bytes.{newline}
 use Rattle.acl_listings.specs.Extent.{EndsBlock, GoesOnBy, IsExtent, has_full_lines, newlines_in}
-use Rattle.acl_listings.specs.Source.{told}
+use Rattle.acl_listings.specs.Source.{bytes_to_come}
 use Rattle.acl_listings.proofs.ExtentLemmas.{full-append, is_newline, newlines-append}
 
 -- what was taken goes on a block, by the lines from one number to another
@@ -20,17 +22,17 @@ pub record HasGoneOn (before after : Option (List ℕ)) (line last : ℕ) : Type
 pub whole_extent : (shown : List ℕ) (left : Option (List ℕ)) (len newlines : ℕ) → IsExtent shown len newlines → (len + 2 ≤ length shown) ⊎ IsAtEnd left
     → IfSome (prepend_known shown left) (λ text. IsExtent text len newlines)
 whole_extent shown None len newlines is sure = tt
-whole_extent shown (Some told) len newlines is sure = record {
+whole_extent shown (Some bytes_to_come) len newlines is sure = record {
   block = is.block;
-  rest = is.rest ++ told;
-  cut = ap (λ t. t ++ told) is.cut ∙ append_assoc is.block is.rest told;
+  rest = is.rest ++ bytes_to_come;
+  cut = ap (λ t. t ++ bytes_to_come) is.cut ∙ append_assoc is.block is.rest bytes_to_come;
   bytes = is.bytes;
   full = is.full;
   counted = is.counted;
   ends = by_rest is.rest is.cut is.ends sure;
 }
   where
-    by_rest : (rest : List ℕ) → shown ≡ is.block ++ rest → EndsBlock rest → (len + 2 ≤ length shown) ⊎ (told ≡ []) → EndsBlock (rest ++ told)
+    by_rest : (rest : List ℕ) → shown ≡ is.block ++ rest → EndsBlock rest → (len + 2 ≤ length shown) ⊎ (bytes_to_come ≡ []) → EndsBlock (rest ++ bytes_to_come)
     by_rest rest cut ends (inr over) = subst EndsBlock (sym (ap (λ t. rest ++ t) over ∙ append-nil rest)) ends
     by_rest [] cut ends (inl long) = absurd (omega (arith, ap length cut, length-append is.block [], is.bytes, long))
     by_rest (byte ∷ []) cut ends (inl long) = absurd (omega (arith, ap length cut, length-append is.block (byte ∷ []), is.bytes, long))
@@ -52,7 +54,7 @@ goes_on_line text rest len newlines behind is =
 
 take_told : (shown more rest : List ℕ) (left : Option (List ℕ)) → shown ≡ more ++ rest → Consumes (prepend_known shown left) (prepend_known rest left) more
 take_told shown more rest None cut = tt
-take_told shown more rest (Some told) cut = ap (λ t. t ++ told) cut ∙ append_assoc more rest told
+take_told shown more rest (Some bytes_to_come) cut = ap (λ t. t ++ bytes_to_come) cut ∙ append_assoc more rest bytes_to_come
 
 pub gone_on : (before : Option (List ℕ)) (shown : List ℕ) (left : Option (List ℕ)) (line last len newlines : ℕ) → HasGoneOn before (prepend_known shown left) line last
     → GoesOnBy shown len newlines → HasGoneOn before (prepend_known (drop len shown) left) line (last + newlines)

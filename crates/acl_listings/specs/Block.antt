@@ -3,7 +3,7 @@ use Rattle.std.specs.Prelude.{ℕ, nat_le, List, length, Option, Some, None, Res
 use Rattle.std.specs.Prelude.{if◌then◌else◌}
 use Rattle.std.specs.Option.{option_and_then}
 use Rattle.acl_names.specs.Directory.{Known, gid_of, uid_of}
-use Rattle.acl_names.specs.Ids.{resolved}
+use Rattle.acl_names.specs.Ids.{id_of_written}
 use Rattle.acl_names.specs.Steps.{◌>>=◌, or_fault}
 use Rattle.acl_posix.specs.Entry.{EntryValue}
 use Rattle.acl_listings.specs.Access.{access_of}
@@ -29,8 +29,8 @@ abbrev pub file_of : Known → List ℕ → Result FileValue BlockFault
 file_of known text = do
   block ← or_fault TooLong (within_limit text)
   header ← or_fault BadHeader (header_of block)
-  owner ← or_fault UnknownOwner (resolved (uid_of known) header.owner)
-  group ← or_fault UnknownGroup (resolved (gid_of known) header.group)
+  owner ← or_fault UnknownOwner (id_of_written (uid_of known) header.owner)
+  group ← or_fault UnknownGroup (id_of_written (gid_of known) header.group)
   access ← access_of known header.list
   Ok (record { path = header.path; owner = owner; group = group; access = access })
 

@@ -6,16 +6,16 @@ use Rattle.acl_listings.specs.declared.limits.TheConstants.{MAX_BLOCK}
 use Rattle.acl_listings.specs.declared.window.ReadFault.{ReadFault}
 
 -- a block as it is handed out: of one that is too long, one byte more than a block may have
-abbrev pub handed : Block → Block
-handed block = record { line = block.line; text = take (MAX_BLOCK + 1) block.text }
+abbrev pub as_handed_out : Block → Block
+as_handed_out block = record { line = block.line; text = take (MAX_BLOCK + 1) block.text }
 
 -- the blocks of a text whose first line has this number, as they are handed out
-abbrev pub handed_from : ℕ → List ℕ → List Block
-handed_from number text = map handed (blocks_from number text)
+abbrev pub blocks_handed_from : ℕ → List ℕ → List Block
+blocks_handed_from number text = map as_handed_out (blocks_from number text)
 
 -- those of bytes that are still to come, where these are known
-abbrev pub coming : ℕ → Option (List ℕ) → Option (List Block)
-coming number text = option_map (handed_from number) text
+abbrev pub blocks_to_come : ℕ → Option (List ℕ) → Option (List Block)
+blocks_to_come number text = option_map (blocks_handed_from number) text
 
 -- the blocks that are still to come, if the reader tells its bytes; the block at hand; and the
 -- fault that ended the reading

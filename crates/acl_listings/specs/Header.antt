@@ -13,9 +13,9 @@ pub record Header : Type 0 where
   pub list : List ℕ
 
 -- what stands behind a word, if the line begins with it
-abbrev pub behind : List ℕ → List ℕ → Option (List ℕ)
-behind word line = if bytes_eq (take (length word) line) word then Some (drop (length word) line)
-    else None
+abbrev pub after_prefix : List ℕ → List ℕ → Option (List ℕ)
+after_prefix word line = if bytes_eq (take (length word) line) word
+    then Some (drop (length word) line) else None
 
 abbrev pub one_byte_at_least : List ℕ → Option (List ℕ)
 one_byte_at_least [] = None
@@ -23,11 +23,11 @@ one_byte_at_least (byte ∷ bytes) = Some (byte ∷ bytes)
 
 -- `# file: NAME`: the name as it stands
 abbrev pub path_in : List ℕ → Option (List ℕ)
-path_in line = option_and_then one_byte_at_least (behind (codes "# file: ") line)
+path_in line = option_and_then one_byte_at_least (after_prefix (codes "# file: ") line)
 
 -- a word, and an id: a decimal, or a name
 abbrev pub id_of : List ℕ → List ℕ → Option Written
-id_of word line = option_and_then written_id (behind word line)
+id_of word line = option_and_then written_id (after_prefix word line)
 
 abbrev pub as_header : Option (List ℕ) → Option Written → Option Written → List ℕ → Option Header
 as_header (Some path) (Some owner) (Some group) list =

@@ -10,9 +10,9 @@ pub record SourceValue : Type 0 where
   pub has_ended : Bool
 
 -- all that are still to come
-abbrev pub told : SourceValue → Option (List ℕ)
-told source = prepend_known source.shown source.left
+abbrev pub bytes_to_come : SourceValue → Option (List ℕ)
+bytes_to_come source = prepend_known source.shown source.left
 
 -- all but the first ones, which are at hand
-abbrev pub told_behind : ℕ → SourceValue → Option (List ℕ)
-told_behind count source = prepend_known (drop count source.shown) source.left
+abbrev pub bytes_after : ℕ → SourceValue → Option (List ℕ)
+bytes_after count source = prepend_known (drop count source.shown) source.left

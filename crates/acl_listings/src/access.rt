@@ -4,13 +4,12 @@ ghost use Rattle.std.specs.Prelude.{◌≡◌, IfOk, not, filter};
 ghost use Rattle.std.specs.List.{list_any, flat_map};
 ghost use Rattle.acl_names.specs.Bytes.{newline};
 ghost use Rattle.acl_names.specs.Pieces.{parts, pieces};
-ghost use Rattle.acl_listings.specs.Access.{accepted, access_of, access_pieces, acl_of, entries_of};
-ghost use Rattle.acl_listings.specs.Access.{is_default};
-ghost use Rattle.acl_listings.specs.Faults.{Reads};
+ghost use Rattle.acl_listings.specs.Access.{access_of, access_pieces, acl_of, is_default};
+ghost use Rattle.acl_listings.specs.Faults.{ReadsAs};
 
 use crate::fault::FileFault;
 use acl_names::{Directory, Parts};
-use acl_posix::{Acl, Entries, read_entries};
+use acl_posix::Acl;
 use std::alloc::{AllocError, Global};
 
 /// The access list that the lines behind a block's header spell. Lines of a default list are passed
@@ -20,7 +19,7 @@ pub(crate) fn read_access(
     list: &[u8],
     directory: &Directory,
 ) -> Result<Acl, FileFault>
-    ensures { Reads (access_of directory.now list.now) result }
+    ensures { ReadsAs (access_of directory.now list.now) result }
 {
     if !has_default(list) {
         return read_acl(alloc, list, directory);
@@ -57,20 +56,9 @@ fn without_default(alloc: Global, list: &[u8]) -> Result<Vec<u8>, AllocError>
     Ok(access)
 }
 
+/// The access control list that a text spells.
 fn read_acl(alloc: Global, text: &[u8], directory: &Directory) -> Result<Acl, FileFault>
-    ensures { Reads (acl_of directory.now (pieces text.now)) result }
+    ensures { ReadsAs (acl_of directory.now (pieces text.now)) result }
 {
-    accept(read_list(alloc, text, directory)?)
-}
-
-fn read_list(alloc: Global, text: &[u8], directory: &Directory) -> Result<Entries, FileFault>
-    ensures { Reads (entries_of directory.now (pieces text.now)) result }
-{
-    Ok(read_entries(alloc, text, directory)?)
-}
-
-fn accept(entries: Entries) -> Result<Acl, FileFault>
-    ensures { Reads (accepted entries) result }
-{
-    Ok(Acl::new(entries)?)
+    Ok(acl_posix::read_acl(alloc, text, directory)?)
 }

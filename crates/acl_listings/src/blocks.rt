@@ -3,9 +3,9 @@
 ghost use Rattle.std.specs.Prelude.{◌≡◌, ◌+◌, ◌≤◌, [], length, take, IfErr, IfOk, IfSome};
 ghost use Rattle.std.specs.Prelude.{Err, None, OnOk, Some};
 ghost use Rattle.std.specs.Bool.{MatchBool};
-ghost use Rattle.acl_listings.specs.Cursor.{coming, HandsOut, IsOver};
+ghost use Rattle.acl_listings.specs.Cursor.{blocks_to_come, HandsOut, IsOver};
 ghost use Rattle.acl_listings.specs.Extent.{BeginsLine};
-ghost use Rattle.acl_listings.specs.Source.{told, told_behind};
+ghost use Rattle.acl_listings.specs.Source.{bytes_to_come, bytes_after};
 ghost use Rattle.acl_listings.specs.Steps.{text_at_hand};
 
 use crate::limits::MAX_BLOCK;
@@ -37,14 +37,14 @@ pub struct Blocks<R: Read + Drop> {
 
 impl<R: Read + Drop> Model for Blocks<R> {
     ghost use Rattle.std.specs.Prelude.{◌≤◌, length};
-    ghost use Rattle.acl_listings.specs.Cursor.{coming, CursorValue};
-    ghost use Rattle.acl_listings.specs.Source.{told_behind};
+    ghost use Rattle.acl_listings.specs.Cursor.{blocks_to_come, CursorValue};
+    ghost use Rattle.acl_listings.specs.Source.{bytes_after};
     ghost use Rattle.acl_listings.specs.Steps.{text_at_hand};
 
     ghost Value = { CursorValue };
 
     ghost view = { λ inside. record {
-      coming = coming inside.line (told_behind inside.len inside.source);
+      coming = blocks_to_come inside.line (bytes_after inside.len inside.source);
       block = record {
         line = inside.first;
         text = text_at_hand inside.len inside.source.shown inside.head.items;
@@ -58,7 +58,8 @@ impl<R: Read + Drop> Model for Blocks<R> {
 impl<R: Read + Drop> Blocks<R> {
     /// The blocks of the listing that the reader reads. No block is at hand yet.
     pub fn new(alloc: Global, reader: R) -> Result<Blocks<R>, AllocError>
-        ensures blocks { IfOk result (λ blocks. blocks.coming ≡ coming 1 (R.remaining reader)) }
+        ensures blocks { IfOk result (λ blocks.
+            blocks.coming ≡ blocks_to_come 1 (R.remaining reader)) }
         ensures open { IfOk result (λ blocks. blocks.fault ≡ None) }
     {
         Ok(Blocks {
@@ -153,9 +154,9 @@ fn take_block<R: Read + Drop>(
 ) -> Result<Taken, ReadFault>
     requires begins { BeginsLine source.old.shown }
     requires empty { head.old.items ≡ [] }
-    ensures block { IfOk result (λ taken. HandsOut (coming first (told source.old))
+    ensures block { IfOk result (λ taken. HandsOut (blocks_to_come first (bytes_to_come source.old))
         (record { line = first; text = text_at_hand taken.len source.new.shown head.new.items })
-        (coming taken.last (told_behind taken.len source.new))) }
+        (blocks_to_come taken.last (bytes_after taken.len source.new))) }
     ensures within { IfOk result (λ taken. taken.len ≤ length source.new.shown) }
 {
     let extent = find_extent(source)?;

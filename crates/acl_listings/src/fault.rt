@@ -1,10 +1,10 @@
 //! Why a block is no file.
 
 ghost use Rattle.std.specs.Prelude.{◌≡◌};
-ghost use Rattle.acl_listings.specs.Faults.{invalid_fault, out_of_memory, text_fault};
+ghost use Rattle.acl_listings.specs.Faults.{acl_fault, out_of_memory};
 ghost use Rattle.acl_listings.specs.declared.fault.FileFault.TheVariants.{Block};
 
-use acl_posix::{Invalid, TextFault};
+use acl_posix::{AclFault, ReadAclFault};
 use std::alloc::AllocError;
 
 /// What is wrong with a block, in the order in which it is told.
@@ -20,14 +20,8 @@ pub enum BlockFault {
     UnknownOwner,
     /// The group's name is one that the directory lacks.
     UnknownGroup,
-    /// A line of the list is no entry.
-    BadAcl,
-    /// An entry names someone whom the directory lacks.
-    UnknownName,
-    /// The list has more than 64 entries.
-    TooMany,
-    /// The entries are no access control list.
-    InvalidAcl,
+    /// Its other lines spell no access list.
+    Acl(AclFault),
 }
 
 impl BlockFault {
@@ -43,10 +37,7 @@ impl BlockFault {
             BlockFault::RepeatedPath => "repeated-path",
             BlockFault::UnknownOwner => "unknown-name",
             BlockFault::UnknownGroup => "unknown-name",
-            BlockFault::BadAcl => "bad-acl",
-            BlockFault::UnknownName => "unknown-name",
-            BlockFault::TooMany => "too-many",
-            BlockFault::InvalidAcl => "invalid-acl",
+            BlockFault::Acl(fault) => fault.word(),
         }
     }
 }
@@ -76,28 +67,13 @@ impl From<BlockFault> for FileFault {
     }
 }
 
-impl From<TextFault> for FileFault {
-    ghost from_gives = { λ error fault. fault ≡ text_fault error };
+impl From<ReadAclFault> for FileFault {
+    ghost from_gives = { λ error fault. fault ≡ acl_fault error };
 
-    fn from(error: TextFault) -> FileFault {
+    fn from(error: ReadAclFault) -> FileFault {
         match error {
-            TextFault::Syntax => FileFault::Block(BlockFault::BadAcl),
-            TextFault::UnknownName => FileFault::Block(BlockFault::UnknownName),
-            TextFault::TooMany => FileFault::Block(BlockFault::TooMany),
-            TextFault::Memory => FileFault::Memory,
-        }
-    }
-}
-
-impl From<Invalid> for FileFault {
-    ghost from_gives = { λ error fault. fault ≡ invalid_fault error };
-
-    fn from(error: Invalid) -> FileFault {
-        match error {
-            Invalid::Missing | Invalid::Repeated | Invalid::NoMask => {
-                FileFault::Block(BlockFault::InvalidAcl)
-            }
-            Invalid::Memory => FileFault::Memory,
+            ReadAclFault::Acl(fault) => FileFault::Block(BlockFault::Acl(fault)),
+            ReadAclFault::Memory => FileFault::Memory,
         }
     }
 }

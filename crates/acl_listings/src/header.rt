@@ -1,7 +1,7 @@
 //! The lines at the front of a block: those of the file, its owner and its group.
 
 ghost use Rattle.std.specs.Prelude.{◌≡◌, option_map};
-ghost use Rattle.acl_listings.specs.Header.{behind, header_of, id_of, path_in};
+ghost use Rattle.acl_listings.specs.Header.{after_prefix, header_of, id_of, path_in};
 ghost use Rattle.acl_listings.specs.Lines.{after_line, first_line};
 ghost use Rattle.acl_listings.specs.Views.{view_header};
 ghost use Rattle.acl_names.specs.Views.{view_written};
@@ -45,7 +45,7 @@ pub(crate) fn read_header(text: &[u8]) -> Option<Header<'_>>
 pub(crate) fn read_path(line: &[u8]) -> Option<&[u8]>
     ensures { option_map (λ path. path.now) result ≡ path_in line.now }
 {
-    match behind(b"# file: ", line) {
+    match after_prefix(b"# file: ", line) {
         Some([]) | None => None,
         Some(path) => Some(path),
     }
@@ -55,15 +55,15 @@ pub(crate) fn read_path(line: &[u8]) -> Option<&[u8]>
 fn read_id<'t>(word: &[u8], line: &'t [u8]) -> Option<WrittenId<'t>>
     ensures { option_map view_written result ≡ id_of word.now line.now }
 {
-    match behind(word, line) {
+    match after_prefix(word, line) {
         Some(text) => WrittenId::read(text),
         None => None,
     }
 }
 
 /// What stands behind a word, if the line begins with it.
-pub(crate) fn behind<'t>(word: &[u8], line: &'t [u8]) -> Option<&'t [u8]>
-    ensures { option_map (λ rest. rest.now) result ≡ behind word.now line.now }
+pub(crate) fn after_prefix<'t>(word: &[u8], line: &'t [u8]) -> Option<&'t [u8]>
+    ensures { option_map (λ rest. rest.now) result ≡ after_prefix word.now line.now }
 {
     match line.strip_prefix(word) {
         Some(rest) => Some(rest),

@@ -1,9 +1,9 @@
 //! Laws of the definitions.
 
 ghost use Rattle.std.specs.Prelude.{◌≡◌, List, All, Ok, map};
-ghost use Rattle.acl_names.specs.Directory.{Known, TellsNamesApart};
+ghost use Rattle.acl_names.specs.Directory.{Known, NamesReadBack};
 ghost use Rattle.acl_listings.specs.Block.{file_of, FileValue, path_of};
-ghost use Rattle.acl_listings.specs.Cursor.{handed};
+ghost use Rattle.acl_listings.specs.Cursor.{as_handed_out};
 ghost use Rattle.acl_listings.specs.Listing.{Block, blocks_of};
 ghost use Rattle.acl_listings.specs.Printed.{listing_text, IsPrintable};
 
@@ -11,15 +11,15 @@ ghost use Rattle.acl_listings.specs.Printed.{listing_text, IsPrintable};
 /// its path is the same. There is nothing to run here: a proof cites the contract.
 pub fn handed_blocks_tell_the_same()
     ensures file { (known : Known) (block : Block)
-        → file_of known (handed block).text ≡ file_of known block.text }
-    ensures path { (block : Block) → path_of (handed block).text ≡ path_of block.text }
+        → file_of known (as_handed_out block).text ≡ file_of known block.text }
+    ensures path { (block : Block) → path_of (as_handed_out block).text ≡ path_of block.text }
 {}
 
 /// Files that are printed as `getfacl` prints them, with the names that a directory has for ids and
 /// with marks of effective permissions, are read again as these files, one block for each. Each
 /// `Directory` tells its names apart. There is nothing to run here: a proof cites the contract.
 pub fn printed_files_are_read_again()
-    ensures { (known : Known) (files : List FileValue) → TellsNamesApart known
+    ensures { (known : Known) (files : List FileValue) → NamesReadBack known
         → All (IsPrintable known) files
         → map (λ block. file_of known block.text) (blocks_of (listing_text known files))
         ≡ map Ok files }

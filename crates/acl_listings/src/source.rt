@@ -2,7 +2,7 @@
 
 ghost use Rattle.std.specs.Prelude.{◌≡◌, ◌<◌, ◌≤◌, [], false, IsTrue, length, drop, IfOk};
 ghost use Rattle.std.specs.Io.KnownBytes.{IsAtEnd, Keeps};
-ghost use Rattle.acl_listings.specs.Source.{told};
+ghost use Rattle.acl_listings.specs.Source.{bytes_to_come};
 ghost use Rattle.acl_listings.specs.Window.{Extends};
 ghost use Rattle.acl_listings.specs.declared.window.TheConstants.{CAPACITY};
 
@@ -77,7 +77,7 @@ impl<R: Read + Drop> Source<R> {
     pub(crate) fn read(&mut self) -> Result<(), ReadFault>
         requires room { length self.old.shown < CAPACITY }
         requires open { self.old.has_ended ≡ false }
-        ensures told { Keeps (told self.old) (told self.new) }
+        ensures bytes { Keeps (bytes_to_come self.old) (bytes_to_come self.new) }
         ensures more { Extends self.old.shown self.new.shown }
     {
         if !self.window.fill(&mut self.reader)? {

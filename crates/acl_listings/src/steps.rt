@@ -2,9 +2,9 @@
 
 ghost use Rattle.std.specs.Prelude.{◌≡◌, ◌≤◌, ◌+◌, [], IfNone, IfOk, IfSome, OnOk};
 ghost use Rattle.std.specs.Io.KnownBytes.{IsAtEnd, Keeps};
-ghost use Rattle.acl_listings.specs.Cursor.{coming, IsOver, Stays};
+ghost use Rattle.acl_listings.specs.Cursor.{blocks_to_come, IsOver, Stays};
 ghost use Rattle.acl_listings.specs.Extent.{BeginsLine, IsExtent};
-ghost use Rattle.acl_listings.specs.Source.{told};
+ghost use Rattle.acl_listings.specs.Source.{bytes_to_come};
 ghost use Rattle.acl_listings.specs.Steps.{GoesOn};
 
 use crate::extent::{Extent, extent_of, extent_of_rest};
@@ -26,10 +26,12 @@ pub(crate) fn skip_empty_lines<R: Read + Drop>(
     source: &mut Source<R>,
     line: u64,
 ) -> Result<Option<u64>, ReadFault>
-    ensures none { IfOk result (λ found. IfNone found (IsOver (coming line (told source.old))
+    ensures none { IfOk result (λ found. IfNone found
+        (IsOver (blocks_to_come line (bytes_to_come source.old))
         × (source.new.shown ≡ []) × IsAtEnd source.new.left)) }
     ensures some { IfOk result (λ found. IfSome found (λ next.
-        Stays (coming line (told source.old)) (coming next (told source.new)))) }
+        Stays (blocks_to_come line (bytes_to_come source.old))
+        (blocks_to_come next (bytes_to_come source.new)))) }
     ensures begins { IfOk result (λ found. IfSome found (λ _. BeginsLine source.new.shown)) }
 {
     let mut line = line;
@@ -52,10 +54,10 @@ pub(crate) fn skip_empty_lines<R: Read + Drop>(
 /// long, how far it does at the least.
 pub(crate) fn find_extent<R: Read + Drop>(source: &mut Source<R>) -> Result<Extent, ReadFault>
     requires { BeginsLine source.old.shown }
-    ensures told { OnOk result (Keeps (told source.old) (told source.new)) }
+    ensures bytes { OnOk result (Keeps (bytes_to_come source.old) (bytes_to_come source.new)) }
     ensures shown { IfOk result (λ extent. IsExtent source.new.shown extent.len extent.newlines) }
     ensures whole { IfOk result (λ extent. extent.len ≤ MAX_BLOCK
-        → IfSome (told source.new) (λ text. IsExtent text extent.len extent.newlines)) }
+        → IfSome (bytes_to_come source.new) (λ text. IsExtent text extent.len extent.newlines)) }
 {
     for _ in 0..u64::MAX {
         let shown = source.shown();
@@ -72,7 +74,8 @@ pub(crate) fn find_extent<R: Read + Drop>(source: &mut Source<R>) -> Result<Exte
 /// Takes what is left of a block of which some was taken, up to the end of its last line. The line
 /// that was begun has this number, and the result is that of the last line.
 pub(crate) fn skip_rest<R: Read + Drop>(source: &mut Source<R>, line: u64) -> Result<u64, ReadFault>
-    ensures { IfOk result (λ last. GoesOn (told source.old) (told source.new) line last) }
+    ensures { IfOk result (λ last.
+        GoesOn (bytes_to_come source.old) (bytes_to_come source.new) line last) }
 {
     let mut line = line;
     for _ in 0..u64::MAX {

@@ -1,5 +1,7 @@
 -- What is found in a list that ascends by its keys, and which sorted lists ascend.
-use Rattle.std.proofs.Common.{◌≡◌, ◌∙◌, ◌⊎◌, ℕ, zero, suc, ◌+◌, ◌<◌, ◌≤◌, Bool, true, false, cond, not, nat_lt, Ordering, Some, None, Err, List, [], ◌∷◌, length, get_or, IsTrue, refl, sym, subst, ap, arith, inl, inr}
+use Rattle.std.proofs.Common.{◌≡◌, ◌∙◌, ◌⊎◌, ℕ, zero, suc, ◌+◌, ◌<◌, ◌≤◌, Bool, true, false, cond, not}
+use Rattle.std.proofs.Common.{nat_lt, Ordering, Some, None, Err, List, [], ◌∷◌, length, get_or, IsTrue, refl}
+use Rattle.std.proofs.Common.{sym, subst, ap, arith, inl, inr}
 use Rattle.std.specs.declared.cmp.Ordering.TheVariants.{Less, Equal, Greater}
 use Rattle.std.specs.Cmp.{IsTotalOrder}
 use Rattle.std.specs.List.{list_any, count_by, find, slice_get, All, Contains, HoldsAt, IsAllAdjacentAnswer}

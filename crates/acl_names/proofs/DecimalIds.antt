@@ -1,7 +1,7 @@
 -- The decimal of an id is read as the id, whatever names there are.
 use Rattle.std.proofs.Common.{◌≡◌, ℕ, ◌≤◌, List, Option, None, Some, option_and_then, decimal}
 use Rattle.acl_names.specs.declared.limits.TheConstants.{MAX_ID}
-use Rattle.acl_names.specs.Ids.{ReadBack, resolved, written_id}
+use Rattle.acl_names.specs.Ids.{ReadBack, id_of_written, written_id}
 use Rattle.acl_names.specs.Plain.{IsField}
 use Rattle.acl_names.proofs.Fields.{IsSome, id_field}
 use Rattle.acl_names.proofs.IdTexts.{id_again}
@@ -19,5 +19,5 @@ decimal_field id small = id_field no_id no_name id (nameless no_id) small
     no_id : List ℕ → Option ℕ
     no_id name = None
 
-pub decimal_again : (id_of : List ℕ → Option ℕ) (id : ℕ) → id ≤ MAX_ID → option_and_then (resolved id_of) (written_id (decimal id)) ≡ Some id
+pub decimal_again : (id_of : List ℕ → Option ℕ) (id : ℕ) → id ≤ MAX_ID → option_and_then (id_of_written id_of) (written_id (decimal id)) ≡ Some id
 decimal_again id_of id small = id_again id_of no_name id (nameless id_of) small

@@ -1,5 +1,7 @@
 -- The order of the users and of the groups plays no part in what is wrong with them and in what is found.
-use Rattle.std.proofs.Common.{◌≡◌, ◌∙◌, ℕ, ◌==◌, Bool, true, false, cond, not, nat_lt, nat_eq, ◌||◌, ◌<◌, Option, Some, None, List, [], length, get_or, arith, refl, sym, ap, inl, inr, find, option_map, is_none, IsPermutation, nat_cmp, bytes_eq}
+use Rattle.std.proofs.Common.{◌≡◌, ◌∙◌, ℕ, ◌==◌, Bool, true, false, cond, not, nat_lt, nat_eq, ◌||◌, ◌<◌}
+use Rattle.std.proofs.Common.{Option, Some, None, List, [], length, get_or, arith, refl, sym, ap, inl, inr}
+use Rattle.std.proofs.Common.{find, option_map, is_none, IsPermutation, nat_cmp, bytes_eq}
 use Rattle.std.specs.Cmp.Lexicographic.{slice_cmp}
 use Rattle.std.specs.List.{Contains, list_any, filter_map, slice_get}
 use Rattle.std.specs.Option.{option_and_then, option_map_or}
@@ -12,10 +14,13 @@ use Rattle.std.proofs.lemmas.List.{length-map}
 use Rattle.std.proofs.lemmas.Option.{slice_get-map}
 use Rattle.acl_names.specs.declared.limits.TheConstants.{MAX_GROUPS_OF_USER}
 use Rattle.acl_names.specs.Ascending.{repeats}
-use Rattle.acl_names.specs.Directory.{KnownUser, KnownGroup, Known, AnswersAs, IsDirectory, IsRefusedFor, TellsNamesApart, as_requester, requester_of, fault_of, is_too_many, has_bad_name, repeats_name, repeats_id, has_unknown_group, user_named, group_named, user_with, group_with, groups_of, gid_of, first_of}
+use Rattle.acl_names.specs.Directory.{KnownUser, KnownGroup, Known, AnswersAs, IsDirectory, IsRefusedFor}
+use Rattle.acl_names.specs.Directory.{NamesReadBack, as_requester, requester_of, fault_of, is_too_many}
+use Rattle.acl_names.specs.Directory.{has_bad_name, repeats_name, repeats_id, has_unknown_group, user_named}
+use Rattle.acl_names.specs.Directory.{group_named, user_with, group_with, groups_of, gid_of, first_of}
 use Rattle.acl_names.specs.Ids.{ReadBack, has_name_shape, has_domain_shape}
-use Rattle.acl_names.specs.declared.directory.SetupFault.{SetupFault}
-use Rattle.acl_names.specs.declared.directory.SetupFault.TheVariants.{BadName, RepeatedName, RepeatedId, UnknownGroup, TooMany, Memory}
+use Rattle.acl_names.specs.declared.directory.fault.SetupFault.{SetupFault}
+use Rattle.acl_names.specs.declared.directory.fault.SetupFault.TheVariants.{BadName, RepeatedName, RepeatedId, UnknownGroup, TooMany, Memory}
 use Rattle.acl_names.proofs.AnyLemmas.{list_any-agree}
 use Rattle.acl_names.proofs.AscendingLemmas.{Contains-find, any_false, find-distinct, find-permutation, first_or_none, get_or-within, repeats-permutation, slice_get-within}
 use Rattle.acl_names.specs.Requester.{Identity}
@@ -77,7 +82,13 @@ module _ (domain : List ℕ) (users sorted_users : List KnownUser) (groups sorte
 
   same_too_many : is_too_many parts ≡ is_too_many known
   same_too_many =
-      rw (length_permutation users sorted_users moved_users, length_permutation groups sorted_groups moved_groups, ← list_any-IsPermutation (λ (user : KnownUser). nat_lt MAX_GROUPS_OF_USER (length user.groups)) users sorted_users moved_users) refl
+      rw (
+        length_permutation users sorted_users moved_users,
+        length_permutation groups sorted_groups
+            moved_groups,
+        ← list_any-IsPermutation (λ (user : KnownUser). nat_lt MAX_GROUPS_OF_USER
+            (length user.groups)) users sorted_users moved_users,
+      ) refl
 
   same_bad_name : has_bad_name parts ≡ has_bad_name known
   same_bad_name =
@@ -239,7 +250,7 @@ pub group_shaped : (known : Known) → fault_of known ≡ None → (name : List 
 group_shaped known faultless = found_shaped (λ (group : KnownGroup). group.name) known.groups (names_shaped known faultless).1
 
 -- if nothing is wrong, names can be told apart
-pub tells_names_apart : (known : Known) → fault_of known ≡ None → TellsNamesApart known
+pub tells_names_apart : (known : Known) → fault_of known ≡ None → NamesReadBack known
 unfolding first_of_tests
 tells_names_apart known faultless =
     let none = none_wrong (is_too_many known) (has_bad_name known) (repeats_name known) (repeats_id known) (has_unknown_group known) faultless in

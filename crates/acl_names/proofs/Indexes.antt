@@ -1,5 +1,7 @@
 -- The index of members by their ids.
-use Rattle.std.proofs.Common.{◌≡◌, ◌∙◌, ℕ, suc, ◌+◌, ◌<◌, ◌==◌, Bool, true, false, cond, nat_lt, nat_eq, Some, None, List, [], ◌∷◌, ◌++◌, ◌||◌, length, get_or, take, refl, sym, ap, arith, find, map, option_map, IsPermutation, IsSortedByKey, nat_cmp}
+use Rattle.std.proofs.Common.{◌≡◌, ◌∙◌, ℕ, suc, ◌+◌, ◌<◌, ◌==◌, Bool, true, false, cond, nat_lt, nat_eq, Some}
+use Rattle.std.proofs.Common.{None, List, [], ◌∷◌, ◌++◌, ◌||◌, length, get_or, take, refl, sym, ap, arith}
+use Rattle.std.proofs.Common.{find, map, option_map, IsPermutation, IsSortedByKey, nat_cmp}
 use Rattle.std.specs.List.{list_any, count_by, slice_get, enumerate_from, position_from}
 use Rattle.std.proofs.lemmas.Cmp.{nat_cmp_total}
 use Rattle.std.proofs.lemmas.List.{length-map, take_more}

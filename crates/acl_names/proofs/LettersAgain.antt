@@ -1,5 +1,8 @@
 -- The letters of bits are read as those bits.
-use Rattle.std.proofs.Common.{◌≡◌, ℕ, ◌==◌, ◌+◌, ◌*◌, ◌^◌, ◌<◌, ◌≤◌, Bool, true, false, not, ◌&&◌, ◌||◌, cond, nat_le, min, max, List, [], ◌∷◌, ◌++◌, append_assoc, zero, suc, map, filter, take, drop, length, get_or, length-append, Some, None, refl, sym, ap, subst, ◌∙◌, arith, bit_and, bit_or, fold}
+use Rattle.std.proofs.Common.{◌≡◌, ℕ, ◌==◌, ◌+◌, ◌*◌, ◌^◌, ◌<◌, ◌≤◌, Bool, true, false, not, ◌&&◌, ◌||◌, cond}
+use Rattle.std.proofs.Common.{nat_le, min, max, List, [], ◌∷◌, ◌++◌, append_assoc, zero, suc, map, filter}
+use Rattle.std.proofs.Common.{take, drop, length, get_or, length-append, Some, None, refl, sym, ap, subst}
+use Rattle.std.proofs.Common.{◌∙◌, arith, bit_and, bit_or, fold}
 use Rattle.std.specs.List.{AllByRecursion, list_all, list_any}
 use Rattle.std.specs.Int.{bit_at}
 use Rattle.std.proofs.lemmas.List.{length-map, take-append-drop}
@@ -8,7 +11,7 @@ use Rattle.std.proofs.lemmas.List.Filters.{length-filter_more}
 use Rattle.std.proofs.lemmas.List.Sums.{sum_by-cons, sum_by-append}
 use Rattle.std.proofs.lemmas.Nat.Bits.{bit_at_and, bit_at_or, and_pow, same_from_bits, bit_at-lt, bit_at-zero}
 use Rattle.std.proofs.lemmas.Bool.Decides.{nat_tests, Decides-eqb}
-use Rattle.acl_names.specs.declared.letters.Letter.{Letter}
+use Rattle.acl_names.specs.declared.text.letters.Letter.{Letter}
 use Rattle.acl_names.specs.Letters.{occurrences, repeats, is_letter_of, is_letters_text, bits_of_rows, rows_in, rows_set, letters_of, letters_text, HasOneBit, LettersDiffer, IsTable, HasBitsOf}
 
 abbrev letters : List Letter → List ℕ
@@ -123,14 +126,18 @@ first_count true row front behind new none =
 first_count false row front behind new none =
     occurrences-append row.letter front behind ∙ ap (λ n. n + occurrences row.letter behind) new ∙ ap (λ n. 0 + n) none
 
-counts : (p : Letter → Bool) (front : List ℕ) (rows : List Letter) → LettersDiffer rows → AllByRecursion (λ (r : Letter). occurrences r.letter front ≡ 0) rows → Counts p rows (front ++ letters (filter p rows))
+counts : (p : Letter → Bool) (front : List ℕ) (rows : List Letter) → LettersDiffer rows
+    → AllByRecursion (λ (r : Letter). occurrences r.letter front ≡ 0) rows
+    → Counts p rows (front ++ letters (filter p rows))
 counts p front [] differ new = tt
 counts p front (row ∷ rows) differ new =
     let behind = letters (filter p rows) in
     let without : Counts p rows (front ++ behind) = counts p front rows differ.1 new.1 in
     let with_it : Counts p rows ((front ++ row.letter ∷ []) ++ behind) = counts p (front ++ row.letter ∷ []) rows differ.1 (still_new row.letter front rows differ.0 new.1) in
     let none : occurrences row.letter behind ≡ 0 = absent row.letter p rows differ.0 in
-    elim (p row) as (λ t. (occurrences row.letter (front ++ letters (cond t (row ∷ filter p rows) (filter p rows))) ≡ cond t 1 0) × Counts p rows (front ++ letters (cond t (row ∷ filter p rows) (filter p rows)))) [
+    elim (p row) as (λ t. (occurrences row.letter (front
+    ++ letters (cond t (row ∷ filter p rows) (filter p rows))) ≡ cond t 1 0)
+    × Counts p rows (front ++ letters (cond t (row ∷ filter p rows) (filter p rows)))) [
       | true ↦ (first_count true row front behind new.0 none, subst (Counts p rows) (append_assoc front (row.letter ∷ []) behind) with_it)
       | false ↦ (first_count false row front behind new.0 none, without)
     ]

@@ -1,5 +1,7 @@
 -- Letters that are read one after the other.
-use Rattle.std.proofs.Common.{◌≡◌, ℕ, ◌==◌, ◌+◌, ◌<◌, Bool, true, false, not, ◌&&◌, ◌||◌, cond, nat_le, nat_lt, max, List, [], ◌∷◌, length, take, drop, get_or, filter, Some, None, refl, sym, ap, ◌∙◌, arith, bit_or, inl, inr}
+use Rattle.std.proofs.Common.{◌≡◌, ℕ, ◌==◌, ◌+◌, ◌<◌, Bool, true, false, not, ◌&&◌, ◌||◌, cond, nat_le}
+use Rattle.std.proofs.Common.{nat_lt, max, List, [], ◌∷◌, length, take, drop, get_or, filter, Some, None}
+use Rattle.std.proofs.Common.{refl, sym, ap, ◌∙◌, arith, bit_or, inl, inr}
 use Rattle.std.specs.List.{list_all, list_any}
 use Rattle.std.specs.Int.{bit_at}
 use Rattle.std.proofs.lemmas.Bool.{cases_Bool, eqb-true}
@@ -7,7 +9,7 @@ use Rattle.std.proofs.lemmas.Bool.Decides.{nat_tests}
 use Rattle.std.proofs.lemmas.List.{take_more, take-append-drop}
 use Rattle.std.proofs.lemmas.List.Folds.{list_all_more, list_all_at}
 use Rattle.std.proofs.lemmas.Nat.Bits.{bit_at_or, same_from_bits}
-use Rattle.acl_names.specs.declared.letters.Letter.{Letter}
+use Rattle.acl_names.specs.declared.text.letters.Letter.{Letter}
 use Rattle.acl_names.specs.Letters.{occurrences, occurs, repeats, is_letter_of, is_letters_text, bits_of_rows, rows_in, letters_of}
 use Rattle.acl_names.proofs.LettersAgain.{bits_from, occurrences-append, occurrences-cons}
 use Rattle.acl_names.proofs.Counting.{list_any-count_by}
@@ -150,7 +152,8 @@ refused_repeat table text i inside is_letter again =
     let here : occurrences b (take (i + 1) text) ≡ occurrences b (take i text) + 1 = counted_more b text i inside ∙ ap (λ t. occurrences b (take i text) + cond t 1 0) itself in
     let whole : occurrences b text ≡ occurrences b (take (i + 1) text) + occurrences b (drop (i + 1) text) =
     ap (occurrences b) (sym (take-append-drop (i + 1) text)) ∙ occurrences-append b (take (i + 1) text) (drop (i + 1) text) in
-    let twice : repeats b text ≡ true = two (occurrences b text) (occurrences b (take i text)) (occurrences b (drop (i + 1) text)) (whole ∙ ap (λ n. n + occurrences b (drop (i + 1) text)) here) before in
+    let twice : repeats b text ≡ true = two (occurrences b text) (occurrences b (take i text))
+    (occurrences b (drop (i + 1) text)) (whole ∙ ap (λ n. n + occurrences b (drop (i + 1) text)) here) before in
     refused table text (ap (λ t. list_all (is_letter_of table) text && not t) (some_row_repeats b text table twice is_letter) ∙ and_false (list_all (is_letter_of table) text))
   where
     two : (n k m : ℕ) → n ≡ k + 1 + m → nat_lt 0 k ≡ true → nat_le 2 n ≡ true

@@ -9,7 +9,7 @@ use Rattle.std.proofs.lemmas.List.Splits.{length-slice_split, slice_split-cons_n
 use Rattle.acl_names.specs.Bytes.{newline, hash, comma}
 use Rattle.acl_names.specs.Pieces.{is_blank, trim_start, trim, parts, trimmed_parts, content, pieces_of_content, pieces}
 use Rattle.acl_names.specs.Plain.{IsFront}
-use Rattle.acl_names.specs.ListText.{Say}
+use Rattle.acl_names.specs.ListText.{PiecesSay}
 use Rattle.acl_names.proofs.PlainLines.{Lacks, LacksBlanks}
 use Rattle.acl_names.proofs.PlainLists.{IsLineFront, IsReadPlainly, whole_blanks, whole_newlines, whole_hashes}
 
@@ -129,7 +129,7 @@ commas_of_front line front is =
     let joined = length-append front (trimmed_parts comma []) in
     omega arith
 
-said_lengths : {A F : Type 0} (value_of : List ℕ → Result A F) (texts : List (List ℕ)) (list : List A) → Say value_of texts list → length texts ≡ length list
+said_lengths : {A F : Type 0} (value_of : List ℕ → Result A F) (texts : List (List ℕ)) (list : List A) → PiecesSay value_of texts list → length texts ≡ length list
 said_lengths {A} {F} value_of texts list said =
     sym (length-map texts value_of) ∙ ap (λ (xs : List (Result A F)). length xs) said ∙ length-map list Ok
 
@@ -142,7 +142,9 @@ one_more_piece {A} {F} value_of text rest list so_far value behind found =
     let regrouped : line ++ rest ≡ (line ++ piece) ++ behind = ap (λ t. line ++ t) found.cut ∙ sym (append_assoc line piece behind) in
     let whole = length-append line piece in
     let some : 0 < length (line ++ piece) = omega (arith, found.some) in
-    let many = pieces_many (line ++ piece) behind some (whole_blanks line so_far.front so_far.is piece found.plain) (whole_newlines line so_far.front so_far.is piece found.plain) (whole_hashes line so_far.front so_far.is piece found.plain) in
+    let many = pieces_many (line ++ piece) behind some (whole_blanks line so_far.front so_far.is piece
+    found.plain) (whole_newlines line so_far.front so_far.is piece found.plain)
+    (whole_hashes line so_far.front so_far.is piece found.plain) in
     let counted = commas_of_front line so_far.front so_far.is in
     let both = commas-append line piece in
     let all : pieces text ≡ so_far.before ++ pieces ((line ++ piece) ++ behind) = so_far.cut ∙ ap (λ t. so_far.before ++ pieces t) regrouped in

@@ -1,11 +1,13 @@
 -- A text of plain pieces, between which a comma or a newline stands, read piece by piece.
-use Rattle.std.proofs.Common.{◌≡◌, ℕ, ◌==◌, ◌<◌, true, false, List, [], ◌∷◌, ◌++◌, length, map, length-append, get_or, take, drop, ◌-◌, Result, refl, sym, ap, ◌∙◌, append_assoc, arith, flat_map, eqb-true, append-nil, take_all}
+use Rattle.std.proofs.Common.{◌≡◌, ℕ, ◌==◌, ◌<◌, true, false, List, [], ◌∷◌, ◌++◌, length, map, length-append}
+use Rattle.std.proofs.Common.{get_or, take, drop, ◌-◌, Result, refl, sym, ap, ◌∙◌, append_assoc, arith}
+use Rattle.std.proofs.Common.{flat_map, eqb-true, append-nil, take_all}
 use Rattle.std.proofs.lemmas.List.Elements.{All-nil, All-cons, All-append}
 use Rattle.std.proofs.lemmas.List.Splits.{slice_split_at, slice_split_none}
 use Rattle.acl_names.specs.Bytes.{newline, hash, comma}
 use Rattle.acl_names.specs.Pieces.{is_blank, trim, trimmed_parts, content, pieces_of_content, pieces}
 use Rattle.acl_names.specs.Plain.{IsPlain, IsFront}
-use Rattle.acl_names.specs.ListText.{Say}
+use Rattle.acl_names.specs.ListText.{PiecesSay}
 use Rattle.acl_names.proofs.ListTextLemmas.{Say-push}
 use Rattle.acl_names.proofs.PlainLines.{Lacks, LacksBlanks, plain_lacks_blanks, plain_lacks_newline, plain_lacks_hash, plain_lacks_comma, trim_same, before_no_hash}
 
@@ -96,17 +98,17 @@ pub record IsReadPlainly {A F : Type 0} (value_of : List ℕ → Result A F) (te
   pub line : List ℕ
   pub cut : pieces text ≡ before ++ pieces (line ++ rest)
   pub is : IsLineFront line front
-  pub said : Say value_of (before ++ front) list
+  pub said : PiecesSay value_of (before ++ front) list
 
 module _ {A F : Type 0} (value_of : List ℕ → Result A F) (text : List ℕ) where
   pub started : IsReadPlainly value_of text text []
   started = record { before = []; front = []; line = []; cut = refl; is = nothing_read; said = refl }
 
   module _ (rest : List ℕ) (list : List A) (so_far : IsReadPlainly value_of text rest list) (value : A) (behind : List ℕ) (found : IsFront value_of rest value behind) where
-    said_more : Say value_of (so_far.before ++ (so_far.front ++ found.piece ∷ [])) (list ++ value ∷ [])
+    said_more : PiecesSay value_of (so_far.before ++ (so_far.front ++ found.piece ∷ [])) (list ++ value ∷ [])
     said_more = rw (← append_assoc) (Say-push value_of (so_far.before ++ so_far.front) list found.piece value so_far.said found.said)
 
-    pub ended : behind ≡ [] → Say value_of (pieces text) (list ++ value ∷ [])
+    pub ended : behind ≡ [] → PiecesSay value_of (pieces text) (list ++ value ∷ [])
     ended none =
         let whole : rest ≡ found.piece = found.cut ∙ ap (λ t. found.piece ++ t) none ∙ append-nil found.piece in
         let all : pieces text ≡ so_far.before ++ (so_far.front ++ found.piece ∷ []) =
@@ -145,7 +147,7 @@ module _ {A F : Type 0} (value_of : List ℕ → Result A F) (text : List ℕ) w
           said = rw append-nil said_more;
         }
 
-    pub ended_by_newline : behind ≡ newline ∷ [] → Say value_of (pieces text) (list ++ value ∷ [])
+    pub ended_by_newline : behind ≡ newline ∷ [] → PiecesSay value_of (pieces text) (list ++ value ∷ [])
     unfolding after_newline
     ended_by_newline next =
         let at_end = after_newline [] next in

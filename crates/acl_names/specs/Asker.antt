@@ -1,7 +1,7 @@
 -- Who asks for access and is in at most two groups.
 use Rattle.std.specs.Prelude.{◌++◌, option_to_list}
 use Rattle.acl_names.specs.Requester.{Identity}
-use Rattle.acl_names.specs.declared.asker.Asker.{Asker}
+use Rattle.acl_names.specs.declared.directory.asker.Asker.{Asker}
 
 -- the requester that an asker is
 abbrev pub identity_of : Asker → Identity

@@ -10,10 +10,11 @@ use Rattle.acl_names.specs.Ascending.{repeats, IsAscending}
 use Rattle.acl_names.specs.Named.{IsIndexOf}
 use Rattle.acl_names.specs.Ids.{ReadBack, has_name_shape, has_domain_shape}
 use Rattle.acl_names.specs.Requester.{Identity}
-use Rattle.acl_names.specs.declared.directory.SetupFault.{SetupFault}
-use Rattle.acl_names.specs.declared.directory.SetupFault.TheVariants.{BadName, RepeatedName}
-use Rattle.acl_names.specs.declared.directory.SetupFault.TheVariants.{RepeatedId, UnknownGroup}
-use Rattle.acl_names.specs.declared.directory.SetupFault.TheVariants.{TooMany, Memory}
+use Rattle.acl_names.specs.declared.directory.fault.SetupFault.{SetupFault}
+use Rattle.acl_names.specs.declared.directory.fault.SetupFault.TheVariants.{BadName, RepeatedName}
+use Rattle.acl_names.specs.declared.directory.fault.SetupFault.TheVariants.{RepeatedId}
+use Rattle.acl_names.specs.declared.directory.fault.SetupFault.TheVariants.{UnknownGroup}
+use Rattle.acl_names.specs.declared.directory.fault.SetupFault.TheVariants.{TooMany, Memory}
 use Rattle.acl_names.specs.declared.limits.TheConstants.{MAX_USERS, MAX_GROUPS, MAX_GROUPS_OF_USER}
 
 -- a user, with the names of the groups that the user is in, the first group first
@@ -124,7 +125,7 @@ IsRefusedFor known fault = fault_of known ≡ Some fault
 
 -- Each name that is printed for an id reads as that id, and the domain in which it stands has its
 -- shape.
-pub record TellsNamesApart (known : Known) : Type 0 where
+pub record NamesReadBack (known : Known) : Type 0 where
   pub domain : has_domain_shape known.domain ≡ true
   pub users : ReadBack (uid_of known) (user_name known)
   pub groups : ReadBack (gid_of known) (group_name known)

@@ -3,7 +3,7 @@ use Rattle.std.specs.Prelude.{◌≡◌, ◌^◌, false, ℕ, Bool, ◌==◌, �
 use Rattle.std.specs.Prelude.{Option, Some, None, count_by, map, filter, bit_and, bit_or, fold}
 use Rattle.std.specs.Prelude.{if◌then◌else◌}
 use Rattle.std.specs.List.{AllByRecursion, list_all, list_any}
-use Rattle.acl_names.specs.declared.letters.Letter.{Letter}
+use Rattle.acl_names.specs.declared.text.letters.Letter.{Letter}
 
 -- how often a byte stands in a text
 abbrev pub occurrences : ℕ → List ℕ → ℕ

@@ -96,15 +96,15 @@ unfolding has
 idle-flags_of_who = by_flags_of_who (λ flags. (has flags 3 && not (has flags 0 || has flags 1)) ≡ false) refl refl
 
 -- an entry with no flags of its own
-pub IsAce-plain : (kind : AceType) (who : Who) (mask : ℕ) {own_flags : ℕ} → own_flags ≡ flags_of_who who → mask ∩ all_masks ≡ mask
+pub IsAce-plain_ace : (kind : AceType) (who : Who) (mask : ℕ) {own_flags : ℕ} → own_flags ≡ flags_of_who who → mask ∩ all_masks ≡ mask
     → IsAce (record { kind = kind; flags = own_flags; who = who; mask = mask })
-IsAce-plain kind who mask f known = record {
+IsAce-plain_ace kind who mask f known = record {
   known_flags = ap (λ (flags : ℕ). flags ∩ all_flags) f ∙ within-flags_of_who who ∙ sym f;
   known_mask = known;
   group_flag = ap (λ (flags : ℕ). has flags identifier_group) f ∙ has-flags_of_who who;
 }
 
-pub is_idle-plain : (kind : AceType) (who : Who) (mask : ℕ) {own_flags : ℕ} → own_flags ≡ flags_of_who who
+pub is_idle-plain_ace : (kind : AceType) (who : Who) (mask : ℕ) {own_flags : ℕ} → own_flags ≡ flags_of_who who
     → is_idle (record { kind = kind; flags = own_flags; who = who; mask = mask }) ≡ false
-is_idle-plain kind who mask f =
+is_idle-plain_ace kind who mask f =
     ap (λ (flags : ℕ). has flags 3 && not (has flags 0 || has flags 1)) f ∙ idle-flags_of_who who

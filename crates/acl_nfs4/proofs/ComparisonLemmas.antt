@@ -1,5 +1,7 @@
 -- Why the askers of all pairs of entries tell whether two lists decide alike for everyone.
-use Rattle.std.proofs.Common.{◌≡◌, ◌≤◌, ◌==◌, ℕ, Bool, true, false, cond, ◌&&◌, ◌||◌, refl, sym, ap, ap₂, subst, ◌∙◌, ◌⊎◌, inl, inr, List, [], ◌∷◌, ◌++◌, Option, Some, None, length, arith, find, option_map, option_to_list, unwrap_or}
+use Rattle.std.proofs.Common.{◌≡◌, ◌≤◌, ◌==◌, ℕ, Bool, true, false, cond, ◌&&◌, ◌||◌, refl, sym, ap, ap₂}
+use Rattle.std.proofs.Common.{subst, ◌∙◌, ◌⊎◌, inl, inr, List, [], ◌∷◌, ◌++◌, Option, Some, None, length}
+use Rattle.std.proofs.Common.{arith, find, option_map, option_to_list, unwrap_or}
 use Rattle.std.specs.List.{All, list_any}
 use Rattle.std.proofs.lemmas.Bool.{true≢false, and_parts, or_cases, eqb-true, eq-eqb}
 use Rattle.std.proofs.lemmas.List.Elements.{All-head, All-tail}
@@ -7,7 +9,7 @@ use Rattle.acl_names.specs.Bits.{has}
 use Rattle.acl_names.specs.Requester.{Identity, is_in_group}
 use Rattle.acl_names.proofs.AnyLemmas.{or_true, or_false, list_any-append}
 use Rattle.acl_nfs4.specs.Ace.{Nfsace4, decides, is_allow}
-use Rattle.acl_nfs4.specs.Comparison.{AlikeFor, decided_at, needed_uid, needed_gid, asker_for, IsStranger, OfEachWho, PairsSuffice, TwoGroupsSuffice}
+use Rattle.acl_nfs4.specs.Comparison.{AlikeFor, decided_at, needed_uid, needed_gid, asker_for, IsStranger, OfEach, PairsSuffice, TwoGroupsSuffice}
 use Rattle.acl_nfs4.specs.Evaluation.{speaks, allows}
 use Rattle.acl_nfs4.specs.Who.{matches}
 use Rattle.acl_nfs4.specs.declared.owners.Owners.{Owners}
@@ -30,7 +32,7 @@ speaker-cons applies bit ace rest =
     [ true ↦ refl | false ↦ refl ]
 
 -- what holds of each who holds of the speaker
-pub speaker-holds : (P : Who → Type 0) (applies : Who → Bool) (bit : ℕ) (aces : List Nfsace4) → OfEachWho aces P → P (speaker applies bit aces)
+pub speaker-holds : (P : Who → Type 0) (applies : Who → Bool) (bit : ℕ) (aces : List Nfsace4) → OfEach (λ (ace : Nfsace4). ace.who) aces P → P (speaker applies bit aces)
 speaker-holds P applies bit [] each = each.1
 speaker-holds P applies bit (ace ∷ rest) each =
     subst P (sym (speaker-cons applies bit ace rest))
@@ -244,7 +246,7 @@ module _ (first second : List Nfsace4) (owners other_owners : Owners) (requester
       go None a (Some uid) eb = inl (needs_own other_owners.owner other_owners.group requester other uid is_other eb)
       go None a None eb = inr refl
 
-  own_among : (owner stranger : ℕ) (aces : List Nfsace4) → IsStranger owner aces stranger
+  own_among : (owner stranger : ℕ) (aces : List Nfsace4) → IsStranger (λ (ace : Nfsace4). ace.who) owner aces stranger
       → All (λ ace. needed_uid owner ace.who ≡ Some (asked stranger) → requester.uid ≡ asked stranger) aces
   own_among owner stranger aces unknown k d inside needed =
       elim (asked_own stranger) [
@@ -253,18 +255,19 @@ module _ (first second : List Nfsace4) (owners other_owners : Owners) (requester
       ]
 
 pub pairs_suffice : PairsSuffice
-pairs_suffice first second owners other_owners bits stranger unknown_first unknown_second each requester bit in_bits =
+pairs_suffice first second owners other_owners bits askers requester bit in_bits =
+    let stranger = askers.stranger in
     decided_alike first second owners other_owners requester bit (asked first second owners other_owners requester bit stranger)
     (asked_first first second owners other_owners requester bit stranger)
     (asked_second first second owners other_owners requester bit stranger)
-    (own_among first second owners other_owners requester bit owners.owner stranger first unknown_first)
-    (own_among first second owners other_owners requester bit other_owners.owner stranger second unknown_second)
+    (own_among first second owners other_owners requester bit owners.owner stranger first askers.to_first)
+    (own_among first second owners other_owners requester bit other_owners.owner stranger second askers.to_second)
     (speaker-holds
     (λ (w : Who). AlikeFor first second owners other_owners bits (asker_for owners other_owners stranger (who first second owners other_owners requester bit) w))
     (matches other_owners.owner other_owners.group requester) bit second
     (speaker-holds
-    (λ (v : Who). OfEachWho second (λ (w : Who). AlikeFor first second owners other_owners bits (asker_for owners other_owners stranger v w)))
-    (matches owners.owner owners.group requester) bit first each)
+    (λ (v : Who). OfEach (λ (ace : Nfsace4). ace.who) second (λ (w : Who). AlikeFor first second owners other_owners bits (asker_for owners other_owners stranger v w)))
+    (matches owners.owner owners.group requester) bit first askers.each)
     bit in_bits)
 
 few_gids : (group other_group : ℕ) (who other : Who) → length (option_to_list (needed_gid group who) ++ option_to_list (needed_gid other_group other)) ≤ 2

@@ -1,17 +1,18 @@
 -- Of more numbers than there are entries, no entry asks for one.
-use Rattle.std.proofs.Common.{◌≡◌, ◌≢◌, ◌≤◌, ◌+◌, ◌-◌, ◌<◌, ◌==◌, ℕ, zero, suc, Bool, true, false, cond, not, ◌&&◌, ◌||◌, refl, sym, ap, ap₂, ◌∙◌, List, [], ◌∷◌, ◌++◌, Option, Some, None, length, length-append, map, arith}
+use Rattle.std.proofs.Common.{◌≡◌, ◌≢◌, ◌≤◌, ◌+◌, ◌-◌, ◌<◌, ◌==◌, ℕ, zero, suc, Bool, true, false, cond, not}
+use Rattle.std.proofs.Common.{◌&&◌, ◌||◌, refl, sym, ap, ap₂, ◌∙◌, List, [], ◌∷◌, ◌++◌, Option, Some, None}
+use Rattle.std.proofs.Common.{length, length-append, map, arith}
 use Rattle.std.specs.List.{list_any, filter}
 use Rattle.std.proofs.lemmas.Bool.{true≢false, eqb-true, eq-eqb, or_parts}
 use Rattle.std.proofs.lemmas.List.{length-map}
 use Rattle.std.proofs.lemmas.List.Elements.{All-nil, All-cons}
 use Rattle.acl_names.specs.declared.limits.TheConstants.{NOBODY}
 use Rattle.acl_names.proofs.AnyLemmas.{list_any-append, list_any-agree, list_any-filter, list_any-map, list_any-weaken}
-use Rattle.acl_nfs4.specs.Ace.{Nfsace4}
 use Rattle.acl_nfs4.specs.Comparison.{needed_uid, needs_user, asks_for, IsStranger}
 use Rattle.acl_nfs4.specs.declared.who.Who.{Who}
 use Rattle.acl_nfs4.specs.declared.who.Who.TheVariants.{Owner, Group, Everyone, User, NamedGroup}
 
-abbrev pub is_at : ℕ → Option ℕ → Bool
+abbrev is_at : ℕ → Option ℕ → Bool
 is_at k (Some n) = n == k
 is_at k None = false
 
@@ -51,7 +52,7 @@ module _ {X : Type 0} where
       go (Some m) is = differs m is (m == n) refl
 
   -- if each of n numbers that differ is that of an element, there are at least n elements
-  pub enough : (f : X → Option ℕ) (numbers : ℕ → ℕ) (n : ℕ) (xs : List X)
+  enough : (f : X → Option ℕ) (numbers : ℕ → ℕ) (n : ℕ) (xs : List X)
       → ((j k : ℕ) → j < k → k < n → numbers j ≢ numbers k)
       → ((k : ℕ) → k < n → list_any (λ x. is_at (numbers k) (f x)) xs ≡ true) → n ≤ length xs
   enough f numbers zero xs apart each = omega arith
@@ -79,41 +80,42 @@ asked_uid owner uid Group = refl
 asked_uid owner uid Everyone = refl
 asked_uid owner uid (NamedGroup gid) = refl
 
-asked : (owner uid : ℕ) (aces : List Nfsace4) → list_any (λ ace. is_at uid (needed_uid owner ace.who)) aces ≡ asks_for owner uid aces
-asked owner uid aces =
-    list_any-agree (λ (ace : Nfsace4). is_at uid (needed_uid owner ace.who)) (λ (ace : Nfsace4). needs_user owner uid ace.who)
-    (λ ace. sym (asked_uid owner uid ace.who)) aces
+module _ {E : Type 0} (who : E → Who) where
+  asked : (owner uid : ℕ) (entries : List E) → list_any (λ entry. is_at uid (needed_uid owner (who entry))) entries ≡ asks_for who owner uid entries
+  asked owner uid entries =
+      list_any-agree (λ (entry : E). is_at uid (needed_uid owner (who entry))) (λ (entry : E). needs_user owner uid (who entry))
+      (λ entry. sym (asked_uid owner uid (who entry))) entries
 
--- the users that entries ask for
-abbrev users_asked : ℕ → List Nfsace4 → List (Option ℕ)
-users_asked owner aces = map (λ ace. needed_uid owner ace.who) aces
+  -- the users that entries ask for
+  abbrev users_asked : ℕ → List E → List (Option ℕ)
+  users_asked owner entries = map (λ entry. needed_uid owner (who entry)) entries
 
-among_users : (owner uid : ℕ) (aces : List Nfsace4) → list_any (is_at uid) (users_asked owner aces) ≡ asks_for owner uid aces
-among_users owner uid aces = list_any-map (is_at uid) (λ (ace : Nfsace4). needed_uid owner ace.who) aces ∙ asked owner uid aces
+  among_users : (owner uid : ℕ) (entries : List E) → list_any (is_at uid) (users_asked owner entries) ≡ asks_for who owner uid entries
+  among_users owner uid entries = list_any-map (is_at uid) (λ (entry : E). needed_uid owner (who entry)) entries ∙ asked owner uid entries
 
--- two lists can't ask for more users than they have entries
-pub asked_few : (owner other_owner n : ℕ) (first second : List Nfsace4) → n ≤ NOBODY
-    → ((k : ℕ) → k < n → (asks_for owner (tried k) first || asks_for other_owner (tried k) second) ≡ true)
-    → n ≤ length first + length second
-asked_few owner other_owner n first second few each =
-    let users : List (Option ℕ) = users_asked owner first ++ users_asked other_owner second in
-    let both : n ≤ length users =
-    enough (λ (user : Option ℕ). user) tried n users (tried_apart n few)
-    (λ k below. list_any-append (is_at (tried k)) (users_asked owner first) (users_asked other_owner second)
-    ∙ ap₂ (λ a b. a || b) (among_users owner (tried k) first) (among_users other_owner (tried k) second) ∙ each k below) in
-    omega (
-      arith,
-      both,
-      length-append (users_asked owner first) (users_asked other_owner second),
-      length-map first (λ (ace : Nfsace4). needed_uid owner ace.who),
-      length-map second (λ (ace : Nfsace4). needed_uid other_owner ace.who),
-    )
+  -- two lists can't ask for more users than they have entries
+  pub asked_few : (owner other_owner n : ℕ) (first second : List E) → n ≤ NOBODY
+      → ((k : ℕ) → k < n → (asks_for who owner (tried k) first || asks_for who other_owner (tried k) second) ≡ true)
+      → n ≤ length first + length second
+  asked_few owner other_owner n first second few each =
+      let users : List (Option ℕ) = users_asked owner first ++ users_asked other_owner second in
+      let both : n ≤ length users =
+      enough (λ (user : Option ℕ). user) tried n users (tried_apart n few)
+      (λ k below. list_any-append (is_at (tried k)) (users_asked owner first) (users_asked other_owner second)
+      ∙ ap₂ (λ a b. a || b) (among_users owner (tried k) first) (among_users other_owner (tried k) second) ∙ each k below) in
+      omega (
+        arith,
+        both,
+        length-append (users_asked owner first) (users_asked other_owner second),
+        length-map first (λ (entry : E). needed_uid owner (who entry)),
+        length-map second (λ (entry : E). needed_uid other_owner (who entry)),
+      )
 
--- one whom no entry asks for is a stranger
-pub is_stranger : (owner uid : ℕ) (aces : List Nfsace4) → asks_for owner uid aces ≡ false → IsStranger owner aces uid
-is_stranger owner uid [] none = All-nil (λ (ace : Nfsace4). needed_uid owner ace.who ≢ Some uid)
-is_stranger owner uid (ace ∷ rest) none =
-    let parts = or_parts (needs_user owner uid ace.who) (asks_for owner uid rest) none in
-    All-cons (λ (other : Nfsace4). needed_uid owner other.who ≢ Some uid) ace rest
-    (λ e. true≢false (sym (asked_uid owner uid ace.who ∙ ap (is_at uid) e ∙ eq-eqb uid uid refl) ∙ parts.0))
-    (is_stranger owner uid rest parts.1)
+  -- one whom no entry asks for is a stranger
+  pub is_stranger : (owner uid : ℕ) (entries : List E) → asks_for who owner uid entries ≡ false → IsStranger who owner entries uid
+  is_stranger owner uid [] none = All-nil (λ (entry : E). needed_uid owner (who entry) ≢ Some uid)
+  is_stranger owner uid (entry ∷ rest) none =
+      let parts = or_parts (needs_user owner uid (who entry)) (asks_for who owner uid rest) none in
+      All-cons (λ (other : E). needed_uid owner (who other) ≢ Some uid) entry rest
+      (λ e. true≢false (sym (asked_uid owner uid (who entry) ∙ ap (is_at uid) e ∙ eq-eqb uid uid refl) ∙ parts.0))
+      (is_stranger owner uid rest parts.1)

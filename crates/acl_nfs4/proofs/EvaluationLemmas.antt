@@ -1,7 +1,7 @@
 -- What a list says of a bit, part by part.
 use Rattle.std.proofs.Common.{◌≡◌, ℕ, Bool, true, false, cond, ◌&&◌, refl, sym, ap, ◌∙◌, List, [], ◌∷◌, ◌++◌, Option, Some, None, ◌==◌, find, option_map, eqb-true}
 use Rattle.acl_names.specs.Bits.{has}
-use Rattle.acl_nfs4.specs.Ace.{decides, is_allow, plain, unless_empty, Nfsace4}
+use Rattle.acl_nfs4.specs.Ace.{decides, is_allow, plain_ace, unless_empty, Nfsace4}
 use Rattle.acl_nfs4.specs.Who.{flags_of_who}
 use Rattle.acl_nfs4.specs.Evaluation.{speaks, verdict}
 use Rattle.acl_nfs4.specs.declared.ace.AceType.TheVariants.{Allow, Deny}
@@ -60,8 +60,8 @@ module _ (applies : Who → Bool) (bit : ℕ) where
   unfolding speaks decides has
   speaks-deny who mask = by_flags_of_who (λ flags. speaks applies bit (record { kind = Deny; flags = flags; who = who; mask = mask }) ≡ (applies who && has mask bit)) refl refl who
 
-  pub verdict-allow : (who : Who) (mask : ℕ) → verdict applies bit (plain Allow who mask) ≡ cond (applies who && has mask bit) (Some true) None
+  pub verdict-allow : (who : Who) (mask : ℕ) → verdict applies bit (plain_ace Allow who mask) ≡ cond (applies who && has mask bit) (Some true) None
   verdict-allow who mask = verdict-unless_empty _ ∙ ap (λ b. cond b (Some true) None) (speaks-allow who mask)
 
-  pub verdict-deny : (who : Who) (mask : ℕ) → verdict applies bit (plain Deny who mask) ≡ cond (applies who && has mask bit) (Some false) None
+  pub verdict-deny : (who : Who) (mask : ℕ) → verdict applies bit (plain_ace Deny who mask) ≡ cond (applies who && has mask bit) (Some false) None
   verdict-deny who mask = verdict-unless_empty _ ∙ ap (λ b. cond b (Some false) None) (speaks-deny who mask)

@@ -1,5 +1,7 @@
 -- One entry's step of the evaluation of a mask.
-use Rattle.std.proofs.Common.{◌≡◌, ℕ, Bool, true, false, cond, not, ◌&&◌, ◌||◌, ◌↔◌, refl, sym, ap, ◌∙◌, List, [], ◌∷◌, Some, ◌+◌, ◌<◌, length, get_or, drop, subst, ap₂, ◌==◌, IsTrue, find, option_map, unwrap_or, bit_and}
+use Rattle.std.proofs.Common.{◌≡◌, ℕ, Bool, true, false, cond, not, ◌&&◌, ◌||◌, ◌↔◌, refl, sym, ap, ◌∙◌, List}
+use Rattle.std.proofs.Common.{[], ◌∷◌, Some, ◌+◌, ◌<◌, length, get_or, drop, subst, ap₂, ◌==◌, IsTrue, find}
+use Rattle.std.proofs.Common.{option_map, unwrap_or, bit_and}
 use Rattle.std.proofs.lemmas.Bool.{true≢false, and_parts, and_from, eqb-true, eq-eqb}
 use Rattle.acl_names.specs.Bits.{has, without, ◌∩◌, ◌∪◌}
 use Rattle.acl_nfs4.specs.Ace.{decides, is_allow, Nfsace4}

@@ -1,12 +1,14 @@
 -- Letters that are read by a list of their bits.
-use Rattle.std.proofs.Common.{◌≡◌, ◌≢◌, ℕ, zero, suc, ◌<◌, ◌+◌, ◌==◌, Bool, true, false, cond, ◌&&◌, ◌||◌, List, [], ◌∷◌, take, get_or, length, filter, nat_le, nat_lt, None, refl, sym, ap, subst, ◌∙◌, arith, bit_and, bit_or, ◌⊎◌, inl, inr, slice_index}
+use Rattle.std.proofs.Common.{◌≡◌, ◌≢◌, ℕ, zero, suc, ◌<◌, ◌+◌, ◌==◌, Bool, true, false, cond, ◌&&◌, ◌||◌}
+use Rattle.std.proofs.Common.{List, [], ◌∷◌, take, get_or, length, filter, nat_le, nat_lt, None, refl, sym}
+use Rattle.std.proofs.Common.{ap, subst, ◌∙◌, arith, bit_and, bit_or, ◌⊎◌, inl, inr, slice_index}
 use Rattle.std.specs.List.{AllByRecursion, list_any}
 use Rattle.std.proofs.lemmas.Bool.{cases_Bool, eqb-true, true≢false}
 use Rattle.std.proofs.lemmas.Bool.Decides.{nat_tests, Decides-eqb}
 use Rattle.std.proofs.lemmas.Nat.Bits.{bit_at_or, same_from_bits}
 use Rattle.acl_names.specs.Bits.{has}
 use Rattle.acl_names.specs.Letters.{occurs, occurrences, is_letter_of, bits_of_rows, rows_in, letters_of}
-use Rattle.acl_names.specs.declared.letters.Letter.{Letter}
+use Rattle.acl_names.specs.declared.text.letters.Letter.{Letter}
 use Rattle.acl_names.proofs.BitSets.{has-and, has-or, has-zero, no_bits}
 use Rattle.acl_names.proofs.Counting.{list_any-count_by}
 use Rattle.acl_names.proofs.LettersAgain.{bits_from}
@@ -26,7 +28,9 @@ has-filter : (p : Letter → Bool) (rows : List Letter) (k : ℕ) → has (bits_
 has-filter p [] k set = set
 has-filter p (row ∷ rows) k set = has-rows row rows k ∙ go (has-filter p rows k) (p row) (has row.bit k) refl set
   where
-    go : (has (bits_of_rows (filter p rows)) k ≡ true → has (bits_of_rows rows) k ≡ true) → (b r : Bool) → has row.bit k ≡ r → has (bits_of_rows (cond b (row ∷ filter p rows) (filter p rows))) k ≡ true → (has row.bit k || has (bits_of_rows rows) k) ≡ true
+    go : (has (bits_of_rows (filter p rows)) k ≡ true → has (bits_of_rows rows) k ≡ true) → (b r : Bool)
+        → has row.bit k ≡ r → has (bits_of_rows (cond b (row ∷ filter p rows) (filter p rows))) k ≡ true
+        → (has row.bit k || has (bits_of_rows rows) k) ≡ true
     go inside b true here set = ap (λ t. t || has (bits_of_rows rows) k) here
     go inside true false here set =
         let later : has (bits_of_rows (filter p rows)) k ≡ true = ap (λ t. t || has (bits_of_rows (filter p rows)) k) (sym here) ∙ sym (has-rows row (filter p rows) k) ∙ set in
@@ -39,7 +43,9 @@ has-stronger : (p q : Letter → Bool) → ((row : Letter) → q row ≡ true �
 has-stronger p q stronger [] k set = set
 has-stronger p q stronger (row ∷ rows) k set = go (has-stronger p q stronger rows k) (p row) (q row) (stronger row) set
   where
-    either : (has (bits_of_rows (filter q rows)) k ≡ true → has (bits_of_rows (filter p rows)) k ≡ true) → (r : Bool) → has row.bit k ≡ r → (has row.bit k || has (bits_of_rows (filter q rows)) k) ≡ true → (has row.bit k || has (bits_of_rows (filter p rows)) k) ≡ true
+    either : (has (bits_of_rows (filter q rows)) k ≡ true → has (bits_of_rows (filter p rows)) k ≡ true)
+        → (r : Bool) → has row.bit k ≡ r → (has row.bit k || has (bits_of_rows (filter q rows)) k) ≡ true
+        → (has row.bit k || has (bits_of_rows (filter p rows)) k) ≡ true
     either later true here set = ap (λ t. t || has (bits_of_rows (filter p rows)) k) here
     either later false here set =
         ap (λ t. t || has (bits_of_rows (filter p rows)) k) here
@@ -49,7 +55,9 @@ has-stronger p q stronger (row ∷ rows) k set = go (has-stronger p q stronger r
     behind true set = refl
     behind false set = set
 
-    go : (has (bits_of_rows (filter q rows)) k ≡ true → has (bits_of_rows (filter p rows)) k ≡ true) → (b c : Bool) → (c ≡ true → b ≡ true) → has (bits_of_rows (cond c (row ∷ filter q rows) (filter q rows))) k ≡ true
+    go : (has (bits_of_rows (filter q rows)) k ≡ true → has (bits_of_rows (filter p rows)) k ≡ true)
+        → (b c : Bool) → (c ≡ true → b ≡ true) → has (bits_of_rows
+        (cond c (row ∷ filter q rows) (filter q rows))) k ≡ true
         → has (bits_of_rows (cond b (row ∷ filter p rows) (filter p rows))) k ≡ true
     go later true true is set =
         has-rows row (filter p rows) k ∙ either later (has row.bit k) refl (sym (has-rows row (filter q rows) k) ∙ set)
@@ -99,7 +107,8 @@ module _ (byte : ℕ) where
   none_own [] none = refl
   none_own (row ∷ rows) none = go (none_own rows) (row.letter == byte) none
     where
-      go : (is_letter_of rows byte ≡ false → bits_of_rows (filter own rows) ≡ 0) → (b : Bool) → (b || is_letter_of rows byte) ≡ false → bits_of_rows (cond b (row ∷ filter own rows) (filter own rows)) ≡ 0
+      go : (is_letter_of rows byte ≡ false → bits_of_rows (filter own rows) ≡ 0) → (b : Bool)
+          → (b || is_letter_of rows byte) ≡ false → bits_of_rows (cond b (row ∷ filter own rows) (filter own rows)) ≡ 0
       go later true e = absurd (true≢false e)
       go later false e = later e
 
@@ -108,9 +117,12 @@ module _ (byte : ℕ) where
   some_own [] stand is none = absurd (true≢false (sym is))
   some_own (row ∷ rows) stand is none = go (some_own rows stand.1) (row.letter == byte) is none
     where
-      go : (is_letter_of rows byte ≡ true → bits_of_rows (filter own rows) ≢ 0) → (b : Bool) → (b || is_letter_of rows byte) ≡ true → bits_of_rows (cond b (row ∷ filter own rows) (filter own rows)) ≢ 0
+      go : (is_letter_of rows byte ≡ true → bits_of_rows (filter own rows) ≢ 0) → (b : Bool)
+          → (b || is_letter_of rows byte) ≡ true → bits_of_rows (cond b (row ∷ filter own rows) (filter own rows)) ≢ 0
       go later true e none =
-          let empty : row.bit ≡ 0 = no_bits row.bit (λ k. lacks (has row.bit k) (has (bits_of_rows (filter own rows)) k) (sym (has-rows row (filter own rows) k) ∙ ap (λ n. has n k) none ∙ has-zero k)) in
+          let empty : row.bit ≡ 0 = no_bits row.bit (λ k. lacks (has row.bit k)
+          (has (bits_of_rows (filter own rows)) k) (sym (has-rows row (filter own rows) k)
+          ∙ ap (λ n. has n k) none ∙ has-zero k)) in
           absurd (true≢false (sym ((Decides-eqb row.bit 0).1 empty) ∙ stand.0))
         where
           lacks : (r f : Bool) → (r || f) ≡ false → r ≡ false

@@ -6,7 +6,7 @@ use Rattle.std.specs.List.{AllByRecursion}
 use Rattle.std.proofs.lemmas.Nat.{and_le_r}
 use Rattle.acl_names.specs.Bits.{◌∩◌, ◌∪◌}
 use Rattle.acl_names.specs.Letters.{letters_of, letters_text, IsTable, is_letters_text, bits_of_rows, rows_in, occurs}
-use Rattle.acl_names.specs.declared.letters.Letter.{Letter}
+use Rattle.acl_names.specs.declared.text.letters.Letter.{Letter}
 use Rattle.acl_nfs4.specs.Flags.{all_flags}
 use Rattle.acl_nfs4.specs.Mask.{all_masks}
 use Rattle.acl_nfs4.specs.Letters.{flag_table, mask_table}

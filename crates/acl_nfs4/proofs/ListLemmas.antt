@@ -1,5 +1,8 @@
 -- Lists as a loop goes through them.
-use Rattle.std.proofs.Common.{◌≡◌, ℕ, Bool, true, false, cond, suc, ◌+◌, ◌<◌, ◌≤◌, ap, sym, ◌∙◌, List, [], ◌∷◌, ◌++◌, Option, Some, None, length, get_or, drop, take, append-nil, length-append, add-one, arith, refl, subst, drop-cons, take-suc, filter, filter_map, flat_map, Result, Ok, Err, OnErr}
+use Rattle.std.proofs.Common.{◌≡◌, ℕ, Bool, true, false, cond, suc, ◌+◌, ◌<◌, ◌≤◌, ap, sym, ◌∙◌, List, []}
+use Rattle.std.proofs.Common.{◌∷◌, ◌++◌, Option, Some, None, length, get_or, drop, take, append-nil}
+use Rattle.std.proofs.Common.{length-append, add-one, arith, refl, subst, drop-cons, take-suc, filter}
+use Rattle.std.proofs.Common.{filter_map, flat_map, Result, Ok, Err, OnErr}
 use Rattle.acl_names.proofs.AnyLemmas.{flat_map-append}
 use Rattle.std.specs.List.{All, cons_option}
 use Rattle.std.proofs.lemmas.List.Elements.{All-nil, All-cons, All-append}

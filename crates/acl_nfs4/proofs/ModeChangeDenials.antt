@@ -7,7 +7,7 @@ use Rattle.acl_names.specs.Bits.{has, without, union, ◌∪◌}
 use Rattle.acl_nfs4.specs.Ace.{decides, is_allow, is_deny, unless_empty, Nfsace4}
 use Rattle.acl_nfs4.specs.Who.{is_special, flags_of_who, same_who}
 use Rattle.acl_nfs4.specs.Mask.{mode_bits, rest_of}
-use Rattle.acl_nfs4.specs.ModeChange.{kept, kept_mask, distinct, named_in, denied_to, denial_of, denials, kept_of, names}
+use Rattle.acl_nfs4.specs.ModeChange.{kept_of_list, kept_mask, without_repeats, named_whos, denied_to, denial_of, denials, kept_of_entry, names}
 use Rattle.acl_nfs4.specs.declared.ace.AceType.{AceType}
 use Rattle.acl_nfs4.specs.declared.ace.AceType.TheVariants.{Allow, Deny}
 use Rattle.acl_nfs4.specs.declared.who.Who.{Who}
@@ -88,17 +88,17 @@ denied_to-step who ace rest so_far next total denied is made e =
     go false = refl
 
 -- to leave out those that are the same as one that is there changes no membership
-pub member-distinct : (who : Who) (whos : List Who) → member who (distinct whos) ≡ member who whos
+pub member-distinct : (who : Who) (whos : List Who) → member who (without_repeats whos) ≡ member who whos
 member-distinct who [] = refl
 member-distinct who (other ∷ whos) =
-    ap (λ b. same_who other who || b) (sym (list_any-filter (λ w. not (same_who w other)) (λ w. same_who w who) (distinct whos)))
+    ap (λ b. same_who other who || b) (sym (list_any-filter (λ w. not (same_who w other)) (λ w. same_who w who) (without_repeats whos)))
     ∙ drop_same (same_who other who) refl
     ∙ ap (λ b. same_who other who || b) (member-distinct who whos)
   where
     drop_same : (b : Bool) → same_who other who ≡ b
-        → (b || list_any (λ w. not (same_who w other) && same_who w who) (distinct whos)) ≡ (b || member who (distinct whos))
+        → (b || list_any (λ w. not (same_who w other) && same_who w who) (without_repeats whos)) ≡ (b || member who (without_repeats whos))
     drop_same true e = refl
-    drop_same false e = ap (λ test. list_any test (distinct whos)) (fun_ext (λ w. differs w (same_who w who) refl (same_who w other) refl))
+    drop_same false e = ap (λ test. list_any test (without_repeats whos)) (fun_ext (λ w. differs w (same_who w who) refl (same_who w other) refl))
       where
         differs : (w : Who) (c : Bool) → same_who w who ≡ c → (d : Bool) → same_who w other ≡ d → (not d && c) ≡ c
         differs w c ec false ed = refl
@@ -106,7 +106,7 @@ member-distinct who (other ∷ whos) =
         differs w true ec true ed =
             absurd (true≢false (sym (ap (λ x. same_who x who) (sym (same_who-true w other ed)) ∙ ec) ∙ e))
 
-pub member-named_in : (who : Who) (aces : List Nfsace4) → member who (named_in aces) ≡ list_any (names who) aces
+pub member-named_in : (who : Who) (aces : List Nfsace4) → member who (named_whos aces) ≡ list_any (names who) aces
 member-named_in who aces =
     member-distinct who _
     ∙ list_any-map (λ other. same_who other who) (λ (ace : Nfsace4). ace.who) (filter (λ ace. decides ace && not (is_special ace.who)) aces)
@@ -129,12 +129,12 @@ named_not_special who aces = list_any-elim (names who) (is_special who ≡ false
 -- ---- tests of what is kept
 
 pub list_any-kept : (test : Nfsace4 → Bool) (group : ℕ) (aces : List Nfsace4)
-    → list_any test (kept group aces) ≡ list_any (λ ace. list_any test (kept_of group ace)) aces
+    → list_any test (kept_of_list group aces) ≡ list_any (λ ace. list_any test (kept_of_entry group ace)) aces
 list_any-kept test group [] = refl
 list_any-kept test group (ace ∷ aces) =
     ap (list_any test) (kept-cons group ace aces)
-    ∙ list_any-append test (kept_of group ace) (kept group aces)
-    ∙ ap (λ b. list_any test (kept_of group ace) || b) (list_any-kept test group aces)
+    ∙ list_any-append test (kept_of_entry group ace) (kept_of_list group aces)
+    ∙ ap (λ b. list_any test (kept_of_entry group ace) || b) (list_any-kept test group aces)
 
 -- ---- what is denied
 
@@ -157,7 +157,7 @@ kept_mask-denies group ace deny named =
 
 -- what is denied to a named who is denied still
 kept_of-denies : (group : ℕ) (who : Who) (bit : ℕ) → is_special who ≡ false → (ace : Nfsace4) → denies who bit ace ≡ true
-    → list_any (denies who bit) (kept_of group ace) ≡ true
+    → list_any (denies who bit) (kept_of_entry group ace) ≡ true
 kept_of-denies group who bit named ace e =
     kept_of-cases group ace (λ these. list_any (denies who bit) these ≡ true)
     (λ stays. absurd (true≢false (sym decided ∙ stays)))
@@ -201,23 +201,23 @@ denial_of-denies group aces who bit lacks undenied =
 -- a named user or group is denied each bit of the mode that the group lacks
 pub denied_anyway : (group : ℕ) (aces : List Nfsace4) (who : Who) (bit : ℕ)
     → list_any (names who) aces ≡ true → has (rest_of group) bit ≡ true
-    → list_any (denies who bit) (kept group aces ++ denials group aces) ≡ true
+    → list_any (denies who bit) (kept_of_list group aces ++ denials group aces) ≡ true
 denied_anyway group aces who bit named lacks =
-    list_any-append (denies who bit) (kept group aces) (denials group aces) ∙ go (list_any (denies who bit) aces) refl
+    list_any-append (denies who bit) (kept_of_list group aces) (denials group aces) ∙ go (list_any (denies who bit) aces) refl
   where
     go : (b : Bool) → list_any (denies who bit) aces ≡ b
-        → (list_any (denies who bit) (kept group aces) || list_any (denies who bit) (denials group aces)) ≡ true
+        → (list_any (denies who bit) (kept_of_list group aces) || list_any (denies who bit) (denials group aces)) ≡ true
     go true e =
         ap (λ b. b || list_any (denies who bit) (denials group aces))
         (list_any-kept (denies who bit) group aces
-        ∙ list_any-weaken (denies who bit) (λ ace. list_any (denies who bit) (kept_of group ace))
+        ∙ list_any-weaken (denies who bit) (λ ace. list_any (denies who bit) (kept_of_entry group ace))
         (kept_of-denies group who bit (named_not_special who aces named)) aces e)
     go false e =
-        ap (λ b. list_any (denies who bit) (kept group aces) || b)
-        (list_any-flat_map (denies who bit) (denial_of group aces) (named_in aces)
+        ap (λ b. list_any (denies who bit) (kept_of_list group aces) || b)
+        (list_any-flat_map (denies who bit) (denial_of group aces) (named_whos aces)
         ∙ list_any-weaken (λ other. same_who other who) (λ other. list_any (denies who bit) (denial_of group aces other))
         (λ other same.
         ap (λ w. list_any (denies who bit) (denial_of group aces w)) (same_who-true other who same)
         ∙ denial_of-denies group aces who bit lacks (has-denied_to who bit aces ∙ e))
-        (named_in aces) (member-named_in who aces ∙ named))
-        ∙ or_true (list_any (denies who bit) (kept group aces))
+        (named_whos aces) (member-named_in who aces ∙ named))
+        ∙ or_true (list_any (denies who bit) (kept_of_list group aces))

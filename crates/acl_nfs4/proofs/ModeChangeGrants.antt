@@ -3,11 +3,11 @@ use Rattle.std.proofs.Common.{◌≡◌, ℕ, Bool, true, false, cond, not, ◌&
 use Rattle.std.specs.List.{list_any}
 use Rattle.std.proofs.lemmas.Bool.{true≢false, and_parts, and_from, eq-eqb, ne_eqb, or_cases}
 use Rattle.acl_names.specs.Bits.{has, without}
-use Rattle.acl_nfs4.specs.Ace.{decides, is_allow, is_deny, plain, unless_empty, Nfsace4}
+use Rattle.acl_nfs4.specs.Ace.{decides, is_allow, is_deny, plain_ace, unless_empty, Nfsace4}
 use Rattle.acl_nfs4.specs.Who.{is_special, matches, same_who}
 use Rattle.acl_nfs4.specs.Mask.{mask_of, mode_bits, rest_of}
 use Rattle.acl_nfs4.specs.Evaluation.{speaks, verdict, allows, shown_to, of_class, mode_of}
-use Rattle.acl_nfs4.specs.ModeChange.{kept, kept_mask, distinct, named_in, denial_of, for_owner, for_others, with_mode, denials, kept_of, names}
+use Rattle.acl_nfs4.specs.ModeChange.{kept_of_list, kept_mask, without_repeats, named_whos, denial_of, for_owner, for_others, with_mode, denials, kept_of_entry, names}
 use Rattle.acl_nfs4.specs.ModeChangeLaws.{names_any, GrantsOwner, GrantsGroup, GrantsOthers, LimitsNamed}
 use Rattle.acl_posix.specs.Mode.{Classes, AreClasses}
 use Rattle.acl_nfs4.specs.declared.ace.AceType.TheVariants.{Allow, Deny}
@@ -18,7 +18,9 @@ use Rattle.acl_nfs4.proofs.MaskOfModes.{has-rest_of_mask, has-mask_of}
 use Rattle.acl_nfs4.proofs.ModeChangeDenials.{denies, same_who-refl, same_who-true, list_any-kept, denied_anyway}
 use Rattle.acl_nfs4.proofs.ModeChangeTwice.{middle, regroup}
 use Rattle.acl_nfs4.proofs.ModeChangeKept.{kept_of-cases, inherited_part, effective_part, reduced, decides-inherited_part, unless_empty-cases}
-use Rattle.acl_names.proofs.AnyLemmas.{and_false, or_false, false_unless, list_any-append, list_any-elim, list_any-none, list_any-witness, list_any-flat_map, list_any-filter, list_any-map, list_any-weaken}
+use Rattle.acl_names.proofs.AnyLemmas.{and_false, or_false, false_unless, list_any-append, list_any-elim}
+use Rattle.acl_names.proofs.AnyLemmas.{list_any-none, list_any-witness, list_any-flat_map, list_any-filter}
+use Rattle.acl_names.proofs.AnyLemmas.{list_any-map, list_any-weaken}
 use Rattle.acl_nfs4.proofs.EvaluationMode.{shown_to-allows}
 use Rattle.acl_nfs4.proofs.EvaluationLemmas.{or_else, verdict-append, verdict-allow, verdict-deny}
 
@@ -63,10 +65,10 @@ module _ (applies : Who → Bool) (bit : ℕ) where
   module _ (of_mode : has mode_bits bit ≡ true) where
     -- an ALLOW and a DENY that settle a mode's permissions for a who
     verdict-pair : (who : Who) (perms : ℕ)
-        → verdict applies bit (plain Allow who (mask_of perms) ++ plain Deny who (rest_of perms))
+        → verdict applies bit (plain_ace Allow who (mask_of perms) ++ plain_ace Deny who (rest_of perms))
         ≡ cond (applies who) (Some (has (mask_of perms) bit)) None
     verdict-pair who perms =
-        verdict-append applies bit (plain Allow who (mask_of perms)) (plain Deny who (rest_of perms))
+        verdict-append applies bit (plain_ace Allow who (mask_of perms)) (plain_ace Deny who (rest_of perms))
         ∙ ap₂ or_else (verdict-allow applies bit who (mask_of perms))
         (verdict-deny applies bit who (rest_of perms)
         ∙ ap (λ b. cond (applies who && b) (Some false) None) (has-rest_of_mask perms bit of_mode))
@@ -96,7 +98,7 @@ module _ (applies : Who → Bool) (bit : ℕ) where
         go false = has-without ace.mask (rest_of group) bit ∙ ap (λ b. has ace.mask bit && not b) lacks ∙ and_false (has ace.mask bit)
 
     -- an entry that still speaks of a bit of the mode is about a named user or group, and was there
-    still_speaks : (group : ℕ) (ace : Nfsace4) → list_any (speaks applies bit) (kept_of group ace) ≡ true
+    still_speaks : (group : ℕ) (ace : Nfsace4) → list_any (speaks applies bit) (kept_of_entry group ace) ≡ true
         → ((decides ace && not (is_special ace.who)) && applies ace.who) ≡ true
     still_speaks group ace =
         kept_of-cases group ace (λ these. list_any (speaks applies bit) these ≡ true → ((decides ace && not (is_special ace.who)) && applies ace.who) ≡ true)
@@ -125,7 +127,7 @@ module _ (applies : Who → Bool) (bit : ℕ) where
             (ap applies (sym who) ∙ parts.1))
 
     -- an entry that still speaks of a bit that the mode's group lacks denies it
-    still_denies : (group : ℕ) → has (rest_of group) bit ≡ true → (ace : Nfsace4) → list_any speaks_for (kept_of group ace) ≡ true → false ≡ true
+    still_denies : (group : ℕ) → has (rest_of group) bit ≡ true → (ace : Nfsace4) → list_any speaks_for (kept_of_entry group ace) ≡ true → false ≡ true
     still_denies group lacks ace =
         kept_of-cases group ace (λ these. list_any speaks_for these ≡ true → false ≡ true)
         (λ d e. sym d ∙ (speaks-parts ace (and_parts (speaks applies bit ace) (is_allow ace.kind) (sym (or_false (speaks_for ace)) ∙ e)).0).0)
@@ -151,22 +153,22 @@ module _ (applies : Who → Bool) (bit : ℕ) where
     -- ---- the middle of the list
 
     -- whoever is named once is named
-    any_distinct : (whos : List Who) → list_any applies (distinct whos) ≡ true → list_any applies whos ≡ true
+    any_distinct : (whos : List Who) → list_any applies (without_repeats whos) ≡ true → list_any applies whos ≡ true
     any_distinct [] e = e
     any_distinct (who ∷ whos) e = go (applies who) e (any_distinct whos)
       where
-        rest : list_any applies (filter (λ other. not (same_who other who)) (distinct whos)) ≡ true → list_any applies (distinct whos) ≡ true
+        rest : list_any applies (filter (λ other. not (same_who other who)) (without_repeats whos)) ≡ true → list_any applies (without_repeats whos) ≡ true
         rest f =
             list_any-weaken (λ other. not (same_who other who) && applies other) applies
-            (λ other both. (and_parts (not (same_who other who)) (applies other) both).1) (distinct whos)
-            (list_any-filter (λ other. not (same_who other who)) applies (distinct whos) ∙ f)
+            (λ other both. (and_parts (not (same_who other who)) (applies other) both).1) (without_repeats whos)
+            (list_any-filter (λ other. not (same_who other who)) applies (without_repeats whos) ∙ f)
 
-        go : (b : Bool) → (b || list_any applies (filter (λ other. not (same_who other who)) (distinct whos))) ≡ true
-            → (list_any applies (distinct whos) ≡ true → list_any applies whos ≡ true) → (b || list_any applies whos) ≡ true
+        go : (b : Bool) → (b || list_any applies (filter (λ other. not (same_who other who)) (without_repeats whos))) ≡ true
+            → (list_any applies (without_repeats whos) ≡ true → list_any applies whos ≡ true) → (b || list_any applies whos) ≡ true
         go true e again = refl
         go false e again = again (rest e)
 
-    any_named_in : (aces : List Nfsace4) → list_any applies (named_in aces) ≡ true → names_any applies aces ≡ true
+    any_named_in : (aces : List Nfsace4) → list_any applies (named_whos aces) ≡ true → names_any applies aces ≡ true
     any_named_in aces e =
         list_any-filter (λ ace. decides ace && not (is_special ace.who)) (λ ace. applies ace.who) aces
         ∙ sym (list_any-map applies (λ (ace : Nfsace4). ace.who) (filter (λ ace. decides ace && not (is_special ace.who)) aces))
@@ -174,8 +176,8 @@ module _ (applies : Who → Bool) (bit : ℕ) where
 
     module _ (aces : List Nfsace4) (mode : Classes) where
       either_part : (test : Nfsace4 → Bool) → list_any test (middle aces mode) ≡ true
-          → (list_any test (kept mode.group aces) ≡ true) ⊎ (list_any test (denials mode.group aces) ≡ true)
-      either_part test e = or_cases _ _ (sym (list_any-append test (kept mode.group aces) (denials mode.group aces)) ∙ e)
+          → (list_any test (kept_of_list mode.group aces) ≡ true) ⊎ (list_any test (denials mode.group aces) ≡ true)
+      either_part test e = or_cases _ _ (sym (list_any-append test (kept_of_list mode.group aces) (denials mode.group aces)) ∙ e)
 
       -- who is spoken to in the middle was named
       spoken_to_named : list_any (speaks applies bit) (middle aces mode) ≡ true → names_any applies aces ≡ true
@@ -187,16 +189,16 @@ module _ (applies : Who → Bool) (bit : ℕ) where
               (λ _ f. absurd (true≢false (sym f)))
               (λ _ f. (speaks-parts _ (sym (or_false _) ∙ f)).1)
 
-          go : (list_any (speaks applies bit) (kept mode.group aces) ≡ true) ⊎ (list_any (speaks applies bit) (denials mode.group aces) ≡ true)
+          go : (list_any (speaks applies bit) (kept_of_list mode.group aces) ≡ true) ⊎ (list_any (speaks applies bit) (denials mode.group aces) ≡ true)
               → names_any applies aces ≡ true
           go (inl k) =
-              list_any-weaken (λ ace. list_any (speaks applies bit) (kept_of mode.group ace)) (λ ace. (decides ace && not (is_special ace.who)) && applies ace.who)
+              list_any-weaken (λ ace. list_any (speaks applies bit) (kept_of_entry mode.group ace)) (λ ace. (decides ace && not (is_special ace.who)) && applies ace.who)
               (still_speaks mode.group) aces
               (sym (list_any-kept (speaks applies bit) mode.group aces) ∙ k)
           go (inr d) =
               any_named_in aces
-              (list_any-weaken (λ who. list_any (speaks applies bit) (denial_of mode.group aces who)) applies of_denial (named_in aces)
-              (sym (list_any-flat_map (speaks applies bit) (denial_of mode.group aces) (named_in aces)) ∙ d))
+              (list_any-weaken (λ who. list_any (speaks applies bit) (denial_of mode.group aces who)) applies of_denial (named_whos aces)
+              (sym (list_any-flat_map (speaks applies bit) (denial_of mode.group aces) (named_whos aces)) ∙ d))
 
       middle_silent : names_any applies aces ≡ false → verdict applies bit (middle aces mode) ≡ None
       middle_silent none =
@@ -213,13 +215,13 @@ module _ (applies : Who → Bool) (bit : ℕ) where
               (λ _ f. f)
               (λ _ f. (and_parts _ false (sym (or_false _) ∙ f)).1)
 
-          go : (list_any speaks_for (kept mode.group aces) ≡ true) ⊎ (list_any speaks_for (denials mode.group aces) ≡ true) → false ≡ true
+          go : (list_any speaks_for (kept_of_list mode.group aces) ≡ true) ⊎ (list_any speaks_for (denials mode.group aces) ≡ true) → false ≡ true
           go (inl k) =
-              list_any-elim (λ ace. list_any speaks_for (kept_of mode.group ace)) (false ≡ true) (still_denies mode.group lacks) aces
+              list_any-elim (λ ace. list_any speaks_for (kept_of_entry mode.group ace)) (false ≡ true) (still_denies mode.group lacks) aces
               (sym (list_any-kept speaks_for mode.group aces) ∙ k)
           go (inr d) =
-              list_any-elim (λ who. list_any speaks_for (denial_of mode.group aces who)) (false ≡ true) of_denial (named_in aces)
-              (sym (list_any-flat_map speaks_for (denial_of mode.group aces) (named_in aces)) ∙ d)
+              list_any-elim (λ who. list_any speaks_for (denial_of mode.group aces who)) (false ≡ true) of_denial (named_whos aces)
+              (sym (list_any-flat_map speaks_for (denial_of mode.group aces) (named_whos aces)) ∙ d)
 
       -- and whoever is named is denied it there
       some_speaks : has (rest_of mode.group) bit ≡ true → names_any applies aces ≡ true → list_any (speaks applies bit) (middle aces mode) ≡ true
@@ -254,7 +256,7 @@ module _ (applies : Who → Bool) (bit : ℕ) where
           ∙ ap₂ or_else (verdict-pair Owner mode.user)
           (verdict-append applies bit (middle aces mode) (for_others mode.group mode.other)
           ∙ ap (or_else (verdict applies bit (middle aces mode)))
-          (verdict-append applies bit (plain Allow Group (mask_of mode.group) ++ plain Deny Group (rest_of mode.group)) (plain Allow Everyone (mask_of mode.other))
+          (verdict-append applies bit (plain_ace Allow Group (mask_of mode.group) ++ plain_ace Deny Group (rest_of mode.group)) (plain_ace Allow Everyone (mask_of mode.other))
           ∙ ap₂ or_else (verdict-pair Group mode.group) (verdict-allow applies bit Everyone (mask_of mode.other))))
 
       allowed-owner : applies Owner ≡ true → allows applies bit (with_mode aces mode) ≡ has (mask_of mode.user) bit

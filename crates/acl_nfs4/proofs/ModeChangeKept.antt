@@ -6,18 +6,18 @@ use Rattle.acl_nfs4.specs.Ace.{decides, is_allow, is_deny, unless_empty, is_inhe
 use Rattle.acl_nfs4.specs.Who.{is_special}
 use Rattle.acl_nfs4.specs.Flags.{inherit_only, inheritance_flags}
 use Rattle.acl_nfs4.specs.Mask.{mode_bits, rest_of}
-use Rattle.acl_nfs4.specs.ModeChange.{split, restricted, kept, kept_mask, kept_of}
+use Rattle.acl_nfs4.specs.ModeChange.{split, kept_of_part, kept_of_list, kept_mask, kept_of_entry}
 use Rattle.acl_names.proofs.BitSets.{has-or, has-without, same_bits}
 use Rattle.acl_names.proofs.AnyLemmas.{and_false, or_true, flat_map-append}
 
 -- ---- the list, entry by entry
 
-pub kept-cons : (group : ℕ) (ace : Nfsace4) (aces : List Nfsace4) → kept group (ace ∷ aces) ≡ kept_of group ace ++ kept group aces
-kept-cons group ace aces = flat_map-append (restricted group) (split ace) (flat_map split aces)
+pub kept-cons : (group : ℕ) (ace : Nfsace4) (aces : List Nfsace4) → kept_of_list group (ace ∷ aces) ≡ kept_of_entry group ace ++ kept_of_list group aces
+kept-cons group ace aces = flat_map-append (kept_of_part group) (split ace) (flat_map split aces)
 
-pub kept-append : (group : ℕ) (xs ys : List Nfsace4) → kept group (xs ++ ys) ≡ kept group xs ++ kept group ys
+pub kept-append : (group : ℕ) (xs ys : List Nfsace4) → kept_of_list group (xs ++ ys) ≡ kept_of_list group xs ++ kept_of_list group ys
 kept-append group xs ys =
-    ap (flat_map (restricted group)) (flat_map-append split xs ys) ∙ flat_map-append (restricted group) (flat_map split xs) (flat_map split ys)
+    ap (flat_map (kept_of_part group)) (flat_map-append split xs ys) ∙ flat_map-append (kept_of_part group) (flat_map split xs) (flat_map split ys)
 
 -- ---- the parts of an entry
 
@@ -89,12 +89,12 @@ kept_mask-effective_part group ace = kept_mask-twice group ace
 abbrev without_inheritance : Nfsace4 → Nfsace4
 without_inheritance ace = record ace { flags = without ace.flags inheritance_flags }
 
-restricted-decides : (group : ℕ) (ace : Nfsace4) → decides ace ≡ true → restricted group ace ≡ unless_empty (reduced group ace)
-unfolding restricted
+restricted-decides : (group : ℕ) (ace : Nfsace4) → decides ace ≡ true → kept_of_part group ace ≡ unless_empty (reduced group ace)
+unfolding kept_of_part
 restricted-decides group ace e = ap (λ b. cond b (unless_empty (reduced group ace)) (ace ∷ [])) e
 
-restricted-stays : (group : ℕ) (ace : Nfsace4) → decides ace ≡ false → restricted group ace ≡ ace ∷ []
-unfolding restricted
+restricted-stays : (group : ℕ) (ace : Nfsace4) → decides ace ≡ false → kept_of_part group ace ≡ ace ∷ []
+unfolding kept_of_part
 restricted-stays group ace e = ap (λ b. cond b (unless_empty (reduced group ace)) (ace ∷ [])) e
 
 decides-without_inheritance : (ace : Nfsace4) → decides ace ≡ true → decides (without_inheritance ace) ≡ true
@@ -111,15 +111,15 @@ pub kept_of-cases : (group : ℕ) (ace : Nfsace4) (P : List Nfsace4 → Type 0)
     → (decides ace ≡ false → P (ace ∷ []))
     → (decides ace ≡ true → is_inheritable ace ≡ true → P (inherited_part ace ∷ unless_empty (effective_part group ace)))
     → (decides ace ≡ true → is_inheritable ace ≡ false → P (unless_empty (reduced group ace)))
-    → P (kept_of group ace)
+    → P (kept_of_entry group ace)
 unfolding split
 kept_of-cases group ace P stays parts rest = go (decides ace) refl (is_inheritable ace) refl
   where
-    alone : (these : List Nfsace4) → restricted group ace ≡ these → P these → P (flat_map (restricted group) (ace ∷ []))
-    alone these is p = subst P (sym (append-nil (restricted group ace) ∙ is)) p
+    alone : (these : List Nfsace4) → kept_of_part group ace ≡ these → P these → P (flat_map (kept_of_part group) (ace ∷ []))
+    alone these is p = subst P (sym (append-nil (kept_of_part group ace) ∙ is)) p
 
     go : (d : Bool) → decides ace ≡ d → (i : Bool) → is_inheritable ace ≡ i
-        → P (flat_map (restricted group) (cond (d && i) (inherited_part ace ∷ without_inheritance ace ∷ []) (ace ∷ [])))
+        → P (flat_map (kept_of_part group) (cond (d && i) (inherited_part ace ∷ without_inheritance ace ∷ []) (ace ∷ [])))
     go true ed true ei =
         subst P
         (sym (ap₂ (λ xs ys. xs ++ (ys ++ []))
@@ -132,9 +132,9 @@ kept_of-cases group ace P stays parts rest = go (decides ace) refl (is_inheritab
 
 -- ---- entries that a mode leaves as they are, and entries that it takes away
 
-pub kept-one : (group : ℕ) (ace : Nfsace4) → decides ace ≡ true → is_inheritable ace ≡ false → kept group (ace ∷ []) ≡ unless_empty (reduced group ace)
+pub kept-one : (group : ℕ) (ace : Nfsace4) → decides ace ≡ true → is_inheritable ace ≡ false → kept_of_list group (ace ∷ []) ≡ unless_empty (reduced group ace)
 kept-one group ace d i =
-    kept-cons group ace [] ∙ append-nil (kept_of group ace)
+    kept-cons group ace [] ∙ append-nil (kept_of_entry group ace)
     ∙ kept_of-cases group ace (λ these. these ≡ unless_empty (reduced group ace))
     (λ e. absurd (true≢false (sym d ∙ e))) (λ _ e. absurd (true≢false (sym e ∙ i))) (λ _ _. refl)
 
@@ -149,23 +149,23 @@ unless_empty-cases ace P empty alone = go (ace.mask == 0) refl
 
 -- an entry that takes effect alone and has only bits that are kept stays as it is
 pub kept-unchanged : (group : ℕ) (ace : Nfsace4) → decides ace ≡ true → is_inheritable ace ≡ false → kept_mask group ace ≡ ace.mask
-    → kept group (unless_empty ace) ≡ unless_empty ace
+    → kept_of_list group (unless_empty ace) ≡ unless_empty ace
 kept-unchanged group ace d i same =
-    unless_empty-cases ace (λ these. kept group these ≡ these) (λ _. refl)
+    unless_empty-cases ace (λ these. kept_of_list group these ≡ these) (λ _. refl)
     (λ alone. kept-one group ace d i ∙ ap (λ m. unless_empty (record ace { mask = m })) same ∙ alone)
 
 -- an entry that takes effect alone and has none goes
 pub kept-none : (group : ℕ) (ace : Nfsace4) → decides ace ≡ true → is_inheritable ace ≡ false → kept_mask group ace ≡ 0
-    → kept group (unless_empty ace) ≡ []
+    → kept_of_list group (unless_empty ace) ≡ []
 unfolding unless_empty
 kept-none group ace d i none =
-    unless_empty-cases ace (λ these. kept group these ≡ []) (λ _. refl)
+    unless_empty-cases ace (λ these. kept_of_list group these ≡ []) (λ _. refl)
     (λ alone. kept-one group ace d i ∙ ap (λ m. unless_empty (record ace { mask = m })) none)
 
 -- what is kept is kept again
-kept_of-twice : (group : ℕ) (ace : Nfsace4) → kept group (kept_of group ace) ≡ kept_of group ace
+kept_of-twice : (group : ℕ) (ace : Nfsace4) → kept_of_list group (kept_of_entry group ace) ≡ kept_of_entry group ace
 kept_of-twice group ace =
-    kept_of-cases group ace (λ these. kept group these ≡ these)
+    kept_of-cases group ace (λ these. kept_of_list group these ≡ these)
     (λ d. stays ace d)
     (λ d i.
     kept-append group (inherited_part ace ∷ []) (unless_empty (effective_part group ace))
@@ -173,16 +173,16 @@ kept_of-twice group ace =
     (kept-unchanged group (effective_part group ace) (decides-effective_part group ace d) (is_inheritable-effective_part group ace) (kept_mask-effective_part group ace)))
     (λ d i. kept-unchanged group (reduced group ace) (decides-reduced group ace ∙ d) i (kept_mask-twice group ace))
   where
-    stays : (other : Nfsace4) → decides other ≡ false → kept group (other ∷ []) ≡ other ∷ []
+    stays : (other : Nfsace4) → decides other ≡ false → kept_of_list group (other ∷ []) ≡ other ∷ []
     stays other d =
-        kept-cons group other [] ∙ append-nil (kept_of group other)
+        kept-cons group other [] ∙ append-nil (kept_of_entry group other)
         ∙ kept_of-cases group other (λ these. these ≡ other ∷ [])
         (λ _. refl) (λ e _. absurd (true≢false (sym e ∙ d))) (λ e _. absurd (true≢false (sym e ∙ d)))
 
-pub kept-twice : (group : ℕ) (aces : List Nfsace4) → kept group (kept group aces) ≡ kept group aces
+pub kept-twice : (group : ℕ) (aces : List Nfsace4) → kept_of_list group (kept_of_list group aces) ≡ kept_of_list group aces
 kept-twice group [] = refl
 kept-twice group (ace ∷ aces) =
-    ap (kept group) (kept-cons group ace aces)
-    ∙ kept-append group (kept_of group ace) (kept group aces)
+    ap (kept_of_list group) (kept-cons group ace aces)
+    ∙ kept-append group (kept_of_entry group ace) (kept_of_list group aces)
     ∙ ap₂ (λ xs ys. xs ++ ys) (kept_of-twice group ace) (kept-twice group aces)
     ∙ sym (kept-cons group ace aces)

@@ -1,14 +1,16 @@
 -- What a change of mode leaves alone.
-use Rattle.std.proofs.Common.{◌≡◌, ℕ, Bool, true, false, cond, not, ◌&&◌, ◌||◌, refl, sym, ap, ◌∙◌, subst, List, [], ◌∷◌, ◌++◌, append-nil, ap₂, Option, Some, None, flat_map, filter_map, bit_or, option_map}
+use Rattle.std.proofs.Common.{◌≡◌, ℕ, Bool, true, false, cond, not, ◌&&◌, ◌||◌, refl, sym, ap, ◌∙◌, subst}
+use Rattle.std.proofs.Common.{List, [], ◌∷◌, ◌++◌, append-nil, ap₂, Option, Some, None, flat_map, filter_map}
+use Rattle.std.proofs.Common.{bit_or, option_map}
 use Rattle.std.specs.List.{cons_option}
 use Rattle.std.proofs.lemmas.Bool.{and_parts, or_parts}
 use Rattle.acl_names.specs.Bits.{has}
-use Rattle.acl_nfs4.specs.Ace.{decides, is_allow, is_deny, plain, unless_empty, is_inheritable, is_audit_or_alarm, Nfsace4}
+use Rattle.acl_nfs4.specs.Ace.{decides, is_allow, is_deny, plain_ace, unless_empty, is_inheritable, is_audit_or_alarm, Nfsace4}
 use Rattle.acl_nfs4.specs.Who.{flags_of_who}
 use Rattle.acl_nfs4.specs.Mask.{mask_of, rest_of}
 use Rattle.acl_nfs4.specs.Flags.{inherit_only, inheritance_flags, file_inherit, directory_inherit, no_propagate_inherit}
 use Rattle.acl_nfs4.specs.Inheritance.{flags_below, inherited_entry, inherited_list, with_inheritance_flags}
-use Rattle.acl_nfs4.specs.ModeChange.{kept, named_in, denial_of, for_owner, for_others, with_mode, denials, kept_of}
+use Rattle.acl_nfs4.specs.ModeChange.{kept_of_list, named_whos, denial_of, for_owner, for_others, with_mode, denials, kept_of_entry}
 use Rattle.acl_nfs4.specs.ModeChangeLaws.{IsSublist, audits_and_alarms, inherit_only_entries}
 use Rattle.acl_nfs4.specs.ModeChangeLaws.IsSublist.{ends, skips, keeps}
 use Rattle.acl_posix.specs.Mode.{Classes}
@@ -31,30 +33,30 @@ module _ (read : List Nfsace4 → List Nfsace4) (read-nil : read [] ≡ []) (rea
   read-flat_map f none [] = read-nil
   read-flat_map f none (who ∷ whos) = read-append (f who) (flat_map f whos) ∙ ap₂ (λ xs ys. xs ++ ys) (none who) (read-flat_map f none whos)
 
-  read-kept : (group : ℕ) → ((ace : Nfsace4) → read (kept_of group ace) ≡ read (ace ∷ [])) → (aces : List Nfsace4) → read (kept group aces) ≡ read aces
+  read-kept : (group : ℕ) → ((ace : Nfsace4) → read (kept_of_entry group ace) ≡ read (ace ∷ [])) → (aces : List Nfsace4) → read (kept_of_list group aces) ≡ read aces
   read-kept group same [] = refl
   read-kept group same (ace ∷ aces) =
       ap read (kept-cons group ace aces)
-      ∙ read-append (kept_of group ace) (kept group aces)
+      ∙ read-append (kept_of_entry group ace) (kept_of_list group aces)
       ∙ ap₂ (λ xs ys. xs ++ ys) (same ace) (read-kept group same aces)
       ∙ sym (read-append (ace ∷ []) aces)
 
   read-with_mode : (aces : List Nfsace4) (mode : Classes)
-      → ((kind : AceType) (who : Who) (mask : ℕ) → (is_allow kind || is_deny kind) ≡ true → read (plain kind who mask) ≡ [])
-      → ((ace : Nfsace4) → read (kept_of mode.group ace) ≡ read (ace ∷ []))
+      → ((kind : AceType) (who : Who) (mask : ℕ) → (is_allow kind || is_deny kind) ≡ true → read (plain_ace kind who mask) ≡ [])
+      → ((ace : Nfsace4) → read (kept_of_entry mode.group ace) ≡ read (ace ∷ []))
       → read (with_mode aces mode) ≡ read aces
   read-with_mode aces mode none same =
-      read-append ((for_owner mode.user ++ kept mode.group aces) ++ denials mode.group aces) (for_others mode.group mode.other)
+      read-append ((for_owner mode.user ++ kept_of_list mode.group aces) ++ denials mode.group aces) (for_others mode.group mode.other)
       ∙ ap₂ (λ xs ys. xs ++ ys)
-      (read-append (for_owner mode.user ++ kept mode.group aces) (denials mode.group aces)
+      (read-append (for_owner mode.user ++ kept_of_list mode.group aces) (denials mode.group aces)
       ∙ ap₂ (λ xs ys. xs ++ ys)
-      (read-append (for_owner mode.user) (kept mode.group aces)
+      (read-append (for_owner mode.user) (kept_of_list mode.group aces)
       ∙ ap₂ (λ xs ys. xs ++ ys)
-      (two (plain Allow Owner (mask_of mode.user)) (plain Deny Owner (rest_of mode.user)) (none Allow Owner _ refl) (none Deny Owner _ refl))
+      (two (plain_ace Allow Owner (mask_of mode.user)) (plain_ace Deny Owner (rest_of mode.user)) (none Allow Owner _ refl) (none Deny Owner _ refl))
       (read-kept mode.group same aces))
-      (read-flat_map (denial_of mode.group aces) (λ who. none Deny who _ refl) (named_in aces)))
-      (two (plain Allow Group (mask_of mode.group) ++ plain Deny Group (rest_of mode.group)) (plain Allow Everyone (mask_of mode.other))
-      (two (plain Allow Group (mask_of mode.group)) (plain Deny Group (rest_of mode.group)) (none Allow Group _ refl) (none Deny Group _ refl))
+      (read-flat_map (denial_of mode.group aces) (λ who. none Deny who _ refl) (named_whos aces)))
+      (two (plain_ace Allow Group (mask_of mode.group) ++ plain_ace Deny Group (rest_of mode.group)) (plain_ace Allow Everyone (mask_of mode.other))
+      (two (plain_ace Allow Group (mask_of mode.group)) (plain_ace Deny Group (rest_of mode.group)) (none Allow Group _ refl) (none Deny Group _ refl))
       (none Allow Everyone _ refl))
       ∙ append-nil (read aces ++ [])
       ∙ append-nil (read aces)
@@ -80,7 +82,7 @@ audits-one ace e = ap (λ b. cond b (ace ∷ []) []) (no_audit ace.kind e)
 audits-unless_empty : (ace : Nfsace4) → (is_allow ace.kind || is_deny ace.kind) ≡ true → audits_and_alarms (unless_empty ace) ≡ []
 audits-unless_empty ace e = unless_empty-cases ace (λ these. audits_and_alarms these ≡ []) (λ _. refl) (λ _. audits-one ace e)
 
-audits-kept_of : (group : ℕ) (ace : Nfsace4) → audits_and_alarms (kept_of group ace) ≡ audits_and_alarms (ace ∷ [])
+audits-kept_of : (group : ℕ) (ace : Nfsace4) → audits_and_alarms (kept_of_entry group ace) ≡ audits_and_alarms (ace ∷ [])
 audits-kept_of group ace =
     kept_of-cases group ace (λ these. audits_and_alarms these ≡ audits_and_alarms (ace ∷ []))
     (λ _. refl)
@@ -149,7 +151,7 @@ inherited-inherited_part kind ace =
             let inside : has inheritance_flags k ≡ true = (and_parts (has 8 k) (has inheritance_flags k) (sym (has-and 8 inheritance_flags k) ∙ e)).1 in
             ap (λ x. (b || true) && not x) inside ∙ and_false (b || true) ∙ sym (ap (λ x. b && not x) inside ∙ and_false b)
 
-inherited-kept_of : (kind : Kind) (group : ℕ) (ace : Nfsace4) → inherited_list kind (kept_of group ace) ≡ inherited_list kind (ace ∷ [])
+inherited-kept_of : (kind : Kind) (group : ℕ) (ace : Nfsace4) → inherited_list kind (kept_of_entry group ace) ≡ inherited_list kind (ace ∷ [])
 inherited-kept_of kind group ace =
     kept_of-cases group ace (λ these. inherited_list kind these ≡ inherited_list kind (ace ∷ []))
     (λ _. refl)
@@ -158,15 +160,15 @@ inherited-kept_of kind group ace =
     (inherited-unless_empty kind (effective_part group ace) (is_inheritable-effective_part group ace)))
     (λ d i. inherited-unless_empty kind (reduced group ace) i ∙ sym (ap (λ o. cons_option o []) (not_inherited kind ace i)))
 
-not_inheritable-plain : (kind : AceType) (who : Who) (mask : ℕ)
+not_inheritable-plain_ace : (kind : AceType) (who : Who) (mask : ℕ)
     → is_inheritable (record { kind = kind; flags = flags_of_who who; who = who; mask = mask }) ≡ false
 unfolding has
-not_inheritable-plain kind who mask = by_flags_of_who (λ flags. is_inheritable (record { kind = kind; flags = flags; who = who; mask = mask }) ≡ false) refl refl who
+not_inheritable-plain_ace kind who mask = by_flags_of_who (λ flags. is_inheritable (record { kind = kind; flags = flags; who = who; mask = mask }) ≡ false) refl refl who
 
 pub inherited-with_mode : (kind : Kind) (aces : List Nfsace4) (mode : Classes) → inherited_list kind (with_mode aces mode) ≡ inherited_list kind aces
 inherited-with_mode kind aces mode =
     read-with_mode (inherited_list kind) refl (filter_map-append (inherited_entry kind)) aces mode
-    (λ type who mask _. inherited-unless_empty kind _ (not_inheritable-plain type who mask))
+    (λ type who mask _. inherited-unless_empty kind _ (not_inheritable-plain_ace type who mask))
     (inherited-kept_of kind mode.group)
 
 -- ---- entries that are only inherited
@@ -188,7 +190,7 @@ decides-not_inherit_only ace e = opposite (has ace.flags inherit_only) (and_part
     opposite true h = sym h
     opposite false h = refl
 
-inherit_only-kept_of : (group : ℕ) (ace : Nfsace4) → IsSublist (inherit_only_entries (ace ∷ [])) (kept_of group ace)
+inherit_only-kept_of : (group : ℕ) (ace : Nfsace4) → IsSublist (inherit_only_entries (ace ∷ [])) (kept_of_entry group ace)
 inherit_only-kept_of group ace =
     kept_of-cases group ace (λ these. IsSublist (inherit_only_entries (ace ∷ [])) these)
     (λ _. stays (has ace.flags inherit_only))
@@ -202,10 +204,10 @@ inherit_only-kept_of group ace =
     gone : decides ace ≡ true → (these : List Nfsace4) → IsSublist (inherit_only_entries (ace ∷ [])) these
     gone d these = subst (λ xs. IsSublist xs these) (sym (ap (λ b. cond b (ace ∷ []) []) (decides-not_inherit_only ace d))) (nothing_first these)
 
-inherit_only-kept : (group : ℕ) (aces : List Nfsace4) → IsSublist (inherit_only_entries aces) (kept group aces)
+inherit_only-kept : (group : ℕ) (aces : List Nfsace4) → IsSublist (inherit_only_entries aces) (kept_of_list group aces)
 inherit_only-kept group [] = ends
 inherit_only-kept group (ace ∷ aces) =
-    subst (λ xs. IsSublist xs (kept group (ace ∷ aces))) (sym (filter-append (λ (other : Nfsace4). has other.flags inherit_only) (ace ∷ []) aces))
+    subst (λ xs. IsSublist xs (kept_of_list group (ace ∷ aces))) (sym (filter-append (λ (other : Nfsace4). has other.flags inherit_only) (ace ∷ []) aces))
     (subst (λ ys. IsSublist (inherit_only_entries (ace ∷ []) ++ inherit_only_entries aces) ys) (sym (kept-cons group ace aces))
     (IsSublist-append (inherit_only-kept_of group ace) (inherit_only-kept group aces)))
 

@@ -8,7 +8,7 @@ use Rattle.acl_nfs4.specs.Ace.{Nfsace4, IsAce, decides, is_allow, is_idle, is_in
 use Rattle.acl_nfs4.specs.Acl.{IsTooLong}
 use Rattle.acl_nfs4.specs.Flags.{all_flags, inheritance_flags, identifier_group}
 use Rattle.acl_nfs4.specs.Mask.{all_masks, mode_bits, mask_of, rest_of}
-use Rattle.acl_nfs4.specs.ModeChange.{kept_mask, kept_of}
+use Rattle.acl_nfs4.specs.ModeChange.{kept_mask, kept_of_entry}
 use Rattle.acl_nfs4.specs.Who.{is_special}
 use Rattle.acl_nfs4.proofs.AceLemmas.{within-from, within-has, within-or, within-without}
 use Rattle.acl_nfs4.proofs.ModeChangeKept.{kept_of-cases, inherited_part, effective_part, reduced, cleared}
@@ -76,18 +76,18 @@ kept_mask-known group ace is valid =
 
 -- ---- what an entry leaves, case by case
 
-pub kept_of-stays : (group : ℕ) (ace : Nfsace4) → decides ace ≡ false → kept_of group ace ≡ ace ∷ []
+pub kept_of-stays : (group : ℕ) (ace : Nfsace4) → decides ace ≡ false → kept_of_entry group ace ≡ ace ∷ []
 kept_of-stays group ace e =
     kept_of-cases group ace (λ these. these ≡ ace ∷ [])
     (λ _. refl) (λ d _. absurd (true≢false (sym d ∙ e))) (λ d _. absurd (true≢false (sym d ∙ e)))
 
 pub kept_of-parts : (group : ℕ) (ace : Nfsace4) → decides ace ≡ true → is_inheritable ace ≡ true
-    → kept_of group ace ≡ inherited_part ace ∷ unless_empty (effective_part group ace)
+    → kept_of_entry group ace ≡ inherited_part ace ∷ unless_empty (effective_part group ace)
 kept_of-parts group ace d i =
     kept_of-cases group ace (λ these. these ≡ inherited_part ace ∷ unless_empty (effective_part group ace))
     (λ e. absurd (true≢false (sym d ∙ e))) (λ _ _. refl) (λ _ e. absurd (true≢false (sym i ∙ e)))
 
-pub kept_of-rest : (group : ℕ) (ace : Nfsace4) → decides ace ≡ true → is_inheritable ace ≡ false → kept_of group ace ≡ unless_empty (reduced group ace)
+pub kept_of-rest : (group : ℕ) (ace : Nfsace4) → decides ace ≡ true → is_inheritable ace ≡ false → kept_of_entry group ace ≡ unless_empty (reduced group ace)
 kept_of-rest group ace d i =
     kept_of-cases group ace (λ these. these ≡ unless_empty (reduced group ace))
     (λ e. absurd (true≢false (sym d ∙ e))) (λ _ e. absurd (true≢false (sym e ∙ i))) (λ _ _. refl)

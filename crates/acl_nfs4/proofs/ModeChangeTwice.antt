@@ -3,10 +3,10 @@ use Rattle.std.proofs.Common.{◌≡◌, ℕ, Bool, true, false, not, ◌&&◌, 
 use Rattle.std.specs.List.{list_any}
 use Rattle.std.proofs.lemmas.Bool.{true≢false, and_parts, and_from, or_cases}
 use Rattle.acl_names.specs.Bits.{has, without}
-use Rattle.acl_nfs4.specs.Ace.{decides, is_allow, is_deny, plain, unless_empty, Nfsace4}
+use Rattle.acl_nfs4.specs.Ace.{decides, is_allow, is_deny, plain_ace, unless_empty, Nfsace4}
 use Rattle.acl_nfs4.specs.Who.{is_special, flags_of_who, same_who}
 use Rattle.acl_nfs4.specs.Mask.{mask_of, mode_bits, rest_of}
-use Rattle.acl_nfs4.specs.ModeChange.{kept, kept_mask, named_in, denied_to, denial_of, for_owner, for_others, with_mode, denials, kept_of, names}
+use Rattle.acl_nfs4.specs.ModeChange.{kept_of_list, kept_mask, named_whos, denied_to, denial_of, for_owner, for_others, with_mode, denials, kept_of_entry, names}
 use Rattle.acl_posix.specs.Mode.{Classes}
 use Rattle.acl_nfs4.specs.declared.ace.AceType.{AceType}
 use Rattle.acl_nfs4.specs.declared.ace.AceType.TheVariants.{Allow, Deny}
@@ -35,7 +35,7 @@ rest_of-within perms k e = (and_parts (has mode_bits k) _ (sym (has-without mode
 -- an entry that allows or denies a special identifier bits of the mode alone goes when a mode is set
 kept-special : (group : ℕ) (kind : AceType) (who : Who) (mask : ℕ)
     → (is_allow kind || is_deny kind) ≡ true → is_special who ≡ true → ((k : ℕ) → has mask k ≡ true → has mode_bits k ≡ true)
-    → kept group (plain kind who mask) ≡ []
+    → kept_of_list group (plain_ace kind who mask) ≡ []
 unfolding decides has kept_mask
 kept-special group kind Owner mask decided special within = kept-none group _ (and_from _ _ decided refl) refl (without-within mask mode_bits within)
 kept-special group kind Group mask decided special within = kept-none group _ (and_from _ _ decided refl) refl (without-within mask mode_bits within)
@@ -43,25 +43,25 @@ kept-special group kind Everyone mask decided special within = kept-none group _
 kept-special group kind (User uid) mask decided special within = absurd (true≢false (sym special))
 kept-special group kind (NamedGroup gid) mask decided special within = absurd (true≢false (sym special))
 
-kept-for_owner : (group user : ℕ) → kept group (for_owner user) ≡ []
+kept-for_owner : (group user : ℕ) → kept_of_list group (for_owner user) ≡ []
 kept-for_owner group user =
-    kept-append group (plain Allow Owner (mask_of user)) (plain Deny Owner (rest_of user))
+    kept-append group (plain_ace Allow Owner (mask_of user)) (plain_ace Deny Owner (rest_of user))
     ∙ ap₂ (λ xs ys. xs ++ ys)
     (kept-special group Allow Owner (mask_of user) refl refl (mask_of-within user))
     (kept-special group Deny Owner (rest_of user) refl refl (rest_of-within user))
 
-kept-for_others : (group mode_group other : ℕ) → kept group (for_others mode_group other) ≡ []
+kept-for_others : (group mode_group other : ℕ) → kept_of_list group (for_others mode_group other) ≡ []
 kept-for_others group mode_group other =
-    kept-append group (plain Allow Group (mask_of mode_group) ++ plain Deny Group (rest_of mode_group)) (plain Allow Everyone (mask_of other))
+    kept-append group (plain_ace Allow Group (mask_of mode_group) ++ plain_ace Deny Group (rest_of mode_group)) (plain_ace Allow Everyone (mask_of other))
     ∙ ap₂ (λ xs ys. xs ++ ys)
-    (kept-append group (plain Allow Group (mask_of mode_group)) (plain Deny Group (rest_of mode_group))
+    (kept-append group (plain_ace Allow Group (mask_of mode_group)) (plain_ace Deny Group (rest_of mode_group))
     ∙ ap₂ (λ xs ys. xs ++ ys)
     (kept-special group Allow Group (mask_of mode_group) refl refl (mask_of-within mode_group))
     (kept-special group Deny Group (rest_of mode_group) refl refl (rest_of-within mode_group)))
     (kept-special group Allow Everyone (mask_of other) refl refl (mask_of-within other))
 
 -- a denial of a named user or group stays
-kept-denial : (group : ℕ) (who : Who) (mask : ℕ) → is_special who ≡ false → kept group (plain Deny who mask) ≡ plain Deny who mask
+kept-denial : (group : ℕ) (who : Who) (mask : ℕ) → is_special who ≡ false → kept_of_list group (plain_ace Deny who mask) ≡ plain_ace Deny who mask
 unfolding has kept_mask
 kept-denial group Owner mask named = absurd (true≢false named)
 kept-denial group Group mask named = absurd (true≢false named)
@@ -71,8 +71,8 @@ kept-denial group (NamedGroup gid) mask named = kept-unchanged group _ (decides-
 
 -- ---- a list made from each who of a list
 
-kept-flat_map : (group : ℕ) (f : Who → List Nfsace4) (whos : List Who) → ((who : Who) → member who whos ≡ true → kept group (f who) ≡ f who)
-    → kept group (flat_map f whos) ≡ flat_map f whos
+kept-flat_map : (group : ℕ) (f : Who → List Nfsace4) (whos : List Who) → ((who : Who) → member who whos ≡ true → kept_of_list group (f who) ≡ f who)
+    → kept_of_list group (flat_map f whos) ≡ flat_map f whos
 kept-flat_map group f [] each = refl
 kept-flat_map group f (who ∷ whos) each =
     kept-append group (f who) (flat_map f whos)
@@ -87,32 +87,32 @@ flat_map-none f (who ∷ whos) each =
     (each who (ap (λ b. b || member who whos) (same_who-refl who)))
     (flat_map-none f whos (λ other is. each other (ap (λ b. same_who who other || b) is ∙ or_true (same_who who other))))
 
-kept-denials : (group : ℕ) (aces : List Nfsace4) → kept group (denials group aces) ≡ denials group aces
+kept-denials : (group : ℕ) (aces : List Nfsace4) → kept_of_list group (denials group aces) ≡ denials group aces
 kept-denials group aces =
-    kept-flat_map group (denial_of group aces) (named_in aces)
+    kept-flat_map group (denial_of group aces) (named_whos aces)
     (λ who is. kept-denial group who _ (named_not_special who aces (sym (member-named_in who aces) ∙ is)))
 
 -- ---- the law
 
 module _ (aces : List Nfsace4) (mode : Classes) where
   abbrev pub middle : List Nfsace4
-  middle = kept mode.group aces ++ denials mode.group aces
+  middle = kept_of_list mode.group aces ++ denials mode.group aces
 
   -- the list again, its middle in one piece
   pub regroup : with_mode aces mode ≡ for_owner mode.user ++ (middle ++ for_others mode.group mode.other)
   regroup =
-      append_assoc (for_owner mode.user ++ kept mode.group aces) (denials mode.group aces) (for_others mode.group mode.other)
-      ∙ append_assoc (for_owner mode.user) (kept mode.group aces) (denials mode.group aces ++ for_others mode.group mode.other)
-      ∙ ap (λ xs. for_owner mode.user ++ xs) (sym (append_assoc (kept mode.group aces) (denials mode.group aces) (for_others mode.group mode.other)))
+      append_assoc (for_owner mode.user ++ kept_of_list mode.group aces) (denials mode.group aces) (for_others mode.group mode.other)
+      ∙ append_assoc (for_owner mode.user) (kept_of_list mode.group aces) (denials mode.group aces ++ for_others mode.group mode.other)
+      ∙ ap (λ xs. for_owner mode.user ++ xs) (sym (append_assoc (kept_of_list mode.group aces) (denials mode.group aces) (for_others mode.group mode.other)))
 
-  kept-with_mode : kept mode.group (with_mode aces mode) ≡ middle
+  kept-with_mode : kept_of_list mode.group (with_mode aces mode) ≡ middle
   kept-with_mode =
-      ap (kept mode.group) regroup
+      ap (kept_of_list mode.group) regroup
       ∙ kept-append mode.group (for_owner mode.user) (middle ++ for_others mode.group mode.other)
       ∙ ap₂ (λ xs ys. xs ++ ys) (kept-for_owner mode.group mode.user)
       (kept-append mode.group middle (for_others mode.group mode.other)
       ∙ ap₂ (λ xs ys. xs ++ ys)
-      (kept-append mode.group (kept mode.group aces) (denials mode.group aces)
+      (kept-append mode.group (kept_of_list mode.group aces) (denials mode.group aces)
       ∙ ap₂ (λ xs ys. xs ++ ys) (kept-twice mode.group aces) (kept-denials mode.group aces))
       (kept-for_others mode.group mode.group mode.other)
       ∙ append-nil middle)
@@ -128,7 +128,7 @@ module _ (aces : List Nfsace4) (mode : Classes) where
 
   -- the whos that the new list names are named by the old one
   names-special : (who : Who) (kind : AceType) (special : Who) (mask : ℕ) → is_special special ≡ true
-      → list_any (names who) (plain kind special mask) ≡ false
+      → list_any (names who) (plain_ace kind special mask) ≡ false
   names-special who kind special mask is =
       unless_empty-cases _ (λ these. list_any (names who) these ≡ false) (λ _. refl)
       (λ _. ap (λ b. ((decides (record { kind = kind; flags = flags_of_who special; who = special; mask = mask }) && not b) && same_who special who) || false) is
@@ -136,19 +136,19 @@ module _ (aces : List Nfsace4) (mode : Classes) where
 
   names-for_owner : (who : Who) → list_any (names who) (for_owner mode.user) ≡ false
   names-for_owner who =
-      list_any-append (names who) (plain Allow Owner (mask_of mode.user)) (plain Deny Owner (rest_of mode.user))
+      list_any-append (names who) (plain_ace Allow Owner (mask_of mode.user)) (plain_ace Deny Owner (rest_of mode.user))
       ∙ ap₂ (λ a b. a || b) (names-special who Allow Owner (mask_of mode.user) refl) (names-special who Deny Owner (rest_of mode.user) refl)
 
   names-for_others : (who : Who) → list_any (names who) (for_others mode.group mode.other) ≡ false
   names-for_others who =
-      list_any-append (names who) (plain Allow Group (mask_of mode.group) ++ plain Deny Group (rest_of mode.group)) (plain Allow Everyone (mask_of mode.other))
+      list_any-append (names who) (plain_ace Allow Group (mask_of mode.group) ++ plain_ace Deny Group (rest_of mode.group)) (plain_ace Allow Everyone (mask_of mode.other))
       ∙ ap₂ (λ a b. a || b)
-      (list_any-append (names who) (plain Allow Group (mask_of mode.group)) (plain Deny Group (rest_of mode.group))
+      (list_any-append (names who) (plain_ace Allow Group (mask_of mode.group)) (plain_ace Deny Group (rest_of mode.group))
       ∙ ap₂ (λ a b. a || b) (names-special who Allow Group (mask_of mode.group) refl) (names-special who Deny Group (rest_of mode.group) refl))
       (names-special who Allow Everyone (mask_of mode.other) refl)
 
   -- an entry names whom the entry that it was made of names
-  names-kept_of : (who : Who) (ace : Nfsace4) → list_any (names who) (kept_of mode.group ace) ≡ true → names who ace ≡ true
+  names-kept_of : (who : Who) (ace : Nfsace4) → list_any (names who) (kept_of_entry mode.group ace) ≡ true → names who ace ≡ true
   names-kept_of who ace =
       kept_of-cases mode.group ace (λ these. list_any (names who) these ≡ true → names who ace ≡ true)
       (λ d e. sym (or_false (names who ace)) ∙ e)
@@ -174,8 +174,8 @@ module _ (aces : List Nfsace4) (mode : Classes) where
   names-denials : (who : Who) → list_any (names who) (denials mode.group aces) ≡ true → list_any (names who) aces ≡ true
   names-denials who e =
       sym (member-named_in who aces)
-      ∙ list_any-weaken (λ other. list_any (names who) (denial_of mode.group aces other)) (λ other. same_who other who) each (named_in aces)
-      (sym (list_any-flat_map (names who) (denial_of mode.group aces) (named_in aces)) ∙ e)
+      ∙ list_any-weaken (λ other. list_any (names who) (denial_of mode.group aces other)) (λ other. same_who other who) each (named_whos aces)
+      (sym (list_any-flat_map (names who) (denial_of mode.group aces) (named_whos aces)) ∙ e)
     where
       each : (other : Who) → list_any (names who) (denial_of mode.group aces other) ≡ true → same_who other who ≡ true
       each other =
@@ -185,24 +185,24 @@ module _ (aces : List Nfsace4) (mode : Classes) where
 
   names-with_mode : (who : Who) → list_any (names who) (with_mode aces mode) ≡ true → list_any (names who) aces ≡ true
   names-with_mode who e =
-      go (or_cases (list_any (names who) (kept mode.group aces)) (list_any (names who) (denials mode.group aces))
-      (sym (list_any-append (names who) (kept mode.group aces) (denials mode.group aces))
+      go (or_cases (list_any (names who) (kept_of_list mode.group aces)) (list_any (names who) (denials mode.group aces))
+      (sym (list_any-append (names who) (kept_of_list mode.group aces) (denials mode.group aces))
       ∙ sym (or_false (list_any (names who) middle))
       ∙ sym (ap₂ (λ a b. a || (list_any (names who) middle || b)) (names-for_owner who) (names-for_others who))
       ∙ sym (any-with_mode (names who))
       ∙ e))
     where
-      go : (list_any (names who) (kept mode.group aces) ≡ true) ⊎ (list_any (names who) (denials mode.group aces) ≡ true) → list_any (names who) aces ≡ true
+      go : (list_any (names who) (kept_of_list mode.group aces) ≡ true) ⊎ (list_any (names who) (denials mode.group aces) ≡ true) → list_any (names who) aces ≡ true
       go (inl k) =
-          list_any-weaken (λ ace. list_any (names who) (kept_of mode.group ace)) (names who) (names-kept_of who) aces
+          list_any-weaken (λ ace. list_any (names who) (kept_of_entry mode.group ace)) (names who) (names-kept_of who) aces
           (sym (list_any-kept (names who) mode.group aces) ∙ k)
       go (inr d) = names-denials who d
 
   -- the new list denies already what it would have to deny
-  denial_of-with_mode : (who : Who) → member who (named_in (with_mode aces mode)) ≡ true → denial_of mode.group (with_mode aces mode) who ≡ []
+  denial_of-with_mode : (who : Who) → member who (named_whos (with_mode aces mode)) ≡ true → denial_of mode.group (with_mode aces mode) who ≡ []
   unfolding unless_empty
   denial_of-with_mode who is =
-      ap (λ m. plain Deny who m)
+      ap (λ m. plain_ace Deny who m)
       (without-within (rest_of mode.group) (denied_to who (with_mode aces mode))
       (λ k lacks.
       has-denied_to who k (with_mode aces mode)
@@ -216,7 +216,7 @@ module _ (aces : List Nfsace4) (mode : Classes) where
   with_mode-twice =
       ap₂ (λ xs ys. ((for_owner mode.user ++ xs) ++ ys) ++ for_others mode.group mode.other)
       kept-with_mode
-      (flat_map-none (denial_of mode.group (with_mode aces mode)) (named_in (with_mode aces mode)) denial_of-with_mode)
+      (flat_map-none (denial_of mode.group (with_mode aces mode)) (named_whos (with_mode aces mode)) denial_of-with_mode)
       ∙ ap (λ xs. xs ++ for_others mode.group mode.other) (append-nil (for_owner mode.user ++ middle))
       ∙ append_assoc (for_owner mode.user) middle (for_others mode.group mode.other)
       ∙ sym regroup

@@ -4,7 +4,7 @@ use Rattle.std.proofs.lemmas.Slice.Eq.{bytes_eq-Decides}
 use Rattle.acl_names.specs.Bytes.{at_sign}
 use Rattle.acl_names.specs.Bits.{has}
 use Rattle.acl_names.specs.Directory.{Known, uid_of, gid_of, fault_of}
-use Rattle.acl_names.specs.Ids.{Written, Number, Name, written_id, has_name_shape, has_domain_shape, resolved}
+use Rattle.acl_names.specs.Ids.{Written, Number, Name, written_id, has_name_shape, has_domain_shape, id_of_written}
 use Rattle.acl_names.specs.Letters.{letters_of}
 use Rattle.acl_names.specs.Pieces.{parts as split_at_byte}
 use Rattle.acl_names.specs.Steps.{◌>>=◌, or_fault}
@@ -12,7 +12,7 @@ use Rattle.acl_names.proofs.StepLemmas.{some_from_cond}
 use Rattle.acl_posix.proofs.PieceFaultLemmas.{knowing, knowing_faultless, knows_user, knows_group, unfound_name}
 use Rattle.acl_posix.proofs.StepFaults.{same_fault, fault_behind, other_fault}
 use Rattle.acl_nfs4.specs.Ace.{Nfsace4, ace_of, is_idle}
-use Rattle.acl_nfs4.specs.AceText.{AceFields, WrittenWho, fields_of, type_of, special_of, name_at, who_of_parts, written_who, named, resolved_who, refuse_idle, piece_value}
+use Rattle.acl_nfs4.specs.AceText.{AceFields, WrittenWho, fields_of, type_of, special_of, name_at, who_of_parts, written_who, who_with_id, who_of_written, refuse_idle, piece_value}
 use Rattle.acl_nfs4.specs.AceText as form
 use Rattle.acl_nfs4.specs.Faults.{IsWritten, HasNoShape, HasUnknownName, HasNoEffect}
 use Rattle.acl_nfs4.specs.Flags.{identifier_group}
@@ -64,7 +64,7 @@ idle_fault ace e = go (is_idle ace) e
 -- ---- the steps of a piece, each with those after it
 
 abbrev after_mask : Known → AceType → ℕ → WrittenWho → ℕ → Result Nfsace4 PieceFault
-after_mask known kind flags written mask = or_fault UnknownName (resolved_who known (has flags identifier_group) written) >>= (λ who. refuse_idle (ace_of kind flags who mask))
+after_mask known kind flags written mask = or_fault UnknownName (who_of_written known (has flags identifier_group) written) >>= (λ who. refuse_idle (ace_of kind flags who mask))
 
 abbrev after_who : Known → AceFields → AceType → ℕ → WrittenWho → Result Nfsace4 PieceFault
 after_who known fields kind flags written = or_fault Syntax (letters_of mask_table fields.letters) >>= after_mask known kind flags written
@@ -81,7 +81,7 @@ after_fields known fields = or_fault Syntax (type_of fields.kind) >>= after_kind
 -- ---- Syntax is the same whatever names are known
 
 who_is_shaped : (known : Known) (kind : AceType) (flags : ℕ) (written : WrittenWho) (mask : ℕ) → after_mask known kind flags written mask ≢ Err Syntax
-who_is_shaped known kind flags written mask = go (resolved_who known (has flags identifier_group) written)
+who_is_shaped known kind flags written mask = go (who_of_written known (has flags identifier_group) written)
   where
     go : (who : Option Who) → (or_fault UnknownName who >>= (λ who. refuse_idle (ace_of kind flags who mask))) ≢ Err Syntax
     go None = λ e. let is : UnknownName ≡ Syntax = cc in not_unknown (sym is)
@@ -118,12 +118,12 @@ shaped_before known piece fault apart e =
 -- ---- an entry without effect
 
 idle_written : (known : Known) (piece : List ℕ) → piece_value known piece ≡ Err InheritOnly → HasNoEffect known piece
-idle_written known piece e = go (resolved_who known (has before.0.flags identifier_group) before.0.written) refl before.1
+idle_written known piece e = go (who_of_written known (has before.0.flags identifier_group) before.0.written) refl before.1
   where
     before : ShapedBefore known piece InheritOnly
     before = shaped_before known piece InheritOnly not_idle e
 
-    go : (who : Option Who) → resolved_who known (has before.0.flags identifier_group) before.0.written ≡ who
+    go : (who : Option Who) → who_of_written known (has before.0.flags identifier_group) before.0.written ≡ who
         → (or_fault UnknownName who >>= (λ who. refuse_idle (ace_of before.0.kind before.0.flags who before.0.mask))) ≡ Err InheritOnly → HasNoEffect known piece
     go None is f = let same : UnknownName ≡ InheritOnly = cc in absurd (unknown_not_idle same)
     go (Some who) is f =
@@ -137,10 +137,10 @@ record IsKnownSomewhere (is_group : Bool) (written : WrittenWho) : Type 0 where
   pub known : Known
   pub faultless : fault_of known ≡ None
   pub who : Who
-  pub found : resolved_who known is_group written ≡ Some who
+  pub found : who_of_written known is_group written ≡ Some who
 
 -- a name is known where it stands for a user and for a group
-name_found : (is_group : Bool) (domain name : List ℕ) → (who : Who) × (named (knowing domain name) is_group (Name name) ≡ Some who)
+name_found : (is_group : Bool) (domain name : List ℕ) → (who : Who) × (who_with_id (knowing domain name) is_group (Name name) ≡ Some who)
 name_found true domain name = (one.NamedGroup 0, ap (option_map (λ gid. one.NamedGroup gid)) (knows_group domain name))
 name_found false domain name = (one.User 0, ap (option_map (λ uid. one.User uid)) (knows_user domain name))
 
@@ -149,12 +149,12 @@ none_found tag None e = refl
 none_found tag (Some id) e = cc
 
 -- what is written and names nobody is a name
-lost_name : (known : Known) (is_group : Bool) (text : List ℕ) (w : Written) → written_id text ≡ Some w → named known is_group w ≡ None
+lost_name : (known : Known) (is_group : Bool) (text : List ℕ) (w : Written) → written_id text ≡ Some w → who_with_id known is_group w ≡ None
     → (has_name_shape text ≡ true) × (w ≡ Name text)
-lost_name known true text w is lost = unfound_name (gid_of known) text w is (none_found (λ gid. one.NamedGroup gid) (resolved (gid_of known) w) lost)
-lost_name known false text w is lost = unfound_name (uid_of known) text w is (none_found (λ uid. one.User uid) (resolved (uid_of known) w) lost)
+lost_name known true text w is lost = unfound_name (gid_of known) text w is (none_found (λ gid. one.NamedGroup gid) (id_of_written (gid_of known) w) lost)
+lost_name known false text w is lost = unfound_name (uid_of known) text w is (none_found (λ uid. one.User uid) (id_of_written (uid_of known) w) lost)
 
-id_somewhere : (known : Known) (is_group : Bool) (text : List ℕ) (w : Written) → written_id text ≡ Some w → named known is_group w ≡ None → IsKnownSomewhere is_group (form.Id w)
+id_somewhere : (known : Known) (is_group : Bool) (text : List ℕ) (w : Written) → written_id text ≡ Some w → who_with_id known is_group w ≡ None → IsKnownSomewhere is_group (form.Id w)
 id_somewhere known is_group text w is lost =
     let name = lost_name known is_group text w is lost in
     let found = name_found is_group (codes "a") text in
@@ -162,7 +162,7 @@ id_somewhere known is_group text w is lost =
       known = knowing (codes "a") text;
       faultless = knowing_faultless (codes "a") text refl name.0;
       who = found.0;
-      found = ap (named (knowing (codes "a") text) is_group) name.1 ∙ found.1;
+      found = ap (who_with_id (knowing (codes "a") text) is_group) name.1 ∙ found.1;
     }
 
 at_somewhere : (is_group : Bool) (name domain : List ℕ) → has_name_shape name ≡ true → has_domain_shape domain ≡ true → IsKnownSomewhere is_group (form.At name domain)
@@ -172,15 +172,15 @@ at_somewhere is_group name domain shaped domain_shaped =
       known = knowing domain name;
       faultless = knowing_faultless domain name domain_shaped shaped;
       who = found.0;
-      found = ap (λ b. cond b (named (knowing domain name) is_group (Name name)) None) ((bytes_eq-Decides domain domain).1 refl) ∙ found.1;
+      found = ap (λ b. cond b (who_with_id (knowing domain name) is_group (Name name)) None) ((bytes_eq-Decides domain domain).1 refl) ∙ found.1;
     }
 
 -- a special identifier is known everywhere
-special_found : (known : Known) (is_group : Bool) (word : List ℕ) (written : WrittenWho) → special_of word ≡ Some written → resolved_who known is_group written ≢ None
+special_found : (known : Known) (is_group : Bool) (word : List ℕ) (written : WrittenWho) → special_of word ≡ Some written → who_of_written known is_group written ≢ None
 special_found known is_group word written e lost = go (bytes_eq word (codes "OWNER")) (bytes_eq word (codes "GROUP")) (bytes_eq word (codes "EVERYONE")) e
   where
-    lost_too : (w : WrittenWho) → w ≡ written → resolved_who known is_group w ≡ None
-    lost_too w same = ap (resolved_who known is_group) same ∙ lost
+    lost_too : (w : WrittenWho) → w ≡ written → who_of_written known is_group w ≡ None
+    lost_too w same = ap (who_of_written known is_group) same ∙ lost
 
     go : (o g v : Bool) → cond o (Some form.Owner) (cond g (Some form.Group) (cond v (Some form.Everyone) None)) ≡ Some written → ⊥
     go true g v e = let none : Some one.Owner ≡ None = lost_too form.Owner (cc) in cc
@@ -199,7 +199,7 @@ name_at_somewhere is_group name domain written e = go (written_id name) refl e
         let writes = name_says name n is in
         subst (IsKnownSomewhere is_group) choice.1 (at_somewhere is_group n domain (ap has_name_shape (sym writes.1) ∙ writes.0) choice.0)
 
-who_somewhere : (known : Known) (is_group : Bool) (written : WrittenWho) → resolved_who known is_group written ≡ None
+who_somewhere : (known : Known) (is_group : Bool) (written : WrittenWho) → who_of_written known is_group written ≡ None
     → (texts : List (List ℕ)) → who_of_parts texts ≡ Some written → IsKnownSomewhere is_group written
 who_somewhere known is_group written lost [] e = absurd (cc)
 who_somewhere known is_group written lost (id ∷ []) e = go (written_id id) refl e
@@ -208,7 +208,7 @@ who_somewhere known is_group written lost (id ∷ []) e = go (written_id id) ref
     go None is e = absurd (cc)
     go (Some w) is e =
         let same : form.Id w ≡ written = cc in
-        subst (IsKnownSomewhere is_group) same (id_somewhere known is_group id w is (ap (resolved_who known is_group) same ∙ lost))
+        subst (IsKnownSomewhere is_group) same (id_somewhere known is_group id w is (ap (who_of_written known is_group) same ∙ lost))
 who_somewhere known is_group written lost (word ∷ [] ∷ []) e = absurd (special_found known is_group word written e lost)
 who_somewhere known is_group written lost (name ∷ (byte ∷ bytes) ∷ []) e = name_at_somewhere is_group name (byte ∷ bytes) written e
 who_somewhere known is_group written lost (name ∷ [] ∷ more ∷ rest) e = absurd (cc)
@@ -225,7 +225,7 @@ written_elsewhere known piece e =
     let shape = before.0 in
     let is_group = has shape.flags identifier_group in
     let ace_for : Who → Nfsace4 = λ who. ace_of shape.kind shape.flags who shape.mask in
-    let lost = is_lost (resolved_who known is_group shape.written) ace_for before.1 in
+    let lost = is_lost (who_of_written known is_group shape.written) ace_for before.1 in
     let there = who_somewhere known is_group shape.written lost (split_at_byte at_sign shape.fields.who) shape.written_is in
     let written : Parts there.known piece (ace_for there.who) = record { shape = shape; who = there.who; who_is = there.found; made = refl } in
     (there.known, there.faultless, (ace_for there.who, ace_of_parts there.known piece (ace_for there.who) written))

@@ -4,11 +4,11 @@ use Rattle.std.proofs.lemmas.List.Elements.{All-nil, All-cons}
 use Rattle.acl_names.specs.Bits.{has}
 use Rattle.acl_names.specs.Directory.{Known}
 use Rattle.acl_names.specs.Letters.{letters_of}
-use Rattle.acl_names.specs.ListText.{Say, Spells}
+use Rattle.acl_names.specs.ListText.{PiecesSay, Spells}
 use Rattle.acl_names.specs.Steps.{or_fault}
 use Rattle.acl_names.proofs.StepLemmas.{bind_ok, given}
 use Rattle.acl_nfs4.specs.Ace.{Nfsace4, IsAce, ace_of, is_idle}
-use Rattle.acl_nfs4.specs.AceText.{AceFields, WrittenWho, fields_of, type_of, written_who, resolved_who, refuse_idle, piece_value}
+use Rattle.acl_nfs4.specs.AceText.{AceFields, WrittenWho, fields_of, type_of, written_who, who_of_written, refuse_idle, piece_value}
 use Rattle.acl_nfs4.specs.Acl.{AreAces}
 use Rattle.acl_nfs4.specs.Flags.{identifier_group}
 use Rattle.acl_nfs4.specs.Letters.{flag_table, mask_table}
@@ -59,7 +59,7 @@ shaped {piece} {fields} {kind} {flags} {written} {mask} cut kind_is flags_are wr
 pub record Parts (known : Known) (piece : List ℕ) (ace : Nfsace4) : Type 0 where
   pub shape : Shaped piece
   pub who : Who
-  pub who_is : resolved_who known (has shape.flags identifier_group) shape.written ≡ Some who
+  pub who_is : who_of_written known (has shape.flags identifier_group) shape.written ≡ Some who
   pub made : ace_of shape.kind shape.flags who shape.mask ≡ ace
 
 pub parts_of : (known : Known) (piece : List ℕ) (ace : Nfsace4) → piece_value known piece ≡ Ok ace → Parts known piece ace × (is_idle ace ≡ false)
@@ -70,12 +70,12 @@ parts_of known piece ace e =
     let flags = bind_ok (or_fault Syntax (letters_of flag_table cut.0.flags)) _ ace kind.2 in
     let written = bind_ok (or_fault Syntax (written_who cut.0.who)) _ ace flags.2 in
     let mask = bind_ok (or_fault Syntax (letters_of mask_table cut.0.letters)) _ ace written.2 in
-    let who = bind_ok (or_fault UnknownName (resolved_who known (has flags.0 identifier_group) written.0)) _ ace mask.2 in
+    let who = bind_ok (or_fault UnknownName (who_of_written known (has flags.0 identifier_group) written.0)) _ ace mask.2 in
     let last = refuse_idle_ok ace (ace_of kind.0 flags.0 who.0 mask.0) who.2 in (
       record {
         shape = shaped cut.1 kind.1 flags.1 written.1 mask.1;
         who = who.0;
-        who_is = given UnknownName (resolved_who known (has flags.0 identifier_group) written.0) who.0 who.1;
+        who_is = given UnknownName (who_of_written known (has flags.0 identifier_group) written.0) who.0 who.1;
         made = last.0;
       },
       ap is_idle (sym last.0) ∙ last.1,
@@ -93,12 +93,12 @@ refuse_idle_said ace has_effect = ap (λ b. cond b (Err InheritOnly) (Ok ace)) h
 
 -- what holds of each value of a piece holds of each member of a list that pieces say
 each_said : (P : Nfsace4 → Type 0) (known : Known) → ((piece : List ℕ) (ace : Nfsace4) → piece_value known piece ≡ Ok ace → P ace)
-    → (texts : List (List ℕ)) (aces : List Nfsace4) → Say (piece_value known) texts aces → All P aces
+    → (texts : List (List ℕ)) (aces : List Nfsace4) → PiecesSay (piece_value known) texts aces → All P aces
 each_said P known holds texts [] said = All-nil P
 each_said P known holds [] (ace ∷ aces) said = absurd (cc)
 each_said P known holds (text ∷ texts) (ace ∷ aces) said =
     let here : piece_value known text ≡ Ok ace = cc in
-    let rest : Say (piece_value known) texts aces = cc in
+    let rest : PiecesSay (piece_value known) texts aces = cc in
     All-cons P ace aces (holds text ace here) (each_said P known holds texts aces rest)
 
 pub IsAce-read : (known : Known) (piece : List ℕ) (ace : Nfsace4) → piece_value known piece ≡ Ok ace → IsAce ace

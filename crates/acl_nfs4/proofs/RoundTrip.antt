@@ -1,5 +1,7 @@
 -- The printed text of a list spells its entries.
-use Rattle.std.proofs.Common.{◌≡◌, ℕ, ◌≤◌, ◌<◌, Bool, true, false, cond, not, ◌&&◌, ◌||◌, List, [], ◌∷◌, ◌++◌, length, map, Option, Some, None, option_map, Ok, refl, sym, ap, subst, ◌∙◌, arith, codes, decimal, length-append, nat_le, ◌==◌, bytes_eq, eqb-true}
+use Rattle.std.proofs.Common.{◌≡◌, ℕ, ◌≤◌, ◌<◌, Bool, true, false, cond, not, ◌&&◌, ◌||◌, List, [], ◌∷◌, ◌++◌}
+use Rattle.std.proofs.Common.{length, map, Option, Some, None, option_map, Ok, refl, sym, ap, subst, ◌∙◌}
+use Rattle.std.proofs.Common.{arith, codes, decimal, length-append, nat_le, ◌==◌, bytes_eq, eqb-true}
 use Rattle.std.specs.List.{All, AllByRecursion, join_with_byte, list_all}
 use Rattle.std.specs.Char.{is_ascii_digit}
 use Rattle.std.proofs.lemmas.Bool.Decides.{nat_tests}
@@ -11,10 +13,10 @@ use Rattle.std.proofs.lemmas.Slice.Eq.{bytes_eq-Decides}
 use Rattle.acl_names.specs.declared.limits.TheConstants.{MAX_NAME_LEN, MAX_DOMAIN_LEN, MAX_ID}
 use Rattle.acl_names.specs.Bytes.{colon, at_sign}
 use Rattle.acl_names.specs.Bits.{has, without, ◌∩◌}
-use Rattle.acl_names.specs.Directory.{Known, TellsNamesApart, uid_of, gid_of, user_name, group_name}
-use Rattle.acl_names.specs.Ids.{Written, Number, Name, resolved, ReadBack, has_domain_shape, has_name_shape, stands_in_domain, continues_name, begins_name}
+use Rattle.acl_names.specs.Directory.{Known, NamesReadBack, uid_of, gid_of, user_name, group_name}
+use Rattle.acl_names.specs.Ids.{Written, Number, Name, id_of_written, ReadBack, has_domain_shape, has_name_shape, stands_in_domain, continues_name, begins_name}
 use Rattle.acl_names.specs.Letters.{letters_text}
-use Rattle.acl_names.specs.ListText.{Say, Spells}
+use Rattle.acl_names.specs.ListText.{PiecesSay, Spells}
 use Rattle.acl_names.specs.Pieces.{parts}
 use Rattle.acl_names.proofs.BitSets.{has-and, has-or, has-without, has-zero, same_bits}
 use Rattle.acl_names.proofs.Decimals.{digits_model}
@@ -25,7 +27,7 @@ use Rattle.acl_names.proofs.LettersAgain.{letters_again}
 use Rattle.acl_names.proofs.PlainJoined.{IsPlainPiece, pieces_of_joined}
 use Rattle.acl_names.proofs.PlainLines.{IsMark, nothing, pieces_of_lines}
 use Rattle.acl_nfs4.specs.Ace.{Nfsace4, IsAce, ace_of, flags_for, is_idle}
-use Rattle.acl_nfs4.specs.AceText.{AceFields, WrittenWho, as_fields, fields_of, type_of, written_who, who_of_parts, name_at, named, resolved_who, refuse_idle, piece_value}
+use Rattle.acl_nfs4.specs.AceText.{AceFields, WrittenWho, as_fields, fields_of, type_of, written_who, who_of_parts, name_at, who_with_id, who_of_written, refuse_idle, piece_value}
 use Rattle.acl_nfs4.specs.AceText as form
 use Rattle.acl_nfs4.specs.Flags.{identifier_group}
 use Rattle.acl_nfs4.specs.Letters.{flag_table, mask_table}
@@ -168,11 +170,11 @@ module _ (known : Known) where
   pub record ReadsAs (text : List ℕ) (is_group : Bool) (who : Who) : Type 0 where
     pub written : WrittenWho
     pub written_is : written_who text ≡ Some written
-    pub who_is : resolved_who known is_group written ≡ Some who
+    pub who_is : who_of_written known is_group written ≡ Some who
 
   -- a decimal is read as the one who has this id
   pub decimal_again : (id_of : List ℕ → Option ℕ) (is_group : Bool) (tag : ℕ → Who) (id : ℕ) → id ≤ MAX_ID
-      → ((written : Written) → named known is_group written ≡ option_map tag (resolved id_of written))
+      → ((written : Written) → who_with_id known is_group written ≡ option_map tag (id_of_written id_of written))
       → ReadsAs (decimal id) is_group (tag id)
   decimal_again id_of is_group tag id small looks_up = record {
     written = form.Id (Number id);
@@ -237,11 +239,11 @@ module _ (known : Known) where
           joined_plain (type_text ace.kind) rest (fields_are ace is.has_id),
         )
 
-    pub each_again : (aces : List Nfsace4) → All IsPrinted aces → Say (piece_value known) (map (λ ace. fields_text (text_of ace.who) ace) aces) aces
+    pub each_again : (aces : List Nfsace4) → All IsPrinted aces → PiecesSay (piece_value known) (map (λ ace. fields_text (text_of ace.who) ace) aces) aces
     each_again [] are = refl
     each_again (ace ∷ aces) are = rw (fields_again_as ace (All-head IsPrinted ace aces are), each_again aces (All-tail IsPrinted ace aces are)) refl
 
-module _ (known : Known) (apart : TellsNamesApart known) where
+module _ (known : Known) (apart : NamesReadBack known) where
   -- ---- the who
 
   named_field : (id_of : List ℕ → Option ℕ) (name_of : ℕ → Option (List ℕ)) (id : ℕ) → ReadBack id_of name_of → id ≤ MAX_ID
@@ -267,7 +269,7 @@ module _ (known : Known) (apart : TellsNamesApart known) where
   same_domain = (bytes_eq-Decides known.domain known.domain).1 refl
 
   named_again : (id_of : List ℕ → Option ℕ) (name_of : ℕ → Option (List ℕ)) (is_group : Bool) (tag : ℕ → Who) (id : ℕ) → ReadBack id_of name_of → id ≤ MAX_ID
-      → ((written : Written) → named known is_group written ≡ option_map tag (resolved id_of written))
+      → ((written : Written) → who_with_id known is_group written ≡ option_map tag (id_of_written id_of written))
       → ReadsAs known (named_text (name_of id) known.domain id) is_group (tag id)
   named_again id_of name_of is_group tag id back small looks_up = go (name_of id) refl
     where
@@ -278,7 +280,7 @@ module _ (known : Known) (apart : TellsNamesApart known) where
           record {
             written = form.At name known.domain;
             written_is = ap who_of_parts (parts_at name known.domain told.0 apart.domain) ∙ at_again name known.domain told.0 apart.domain;
-            who_is = ap (λ b. cond b (named known is_group (Name name)) None) same_domain ∙ looks_up (Name name) ∙ ap (option_map tag) told.1;
+            who_is = ap (λ b. cond b (who_with_id known is_group (Name name)) None) same_domain ∙ looks_up (Name name) ∙ ap (option_map tag) told.1;
           }
 
   who_again : (who : Who) → HasId who → ReadsAs known (who_text known who) (is_named_group who) who

@@ -10,13 +10,13 @@ use Rattle.acl_names.specs.declared.limits.TheConstants.{MAX_DIGITS, MAX_ID}
 use Rattle.acl_names.specs.Bytes.{at_sign}
 use Rattle.acl_names.specs.Bits.{has}
 use Rattle.acl_names.specs.Directory.{Known, uid_of, gid_of}
-use Rattle.acl_names.specs.Ids.{Written, Number, Name, written_id, number_or_name, decimal_value, is_decimal, has_name_shape, has_domain_shape, resolved}
+use Rattle.acl_names.specs.Ids.{Written, Number, Name, written_id, number_or_name, decimal_value, is_decimal, has_name_shape, has_domain_shape, id_of_written}
 use Rattle.acl_names.specs.Pieces.{parts}
 use Rattle.acl_names.proofs.IdTexts.{and_first, and_second, written_name}
 use Rattle.acl_names.proofs.StepLemmas.{some_from_cond, written_by}
 use Rattle.acl_nfs4.specs.Ace.{Nfsace4, flags_for}
 use Rattle.acl_nfs4.specs.AceShapes.{IsTypeLetter, WritesId, IsWho, WritesAce, HasShape}
-use Rattle.acl_nfs4.specs.AceText.{WrittenWho, type_of, special_of, name_at, who_of_parts, written_who, named, resolved_who, refuse_idle, piece_value}
+use Rattle.acl_nfs4.specs.AceText.{WrittenWho, type_of, special_of, name_at, who_of_parts, written_who, who_with_id, who_of_written, refuse_idle, piece_value}
 use Rattle.acl_nfs4.specs.AceText as form
 use Rattle.acl_nfs4.specs.Flags.{identifier_group}
 use Rattle.acl_nfs4.specs.declared.ace.AceType.{AceType}
@@ -72,16 +72,16 @@ found_says tag (Some id) who e = (id, refl, cc)
 
 -- a name or a decimal, alone
 id_says : (known : Known) (is_group : Bool) (text : List ℕ) (written : Written) (who : Who)
-    → written_id text ≡ Some written → named known is_group written ≡ Some who → IsWho known is_group text who
+    → written_id text ≡ Some written → who_with_id known is_group written ≡ Some who → IsWho known is_group text who
 id_says known true text written who w e =
-    let found = found_says (λ gid. one.NamedGroup gid) (resolved (gid_of known) written) who e in
+    let found = found_says (λ gid. one.NamedGroup gid) (id_of_written (gid_of known) written) who e in
     subst (IsWho known true text) found.2 (
       refl,
       elim (written_by (gid_of known) text (decimal_value text) written found.0 w found.1)
           [ inl d ↦ inl d | inr name ↦ inr (text, (name.0, inl refl), name.1) ],
     )
 id_says known false text written who w e =
-    let found = found_says (λ uid. one.User uid) (resolved (uid_of known) written) who e in
+    let found = found_says (λ uid. one.User uid) (id_of_written (uid_of known) written) who e in
     subst (IsWho known false text) found.2 (
       refl,
       elim (written_by (uid_of known) text (decimal_value text) written found.0 w found.1)
@@ -90,7 +90,7 @@ id_says known false text written who w e =
 
 -- a name in the domain
 at_says : (known : Known) (is_group : Bool) (name : List ℕ) (who : Who) → has_name_shape name ≡ true → has_domain_shape known.domain ≡ true
-    → named known is_group (Name name) ≡ Some who → IsWho known is_group (name ++ at_sign ∷ known.domain) who
+    → who_with_id known is_group (Name name) ≡ Some who → IsWho known is_group (name ++ at_sign ∷ known.domain) who
 at_says known true name who shaped domain_shaped e =
     let found = found_says (λ gid. one.NamedGroup gid) (gid_of known name) who e in
     subst (IsWho known true (name ++ at_sign ∷ known.domain)) found.2 (refl, inr (name, (shaped, inr (refl, domain_shaped)), found.1))
@@ -102,23 +102,23 @@ at_says known false name who shaped domain_shaped e =
 
 -- a special identifier
 special_says : (known : Known) (is_group : Bool) (word : List ℕ) (written : WrittenWho) (who : Who)
-    → special_of word ≡ Some written → resolved_who known is_group written ≡ Some who → IsWho known is_group (word ++ at_sign ∷ []) who
+    → special_of word ≡ Some written → who_of_written known is_group written ≡ Some who → IsWho known is_group (word ++ at_sign ∷ []) who
 special_says known is_group word written who e r =
     go (bytes_eq word (codes "OWNER")) refl (bytes_eq word (codes "GROUP")) refl (bytes_eq word (codes "EVERYONE")) refl e
   where
     behind : (special : List ℕ) → bytes_eq word special ≡ true → word ++ at_sign ∷ [] ≡ special ++ at_sign ∷ []
     behind special e = ap (λ (xs : List ℕ). xs ++ at_sign ∷ []) (same_bytes word special e)
 
-    resolves : (w : WrittenWho) → w ≡ written → resolved_who known is_group w ≡ Some who
-    resolves w same = ap (resolved_who known is_group) same ∙ r
+    resolves : (w : WrittenWho) → w ≡ written → who_of_written known is_group w ≡ Some who
+    resolves w same = ap (who_of_written known is_group) same ∙ r
 
-    is_owner : resolved_who known is_group form.Owner ≡ Some who → word ++ at_sign ∷ [] ≡ codes "OWNER@" → IsWho known is_group (word ++ at_sign ∷ []) who
+    is_owner : who_of_written known is_group form.Owner ≡ Some who → word ++ at_sign ∷ [] ≡ codes "OWNER@" → IsWho known is_group (word ++ at_sign ∷ []) who
     is_owner f same = of_same (IsWho known is_group (word ++ at_sign ∷ [])) one.Owner who (cc) same
 
-    is_group_class : resolved_who known is_group form.Group ≡ Some who → word ++ at_sign ∷ [] ≡ codes "GROUP@" → IsWho known is_group (word ++ at_sign ∷ []) who
+    is_group_class : who_of_written known is_group form.Group ≡ Some who → word ++ at_sign ∷ [] ≡ codes "GROUP@" → IsWho known is_group (word ++ at_sign ∷ []) who
     is_group_class f same = of_same (IsWho known is_group (word ++ at_sign ∷ [])) one.Group who (cc) same
 
-    is_everyone : resolved_who known is_group form.Everyone ≡ Some who → word ++ at_sign ∷ [] ≡ codes "EVERYONE@" → IsWho known is_group (word ++ at_sign ∷ []) who
+    is_everyone : who_of_written known is_group form.Everyone ≡ Some who → word ++ at_sign ∷ [] ≡ codes "EVERYONE@" → IsWho known is_group (word ++ at_sign ∷ []) who
     is_everyone f same = of_same (IsWho known is_group (word ++ at_sign ∷ [])) one.Everyone who (cc) same
 
     go : (o : Bool) → bytes_eq word (codes "OWNER") ≡ o → (g : Bool) → bytes_eq word (codes "GROUP") ≡ g
@@ -132,15 +132,15 @@ special_says known is_group word written who e r =
 
 -- a name in a domain, which is the directory's if it is resolved
 name_at_says : (known : Known) (is_group : Bool) (name domain : List ℕ) (written : WrittenWho) (who : Who)
-    → name_at (written_id name) domain ≡ Some written → resolved_who known is_group written ≡ Some who
+    → name_at (written_id name) domain ≡ Some written → who_of_written known is_group written ≡ Some who
     → IsWho known is_group (name ++ at_sign ∷ domain) who
 name_at_says known is_group name domain written who e r = go (written_id name) refl e
   where
-    resolves : (n : List ℕ) → form.At n domain ≡ written → cond (bytes_eq domain known.domain) (named known is_group (Name n)) None ≡ Some who
-    resolves n same = ap (resolved_who known is_group) same ∙ r
+    resolves : (n : List ℕ) → form.At n domain ≡ written → cond (bytes_eq domain known.domain) (who_with_id known is_group (Name n)) None ≡ Some who
+    resolves n same = ap (who_of_written known is_group) same ∙ r
 
-    in_domain : (n : List ℕ) (b : Bool) → bytes_eq domain known.domain ≡ b → cond b (named known is_group (Name n)) None ≡ Some who
-        → (domain ≡ known.domain) × (named known is_group (Name n) ≡ Some who)
+    in_domain : (n : List ℕ) (b : Bool) → bytes_eq domain known.domain ≡ b → cond b (who_with_id known is_group (Name n)) None ≡ Some who
+        → (domain ≡ known.domain) × (who_with_id known is_group (Name n) ≡ Some who)
     in_domain n true same f = (same_bytes domain known.domain same, f)
     in_domain n false same f = absurd (cc)
 
@@ -153,10 +153,10 @@ name_at_says known is_group name domain written who e r = go (written_id name) r
         let inside = in_domain n (bytes_eq domain known.domain) refl (resolves n choice.1) in
         subst (λ (d : List ℕ). IsWho known is_group (name ++ at_sign ∷ d) who) (sym inside.0)
         (at_says known is_group name who writes.0 (ap has_domain_shape (sym inside.0) ∙ choice.0)
-        (ap (λ (m : List ℕ). named known is_group (Name m)) writes.1 ∙ inside.1))
+        (ap (λ (m : List ℕ). who_with_id known is_group (Name m)) writes.1 ∙ inside.1))
 
 -- by the parts round each '@'
-parts_say : (known : Known) (is_group : Bool) (written : WrittenWho) (who : Who) → resolved_who known is_group written ≡ Some who
+parts_say : (known : Known) (is_group : Bool) (written : WrittenWho) (who : Who) → who_of_written known is_group written ≡ Some who
     → (texts : List (List ℕ)) → who_of_parts texts ≡ Some written → IsWho known is_group (join_with_byte at_sign texts) who
 parts_say known is_group written who r [] e = absurd (cc)
 parts_say known is_group written who r (id ∷ []) e = go (written_id id) refl e
@@ -165,14 +165,14 @@ parts_say known is_group written who r (id ∷ []) e = go (written_id id) refl e
     go None is e = absurd (cc)
     go (Some w) is e =
         let same : form.Id w ≡ written = cc in
-        id_says known is_group id w who is (ap (resolved_who known is_group) same ∙ r)
+        id_says known is_group id w who is (ap (who_of_written known is_group) same ∙ r)
 parts_say known is_group written who r (word ∷ [] ∷ []) e = special_says known is_group word written who e r
 parts_say known is_group written who r (name ∷ (byte ∷ bytes) ∷ []) e = name_at_says known is_group name (byte ∷ bytes) written who e r
 parts_say known is_group written who r (name ∷ [] ∷ more ∷ rest) e = absurd (cc)
 parts_say known is_group written who r (name ∷ (byte ∷ bytes) ∷ more ∷ rest) e = absurd (cc)
 
 who_says : (known : Known) (is_group : Bool) (text : List ℕ) (written : WrittenWho) (who : Who)
-    → written_who text ≡ Some written → resolved_who known is_group written ≡ Some who → IsWho known is_group text who
+    → written_who text ≡ Some written → who_of_written known is_group written ≡ Some who → IsWho known is_group text who
 who_says known is_group text written who e r =
     subst (λ (t : List ℕ). IsWho known is_group t who) (join_with_byte-slice_split at_sign text)
     (parts_say known is_group written who r (parts at_sign text) e)
@@ -181,10 +181,10 @@ who_says known is_group text written who e r =
 record IsRead (known : Known) (is_group : Bool) (text : List ℕ) (who : Who) : Type 0 where
   pub written : WrittenWho
   pub written_is : written_who text ≡ Some written
-  pub who_is : resolved_who known is_group written ≡ Some who
+  pub who_is : who_of_written known is_group written ≡ Some who
 
 id_read : (known : Known) (is_group : Bool) (id_of : List ℕ → Option ℕ) (tag : ℕ → Who) (text : List ℕ) (id : ℕ)
-    → ((written : Written) → named known is_group written ≡ option_map tag (resolved id_of written))
+    → ((written : Written) → who_with_id known is_group written ≡ option_map tag (id_of_written id_of written))
     → WritesId known id_of text id → IsRead known is_group text (tag id)
 id_read known is_group id_of tag text id looks_up (inl d) =
     let number = some_from_cond (is_decimal text) (digits_value 10 text) id d in
@@ -211,7 +211,7 @@ id_read known is_group id_of tag text id looks_up (inr (name, (shaped, inr (join
   written = form.At name known.domain;
   written_is = ap (λ (t : List ℕ). who_of_parts (parts at_sign t)) joined ∙ ap who_of_parts (parts_at name known.domain shaped domain_shaped)
       ∙ at_again name known.domain shaped domain_shaped;
-  who_is = ap (λ b. cond b (named known is_group (Name name)) None) ((bytes_eq-Decides known.domain known.domain).1 refl)
+  who_is = ap (λ b. cond b (who_with_id known is_group (Name name)) None) ((bytes_eq-Decides known.domain known.domain).1 refl)
       ∙ looks_up (Name name) ∙ ap (option_map tag) found;
 }
 

@@ -1,5 +1,7 @@
 -- Whos that are told at one look: a decimal, and a special identifier.
-use Rattle.std.proofs.Common.{◌≡◌, ℕ, Bool, true, false, cond, ◌&&◌, List, [], ◌∷◌, ◌++◌, length, nat_le, Some, None, option_map, refl, sym, ap, subst, ◌∙◌, codes, ◌≤◌, ◌-◌, suc, take, get_or, arith, bytes_eq, take_all, take-suc}
+use Rattle.std.proofs.Common.{◌≡◌, ℕ, Bool, true, false, cond, ◌&&◌, List, [], ◌∷◌, ◌++◌, length, nat_le}
+use Rattle.std.proofs.Common.{Some, None, option_map, refl, sym, ap, subst, ◌∙◌, codes, ◌≤◌, ◌-◌, suc, take}
+use Rattle.std.proofs.Common.{get_or, arith, bytes_eq, take_all, take-suc}
 use Rattle.std.specs.List.{list_all}
 use Rattle.std.specs.Char.{is_ascii_digit}
 use Rattle.std.specs.Str.Parse.{digits_value}

@@ -7,7 +7,7 @@ use Rattle.acl_nfs4.specs.Mask.{mask_of}
 use Rattle.acl_nfs4.specs.Who.{flags_of_who, matches}
 use Rattle.acl_nfs4.specs.Evaluation.{speaks, allows, mode_of}
 use Rattle.acl_nfs4.specs.Inheritance.{inherited_list}
-use Rattle.acl_nfs4.specs.ModeChange.{split, kept_mask, restricted, with_mode}
+use Rattle.acl_nfs4.specs.ModeChange.{split, kept_mask, kept_of_part, with_mode}
 use Rattle.acl_posix.specs.Mode.{Classes}
 use Rattle.acl_nfs4.specs.declared.ace.AceType.{AceType}
 use Rattle.acl_nfs4.specs.declared.ace.AceType.TheVariants.{Allow, Deny}
@@ -71,13 +71,13 @@ for_directory_below = refl
 file_with_mode : with_mode file_below (mode 6 4 0)
     ≡ ace Allow 0 Owner 7 ∷ ace Deny 0 Owner 32 ∷ ace Allow 0 bob 1 ∷ ace Deny 0 carol 2 ∷ ace Allow 0 Everyone 131200
     ∷ ace Deny 0 bob 38 ∷ ace Deny 0 carol 36 ∷ ace Allow 0 Group 1 ∷ ace Deny 0 Group 38 ∷ []
-unfolding has without decides unless_empty mask_of split kept_mask restricted
+unfolding has without decides unless_empty mask_of split kept_mask kept_of_part
 file_with_mode = refl
 
 directory_with_mode : with_mode directory_below (mode 7 5 0)
     ≡ ace Allow 0 Owner 39 ∷ ace Allow 9 bob 1 ∷ ace Allow 0 ops 33 ∷ ace Allow 11 Everyone 131200 ∷ ace Allow 0 Everyone 131200
     ∷ ace Deny 0 ops 6 ∷ ace Allow 0 Group 33 ∷ ace Deny 0 Group 6 ∷ []
-unfolding has without decides unless_empty mask_of split kept_mask restricted
+unfolding has without decides unless_empty mask_of split kept_mask kept_of_part
 directory_with_mode = refl
 
 -- A::OWNER@:rwatTcC, A::bob:rwa, A:g:ops:r, A::EVERYONE@:r
@@ -90,7 +90,7 @@ shared_with_mode =
     ∷ ace Deny 0 Group 39 ∷ ace Allow 0 Everyone 1 ∷ []
 
 mode_set : with_mode shared (mode 6 0 4) ≡ shared_with_mode
-unfolding has without decides unless_empty mask_of split kept_mask restricted
+unfolding has without decides unless_empty mask_of split kept_mask kept_of_part
 mode_set = refl
 
 bob_denied : allows (matches 1000 50 (asked_by 1001 (50 ∷ 60 ∷ []))) 0 shared_with_mode ≡ false
@@ -117,5 +117,5 @@ append_is_absent = refl
 -- A:fd:bob:rx with 750
 split_by_mode : with_mode (ace Allow 3 bob 33 ∷ []) (mode 7 5 0)
     ≡ ace Allow 0 Owner 39 ∷ ace Allow 11 bob 33 ∷ ace Allow 0 bob 33 ∷ ace Deny 0 bob 6 ∷ ace Allow 0 Group 33 ∷ ace Deny 0 Group 6 ∷ []
-unfolding has without decides unless_empty mask_of split kept_mask restricted
+unfolding has without decides unless_empty mask_of split kept_mask kept_of_part
 split_by_mode = refl

@@ -66,8 +66,8 @@ unfoldable pub unless_empty : Nfsace4 → List Nfsace4
 unless_empty ace = if ace.mask == 0 then [] else ace ∷ []
 
 -- an entry of this kind with no flags of its own, unless its mask is empty
-abbrev pub plain : AceType → Who → ℕ → List Nfsace4
-plain kind who mask = unless_empty (record {
+abbrev pub plain_ace : AceType → Who → ℕ → List Nfsace4
+plain_ace kind who mask = unless_empty (record {
   kind = kind;
   flags = flags_of_who who;
   who = who;

@@ -4,7 +4,7 @@ use Rattle.std.specs.Prelude.{Err, codes, option_map, if◌then◌else◌, bytes
 use Rattle.acl_names.specs.Bytes.{colon, at_sign}
 use Rattle.acl_names.specs.Bits.{has}
 use Rattle.acl_names.specs.Directory.{Known, uid_of, gid_of}
-use Rattle.acl_names.specs.Ids.{Written, Name, written_id, resolved, has_domain_shape}
+use Rattle.acl_names.specs.Ids.{Written, Name, written_id, id_of_written, has_domain_shape}
 use Rattle.acl_names.specs.Letters.{letters_of}
 use Rattle.acl_names.specs.Pieces.{parts, trimmed_parts}
 use Rattle.acl_names.specs.Steps.{◌>>=◌, or_fault}
@@ -73,18 +73,20 @@ abbrev pub written_who : List ℕ → Option WrittenWho
 written_who text = who_of_parts (parts at_sign text)
 
 -- the user or, if the flag g stands, the group that has what is written
-abbrev pub named : Known → Bool → Written → Option Who
-named known true written = option_map (λ gid. who.NamedGroup gid) (resolved (gid_of known) written)
-named known false written = option_map (λ uid. who.User uid) (resolved (uid_of known) written)
+abbrev pub who_with_id : Known → Bool → Written → Option Who
+who_with_id known true written = option_map (λ gid. who.NamedGroup gid)
+    (id_of_written (gid_of known) written)
+who_with_id known false written = option_map (λ uid. who.User uid)
+    (id_of_written (uid_of known) written)
 
 -- the one who is written; a name in another domain is nobody's
-abbrev pub resolved_who : Known → Bool → WrittenWho → Option Who
-resolved_who known is_group Owner = Some who.Owner
-resolved_who known is_group Group = Some who.Group
-resolved_who known is_group Everyone = Some who.Everyone
-resolved_who known is_group (Id written) = named known is_group written
-resolved_who known is_group (At name domain) = if bytes_eq domain known.domain
-    then named known is_group (Name name) else None
+abbrev pub who_of_written : Known → Bool → WrittenWho → Option Who
+who_of_written known is_group Owner = Some who.Owner
+who_of_written known is_group Group = Some who.Group
+who_of_written known is_group Everyone = Some who.Everyone
+who_of_written known is_group (Id written) = who_with_id known is_group written
+who_of_written known is_group (At name domain) = if bytes_eq domain known.domain
+    then who_with_id known is_group (Name name) else None
 
 -- the entry, unless it has an effect neither where it stands nor below
 abbrev pub refuse_idle : Nfsace4 → Result Nfsace4 PieceFault
@@ -98,5 +100,5 @@ piece_value known piece = do
   flags ← or_fault Syntax (letters_of flag_table fields.flags)
   written ← or_fault Syntax (written_who fields.who)
   mask ← or_fault Syntax (letters_of mask_table fields.letters)
-  who ← or_fault UnknownName (resolved_who known (has flags identifier_group) written)
+  who ← or_fault UnknownName (who_of_written known (has flags identifier_group) written)
   refuse_idle (ace_of kind flags who mask)

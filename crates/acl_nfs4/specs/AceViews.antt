@@ -2,8 +2,8 @@
 use Rattle.acl_names.specs.Views.{view_written}
 use Rattle.acl_nfs4.specs.AceText as text
 use Rattle.acl_nfs4.specs.declared.reading.AceFields.{AceFields}
-use Rattle.acl_nfs4.specs.declared.reading.WrittenWho.{WrittenWho}
-use Rattle.acl_nfs4.specs.declared.reading.WrittenWho.TheVariants as written
+use Rattle.acl_nfs4.specs.declared.written_who.WrittenWho.{WrittenWho}
+use Rattle.acl_nfs4.specs.declared.written_who.WrittenWho.TheVariants as written
 
 -- without where the fields lie in memory
 abbrev pub view_fields : AceFields → text.AceFields

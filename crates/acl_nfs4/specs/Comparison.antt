@@ -59,38 +59,40 @@ asker_for owners other_owners stranger who other = record {
       ++ option_to_list (needed_gid other_owners.group other);
 }
 
--- both lists decide alike for that one
-abbrev pub AlikeAt : List Nfsace4 → List Nfsace4 → Owners → Owners → ℕ → ℕ → Who → Who → Type 0
-AlikeAt first second owners other_owners bits stranger who other =
-    AlikeFor first second owners other_owners bits
-    (asker_for owners other_owners stranger who other)
-
 -- whether it asks for this user
 abbrev pub needs_user : ℕ → ℕ → Who → Bool
 needs_user owner uid Owner = owner == uid
 needs_user owner uid (User named) = named == uid
 needs_user owner uid _ = false
 
--- whether one of the entries does
-abbrev pub asks_for : ℕ → ℕ → List Nfsace4 → Bool
-asks_for owner uid aces = list_any (λ ace. needs_user owner uid ace.who) aces
+-- whether one of the entries, of either style, does
+abbrev pub asks_for : {E : Type 0} → (E → Who) → ℕ → ℕ → List E → Bool
+asks_for who owner uid entries = list_any (λ entry. needs_user owner uid (who entry)) entries
 
 -- No entry asks for this user. Any such user may come as the stranger.
-abbrev pub IsStranger : ℕ → List Nfsace4 → ℕ → Type 0
-IsStranger owner aces uid = All (λ ace. needed_uid owner ace.who ≢ Some uid) aces
+abbrev pub IsStranger : {E : Type 0} → (E → Who) → ℕ → List E → ℕ → Type 0
+IsStranger who owner entries uid = All (λ entry. needed_uid owner (who entry) ≢ Some uid) entries
 
 -- it holds of each who that the entries are about, and of everyone
-abbrev pub OfEachWho : List Nfsace4 → (Who → Type 0) → Type 0
-OfEachWho aces P = All (λ ace. P ace.who) aces × P Everyone
+abbrev pub OfEach : {E : Type 0} → (E → Who) → List E → (Who → Type 0) → Type 0
+OfEach who entries P = All (λ entry. P (who entry)) entries × P Everyone
+
+-- it holds of the asker of each pair of entries, with one stranger for all pairs
+pub record OfEachAsker {E : Type 0} (who : E → Who) (first second : List E) (owners other_owners :
+    Owners) (P : Identity → Type 0) : Type 0 where
+  pub stranger : ℕ
+  pub to_first : IsStranger who owners.owner first stranger
+  pub to_second : IsStranger who other_owners.owner second stranger
+  pub each : OfEach who first (λ one. OfEach who second
+      (λ other. P (asker_for owners other_owners stranger one other)))
 
 -- Lists that decide alike for the asker of each pair of entries decide alike for everyone, each for
 -- a file of its own owners.
 abbrev pub PairsSuffice : Type 0
 PairsSuffice =
-    (first second : List Nfsace4) (owners other_owners : Owners) (bits stranger : ℕ)
-    → IsStranger owners.owner first stranger → IsStranger other_owners.owner second stranger
-    → OfEachWho first (λ who. OfEachWho second
-    (λ other. AlikeAt first second owners other_owners bits stranger who other))
+    (first second : List Nfsace4) (owners other_owners : Owners) (bits : ℕ)
+    → OfEachAsker (λ ace. ace.who) first second owners other_owners
+    (AlikeFor first second owners other_owners bits)
     → DecideAlike (decided_at first owners) (decided_at second other_owners) bits
 
 -- Lists that decide alike for everyone who is in at most two groups decide alike for everyone, each

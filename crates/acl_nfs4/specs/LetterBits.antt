@@ -4,7 +4,7 @@ use Rattle.std.specs.Prelude.{◌≡◌, ℕ, ◌<◌, ◌==◌, false, List, []
 use Rattle.std.specs.List.{AllByRecursion}
 use Rattle.acl_names.specs.Bits.{◌∩◌}
 use Rattle.acl_names.specs.Letters.{bits_of_rows}
-use Rattle.acl_names.specs.declared.letters.Letter.{Letter}
+use Rattle.acl_names.specs.declared.text.letters.Letter.{Letter}
 
 -- no two rows have a bit in common
 abbrev pub BitsDiffer : List Letter → Type 0

@@ -1,7 +1,7 @@
 -- The letters that flags and the bits of a mask have in texts, in the order in which they are
 -- printed.
 use Rattle.std.specs.Prelude.{List, [], ◌∷◌}
-use Rattle.acl_names.specs.declared.letters.Letter.{Letter}
+use Rattle.acl_names.specs.declared.text.letters.Letter.{Letter}
 
 -- f d n i S F g
 abbrev pub flag_table : List Letter

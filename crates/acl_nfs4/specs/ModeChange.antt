@@ -2,7 +2,7 @@
 use Rattle.std.specs.Prelude.{ℕ, ◌^◌, Bool, not, ◌&&◌, if◌then◌else◌, List, [], ◌∷◌, ◌++◌, map}
 use Rattle.std.specs.Prelude.{filter, flat_map}
 use Rattle.acl_names.specs.Bits.{◌∪◌, without, union}
-use Rattle.acl_nfs4.specs.Ace.{decides, is_allow, is_deny, plain, unless_empty, is_inheritable}
+use Rattle.acl_nfs4.specs.Ace.{decides, is_allow, is_deny, plain_ace, unless_empty, is_inheritable}
 use Rattle.acl_nfs4.specs.Ace.{Nfsace4}
 use Rattle.acl_nfs4.specs.Who.{is_special, same_who}
 use Rattle.acl_nfs4.specs.Mask.{mask_of, rest_of, mode_bits}
@@ -29,30 +29,31 @@ kept_mask group ace =
     else ace.mask
 
 -- what is left of an entry beside a mode with this group
-unfoldable pub restricted : ℕ → Nfsace4 → List Nfsace4
-restricted group ace = if decides ace then unless_empty (record ace { mask = kept_mask group ace })
-    else ace ∷ []
+unfoldable pub kept_of_part : ℕ → Nfsace4 → List Nfsace4
+kept_of_part group ace = if decides ace
+    then unless_empty (record ace { mask = kept_mask group ace }) else ace ∷ []
 
 -- what an entry leaves, split and restricted
-abbrev pub kept_of : ℕ → Nfsace4 → List Nfsace4
-kept_of group ace = flat_map (restricted group) (split ace)
+abbrev pub kept_of_entry : ℕ → Nfsace4 → List Nfsace4
+kept_of_entry group ace = flat_map (kept_of_part group) (split ace)
 
 -- what the old list leaves beside a mode with this group
-abbrev pub kept : ℕ → List Nfsace4 → List Nfsace4
-kept group aces = flat_map (restricted group) (flat_map split aces)
+abbrev pub kept_of_list : ℕ → List Nfsace4 → List Nfsace4
+kept_of_list group aces = flat_map (kept_of_part group) (flat_map split aces)
 
 -- each who at its first place alone
-abbrev pub distinct : List Who → List Who
-distinct [] = []
-distinct (who ∷ rest) = who ∷ filter (λ other. not (same_who other who)) (distinct rest)
+abbrev pub without_repeats : List Who → List Who
+without_repeats [] = []
+without_repeats (who ∷ rest) = who
+    ∷ filter (λ other. not (same_who other who)) (without_repeats rest)
 
 -- whether an entry decides about a named user or group
 abbrev pub names_someone : Nfsace4 → Bool
 names_someone ace = decides ace && not (is_special ace.who)
 
 -- the named users and groups that an entry decides about, in the order of their first entry
-abbrev pub named_in : List Nfsace4 → List Who
-named_in aces = distinct (map (λ ace. ace.who) (filter names_someone aces))
+abbrev pub named_whos : List Nfsace4 → List Who
+named_whos aces = without_repeats (map (λ ace. ace.who) (filter names_someone aces))
 
 -- whether an entry decides about this who by name
 abbrev pub names : Who → Nfsace4 → Bool
@@ -68,24 +69,25 @@ denied_to who aces = union (map (λ ace. ace.mask) (filter (denies_by_name who) 
 
 -- the bits that the mode's group lacks, denied to this who as far as the list does not deny them
 abbrev pub denial_of : ℕ → List Nfsace4 → Who → List Nfsace4
-denial_of group aces who = plain Deny who (without (rest_of group) (denied_to who aces))
+denial_of group aces who = plain_ace Deny who (without (rest_of group) (denied_to who aces))
 
 -- the entries that stand first, for the owner, and last, for the group and everyone
 abbrev pub for_owner : ℕ → List Nfsace4
-for_owner user = plain Allow Owner (mask_of user) ++ plain Deny Owner (rest_of user)
+for_owner user = plain_ace Allow Owner (mask_of user) ++ plain_ace Deny Owner (rest_of user)
 
 abbrev pub for_others : ℕ → ℕ → List Nfsace4
-for_others group other = plain Allow Group (mask_of group) ++ plain Deny Group (rest_of group)
-    ++ plain Allow Everyone (mask_of other)
+for_others group other = plain_ace Allow Group (mask_of group)
+    ++ plain_ace Deny Group (rest_of group)
+    ++ plain_ace Allow Everyone (mask_of other)
 
 -- the denials of all whom the list names
 abbrev pub denials : ℕ → List Nfsace4 → List Nfsace4
-denials group aces = flat_map (denial_of group aces) (named_in aces)
+denials group aces = flat_map (denial_of group aces) (named_whos aces)
 
 -- the list with the mode set
 abbrev pub with_mode : List Nfsace4 → Classes → List Nfsace4
 with_mode aces mode =
     for_owner mode.user
-    ++ kept mode.group aces
+    ++ kept_of_list mode.group aces
     ++ denials mode.group aces
     ++ for_others mode.group mode.other

@@ -2,6 +2,8 @@
 use Rattle.std.specs.Prelude.{ℕ, ◌^◌, ◌≤◌, Bool, true, false, ◌==◌}
 use Rattle.acl_names.specs.declared.limits.TheConstants.{MAX_ID}
 use Rattle.acl_names.specs.Requester.{Identity, is_in_group}
+use Rattle.acl_posix.specs.declared.entry.Tag.{Tag}
+use Rattle.acl_posix.specs.declared.entry.Tag.TheVariants as tags
 use Rattle.acl_nfs4.specs.Flags.{identifier_group}
 use Rattle.acl_nfs4.specs.declared.who.Who.{Who}
 use Rattle.acl_nfs4.specs.declared.who.Who.TheVariants.{Owner, Group, Everyone, User, NamedGroup}
@@ -31,6 +33,14 @@ matches owner group requester Group = is_in_group requester group
 matches owner group requester Everyone = true
 matches owner group requester (User named) = requester.uid == named
 matches owner group requester (NamedGroup named) = is_in_group requester named
+
+-- whom a POSIX entry with this tag is about; of a mask no NFSv4 entry is made
+abbrev pub who_of : Tag → Who
+who_of tags.UserObj = Owner
+who_of (tags.User uid) = User uid
+who_of tags.GroupObj = Group
+who_of (tags.Group gid) = NamedGroup gid
+who_of _ = Everyone
 
 -- the flags of an entry that has none but what its who asks for
 abbrev pub flags_of_who : Who → ℕ

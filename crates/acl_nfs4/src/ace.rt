@@ -4,6 +4,7 @@ ghost use Rattle.acl_nfs4.specs.Flags.{flag_bits};
 ghost use Rattle.acl_nfs4.specs.Mask.{mask_bits};
 
 use crate::{Flags, Mask, Who};
+use acl_posix::without;
 use bitflags::Flags as FlagSet;
 use std::marker::Model;
 
@@ -112,12 +113,12 @@ impl Ace {
     pub fn new(kind: AceType, flags: Flags, who: Who, mask: Mask) -> Ace
         ensures { result ≡ ace_of kind (flag_bits flags) who (mask_bits mask) }
     {
-        let own = flags.named().without(Flags::IDENTIFIER_GROUP);
+        let own = without(flags.named_bits(), Flags::IDENTIFIER_GROUP);
         Ace {
             kind,
             flags: own.union(who.flags()),
             who,
-            mask: mask.named(),
+            mask: mask.named_bits(),
         }
     }
 
@@ -177,7 +178,7 @@ impl Ace {
     }
 
     /// An entry with no flags but what its who asks for.
-    pub(crate) fn plain(kind: AceType, who: Who, mask: Mask) -> Ace
+    pub(crate) fn plain_ace(kind: AceType, who: Who, mask: Mask) -> Ace
         requires { mask_bits mask ∩ all_masks ≡ mask_bits mask }
         ensures value { result ≡ record {
           kind = kind;

@@ -34,13 +34,14 @@ impl Model for Acl4 {
     ghost use Rattle.std.specs.Prelude.{List, length, ◌≤◌};
     ghost use Rattle.acl_nfs4.specs.Ace.{Nfsace4};
     ghost use Rattle.acl_nfs4.specs.Acl.{AreAces};
+    ghost use Rattle.acl_nfs4.specs.declared.limits.TheConstants.{INLINE_ACES};
 
     ghost Value = { List Nfsace4 };
 
     ghost view = { λ acl. acl.aces.items };
 
     ghost invariant = { λ acl. AreAces acl.aces.items
-        × (length acl.aces.items ≤ 16 → 16 ≤ acl.aces.capacity) };
+        × (length acl.aces.items ≤ INLINE_ACES → INLINE_ACES ≤ acl.aces.capacity) };
 }
 
 impl Acl4 {
@@ -60,7 +61,7 @@ impl Acl4 {
     /// if memory runs out.
     pub fn with_capacity(alloc: Global, capacity: usize) -> Result<Acl4, AllocError>
         ensures value { IfOk result (λ acl. acl ≡ []) }
-        ensures short { capacity ≤ 16 → IsOk result }
+        ensures short { capacity ≤ INLINE_ACES → IsOk result }
     {
         let mut aces = SmallVec::new(alloc);
         aces.reserve(capacity)?;
@@ -70,7 +71,7 @@ impl Acl4 {
     /// The list of these entries.
     pub(crate) fn from_items(aces: SmallVec<Ace, INLINE_ACES>) -> Acl4
         requires are_aces { AreAces aces.items }
-        requires room { length aces.items ≤ 16 → 16 ≤ aces.capacity }
+        requires room { length aces.items ≤ INLINE_ACES → INLINE_ACES ≤ aces.capacity }
         ensures { result ≡ aces.items }
     {
         Acl4 { aces }
@@ -85,7 +86,7 @@ impl Acl4 {
             ↔ ((length self.old < MAX_ACES) × (is_idle ace ≡ true)) }
         ensures only { IfErr result IsPushFault }
         ensures err { OnErr result (self.new ≡ self.old) }
-        ensures short { length self.old < 16 → result ≢ Err AceFault.Memory }
+        ensures short { length self.old < INLINE_ACES → result ≢ Err AceFault.Memory }
     {
         // For the proof only: calling a reader brings the invariant of `ace` into scope.
         let _mask = ace.mask();
@@ -119,7 +120,7 @@ impl Acl4 {
     /// A list of the same entries. Fails only if memory runs out.
     pub fn try_clone(&self, alloc: Global) -> Result<Acl4, AllocError>
         ensures value { IfOk result (λ acl. acl ≡ self.now) }
-        ensures short { length self.now ≤ 16 → IsOk result }
+        ensures short { length self.now ≤ INLINE_ACES → IsOk result }
     {
         let aces = SmallVec::from_slice(alloc, self.aces.as_slice())?;
         Ok(Acl4 { aces })

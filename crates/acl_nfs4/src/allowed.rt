@@ -5,12 +5,15 @@ ghost use Rattle.acl_nfs4.specs.Evaluation.{allows};
 ghost use Rattle.acl_nfs4.specs.Mask.{mask_bits};
 ghost use Rattle.acl_nfs4.specs.Who.{matches};
 
-use crate::{Ace, Acl4, Mask, Subject};
-use acl_names::{Gid, Uid};
+use crate::{Ace, Acl4, Mask};
+use acl_names::{Gid, Subject, Uid};
+use acl_posix::without;
 use bitflags::Flags as FlagSet;
 
 /// Those of the bits that the entries allow whoever asks. It goes down the list once, until no bit
-/// is open.
+/// is open. It is never inlined, so that its loop has the registers for itself where lists are
+/// compared.
+#[inline(never)]
 pub(crate) fn allowed_to<S: Subject>(
     aces: &[Ace],
     owner: Uid,
@@ -32,7 +35,7 @@ pub(crate) fn allowed_to<S: Subject>(
             if ace.kind().is_allow() {
                 allowed = allowed.union(open.intersection(ace.mask()));
             }
-            open = open.without(ace.mask());
+            open = without(open, ace.mask());
         }
     }
     allowed

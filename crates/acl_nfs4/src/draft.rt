@@ -14,7 +14,7 @@ pub(crate) struct Full;
 
 /// A list in the making, with room for `N` entries in itself. A `Draft<MAX_ACES>` has all its
 /// entries there, 2 KiB, and never allocates; a `Draft<INLINE_ACES>` has them where the finished
-/// list has them, and allocates with the 17th.
+/// list has them, and allocates for more.
 #[derive(Drop)]
 pub(crate) struct Draft<const N: usize> {
     aces: SmallVec<Ace, N>,
@@ -34,7 +34,7 @@ impl<const N: usize> Model for Draft<N> {
 
 impl<const N: usize> Draft<N> {
     ghost use Rattle.acl_nfs4.specs.Acl.{IsTooLong};
-    ghost use Rattle.acl_nfs4.specs.Ace.{is_idle, unless_empty, plain};
+    ghost use Rattle.acl_nfs4.specs.Ace.{is_idle, unless_empty, plain_ace};
     ghost use Rattle.acl_nfs4.specs.Mask.{mask_bits, all_masks};
     ghost use Rattle.acl_names.specs.Bits.{◌∩◌};
 
@@ -49,7 +49,7 @@ impl<const N: usize> Draft<N> {
 
     /// A list in the making is no longer than a list may be. There is nothing to run here: a proof
     /// cites the contract.
-    pub(crate) fn tell_length(&self)
+    pub(crate) fn length_is_within_limit(&self)
         ensures { length self.now ≤ MAX_ACES }
     {
         let _ = &self.aces;
@@ -99,16 +99,16 @@ impl<const N: usize> Draft<N> {
     /// Puts an entry with no flags of its own after the others, unless its mask is empty.
     pub(crate) fn push_plain(&mut self, kind: AceType, who: Who, mask: Mask) -> Result<(), Full>
         requires { mask_bits mask ∩ all_masks ≡ mask_bits mask }
-        ensures ok { OnOk result (self.new ≡ self.old ++ plain kind who (mask_bits mask)) }
-        ensures full { OnErr result (IsTooLong N (self.old ++ plain kind who (mask_bits mask))) }
+        ensures ok { OnOk result (self.new ≡ self.old ++ plain_ace kind who (mask_bits mask)) }
+        ensures full { OnErr result (IsTooLong N (self.old ++ plain_ace kind who (mask_bits mask))) }
     {
-        self.push_unless_empty(Ace::plain(kind, who, mask))
+        self.push_unless_empty(Ace::plain_ace(kind, who, mask))
     }
 }
 
 impl Draft<INLINE_ACES> {
     /// The finished list.
-    pub(crate) fn finished(self) -> Acl4
+    pub(crate) fn into_acl(self) -> Acl4
         ensures { result ≡ self }
     {
         let Draft { aces } = self;

@@ -5,8 +5,9 @@ ghost use Rattle.acl_nfs4.specs.Who.{matches};
 ghost use Rattle.acl_nfs4.specs.Mask.{mask_bits};
 ghost use Rattle.acl_nfs4.specs.Evaluation.{Grants};
 
-use crate::{Ace, Acl4, Mask, Subject};
-use acl_names::{Gid, Requester, Uid};
+use crate::{Ace, Acl4, Mask};
+use acl_names::{Gid, Requester, Subject, Uid};
+use acl_posix::without;
 use bitflags::Flags as FlagSet;
 
 impl Ace {
@@ -33,7 +34,7 @@ fn grants(aces: &[Ace], owner: Uid, group: Gid, requester: &Requester, requested
         }
         if ace.concerns(owner, group, requester) {
             if ace.kind().is_allow() {
-                open = open.without(ace.mask());
+                open = without(open, ace.mask());
             } else if open.intersects(ace.mask()) {
                 return false;
             }

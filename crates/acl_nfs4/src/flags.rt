@@ -2,6 +2,7 @@
 ghost use Rattle.std.specs.Prelude.{⊤, ◌≡◌, ◌==◌, [], ◌∷◌, codes, not};
 ghost use Rattle.acl_names.specs.Bits.{has, without, ◌∩◌};
 
+use acl_posix::without;
 use bitflags::{Flag, Flags as FlagSet, bitflag_items};
 
 /// The flags of an entry (RFC 8881, section 6.2.1.4).
@@ -115,23 +116,15 @@ impl Flags {
         self.intersects(Flags::INHERITANCE)
     }
 
-    /// The flags that are not among those removed.
-    #[tactic(auto, unfolding(acl_names::specs::Bits::without))]
-    pub(crate) fn without(self, removed: Flags) -> Flags
-        ensures { flag_bits result ≡ without (flag_bits self) (flag_bits removed) }
-    {
-        self.symmetric_difference(self.intersection(removed))
-    }
-
     /// The flags that say nothing of inheritance.
     pub(crate) fn without_inheritance(self) -> Flags
         ensures { flag_bits result ≡ without (flag_bits self) inheritance_flags }
     {
-        self.without(Flags::INHERITANCE)
+        without(self, Flags::INHERITANCE)
     }
 
     /// The bits that have a name.
-    pub(crate) fn named(self) -> Flags
+    pub(crate) fn named_bits(self) -> Flags
         ensures { flag_bits result ≡ flag_bits self ∩ all_flags }
     {
         self.intersection(Flags::all())

@@ -70,7 +70,7 @@ impl Acl4 {
     /// `NO_PROPAGATE_INHERIT` nothing is passed on. Fails only if memory runs out.
     pub fn inherited(&self, alloc: Global, kind: Kind) -> Result<Acl4, AllocError>
         ensures value { IfOk result (λ acl. acl ≡ inherited_list kind self.now) }
-        ensures short { length (inherited_list kind self.now) ≤ 16 → IsOk result }
+        ensures short { length (inherited_list kind self.now) ≤ INLINE_ACES → IsOk result }
     {
         let mut draft = Draft::<INLINE_ACES>::new(alloc);
         for ace in self.aces() {
@@ -78,7 +78,7 @@ impl Acl4 {
                 draft.push_within(below).map_err(|_| AllocError)?;
             }
         }
-        Ok(draft.finished())
+        Ok(draft.into_acl())
     }
 
     /// Whether any entry has one of the flags `FILE_INHERIT`, `DIRECTORY_INHERIT`,

@@ -3,7 +3,7 @@
 
 ghost use Rattle.std.specs.Prelude.{◌≡◌, ◌<◌, List, slice_index};
 ghost use Rattle.acl_names.specs.Letters.{letters_of};
-ghost use Rattle.acl_names.specs.declared.letters.Letter.{Letter};
+ghost use Rattle.acl_names.specs.declared.text.letters.Letter.{Letter};
 ghost use Rattle.acl_nfs4.specs.LetterBits.{GivesBitsOf};
 
 /// The flag for which each byte stands as a letter; 0 where it stands for none.

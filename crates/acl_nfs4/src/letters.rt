@@ -2,7 +2,7 @@
 
 ghost use Rattle.std.specs.Prelude.{◌≡◌, ◌≤◌, ◌<◌, ◌+◌, ◌++◌, length, take, option_map, vec_len};
 ghost use Rattle.std.specs.Prelude.{vec_capacity, OnOk, OnErr};
-ghost use Rattle.acl_names.specs.Letters.{letters_of, letters_text, IsTable};
+ghost use Rattle.acl_names.specs.Letters.{letters_of, letters_text};
 ghost use Rattle.acl_nfs4.specs.Flags.{flag_bits};
 ghost use Rattle.acl_nfs4.specs.Letters.{flag_table, mask_table};
 ghost use Rattle.acl_nfs4.specs.Mask.{mask_bits};
@@ -150,10 +150,3 @@ pub(crate) fn push_flags(flags: Flags, out: &mut Vec<u8>) -> Result<(), AllocErr
 {
     push_letters_of(&FLAG_TABLE, u32::from(flags.bits()), out)
 }
-
-/// Each letter stands for one bit, and no two letters are the same. There is nothing to run here: a
-/// proof cites the contract.
-pub fn letters_are_told_apart()
-    ensures flags { IsTable flag_table }
-    ensures mask { IsTable mask_table }
-{}

@@ -1,14 +1,15 @@
 //! How many entries a list may have.
 ghost use Rattle.std.specs.Prelude.{◌≡◌};
-ghost use Rattle.acl_nfs4.specs.declared.limits.TheConstants.{MAX_ACES};
+ghost use Rattle.acl_nfs4.specs.declared.limits.TheConstants.{INLINE_ACES, MAX_ACES};
 
 /// The most entries of an access control list.
 pub const MAX_ACES: usize = 128;
 
 /// How many entries a list has in itself; with more it has them all in memory of their own.
-pub(crate) const INLINE_ACES: usize = 16;
+pub const INLINE_ACES: usize = 16;
 
 /// The limits as numbers. There is nothing to run here: a proof cites the contract.
 pub fn limits_in_numbers()
     ensures aces { MAX_ACES ≡ 128 }
+    ensures inline { INLINE_ACES ≡ 16 }
 {}

@@ -1,11 +1,10 @@
 //! The mask of an entry: what it allows, denies or tells of (RFC 8881, section 6.2.1.3).
 ghost use Rattle.std.specs.Prelude.{⊤, ◌≡◌, [], ◌∷◌, codes};
-ghost use Rattle.acl_names.specs.Bits.{without, ◌∩◌};
+ghost use Rattle.acl_names.specs.Bits.{◌∩◌};
 ghost use Rattle.acl_posix.specs.Perms.{bits_of};
 ghost use Rattle.acl_nfs4.specs.Mask.{mask_bits, all_masks, mask_of, rest_of};
 
-use crate::bits::given;
-use acl_posix::Perms;
+use acl_posix::{Perms, bits_if, without};
 use bitflags::{Flag, Flags as FlagSet, bitflag_items};
 
 /// What an entry allows, denies or watches: an access mask (RFC 8881, section 6.2.1.3).
@@ -101,16 +100,8 @@ impl Mask {
     /// `WRITE_DATA` and `APPEND_DATA`, which a file mode knows as one permission.
     pub(crate) const WRITE: Mask = Mask(0x6);
 
-    /// The bits that are not among those removed.
-    #[tactic(auto, unfolding(acl_names::specs::Bits::without))]
-    pub fn without(self, removed: Mask) -> Mask
-        ensures { mask_bits result ≡ without (mask_bits self) (mask_bits removed) }
-    {
-        self.symmetric_difference(self.intersection(removed))
-    }
-
     /// The bits that have a name.
-    pub(crate) fn named(self) -> Mask
+    pub(crate) fn named_bits(self) -> Mask
         ensures { mask_bits result ≡ mask_bits self ∩ all_masks }
     {
         self.intersection(Mask::all())
@@ -122,9 +113,9 @@ impl Mask {
 pub fn mask_of(perms: Perms) -> Mask
     ensures { mask_bits result ≡ mask_of (bits_of perms) }
 {
-    let read = given(Mask::READ_DATA, perms.contains(Perms::READ));
-    let write = given(Mask::WRITE, perms.contains(Perms::WRITE));
-    let execute = given(Mask::EXECUTE, perms.contains(Perms::EXECUTE));
+    let read = bits_if(Mask::READ_DATA, perms.contains(Perms::READ));
+    let write = bits_if(Mask::WRITE, perms.contains(Perms::WRITE));
+    let execute = bits_if(Mask::EXECUTE, perms.contains(Perms::EXECUTE));
     read.union(write).union(execute)
 }
 
@@ -132,5 +123,5 @@ pub fn mask_of(perms: Perms) -> Mask
 pub fn rest_of(perms: Perms) -> Mask
     ensures { mask_bits result ≡ rest_of (bits_of perms) }
 {
-    Mask::OF_MODE.without(mask_of(perms))
+    without(Mask::OF_MODE, mask_of(perms))
 }

@@ -6,9 +6,8 @@ ghost use Rattle.acl_nfs4.specs.Ace.{decides};
 ghost use Rattle.acl_nfs4.specs.Mask.{mask_bits, mode_bits, write_data, append_data};
 ghost use Rattle.acl_nfs4.specs.Evaluation.{allows, mode_of, of_class, shown_to};
 
-use crate::bits::given;
 use crate::{Ace, Acl4, Mask, Who};
-use acl_posix::{Mode, Perms};
+use acl_posix::{Mode, Perms, bits_if, without};
 use bitflags::Flags as FlagSet;
 
 impl Who {
@@ -45,7 +44,7 @@ fn allowed_to(aces: &[Ace], class: &Who) -> Mask
             if ace.kind().is_allow() {
                 allowed = allowed.union(open.intersection(ace.mask()));
             }
-            open = open.without(ace.mask());
+            open = without(open, ace.mask());
         }
     }
     allowed
@@ -64,9 +63,9 @@ fn shown_to(aces: &[Ace], class: &Who) -> Perms
     ensures { bits_of result ≡ shown_to (of_class class.now) aces.now }
 {
     let allowed = allowed_to(aces, class);
-    let read = given(Perms::READ, allowed.contains(Mask::READ_DATA));
-    let write = given(Perms::WRITE, allows_writing(allowed));
-    let execute = given(Perms::EXECUTE, allowed.contains(Mask::EXECUTE));
+    let read = bits_if(Perms::READ, allowed.contains(Mask::READ_DATA));
+    let write = bits_if(Perms::WRITE, allows_writing(allowed));
+    let execute = bits_if(Perms::EXECUTE, allowed.contains(Mask::EXECUTE));
     read | write | execute
 }
 

@@ -8,7 +8,8 @@ ghost use Rattle.acl_nfs4.specs.Acl.{HaveEffect, IsTooLong};
 ghost use Rattle.acl_nfs4.specs.Marks.{IsMarked};
 ghost use Rattle.acl_nfs4.specs.Mask.{mask_bits};
 ghost use Rattle.acl_nfs4.specs.Evaluation.{mode_of};
-ghost use Rattle.acl_nfs4.specs.ModeChange.{kept_mask, kept_of, kept, names_someone, names};
+ghost use Rattle.acl_nfs4.specs.ModeChange.{kept_mask, kept_of_entry, kept_of_list, names};
+ghost use Rattle.acl_nfs4.specs.ModeChange.{names_someone};
 ghost use Rattle.acl_nfs4.specs.ModeChange.{denies_by_name, denied_to, denial_of, denials};
 ghost use Rattle.acl_nfs4.specs.ModeChange.{for_owner, for_others, with_mode};
 ghost use Rattle.acl_nfs4.specs.ModeChangeLaws.{GrantsOwner, GrantsGroup, GrantsOthers};
@@ -20,7 +21,7 @@ use crate::limits::{INLINE_ACES, MAX_ACES};
 use crate::marks::{MARKS, mark_of};
 use crate::mask::{mask_of, rest_of};
 use crate::{Ace, AceType, Acl4, Flags, Mask, Who};
-use acl_posix::{Mode, Perms};
+use acl_posix::{Mode, Perms, without};
 use bitflags::Flags as FlagSet;
 use std::alloc::Global;
 
@@ -46,16 +47,16 @@ impl Ace {
         ensures ace { IsAce self.now }
     {
         if self.who().is_special() {
-            self.mask().without(Mask::OF_MODE)
+            without(self.mask(), Mask::OF_MODE)
         } else if self.kind().is_allow() {
-            self.mask().without(rest_of(group))
+            without(self.mask(), rest_of(group))
         } else {
             self.mask()
         }
     }
 
     /// The entry with no more of its mask than it keeps.
-    fn reduced(&self, group: Perms) -> Ace
+    fn with_kept_mask(&self, group: Perms) -> Ace
         ensures { result ≡ record self.now { mask = kept_mask (bits_of group) self.now } }
     {
         self.with_mask(self.kept_mask(group))
@@ -78,7 +79,7 @@ impl Ace {
         } }
         ensures effective { is_idle result ≡ false }
     {
-        self.reduced(group)
+        self.with_kept_mask(group)
             .with_flags(self.flags().without_inheritance())
     }
 
@@ -129,8 +130,8 @@ fn push_others<const N: usize>(draft: &mut Draft<N>, group: Perms, other: Perms)
 /// for each; and what takes effect keeps no bit that the mode takes.
 fn push_kept_of<const N: usize>(draft: &mut Draft<N>, ace: &Ace, group: Perms) -> Result<(), Full>
     requires { is_idle ace.now ≡ false }
-    ensures ok { OnOk result (draft.new ≡ draft.old ++ kept_of (bits_of group) ace.now) }
-    ensures full { OnErr result (IsTooLong N (draft.old ++ kept_of (bits_of group) ace.now)) }
+    ensures ok { OnOk result (draft.new ≡ draft.old ++ kept_of_entry (bits_of group) ace.now) }
+    ensures full { OnErr result (IsTooLong N (draft.old ++ kept_of_entry (bits_of group) ace.now)) }
 {
     if !ace.decides() {
         return draft.push(*ace);
@@ -139,14 +140,14 @@ fn push_kept_of<const N: usize>(draft: &mut Draft<N>, ace: &Ace, group: Perms) -
         draft.push(ace.inherited_part())?;
         return draft.push_unless_empty(ace.effective_part(group));
     }
-    draft.push_unless_empty(ace.reduced(group))
+    draft.push_unless_empty(ace.with_kept_mask(group))
 }
 
 /// What the old entries leave.
 fn push_kept<const N: usize>(draft: &mut Draft<N>, aces: &[Ace], group: Perms) -> Result<(), Full>
     requires { HaveEffect aces.now }
-    ensures ok { OnOk result (draft.new ≡ draft.old ++ kept (bits_of group) aces.now) }
-    ensures full { OnErr result (IsTooLong N (draft.old ++ kept (bits_of group) aces.now)) }
+    ensures ok { OnOk result (draft.new ≡ draft.old ++ kept_of_list (bits_of group) aces.now) }
+    ensures full { OnErr result (IsTooLong N (draft.old ++ kept_of_list (bits_of group) aces.now)) }
 {
     for ace in aces {
         push_kept_of(draft, ace, group)?;
@@ -220,7 +221,7 @@ fn push_denial<const N: usize>(
     ensures full { OnErr result (IsTooLong N (draft.old ++ denial_of (bits_of group) aces.now who)) }
 {
     let denied = marked_denied_to(aces, denied, &who);
-    draft.push_plain(AceType::Deny, who, rest_of(group).without(denied))
+    draft.push_plain(AceType::Deny, who, without(rest_of(group), denied))
 }
 
 /// A denial for each who that the old entries name, in the order of its first entry.
@@ -261,7 +262,7 @@ fn with_mode<const N: usize>(alloc: Global, aces: &[Ace], mode: Mode) -> Result<
     push_kept(&mut draft, aces, mode.group)?;
     push_denials(&mut draft, aces, mode.group)?;
     push_others(&mut draft, mode.group, mode.other)?;
-    draft.tell_length();
+    draft.length_is_within_limit();
     Ok(draft)
 }
 
@@ -295,7 +296,7 @@ impl Acl4 {
         ensures too_many { (result ≡ Err Fault4.TooMany)
             ↔ (MAX_ACES < length (with_mode self.old mode)) }
         ensures err { OnErr result (self.new ≡ self.old) }
-        ensures short { length (with_mode self.old mode) ≤ 16 → IsOk result }
+        ensures short { length (with_mode self.old mode) ≤ INLINE_ACES → IsOk result }
 
         // The mode shown is the mode set.
         ensures shown { OnOk result (mode_of self.new ≡ mode) }
@@ -320,7 +321,7 @@ impl Acl4 {
         let _user = mode.user;
         match with_mode::<INLINE_ACES>(alloc, self.aces(), mode) {
             Ok(draft) => {
-                *self = draft.finished();
+                *self = draft.into_acl();
                 Ok(())
             }
             Err(_) => Err(why_refused(alloc, self.aces(), mode)),

@@ -13,7 +13,7 @@ ghost use Rattle.acl_nfs4.specs.declared.printing.TheConstants.{SHORTEST_LINE};
 use crate::letters::{push_flags, push_mask};
 use crate::limits::MAX_ACES;
 use crate::{Ace, AceType, Acl4, Who};
-use acl_names::{Directory, push_id};
+use acl_names::{Directory, push_decimal};
 use std::alloc::AllocError;
 
 /// The length to reserve for each line; longer lines are rare.
@@ -36,7 +36,7 @@ impl Acl4 {
         ensures read_again { OnOk result (Spells (piece_value directory.now) MAX_ACES
             (aces_text directory.now self.now) self.now) }
     {
-        directory.tell_names_apart();
+        directory.names_read_back();
         let aces = self.aces();
         ask_for_lines(aces.len(), out)?;
         let old_len = out.len();
@@ -178,6 +178,6 @@ fn push_named(
             out.push(b'@')?;
             out.extend_from_slice(domain.as_bytes())
         }
-        None => push_id(None, id, out),
+        None => push_decimal(id, out),
     }
 }

@@ -13,7 +13,7 @@ ghost use Rattle.acl_nfs4.specs.declared.limits.TheConstants.{MAX_ACES};
 use crate::letters::push_mask;
 use crate::printing::push_front;
 use crate::{Ace, Acl4, Who};
-use acl_names::push_id;
+use acl_names::push_decimal;
 use std::alloc::AllocError;
 
 impl Acl4 {
@@ -111,7 +111,7 @@ fn push_short_who(who: &Who, out: &mut Vec<u8>) -> Result<(), AllocError>
         Who::Owner => out.extend_from_slice(b"OWNER@"),
         Who::Group => out.extend_from_slice(b"GROUP@"),
         Who::Everyone => out.extend_from_slice(b"EVERYONE@"),
-        Who::User(uid) => push_id(None, uid.value(), out),
-        Who::NamedGroup(gid) => push_id(None, gid.value(), out),
+        Who::User(uid) => push_decimal(uid.value(), out),
+        Who::NamedGroup(gid) => push_decimal(gid.value(), out),
     }
 }

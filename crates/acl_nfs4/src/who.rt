@@ -2,8 +2,8 @@
 ghost use Rattle.std.specs.Prelude.{◌≡◌};
 ghost use Rattle.acl_nfs4.specs.Flags.{flag_bits};
 
-use crate::{Flags, Subject};
-use acl_names::{Gid, Uid};
+use crate::Flags;
+use acl_names::{Gid, Subject, Uid};
 use bitflags::Flags as FlagSet;
 
 /// Whom an entry is about (RFC 8881, section 6.2.1.5).

@@ -10,14 +10,14 @@ use Rattle.acl_posix.specs.Entry.{EntryValue, same_tag, perms_of}
 use Rattle.acl_names.specs.Bits.{has_all}
 use Rattle.acl_posix.specs.CheckSteps.{has_tag, tag_answer, tag_has, has_group, group_has, mask_allows}
 use Rattle.acl_posix.specs.Validity.{IsValid, count_of}
-use Rattle.acl_posix.specs.Access.{is_for_group_of, first_nonempty, is_under_mask, masked, effective_perms, grants}
+use Rattle.acl_posix.specs.Access.{is_for_group_of, first_nonempty, is_under_mask, under_mask, effective_perms, grants}
 use Rattle.acl_names.proofs.AnyLemmas.{list_any-agree, list_any-filter, list_any-and, list_any-none_and, filter-none, or_false}
 use Rattle.acl_names.proofs.Counting.{count_by-cons, list_any-count_by}
 use Rattle.acl_posix.proofs.PermsLemmas.{and_true, has_all-masked}
 
 -- the effective permissions of an entry with the tag, under the mask
 abbrev effective_under : Option ℕ → Tag → ℕ → ℕ
-effective_under mask tag perms = cond (is_under_mask tag) (masked mask perms) perms
+effective_under mask tag perms = cond (is_under_mask tag) (under_mask mask perms) perms
 
 owner_entry : (mask : Option ℕ) (tag : Tag) (perms request : ℕ)
     → (same_tag tag UserObj && has_all (effective_under mask tag perms) request) ≡ (same_tag tag UserObj && has_all perms request)
@@ -30,7 +30,7 @@ other_entry mask UserObj perms request = refl
 other_entry mask _ perms request = refl
 
 under : (mask : Option ℕ) (b : Bool) (perms request : ℕ)
-    → (b && has_all (masked mask perms) request) ≡ ((b && has_all perms request) && option_map_or (λ limit. has_all limit request) mask true)
+    → (b && has_all (under_mask mask perms) request) ≡ ((b && has_all perms request) && option_map_or (λ limit. has_all limit request) mask true)
 under mask true perms request = has_all-masked mask perms request
 under mask false perms request = refl
 

@@ -1,12 +1,14 @@
 -- A text that begins with an entry field by field begins with it.
-use Rattle.std.proofs.Common.{◌≡◌, ℕ, List, [], ◌∷◌, ◌++◌, length, take, drop, Some, option_and_then, sym, ap, ◌∙◌, append_assoc, length-append, arith, true}
+use Rattle.std.proofs.Common.{◌≡◌, ℕ, List, [], ◌∷◌, ◌++◌, length, take, drop, Option, Some, None, IfSome}
+use Rattle.std.proofs.Common.{MatchOption, option_and_then, sym, ap, ◌∙◌, append_assoc, length-append}
+use Rattle.std.proofs.Common.{arith, true}
 use Rattle.std.specs.List.{AllByRecursion, join_with_byte}
 use Rattle.std.specs.Str.{bytes_eq}
 use Rattle.std.proofs.lemmas.List.{take-append-drop}
 use Rattle.std.proofs.lemmas.Slice.Eq.{bytes_eq-Decides}
 use Rattle.acl_names.specs.Bytes.{colon}
 use Rattle.acl_names.specs.Directory.{Known, uid_of, gid_of}
-use Rattle.acl_names.specs.Ids.{has_name_shape, written_id, resolved}
+use Rattle.acl_names.specs.Ids.{has_name_shape, written_id, id_of_written}
 use Rattle.acl_names.specs.Plain.{IsField, IsFront}
 use Rattle.acl_names.proofs.Fields.{fields_again, joined_plain, name_field, tested_field}
 use Rattle.acl_names.proofs.IdTexts.{written_name}
@@ -19,6 +21,11 @@ use Rattle.acl_posix.specs.declared.reading.TagWord.{TagWord}
 use Rattle.acl_posix.specs.declared.reading.TagWord.TheVariants as word
 use Rattle.acl_posix.proofs.ReadLemmas.{three_letters-read}
 use Rattle.acl_posix.proofs.RoundTrip.{group_tag, qualified_by, read_parts, three_pass, user_tag}
+
+-- what is said of the value, if there is one
+pub some_of_match : {X : Type 0} (found : Option X) (P : Type 0) (Q : X → Type 0) → MatchOption found P Q → IfSome found Q
+some_of_match None P Q is = tt
+some_of_match (Some x) P Q is = is
 
 pub begins_with : (front text rest : List ℕ) → bytes_eq (take (length front) text) front ≡ true → rest ≡ drop (length front) text → text ≡ front ++ rest
 begins_with front text rest same is =
@@ -36,7 +43,7 @@ user_front known text name uid rest cut shaped found =
       cut = cut;
       field = field.0;
       says = user_tag known name field.1 ∙ qualified_by (λ n. User n) (uid_of known) uid (written_id name)
-          (ap (option_and_then (resolved (uid_of known))) (written_name name shaped) ∙ sym found);
+          (ap (option_and_then (id_of_written (uid_of known))) (written_name name shaped) ∙ sym found);
     }
 
 pub group_front : (known : Known) (text name : List ℕ) (gid : ℕ) (rest : List ℕ) → text ≡ name ++ colon ∷ rest → has_name_shape name ≡ true
@@ -48,7 +55,7 @@ group_front known text name gid rest cut shaped found =
       cut = cut;
       field = field.0;
       says = group_tag known name field.1 ∙ qualified_by (λ n. Group n) (gid_of known) gid (written_id name)
-          (ap (option_and_then (resolved (gid_of known))) (written_name name shaped) ∙ sym found);
+          (ap (option_and_then (id_of_written (gid_of known))) (written_name name shaped) ∙ sym found);
     }
 
 pub front_is : (known : Known) (text behind_word behind_tag rest : List ℕ) (word : TagWord) (tag : Tag) (perms : ℕ)

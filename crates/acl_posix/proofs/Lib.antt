@@ -17,6 +17,7 @@ pub mod ShapeLemmas
 pub mod StepFaults
 pub mod PieceFaultLemmas
 pub mod ReadLemmas
+pub mod AclTextLemmas
 pub mod FrontLemmas
 pub mod CopyLemmas
 pub mod EndLemmas

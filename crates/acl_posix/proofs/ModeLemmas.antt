@@ -11,7 +11,7 @@ use Rattle.acl_posix.specs.Entry.{EntryValue, same_tag, is_named}
 use Rattle.acl_posix.specs.Perms.{IsPermissions}
 use Rattle.acl_posix.specs.Validity.{count_of}
 use Rattle.acl_posix.specs.Canonical.{IsAcl}
-use Rattle.acl_posix.specs.Access.{masked}
+use Rattle.acl_posix.specs.Access.{under_mask}
 use Rattle.acl_posix.specs.Mode.{Classes, AreClasses, mode_perms, chmod, at_creation, group_class_tag}
 
 list_any-map : {X Y : Type 0} (p : X → Bool) (f : Y → X) (ys : List Y) → list_any p (map f ys) ≡ list_any (λ y. p (f y)) ys
@@ -65,7 +65,7 @@ IsPermissions-unwrap_or : (said : Option ℕ) (perms : ℕ) → IfSome said IsPe
 IsPermissions-unwrap_or None perms known is = is
 IsPermissions-unwrap_or (Some other) perms known is = known
 
-IsPermissions-masked : (said : Option ℕ) (perms : ℕ) → IsPermissions perms → IsPermissions (masked said perms)
+IsPermissions-masked : (said : Option ℕ) (perms : ℕ) → IsPermissions perms → IsPermissions (under_mask said perms)
 IsPermissions-masked None perms is = is
 IsPermissions-masked (Some mask) perms is = let small = and_le_l perms mask in omega arith
 
@@ -79,6 +79,6 @@ IsAcl-chmod acl mode are is =
 pub IsAcl-at_creation : (acl : List EntryValue) (mode : Classes) → IsAcl acl → IsAcl (at_creation acl mode)
 IsAcl-at_creation acl mode is =
     let said = λ (entry : EntryValue). mode_perms (group_class_tag acl) mode entry.tag in
-    IsAcl-changed (λ (entry : EntryValue). masked (said entry) entry.perms)
+    IsAcl-changed (λ (entry : EntryValue). under_mask (said entry) entry.perms)
     (λ entry known. IsPermissions-masked (said entry) entry.perms known)
     acl is

@@ -4,7 +4,7 @@ use Rattle.std.specs.Option.{option_map_or}
 use Rattle.std.proofs.lemmas.Bool.{cases_eq, eq-eqb, ne_eqb}
 use Rattle.std.proofs.lemmas.Nat.{and_assoc, and_le_r}
 use Rattle.acl_names.specs.Bits.{◌∩◌, has_all}
-use Rattle.acl_posix.specs.Access.{masked}
+use Rattle.acl_posix.specs.Access.{under_mask}
 
 pub and_true : (b : Bool) → (b && true) ≡ b
 and_true true = refl
@@ -33,6 +33,6 @@ has_all-∩ a b request =
 
 -- permissions under a mask have the whole of a request if they and the mask do
 pub has_all-masked : (mask : Option ℕ) (perms request : ℕ)
-    → has_all (masked mask perms) request ≡ (has_all perms request && option_map_or (λ limit. has_all limit request) mask true)
+    → has_all (under_mask mask perms) request ≡ (has_all perms request && option_map_or (λ limit. has_all limit request) mask true)
 has_all-masked None perms request = sym (and_true (has_all perms request))
 has_all-masked (Some limit) perms request = has_all-∩ perms limit request

@@ -3,11 +3,11 @@ use Rattle.std.proofs.Common.{◌≡◌, ◌≢◌, ◌↔◌, ℕ, true, cond, 
 use Rattle.std.proofs.lemmas.Slice.Eq.{bytes_eq-Decides}
 use Rattle.acl_names.specs.declared.limits.TheConstants.{MAX_ID}
 use Rattle.acl_names.specs.Directory.{Known, uid_of, gid_of, fault_of}
-use Rattle.acl_names.specs.Ids.{Written, Number, Name, written_id, number_or_name, decimal_value, has_name_shape, has_domain_shape, resolved}
+use Rattle.acl_names.specs.Ids.{Written, Number, Name, written_id, number_or_name, decimal_value, has_name_shape, has_domain_shape, id_of_written}
 use Rattle.acl_names.specs.Steps.{◌>>=◌, or_fault}
 use Rattle.acl_names.proofs.StepLemmas.{given, some_from_cond}
 use Rattle.acl_posix.specs.Entry.{EntryValue}
-use Rattle.acl_posix.specs.EntryText.{Fields, fields_of, tag_word, tag_of, qualified, entry_of}
+use Rattle.acl_posix.specs.EntryText.{Fields, fields_of, tag_word, tag_of, tag_with_id, entry_of}
 use Rattle.acl_posix.specs.Faults.{IsEntry, HasUnknownName, HasNoShape}
 use Rattle.acl_posix.specs.PermsText.{perms_of_text}
 use Rattle.acl_posix.specs.declared.entry.Tag.{Tag}
@@ -36,9 +36,9 @@ apart_back e = apart (sym e)
 found_is_shaped : (tag : ℕ → Tag) (found : Option ℕ) → (or_fault UnknownName found >>= (λ id. Ok (tag id))) ≢ Err Syntax
 found_is_shaped tag found = λ e. other_fault UnknownName Syntax apart_back found (fault_before Syntax (or_fault UnknownName found) tag e)
 
-qualified_misshapen : (tag : ℕ → Tag) (id_of other_of : List ℕ → Option ℕ) (text : List ℕ) → qualified tag id_of text ≡ Err Syntax → qualified tag other_of text ≡ Err Syntax
+qualified_misshapen : (tag : ℕ → Tag) (id_of other_of : List ℕ → Option ℕ) (text : List ℕ) → tag_with_id tag id_of text ≡ Err Syntax → tag_with_id tag other_of text ≡ Err Syntax
 qualified_misshapen tag id_of other_of text =
-    same_fault Syntax (or_fault Syntax (written_id text)) _ _ (λ w e. absurd (found_is_shaped tag (resolved id_of w) e))
+    same_fault Syntax (or_fault Syntax (written_id text)) _ _ (λ w e. absurd (found_is_shaped tag (id_of_written id_of w) e))
 
 tag_misshapen : (known other : Known) (w : TagWord) (qualifier : Option (List ℕ)) → tag_of known w qualifier ≡ Err Syntax → tag_of other w qualifier ≡ Err Syntax
 tag_misshapen known other word.User None e = e
@@ -89,25 +89,25 @@ pub knows_group : (domain name : List ℕ) → gid_of (knowing domain name) name
 knows_group domain name = rw ((bytes_eq-Decides name name).1 refl) refl
 
 -- what is written and isn't found is a name
-pub unfound_name : (id_of : List ℕ → Option ℕ) (text : List ℕ) (w : Written) → written_id text ≡ Some w → resolved id_of w ≡ None
+pub unfound_name : (id_of : List ℕ → Option ℕ) (text : List ℕ) (w : Written) → written_id text ≡ Some w → id_of_written id_of w ≡ None
     → (has_name_shape text ≡ true) × (w ≡ Name text)
 unfound_name id_of text w e lost = go (decimal_value text) refl e
   where
     go : (number : Option ℕ) → decimal_value text ≡ number → number_or_name number text ≡ Some w → (has_name_shape text ≡ true) × (w ≡ Name text)
     go (Some n) is e =
         let number : Number n ≡ w = cc in
-        let none : cond (nat_le n MAX_ID) (Some n) None ≡ None = ap (resolved id_of) number ∙ lost in
+        let none : cond (nat_le n MAX_ID) (Some n) None ≡ None = ap (id_of_written id_of) number ∙ lost in
         let some : cond (nat_le n MAX_ID) (Some n) None ≡ Some n = ap (λ b. cond b (Some n) None) (decimal_within text n is) in
         cc
     go None is e = let choice = some_from_cond (has_name_shape text) (Name text) w e in (choice.0, sym choice.1)
 
 -- a qualifier whose name is unknown is one where the name is known
-qualified_elsewhere : (tag : ℕ → Tag) (id_of other_of : List ℕ → Option ℕ) (text : List ℕ) → qualified tag id_of text ≡ Err UnknownName → other_of text ≡ Some 0
-    → (has_name_shape text ≡ true) × (qualified tag other_of text ≡ Ok (tag 0))
+qualified_elsewhere : (tag : ℕ → Tag) (id_of other_of : List ℕ → Option ℕ) (text : List ℕ) → tag_with_id tag id_of text ≡ Err UnknownName → other_of text ≡ Some 0
+    → (has_name_shape text ≡ true) × (tag_with_id tag other_of text ≡ Ok (tag 0))
 qualified_elsewhere tag id_of other_of text e found =
     let written = fault_behind UnknownName (or_fault Syntax (written_id text)) _ (other_fault Syntax UnknownName apart (written_id text)) e in
     let is : written_id text ≡ Some written.0 = given Syntax (written_id text) written.0 written.1 in
-    let lost = is_lost (resolved id_of written.0) (fault_before UnknownName (or_fault UnknownName (resolved id_of written.0)) tag written.2) in
+    let lost = is_lost (id_of_written id_of written.0) (fault_before UnknownName (or_fault UnknownName (id_of_written id_of written.0)) tag written.2) in
     let name = unfound_name id_of text written.0 is lost in
     (name.0, rw (is, name.1, found) refl)
   where
@@ -145,7 +145,9 @@ unfolding entry_of
 entry_elsewhere known piece e =
     let fields = fault_behind UnknownName (or_fault Syntax (fields_of piece)) (after_fields known) (other_fault Syntax UnknownName apart (fields_of piece)) e in
     let word = fault_behind UnknownName (or_fault Syntax (tag_word fields.0.tag)) (after_word known fields.0) (other_fault Syntax UnknownName apart (tag_word fields.0.tag)) fields.2 in
-    let perms = fault_behind UnknownName (or_fault Syntax (perms_of_text fields.0.perms)) (after_perms known fields.0 word.0) (other_fault Syntax UnknownName apart (perms_of_text fields.0.perms)) word.2 in
+    let perms = fault_behind UnknownName (or_fault Syntax (perms_of_text fields.0.perms))
+    (after_perms known fields.0 word.0) (other_fault Syntax UnknownName apart
+    (perms_of_text fields.0.perms)) word.2 in
     let end : Tag → EntryValue = λ t. record { tag = t; perms = perms.0 } in
     let says = tag_elsewhere known word.0 fields.0.qualifier (fault_before UnknownName (tag_of known word.0 fields.0.qualifier) end perms.2) in
     let cut = given Syntax (fields_of piece) fields.0 fields.1 in

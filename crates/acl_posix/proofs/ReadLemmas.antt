@@ -4,7 +4,7 @@ use Rattle.std.proofs.lemmas.List.Elements.{All-nil, All-cons}
 use Rattle.acl_names.specs.Bytes.{letter_r, letter_w, letter_x}
 use Rattle.acl_names.specs.Directory.{Known}
 use Rattle.acl_names.specs.Letters.{occurs}
-use Rattle.acl_names.specs.ListText.{Say}
+use Rattle.acl_names.specs.ListText.{PiecesSay}
 use Rattle.acl_posix.specs.Entry.{EntryValue, HavePermissions}
 use Rattle.acl_posix.specs.EntryText.{entry_of}
 use Rattle.acl_posix.specs.Perms.{IsPermissions}
@@ -48,7 +48,7 @@ abbrev ok : EntryValue → Result EntryValue PieceFault
 ok entry = Ok entry
 
 -- entries that pieces say have known permissions
-pub HavePermissions-Say : (known : Known) (texts : List (List ℕ)) (entries : List EntryValue) → Say (entry_of known) texts entries → HavePermissions entries
+pub HavePermissions-Say : (known : Known) (texts : List (List ℕ)) (entries : List EntryValue) → PiecesSay (entry_of known) texts entries → HavePermissions entries
 HavePermissions-Say known texts [] said = All-nil (λ (entry : EntryValue). IsPermissions entry.perms)
 HavePermissions-Say known [] (entry ∷ entries) said = absurd (cc)
 HavePermissions-Say known (text ∷ texts) (entry ∷ entries) said =

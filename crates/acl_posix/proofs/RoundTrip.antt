@@ -1,14 +1,16 @@
 -- The printed text of entries spells them.
-use Rattle.std.proofs.Common.{◌≡◌, ℕ, ◌≤◌, ◌<◌, Bool, true, false, not, zero, suc, List, [], ◌∷◌, ◌++◌, length, map, Option, Some, None, option_and_then, Ok, refl, ap, ◌∙◌, arith, codes, length-append, ◌&&◌, if◌then◌else◌}
+use Rattle.std.proofs.Common.{◌≡◌, ℕ, ◌≤◌, ◌<◌, Bool, true, false, not, zero, suc, List, [], ◌∷◌, ◌++◌}
+use Rattle.std.proofs.Common.{length, map, Option, Some, None, option_and_then, Ok, refl, ap, ◌∙◌, arith}
+use Rattle.std.proofs.Common.{codes, length-append, ◌&&◌, if◌then◌else◌}
 use Rattle.std.specs.List.{All, AllByRecursion, join_with_byte, list_all}
 use Rattle.std.proofs.lemmas.List.Elements.{All-nil, All-head, All-tail, All-weaker}
 use Rattle.std.proofs.lemmas.List.Sums.{AllPass-from_list_all}
 use Rattle.acl_names.specs.declared.limits.TheConstants.{MAX_ID}
 use Rattle.acl_names.specs.Bytes.{tab, colon}
-use Rattle.acl_names.specs.Ids.{ReadBack, Written, written_id, id_text, resolved}
-use Rattle.acl_names.specs.Directory.{Known, TellsNamesApart, uid_of, gid_of, user_name, group_name}
+use Rattle.acl_names.specs.Ids.{ReadBack, Written, written_id, id_text, id_of_written}
+use Rattle.acl_names.specs.Directory.{Known, NamesReadBack, uid_of, gid_of, user_name, group_name}
 use Rattle.acl_names.specs.Pieces.{pieces}
-use Rattle.acl_names.specs.ListText.{Say, Spells}
+use Rattle.acl_names.specs.ListText.{PiecesSay, Spells}
 use Rattle.acl_names.proofs.IdTexts.{id_again}
 use Rattle.acl_names.specs.Plain.{is_field_byte, IsField}
 use Rattle.acl_names.proofs.Fields.{id_field, fields_again, joined_plain, tested_field}
@@ -25,7 +27,7 @@ use Rattle.acl_posix.specs.PermsText.{perms_of_text, perms_text, three_letters}
 use Rattle.acl_posix.specs.Access.{is_under_mask}
 use Rattle.acl_posix.specs.Perms.{IsPermissions}
 use Rattle.acl_names.specs.Bits.{◌∩◌, has_all}
-use Rattle.acl_posix.specs.EntryText.{Fields, as_fields, fields_of, tag_word, tag_of, qualified, entry_of}
+use Rattle.acl_posix.specs.EntryText.{Fields, as_fields, fields_of, tag_word, tag_of, tag_with_id, entry_of}
 use Rattle.acl_names.specs.Steps.{or_fault, ◌>>=◌}
 use Rattle.acl_posix.specs.PrintedText.{word_text, qualifier_text, entry_text, effective_mark, effective_text, HasId, HaveIds}
 
@@ -63,7 +65,7 @@ word_field (Group gid) = tested_field (codes "group") refl
 word_field Mask = tested_field (codes "mask") refl
 word_field Other = tested_field (codes "other") refl
 
-qualifier_field : (known : Known) (tag : Tag) → TellsNamesApart known → HasId tag → IsField (qualifier_text known tag)
+qualifier_field : (known : Known) (tag : Tag) → NamesReadBack known → HasId tag → IsField (qualifier_text known tag)
 qualifier_field known (User uid) is has = (id_field (uid_of known) (user_name known) uid is.users has).0
 qualifier_field known (Group gid) is has = (id_field (gid_of known) (group_name known) gid is.groups has).0
 qualifier_field known UserObj is has = All-nil (λ byte. is_field_byte byte ≡ true)
@@ -71,7 +73,7 @@ qualifier_field known GroupObj is has = All-nil (λ byte. is_field_byte byte ≡
 qualifier_field known Mask is has = All-nil (λ byte. is_field_byte byte ≡ true)
 qualifier_field known Other is has = All-nil (λ byte. is_field_byte byte ≡ true)
 
-fields_are : (known : Known) (entry : EntryValue) → TellsNamesApart known → HasId entry.tag
+fields_are : (known : Known) (entry : EntryValue) → NamesReadBack known → HasId entry.tag
     → AllByRecursion IsField (word_text entry.tag ∷ qualifier_text known entry.tag ∷ perms_text entry.perms ∷ [])
 fields_are known entry is has = (word_field entry.tag, (qualifier_field known entry.tag is has, (perms_field entry.perms, tt)))
 
@@ -90,24 +92,24 @@ word_again UserObj = refl
 word_again _ = refl
 
 -- an id that is written and resolved gives its tag
-pub qualified_by : (tag : ℕ → Tag) (id_of : List ℕ → Option ℕ) (id : ℕ) (written : Option Written) → option_and_then (resolved id_of) written ≡ Some id
-    → (or_fault Syntax written >>= (λ w. or_fault UnknownName (resolved id_of w) >>= (λ n. Ok (tag n)))) ≡ Ok (tag id)
+pub qualified_by : (tag : ℕ → Tag) (id_of : List ℕ → Option ℕ) (id : ℕ) (written : Option Written) → option_and_then (id_of_written id_of) written ≡ Some id
+    → (or_fault Syntax written >>= (λ w. or_fault UnknownName (id_of_written id_of w) >>= (λ n. Ok (tag n)))) ≡ Ok (tag id)
 qualified_by tag id_of id None e = cc
 qualified_by tag id_of id (Some w) e = ap (λ found. or_fault UnknownName found >>= (λ n. Ok (tag n))) e
 
 qualified_again : (tag : ℕ → Tag) (id_of : List ℕ → Option ℕ) (name_of : ℕ → Option (List ℕ)) (id : ℕ) → ReadBack id_of name_of → id ≤ MAX_ID
-    → qualified tag id_of (id_text name_of id) ≡ Ok (tag id)
+    → tag_with_id tag id_of (id_text name_of id) ≡ Ok (tag id)
 qualified_again tag id_of name_of id back small = qualified_by tag id_of id (written_id (id_text name_of id)) (id_again id_of name_of id back small)
 
-pub user_tag : (known : Known) (text : List ℕ) → 0 < length text → tag_of known word.User (Some text) ≡ qualified (λ uid. User uid) (uid_of known) text
+pub user_tag : (known : Known) (text : List ℕ) → 0 < length text → tag_of known word.User (Some text) ≡ tag_with_id (λ uid. User uid) (uid_of known) text
 user_tag known [] some = absurd (omega arith)
 user_tag known (byte ∷ bytes) some = refl
 
-pub group_tag : (known : Known) (text : List ℕ) → 0 < length text → tag_of known word.Group (Some text) ≡ qualified (λ gid. Group gid) (gid_of known) text
+pub group_tag : (known : Known) (text : List ℕ) → 0 < length text → tag_of known word.Group (Some text) ≡ tag_with_id (λ gid. Group gid) (gid_of known) text
 group_tag known [] some = absurd (omega arith)
 group_tag known (byte ∷ bytes) some = refl
 
-tag_again : (known : Known) (tag : Tag) → TellsNamesApart known → HasId tag → tag_of known (word_of tag) (Some (qualifier_text known tag)) ≡ Ok tag
+tag_again : (known : Known) (tag : Tag) → NamesReadBack known → HasId tag → tag_of known (word_of tag) (Some (qualifier_text known tag)) ≡ Ok tag
 unfolding word_of
 tag_again known UserObj is has = refl
 tag_again known GroupObj is has = refl
@@ -116,7 +118,9 @@ tag_again known Other is has = refl
 tag_again known (User uid) is has =
     user_tag known (id_text (user_name known) uid) (id_field (uid_of known) (user_name known) uid is.users has).1 ∙ qualified_again (λ uid. User uid) (uid_of known) (user_name known) uid is.users has
 tag_again known (Group gid) is has =
-    group_tag known (id_text (group_name known) gid) (id_field (gid_of known) (group_name known) gid is.groups has).1 ∙ qualified_again (λ gid. Group gid) (gid_of known) (group_name known) gid is.groups has
+    group_tag known (id_text (group_name known) gid) (id_field (gid_of known)
+    (group_name known) gid is.groups has).1 ∙ qualified_again (λ gid. Group gid) (gid_of known)
+    (group_name known) gid is.groups has
 
 -- a piece whose parts are read is read
 pub read_parts : (known : Known) (piece : List ℕ) (fields : Fields) (word : TagWord) (perms : ℕ) (tag : Tag)
@@ -126,10 +130,12 @@ unfolding entry_of
 read_parts known piece fields word perms tag cut said allowed tagged = rw (cut, said, allowed, tagged) refl
 
 -- an entry is read again
-pub entry_again : (known : Known) (entry : EntryValue) → TellsNamesApart known → HasId entry.tag → IsPermissions entry.perms → entry_of known (entry_text known entry) ≡ Ok entry
+pub entry_again : (known : Known) (entry : EntryValue) → NamesReadBack known → HasId entry.tag → IsPermissions entry.perms → entry_of known (entry_text known entry) ≡ Ok entry
 entry_again known entry is has allowed =
     let fields : Fields = record { tag = word_text entry.tag; qualifier = Some (qualifier_text known entry.tag); perms = perms_text entry.perms } in
-    let cut : fields_of (entry_text known entry) ≡ Some fields = ap as_fields (fields_again (word_text entry.tag) (qualifier_text known entry.tag ∷ perms_text entry.perms ∷ []) (fields_are known entry is has)) in
+    let cut : fields_of (entry_text known entry) ≡ Some fields = ap as_fields
+    (fields_again (word_text entry.tag) (qualifier_text known entry.tag ∷ perms_text entry.perms ∷ [])
+    (fields_are known entry is has)) in
     read_parts known (entry_text known entry) fields (word_of entry.tag) entry.perms entry.tag cut (word_again entry.tag)
     (perms_again entry.perms allowed) (tag_again known entry.tag is has)
 
@@ -158,7 +164,7 @@ mark_is (Some mask) entry = mark_if (is_under_mask entry.tag && not (has_all mas
 abbrev pub IsLine : Known → Option ℕ → EntryValue → Type 0
 IsLine known mask entry = (0 < length (entry_text known entry)) × IsPlain (entry_text known entry) × IsMark (effective_mark mask entry)
 
-pub line_is : (known : Known) (mask : Option ℕ) (entry : EntryValue) → TellsNamesApart known → HasId entry.tag → IsLine known mask entry
+pub line_is : (known : Known) (mask : Option ℕ) (entry : EntryValue) → NamesReadBack known → HasId entry.tag → IsLine known mask entry
 line_is known mask entry is has =
     let rest = qualifier_text known entry.tag ∷ perms_text entry.perms ∷ [] in (
       omega (arith, length-append (word_text entry.tag) (colon ∷ join_with_byte colon rest)),
@@ -167,7 +173,7 @@ line_is known mask entry is has =
     )
 
 -- each printed entry says the entry
-each_again : (known : Known) (entries : List EntryValue) → TellsNamesApart known → HaveIds entries → HavePermissions entries → Say (entry_of known) (map (entry_text known) entries) entries
+each_again : (known : Known) (entries : List EntryValue) → NamesReadBack known → HaveIds entries → HavePermissions entries → PiecesSay (entry_of known) (map (entry_text known) entries) entries
 each_again known [] is have known_perms = refl
 each_again known (entry ∷ entries) is have known_perms =
     let has : HasId entry.tag = All-head (λ (e : EntryValue). HasId e.tag) entry entries have in
@@ -177,12 +183,14 @@ each_again known (entry ∷ entries) is have known_perms =
       each_again known entries is (All-tail (λ (e : EntryValue). HasId e.tag) entry entries have) (All-tail (λ (e : EntryValue). IsPermissions e.perms) entry entries known_perms),
     ) refl
 
-pub text_says : (known : Known) (mask : Option ℕ) (entries : List EntryValue) → TellsNamesApart known → HaveIds entries → HavePermissions entries → Say (entry_of known) (pieces (effective_text known mask entries)) entries
+pub text_says : (known : Known) (mask : Option ℕ) (entries : List EntryValue) → NamesReadBack known
+    → HaveIds entries → HavePermissions entries → PiecesSay (entry_of known)
+    (pieces (effective_text known mask entries)) entries
 text_says known mask entries is have known_perms =
     let lines : All (IsLine known mask) entries = All-weaker (λ (e : EntryValue). HasId e.tag) (IsLine known mask) (λ e has. line_is known mask e is has) entries have in
     ap (map (entry_of known)) (pieces_of_lines (entry_text known) (effective_mark mask) entries lines) ∙ each_again known entries is have known_perms
 
 -- the printed text spells the entries
-pub text_spells : (known : Known) (mask : Option ℕ) (entries : List EntryValue) → TellsNamesApart known → HaveIds entries → HavePermissions entries → length entries ≤ MAX_ENTRIES
+pub text_spells : (known : Known) (mask : Option ℕ) (entries : List EntryValue) → NamesReadBack known → HaveIds entries → HavePermissions entries → length entries ≤ MAX_ENTRIES
     → Spells (entry_of known) MAX_ENTRIES (effective_text known mask entries) entries
 text_spells known mask entries is have known_perms few = record { said = text_says known mask entries is have known_perms; within = few }

@@ -1,5 +1,7 @@
 -- What the reader's function answers is what the shapes say.
-use Rattle.std.proofs.Common.{◌≡◌, ◌⊎◌, ◌||◌, ℕ, Bool, true, false, cond, List, [], ◌∷◌, Option, Some, None, option_and_then, Result, Ok, ◌<◌, ◌&&◌, nat_le, length, refl, sym, ap, subst, ◌∙◌, inl, inr, codes, arith}
+use Rattle.std.proofs.Common.{◌≡◌, ◌⊎◌, ◌||◌, ℕ, Bool, true, false, cond, List, [], ◌∷◌, Option, Some, None}
+use Rattle.std.proofs.Common.{option_and_then, Result, Ok, ◌<◌, ◌&&◌, nat_le, length, refl, sym, ap, subst}
+use Rattle.std.proofs.Common.{◌∙◌, inl, inr, codes, arith}
 use Rattle.std.specs.Char.{is_ascii_digit}
 use Rattle.std.specs.List.{list_all}
 use Rattle.std.specs.Str.{bytes_eq}
@@ -7,13 +9,13 @@ use Rattle.std.specs.Str.Parse.{digits_value}
 use Rattle.std.proofs.lemmas.Slice.Eq.{bytes_eq-Decides}
 use Rattle.acl_names.specs.declared.limits.TheConstants.{MAX_DIGITS, MAX_ID}
 use Rattle.acl_names.specs.Directory.{Known, uid_of, gid_of}
-use Rattle.acl_names.specs.Ids.{is_decimal, written_id, number_or_name, decimal_value, has_name_shape, resolved}
+use Rattle.acl_names.specs.Ids.{is_decimal, written_id, number_or_name, decimal_value, has_name_shape, id_of_written}
 use Rattle.acl_names.proofs.IdTexts.{and_second, written_name}
 use Rattle.acl_names.proofs.StepLemmas.{bind_ok, given, some_from_cond, written_by}
 use Rattle.acl_posix.proofs.RoundTrip.{qualified_by, user_tag, group_tag, read_parts}
 use Rattle.acl_names.specs.Steps.{◌>>=◌, or_fault}
 use Rattle.acl_posix.specs.PermsText.{perms_of_text}
-use Rattle.acl_posix.specs.EntryText.{Fields, fields_of, is_word, tag_word, tag_of, qualified, entry_of}
+use Rattle.acl_posix.specs.EntryText.{Fields, fields_of, is_word, tag_word, tag_of, tag_with_id, entry_of}
 use Rattle.acl_posix.specs.Shapes.{IsWord, WritesId, IsTagged, HasShape}
 use Rattle.acl_posix.specs.Entry.{EntryValue}
 use Rattle.acl_posix.specs.declared.entry.Tag.{Tag}
@@ -39,11 +41,16 @@ or_cases : (a b : Bool) → (a || b) ≡ true → (a ≡ true) ⊎ (b ≡ true)
 or_cases true b e = inl refl
 or_cases false b e = inr e
 
-qualified_says : (tag : ℕ → Tag) (id_of : List ℕ → Option ℕ) (text : List ℕ) (t : Tag) → qualified tag id_of text ≡ Ok t → (id : ℕ) × WritesId id_of text id × (tag id ≡ t)
+qualified_says : (tag : ℕ → Tag) (id_of : List ℕ → Option ℕ) (text : List ℕ) (t : Tag) → tag_with_id tag id_of text ≡ Ok t → (id : ℕ) × WritesId id_of text id × (tag id ≡ t)
 qualified_says tag id_of text t e =
-    let first = bind_ok (or_fault Syntax (written_id text)) (λ w. or_fault UnknownName (resolved id_of w) >>= (λ id. Ok (tag id))) t e in
-    let second = bind_ok (or_fault UnknownName (resolved id_of first.0)) (λ id. Ok (tag id)) t first.2 in
-    (second.0, written_by id_of text (decimal_value text) first.0 second.0 (given Syntax (written_id text) first.0 first.1) (given UnknownName (resolved id_of first.0) second.0 second.1), same_oks (tag second.0) t second.2)
+    let first = bind_ok (or_fault Syntax (written_id text)) (λ w. or_fault UnknownName (id_of_written id_of w) >>= (λ id. Ok (tag id))) t e in
+    let second = bind_ok (or_fault UnknownName (id_of_written id_of first.0)) (λ id. Ok (tag id)) t first.2 in (
+      second.0,
+      written_by id_of text (decimal_value text) first.0 second.0
+          (given Syntax (written_id text) first.0 first.1)
+          (given UnknownName (id_of_written id_of first.0) second.0 second.1),
+      same_oks (tag second.0) t second.2,
+    )
 
 -- the word of a tag word
 abbrev IsWordOf : TagWord → List ℕ → Type 0
@@ -69,9 +76,13 @@ picked false false false true w e = let is : word.Other ≡ w = cc in subst (Pic
 picked false false false false w e = cc
 
 word_says : (text : List ℕ) (w : TagWord) → tag_word text ≡ Some w → IsWordOf w text
-word_says text w e = by_word w (picked (is_word (codes "user") (codes "u") text) (is_word (codes "group") (codes "g") text) (is_word (codes "mask") (codes "m") text) (is_word (codes "other") (codes "o") text) w e)
+word_says text w e = by_word w (picked (is_word (codes "user") (codes "u") text)
+    (is_word (codes "group") (codes "g") text) (is_word (codes "mask") (codes "m") text)
+    (is_word (codes "other") (codes "o") text) w e)
   where
-    by_word : (w : TagWord) → Picks (is_word (codes "user") (codes "u") text) (is_word (codes "group") (codes "g") text) (is_word (codes "mask") (codes "m") text) (is_word (codes "other") (codes "o") text) w → IsWordOf w text
+    by_word : (w : TagWord) → Picks (is_word (codes "user") (codes "u") text)
+        (is_word (codes "group") (codes "g") text) (is_word (codes "mask") (codes "m") text)
+        (is_word (codes "other") (codes "o") text) w → IsWordOf w text
     by_word word.User p = is_word_says (codes "user") (codes "u") text p
     by_word word.Group p = is_word_says (codes "group") (codes "g") text p
     by_word word.Mask p = is_word_says (codes "mask") (codes "m") text p
@@ -131,17 +142,17 @@ decimal_within text id e =
     let few = list_all is_ascii_digit text && nat_le 1 (length text) && nat_le (length text) MAX_DIGITS in
     ap (λ n. nat_le n MAX_ID) (sym read.1) ∙ and_second few (nat_le (digits_value 10 text) MAX_ID) read.0
 
-id_read : (id_of : List ℕ → Option ℕ) (text : List ℕ) (id : ℕ) → WritesId id_of text id → option_and_then (resolved id_of) (written_id text) ≡ Some id
+id_read : (id_of : List ℕ → Option ℕ) (text : List ℕ) (id : ℕ) → WritesId id_of text id → option_and_then (id_of_written id_of) (written_id text) ≡ Some id
 id_read id_of text id (inl e) =
-    ap (λ number. option_and_then (resolved id_of) (number_or_name number text)) e ∙ ap (λ t. cond t (Some id) None) (decimal_within text id e)
-id_read id_of text id (inr is) = ap (option_and_then (resolved id_of)) (written_name text is.0) ∙ is.1
+    ap (λ number. option_and_then (id_of_written id_of) (number_or_name number text)) e ∙ ap (λ t. cond t (Some id) None) (decimal_within text id e)
+id_read id_of text id (inr is) = ap (option_and_then (id_of_written id_of)) (written_name text is.0) ∙ is.1
 
 id_some : (id_of : List ℕ → Option ℕ) (text : List ℕ) (id : ℕ) → WritesId id_of text id → 0 < length text
 id_some id_of [] id (inl e) = cc
 id_some id_of [] id (inr is) = let e : has_name_shape [] ≡ true = is.0 in cc
 id_some id_of (b ∷ bs) id writes = omega arith
 
-qualified_read : (tag : ℕ → Tag) (id_of : List ℕ → Option ℕ) (text : List ℕ) (id : ℕ) → WritesId id_of text id → qualified tag id_of text ≡ Ok (tag id)
+qualified_read : (tag : ℕ → Tag) (id_of : List ℕ → Option ℕ) (text : List ℕ) (id : ℕ) → WritesId id_of text id → tag_with_id tag id_of text ≡ Ok (tag id)
 qualified_read tag id_of text id writes = qualified_by tag id_of id (written_id text) (id_read id_of text id writes)
 
 -- a piece of a shape is read

@@ -1,12 +1,11 @@
 -- The short text of entries spells them, for any directory: its ids are decimals.
-use Rattle.std.proofs.Common.{◌≡◌, ℕ, true, ◌≤◌, ◌<◌, List, [], ◌∷◌, length, length-append, map, Some, Ok, decimal, refl, ap, ◌∙◌, arith, codes}
+use Rattle.std.proofs.Common.{◌≡◌, true, ◌≤◌, List, [], ◌∷◌, length, length-append, map, Some, Ok, decimal, refl, ap, ◌∙◌, arith, codes}
 use Rattle.std.specs.List.{All, AllByRecursion, join_with_byte}
 use Rattle.std.proofs.lemmas.List.Elements.{All-nil, All-head, All-tail, All-cons}
 use Rattle.acl_names.specs.Bytes.{colon}
 use Rattle.acl_names.specs.Directory.{Known, uid_of, gid_of}
 use Rattle.acl_names.specs.Ids.{written_id}
-use Rattle.acl_names.specs.ListText.{Say, Spells}
-use Rattle.acl_names.specs.Pieces.{pieces}
+use Rattle.acl_names.specs.ListText.{PiecesSay, Spells}
 use Rattle.acl_names.specs.Plain.{is_field_byte, IsField}
 use Rattle.acl_names.proofs.DecimalIds.{decimal_again, decimal_field}
 use Rattle.acl_names.proofs.Fields.{fields_again, joined_plain, tested_field}
@@ -82,7 +81,7 @@ short_pieces (entry ∷ entries) have =
     All-cons IsPlainPiece (short_entry entry) (map short_entry entries) (short_piece entry (All-head (λ (e : EntryValue). HasId e.tag) entry entries have))
     (short_pieces entries (All-tail (λ (e : EntryValue). HasId e.tag) entry entries have))
 
-each_again : (known : Known) (entries : List EntryValue) → HaveIds entries → HavePermissions entries → Say (entry_of known) (map short_entry entries) entries
+each_again : (known : Known) (entries : List EntryValue) → HaveIds entries → HavePermissions entries → PiecesSay (entry_of known) (map short_entry entries) entries
 each_again known [] have allowed = refl
 each_again known (entry ∷ entries) have allowed =
     let has : HasId entry.tag = All-head (λ (e : EntryValue). HasId e.tag) entry entries have in

@@ -44,13 +44,14 @@ is_under_mask (Group _) = true
 is_under_mask _ = false
 
 -- what a mask, if there is one, leaves of the permissions
-abbrev pub masked : Option ℕ → ℕ → ℕ
-masked None perms = perms
-masked (Some mask) perms = perms ∩ mask
+abbrev pub under_mask : Option ℕ → ℕ → ℕ
+under_mask None perms = perms
+under_mask (Some mask) perms = perms ∩ mask
 
 -- the effective permissions of an entry: its own, as far as the mask leaves them
 abbrev pub effective_perms : List EntryValue → EntryValue → ℕ
-effective_perms acl entry = if is_under_mask entry.tag then masked (perms_of Mask acl) entry.perms
+effective_perms acl entry = if is_under_mask entry.tag
+    then under_mask (perms_of Mask acl) entry.perms
     else entry.perms
 
 -- A request is granted if one of the entries that decide has the whole of it in its effective

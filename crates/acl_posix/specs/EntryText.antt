@@ -4,7 +4,7 @@ use Rattle.std.specs.Prelude.{codes, if◌then◌else◌}
 use Rattle.std.specs.Str.{bytes_eq}
 use Rattle.acl_names.specs.Bytes.{colon}
 use Rattle.acl_names.specs.Directory.{Known, uid_of, gid_of}
-use Rattle.acl_names.specs.Ids.{written_id, resolved}
+use Rattle.acl_names.specs.Ids.{written_id, id_of_written}
 use Rattle.acl_names.specs.Pieces.{trimmed_parts}
 use Rattle.acl_names.specs.Steps.{◌>>=◌, or_fault}
 use Rattle.acl_posix.specs.PermsText.{perms_of_text}
@@ -45,10 +45,10 @@ tag_word text =
     else (if is_word (codes "other") (codes "o") text then Some word.Other else None)))
 
 -- the tag for the id that is written, by the look-up of names
-abbrev pub qualified : (ℕ → Tag) → (List ℕ → Option ℕ) → List ℕ → Result Tag PieceFault
-qualified tag id_of text = do
+abbrev pub tag_with_id : (ℕ → Tag) → (List ℕ → Option ℕ) → List ℕ → Result Tag PieceFault
+tag_with_id tag id_of text = do
   written ← or_fault Syntax (written_id text)
-  id ← or_fault UnknownName (resolved id_of written)
+  id ← or_fault UnknownName (id_of_written id_of written)
   Ok (tag id)
 
 -- the tag that a word and a qualifier say
@@ -56,11 +56,11 @@ abbrev pub tag_of : Known → TagWord → Option (List ℕ) → Result Tag Piece
 tag_of known word.User None = Err Syntax
 tag_of known word.User (Some []) = Ok UserObj
 tag_of known word.User (Some (byte ∷ bytes)) =
-    qualified (λ uid. User uid) (uid_of known) (byte ∷ bytes)
+    tag_with_id (λ uid. User uid) (uid_of known) (byte ∷ bytes)
 tag_of known word.Group None = Err Syntax
 tag_of known word.Group (Some []) = Ok GroupObj
 tag_of known word.Group (Some (byte ∷ bytes)) =
-    qualified (λ gid. Group gid) (gid_of known) (byte ∷ bytes)
+    tag_with_id (λ gid. Group gid) (gid_of known) (byte ∷ bytes)
 tag_of known word.Mask None = Ok Mask
 tag_of known word.Mask (Some []) = Ok Mask
 tag_of known word.Mask (Some (byte ∷ bytes)) = Err Syntax

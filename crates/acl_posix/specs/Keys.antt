@@ -4,14 +4,14 @@ use Rattle.std.specs.List.{All}
 use Rattle.acl_posix.specs.declared.limits.TheConstants.{MAX_ENTRIES}
 use Rattle.acl_posix.specs.declared.entry.Tag.{Tag}
 use Rattle.acl_posix.specs.declared.entry.Tag.TheVariants.{UserObj}
-use Rattle.acl_posix.specs.Canonical.{place_of, qualifier_of}
+use Rattle.acl_posix.specs.Canonical.{rank_of, qualifier_of}
 use Rattle.acl_posix.specs.Entry.{EntryValue}
 
--- the place and the id in one number
+-- the rank and the id in one number
 abbrev pub order_of : Tag → ℕ
-order_of tag = place_of tag * 2 ^ 32 + qualifier_of tag
+order_of tag = rank_of tag * 2 ^ 32 + qualifier_of tag
 
--- the id leaves the place as it is
+-- the id leaves the rank as it is
 abbrev pub IsShort : Tag → Type 0
 IsShort tag = qualifier_of tag < 2 ^ 32
 

@@ -8,6 +8,7 @@ pub mod InOrder
 pub mod Access
 pub mod Kinds
 pub mod Mode
+pub mod ModeText
 pub mod PermsText
 pub mod EntryText
 pub mod Shapes
@@ -15,5 +16,6 @@ pub mod Faults
 pub mod PrintedText
 pub mod Views
 pub mod ReadFault
+pub mod AclText
 pub mod CheckSteps
 pub mod Front

@@ -7,7 +7,7 @@ use Rattle.acl_posix.specs.declared.entry.Tag.TheVariants.{UserObj, GroupObj, Ma
 use Rattle.acl_posix.specs.Entry.{EntryValue, same_tag, perms_of}
 use Rattle.acl_names.specs.Bits.{◌∪◌}
 use Rattle.acl_posix.specs.Perms.{IsPermissions}
-use Rattle.acl_posix.specs.Access.{is_under_mask, masked}
+use Rattle.acl_posix.specs.Access.{is_under_mask, under_mask}
 
 -- what the owner, the file's group and the others may do
 pub record Classes : Type 0 where
@@ -59,10 +59,10 @@ set_to group_class mode entry = record {
   perms = unwrap_or (mode_perms group_class mode entry.tag) entry.perms;
 }
 
-abbrev pub met_with : Tag → Classes → EntryValue → EntryValue
-met_with group_class mode entry = record {
+abbrev pub limit_to : Tag → Classes → EntryValue → EntryValue
+limit_to group_class mode entry = record {
   tag = entry.tag;
-  perms = masked (mode_perms group_class mode entry.tag) entry.perms;
+  perms = under_mask (mode_perms group_class mode entry.tag) entry.perms;
 }
 
 -- an access control list whose mode is changed
@@ -71,7 +71,7 @@ chmod acl mode = map (set_to (group_class_tag acl) mode) acl
 
 -- the access control list of a new file under a default one
 abbrev pub at_creation : List EntryValue → Classes → List EntryValue
-at_creation default mode = map (met_with (group_class_tag default) mode) default
+at_creation default mode = map (limit_to (group_class_tag default) mode) default
 
 -- the access control list that says what a mode says
 abbrev pub of_mode : Classes → List EntryValue

@@ -2,8 +2,8 @@
 use Rattle.std.specs.Prelude.{ℕ, List}
 use Rattle.acl_names.specs.Directory.{Known}
 use Rattle.acl_names.specs.ListText.{IsFaultOf}
-use Rattle.acl_names.specs.declared.list.ListFault.{ListFault}
-use Rattle.acl_names.specs.declared.list.ListFault.TheVariants as list
+use Rattle.acl_names.specs.declared.text.list.ListFault.{ListFault}
+use Rattle.acl_names.specs.declared.text.list.ListFault.TheVariants as list
 use Rattle.acl_posix.specs.EntryText.{entry_of}
 use Rattle.acl_posix.specs.declared.entries.TextFault.{TextFault}
 use Rattle.acl_posix.specs.declared.entries.TextFault.TheVariants.{Syntax, UnknownName, TooMany}

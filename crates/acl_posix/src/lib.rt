@@ -3,20 +3,31 @@
 #![tactic(auto)]
 
 mod acl;
+mod acl_text;
+mod bits;
 mod entries;
 mod entry;
+mod front;
+mod kinds;
+mod laws;
 mod limits;
 mod mode;
 mod perms;
 mod printing;
 mod reading;
 mod short;
+mod sorted_copy;
 
 pub use acl::{Acl, Invalid};
+pub use acl_text::{AclFault, ReadAclFault, read_acl};
+pub use bits::{bits_if, without};
 pub use entries::{Entries, TextFault};
 pub use entry::{Entry, Tag};
-pub use limits::{MAX_DEFAULT_LINE, MAX_ENTRIES, MAX_LINE, MAX_SHORT_ENTRY, limits_in_numbers};
+pub use laws::{faults_of_pieces, pieces_have_shapes};
+pub use limits::{
+    INLINE_ENTRIES, MAX_DEFAULT_LINE, MAX_ENTRIES, MAX_LINE, MAX_SHORT_ENTRY, limits_in_numbers,
+};
 pub use mode::Mode;
 pub use perms::{Perms, read_perms};
 pub use printing::{push_entry, push_perms};
-pub use reading::{EntryReader, PieceFault, faults_of_pieces, pieces_have_shapes, read_entries};
+pub use reading::{EntryReader, PieceFault, read_entries};

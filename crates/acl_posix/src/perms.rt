@@ -5,12 +5,13 @@ ghost use Rattle.std.specs.Prelude.{option_map};
 ghost use Rattle.std.specs.Int.RustNames.{bit_and, bit_or};
 ghost use Rattle.std.specs.List.{list_all};
 ghost use Rattle.acl_names.specs.Bytes.{hyphen};
+ghost use Rattle.acl_names.specs.Letters.{occurs, repeats};
 ghost use Rattle.acl_posix.specs.Front.{BeginsWithPerms};
 ghost use Rattle.acl_posix.specs.Perms.{bits_of, IsPermissions};
 ghost use Rattle.acl_posix.specs.PermsText.{is_perms_byte, perms_of_text, perms_with};
 ghost use Rattle.acl_posix.specs.PermsText.{three_letters};
 
-use acl_names::{occurs, repeats};
+use crate::bits::bits_if;
 use bitflags::{Flag, Flags};
 use std::ops::{BitAnd, BitOr};
 
@@ -144,13 +145,7 @@ fn perms_with(read: bool, write: bool, execute: bool) -> Perms
     ensures value { bits_of result ≡ perms_with read write execute }
     ensures permissions { IsPermissions (bits_of result) }
 {
-    perms_if(read, Perms::READ) | perms_if(write, Perms::WRITE) | perms_if(execute, Perms::EXECUTE)
-}
-
-fn perms_if(there: bool, perms: Perms) -> Perms
-    ensures { bits_of result ≡ (if there then bits_of perms else 0) }
-{
-    if there { perms } else { Perms::empty() }
+    bits_if(Perms::READ, read) | bits_if(Perms::WRITE, write) | bits_if(Perms::EXECUTE, execute)
 }
 
 fn letter_or_dash(byte: u8, letter: u8) -> Option<bool>
@@ -170,4 +165,18 @@ fn are_perms_bytes(text: &[u8]) -> bool
 {
     text.iter()
         .all(|byte| matches!(*byte, b'r' | b'w' | b'x' | b'-'))
+}
+
+/// Whether the letter stands in the text.
+fn occurs(text: &[u8], letter: u8) -> bool
+    ensures { result ≡ occurs letter text.now }
+{
+    text.iter().filter(|byte| **byte == letter).count() >= 1
+}
+
+/// Whether the letter stands in the text twice, or more often.
+fn repeats(text: &[u8], letter: u8) -> bool
+    ensures { result ≡ repeats letter text.now }
+{
+    text.iter().filter(|byte| **byte == letter).count() >= 2
 }

@@ -116,7 +116,7 @@ fn print_lines(
         → Spells (entry_of directory.now) MAX_ENTRIES
         (effective_text directory.now (option_map bits_of mask) entries.now) entries.now) }
 {
-    directory.tell_names_apart();
+    directory.names_read_back();
     out.reserve(entries.len() * MAX_LINE)?;
     put_lines(entries, mask, directory, out);
     Ok(())

@@ -1,31 +1,26 @@
 //! Reading entries.
 
-ghost use Rattle.acl_posix.specs.Front.{BeginsWithTag, BeginsWithWord};
-ghost use Rattle.acl_names.specs.Pieces.{pieces};
-ghost use Rattle.std.specs.Prelude.{IfSome, Some, [], ◌++◌, ◌≡◌, ◌≢◌, ◌≤◌, ◌↔◌, ℕ, List, length};
-ghost use Rattle.std.specs.Prelude.{Ok, Err, option_map, IfOk, IfErr, MatchResult};
+ghost use Rattle.std.specs.Prelude.{◌≡◌, ◌≢◌, ◌≤◌, List, length, option_map};
+ghost use Rattle.std.specs.Prelude.{IfOk, IfErr, MatchResult};
+ghost use Rattle.acl_names.specs.Directory.{uid_of, gid_of};
 ghost use Rattle.acl_names.specs.ListText.{Spells};
-ghost use Rattle.acl_posix.specs.EntryText.{entry_of, fields_of, tag_of, tag_word, qualified};
-ghost use Rattle.acl_names.specs.Directory.{Known, uid_of, gid_of};
-ghost use Rattle.acl_names.specs.Ids.{decimal_value};
-ghost use Rattle.acl_posix.specs.Shapes.{HasShape};
-ghost use Rattle.acl_posix.specs.Faults.{HasUnknownName, HasNoShape};
-ghost use Rattle.acl_posix.specs.Views.{view_fields};
+ghost use Rattle.acl_names.specs.Pieces.{pieces};
 ghost use Rattle.acl_posix.specs.Entry.{EntryValue};
+ghost use Rattle.acl_posix.specs.EntryText.{entry_of, fields_of, tag_of, tag_word, tag_with_id};
 ghost use Rattle.acl_posix.specs.ReadFault.{IsTextFault, list_fault};
+ghost use Rattle.acl_posix.specs.Views.{view_fields};
+ghost use Rattle.acl_posix.specs.declared.limits.TheConstants.{INLINE_ENTRIES};
 
+use crate::front::{read_tag_front, read_word_front};
 use crate::limits::MAX_ENTRIES;
 use crate::perms::{read_perms, read_perms_front};
 use crate::{Entries, Entry, Tag, TextFault};
-use acl_names::{
-    Directory, Gid, ListFault, Parts, PieceReader, Uid, WrittenId, read_decimal_until, read_list,
-    split_name, trim_blanks,
-};
+use acl_names::{Directory, ListFault, Parts, PieceReader, WrittenId, read_list, trim_blanks};
 use std::alloc::Global;
 
 /// The word that an entry begins with.
 #[derive(Clone, Copy, Debug, PartialEq, Eq)]
-enum TagWord {
+pub(crate) enum TagWord {
     User,
     Group,
     Mask,
@@ -100,7 +95,7 @@ pub fn read_entries(alloc: Global, text: &[u8], directory: &Directory) -> Result
     ensures only { (entries : List EntryValue)
         → Spells (entry_of directory.now) MAX_ENTRIES text.now entries
         → MatchResult result (λ read. read ≡ entries) (λ fault. fault ≡ TextFault.Memory) }
-    ensures short { length (pieces text.now) ≤ 8
+    ensures short { length (pieces text.now) ≤ INLINE_ENTRIES
         → IfErr result (λ fault. fault ≢ TextFault.Memory) }
 {
     match read_list(alloc, &EntryReader { directory }, MAX_ENTRIES, text) {
@@ -122,22 +117,6 @@ fn text_fault(fault: ListFault<PieceFault>) -> TextFault
         ListFault::Memory => TextFault::Memory,
     }
 }
-
-/// What a piece says is what the shapes of entries say. There is nothing to run here: a proof cites
-/// the contract.
-pub fn pieces_have_shapes()
-    ensures { (known : Known) (piece : List ℕ) (entry : EntryValue)
-        → (entry_of known piece ≡ Ok entry) ↔ HasShape known piece entry }
-{}
-
-/// A piece that is no entry is refused for an unknown name exactly if it is one where the name is
-/// known, and else for its shape. There is nothing to run here: a proof cites the contract.
-pub fn faults_of_pieces()
-    ensures unknown_name { (known : Known) (piece : List ℕ)
-        → (entry_of known piece ≡ Err PieceFault.UnknownName) ↔ HasUnknownName known piece }
-    ensures syntax { (known : Known) (piece : List ℕ)
-        → (entry_of known piece ≡ Err PieceFault.Syntax) ↔ HasNoShape piece }
-{}
 
 fn read_fields(piece: &[u8]) -> Option<Fields<'_>>
     ensures { option_map view_fields result ≡ fields_of piece.now }
@@ -189,7 +168,7 @@ fn read_tag(
 }
 
 fn read_user(directory: &Directory, text: &[u8]) -> Result<Tag, PieceFault>
-    ensures { result ≡ qualified (λ uid. Tag.User uid) (uid_of directory.now) text.now }
+    ensures { result ≡ tag_with_id (λ uid. Tag.User uid) (uid_of directory.now) text.now }
 {
     let written = WrittenId::read(text).ok_or(PieceFault::Syntax)?;
     let uid = directory.uid(written).ok_or(PieceFault::UnknownName)?;
@@ -197,127 +176,9 @@ fn read_user(directory: &Directory, text: &[u8]) -> Result<Tag, PieceFault>
 }
 
 fn read_group(directory: &Directory, text: &[u8]) -> Result<Tag, PieceFault>
-    ensures { result ≡ qualified (λ gid. Tag.Group gid) (gid_of directory.now) text.now }
+    ensures { result ≡ tag_with_id (λ gid. Tag.Group gid) (gid_of directory.now) text.now }
 {
     let written = WrittenId::read(text).ok_or(PieceFault::Syntax)?;
     let gid = directory.gid(written).ok_or(PieceFault::UnknownName)?;
     Ok(Tag::Group(gid))
-}
-
-/// The word that the text begins with, and what stands after its colon.
-fn read_word_front(text: &[u8]) -> Option<(TagWord, &[u8])>
-    ensures { IfSome result (λ front. BeginsWithWord text.now front.0 front.1.now) }
-{
-    if let Some(rest) = behind(b"user:", text) {
-        return Some((TagWord::User, rest));
-    }
-    if let Some(rest) = behind(b"group:", text) {
-        return Some((TagWord::Group, rest));
-    }
-    if let Some(rest) = behind(b"mask:", text) {
-        return Some((TagWord::Mask, rest));
-    }
-    if let Some(rest) = behind(b"other:", text) {
-        return Some((TagWord::Other, rest));
-    }
-    if let Some(rest) = behind(b"u:", text) {
-        return Some((TagWord::User, rest));
-    }
-    if let Some(rest) = behind(b"g:", text) {
-        return Some((TagWord::Group, rest));
-    }
-    if let Some(rest) = behind(b"m:", text) {
-        return Some((TagWord::Mask, rest));
-    }
-    if let Some(rest) = behind(b"o:", text) {
-        return Some((TagWord::Other, rest));
-    }
-    None
-}
-
-/// What stands after these bytes, if the text begins with them.
-#[inline(always)]
-fn behind<'t>(front: &[u8], text: &'t [u8]) -> Option<&'t [u8]>
-    ensures { IfSome result (λ rest. text.now ≡ front.now ++ rest.now) }
-{
-    match text.strip_prefix(front) {
-        Some(rest) => Some(rest),
-        None => None,
-    }
-}
-
-/// The tag that the word and a qualifier say: none, a decimal, or a name; and what stands after its
-/// colon.
-fn read_tag_front<'t>(
-    directory: &Directory,
-    word: TagWord,
-    text: &'t [u8],
-) -> Option<(Tag, &'t [u8])>
-    ensures { IfSome result (λ front. BeginsWithTag directory.now text.now word front.0 front.1.now) }
-{
-    if let [b':', rest @ ..] = text {
-        return Some((tag_of_word(word), rest));
-    }
-    let Some((id, rest)) = read_decimal_until(b':', text) else {
-        return read_name_front(directory, word, text);
-    };
-    let tag = named_tag(word, id)?;
-    Some((tag, rest))
-}
-
-/// The tag that the word and a name say, and what stands after its colon.
-fn read_name_front<'t>(
-    directory: &Directory,
-    word: TagWord,
-    text: &'t [u8],
-) -> Option<(Tag, &'t [u8])>
-    ensures { IfSome result (λ front. BeginsWithTag directory.now text.now word front.0 front.1.now) }
-{
-    match word {
-        TagWord::User => read_user_front(directory, text),
-        TagWord::Group => read_group_front(directory, text),
-        TagWord::Mask | TagWord::Other => None,
-    }
-}
-
-fn read_user_front<'t>(directory: &Directory, text: &'t [u8]) -> Option<(Tag, &'t [u8])>
-    ensures { IfSome result (λ front. BeginsWithTag directory.now text.now TagWord.User front.0
-        front.1.now) }
-{
-    let (name, hash, rest) = split_name(b':', text)?;
-    let uid = directory.uid_by_hash(hash, name)?;
-    Some((Tag::User(uid), rest))
-}
-
-fn read_group_front<'t>(directory: &Directory, text: &'t [u8]) -> Option<(Tag, &'t [u8])>
-    ensures { IfSome result (λ front. BeginsWithTag directory.now text.now TagWord.Group front.0
-        front.1.now) }
-{
-    let (name, hash, rest) = split_name(b':', text)?;
-    let gid = directory.gid_by_hash(hash, name)?;
-    Some((Tag::Group(gid), rest))
-}
-
-/// The tag of an entry that names no one.
-fn tag_of_word(word: TagWord) -> Tag
-    ensures { (known : Known) → tag_of known word (Some []) ≡ Ok result }
-{
-    match word {
-        TagWord::User => Tag::UserObj,
-        TagWord::Group => Tag::GroupObj,
-        TagWord::Mask => Tag::Mask,
-        TagWord::Other => Tag::Other,
-    }
-}
-
-/// The tag of an entry for the user or the group with this id.
-fn named_tag(word: TagWord, id: u32) -> Option<Tag>
-    ensures { IfSome result (λ tag. (known : Known) (text : List ℕ) → decimal_value text ≡ Some id
-        → tag_of known word (Some text) ≡ Ok tag) }
-{
-    match word {
-        TagWord::User => Some(Tag::User(Uid::new(id)?)),
-        TagWord::Group => Some(Tag::Group(Gid::new(id)?)),
-        TagWord::Mask | TagWord::Other => None,
-    }
 }

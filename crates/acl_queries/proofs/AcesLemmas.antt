@@ -9,11 +9,12 @@ use Rattle.acl_nfs4.specs.ReadFault.{list_fault}
 use Rattle.acl_nfs4.specs.declared.acl.AceFault.{AceFault}
 use Rattle.acl_nfs4.specs.declared.acl.AceFault.TheVariants as aces
 use Rattle.acl_nfs4.specs.declared.limits.TheConstants.{MAX_ACES}
+use Rattle.acl_posix.specs.declared.acl_text.AclFault.TheVariants as acl
 use Rattle.acl_queries.specs.AclText.{nobody}
 use Rattle.acl_queries.specs.ListField.{aces_of, as_ace}
 use Rattle.acl_queries.specs.Faults.{Explains, fault_of_aces}
 use Rattle.acl_queries.specs.declared.command.query_fault.FieldFault.{FieldFault}
-use Rattle.acl_queries.specs.declared.command.query_fault.FieldFault.TheVariants.{TooMany}
+use Rattle.acl_queries.specs.declared.command.query_fault.FieldFault.TheVariants.{Acl}
 
 -- what a piece says, as the field has it
 abbrev pub ace_field : Text → Result Nfsace4 FieldFault
@@ -24,13 +25,13 @@ ace_field-ok piece ace is = ap as_ace is
 
 -- what is spelt is read
 pub aces_of-spelt : (text : Text) (entries : List Nfsace4) → Spells (piece_value nobody) MAX_ACES text entries → aces_of text ≡ Ok entries
-aces_of-spelt text = read-spelt (piece_value nobody) ace_field TooMany MAX_ACES text ace_field-ok
+aces_of-spelt text = read-spelt (piece_value nobody) ace_field (Acl acl.TooMany) MAX_ACES text ace_field-ok
 
 -- a text that is refused doesn't read
 pub Explains-aces : (text : Text) (fault : AceFault) → IsFaultOf (piece_value nobody) MAX_ACES text (list_fault fault)
     → Explains (aces_of text) (fault_of_aces fault)
-Explains-aces text aces.Syntax is = read-fault (piece_value nobody) ace_field TooMany MAX_ACES text ace_field-ok _ _ is (λ piece is. ap as_ace is)
-Explains-aces text aces.UnknownName is = read-fault (piece_value nobody) ace_field TooMany MAX_ACES text ace_field-ok _ _ is (λ piece is. ap as_ace is)
-Explains-aces text aces.InheritOnly is = read-fault (piece_value nobody) ace_field TooMany MAX_ACES text ace_field-ok _ _ is (λ piece is. ap as_ace is)
-Explains-aces text aces.TooMany is = read-many (piece_value nobody) ace_field TooMany MAX_ACES text ace_field-ok is
+Explains-aces text aces.Syntax is = read-fault (piece_value nobody) ace_field (Acl acl.TooMany) MAX_ACES text ace_field-ok _ _ is (λ piece is. ap as_ace is)
+Explains-aces text aces.UnknownName is = read-fault (piece_value nobody) ace_field (Acl acl.TooMany) MAX_ACES text ace_field-ok _ _ is (λ piece is. ap as_ace is)
+Explains-aces text aces.InheritOnly is = read-fault (piece_value nobody) ace_field (Acl acl.TooMany) MAX_ACES text ace_field-ok _ _ is (λ piece is. ap as_ace is)
+Explains-aces text aces.TooMany is = read-many (piece_value nobody) ace_field (Acl acl.TooMany) MAX_ACES text ace_field-ok is
 Explains-aces text aces.Memory is = tt

@@ -1,33 +1,29 @@
 -- Words ask what their fields give.
-use Rattle.std.proofs.Common.{◌≡◌, [], ◌∷◌, ℕ, List, Option, Some, None, Ok, Err, Bool, true, false, ap, codes, inl, inr, map, refl, subst, sym, Result, ◌↔◌, is_none}
+use Rattle.std.proofs.Common.{◌≡◌, [], ◌∷◌, ℕ, List, Option, Some, None, Ok, Bool, true, false, ap, codes, inl, inr, map, refl, subst, sym, ◌↔◌}
 use Rattle.std.proofs.lemmas.Slice.Eq.{bytes_eq-Decides}
 use Rattle.clap.specs.Words.{Row, Text, first_of, matches_of}
 use Rattle.acl_names.specs.Bytes.{comma}
 use Rattle.acl_names.specs.Ids.{decimal_value}
-use Rattle.acl_names.specs.ListText.{Say, Spells}
-use Rattle.acl_names.specs.Pieces.{parts}
-use Rattle.acl_names.specs.Steps.{or_fault}
-use Rattle.acl_names.proofs.ReadListLemmas.{at_most_read-all, at_most_read-said, spelt-read}
-use Rattle.acl_names.proofs.StepLemmas.{bind_ok, given, if_then, is_none-true}
+use Rattle.acl_names.specs.ListText.{PiecesSay}
+use Rattle.acl_names.specs.Pieces.{parts, pieces}
+use Rattle.acl_names.specs.Steps.{map_fault, or_fault}
+use Rattle.acl_names.proofs.ReadListLemmas.{at_most_read-all, at_most_read-said}
+use Rattle.acl_names.proofs.StepLemmas.{bind_ok, given, map_fault-ok}
 use Rattle.acl_names.specs.declared.limits.TheConstants.{MAX_GROUPS_OF_USER}
-use Rattle.acl_posix.specs.declared.limits.TheConstants.{MAX_ENTRIES}
-use Rattle.acl_posix.proofs.ValidityLemmas.{valid_iff}
+use Rattle.acl_posix.proofs.AclTextLemmas.{acl_of-ok, acl_of-spelt}
+use Rattle.acl_posix.specs.AclText as posix
 use Rattle.acl_posix.specs.Entry.{EntryValue}
-use Rattle.acl_posix.specs.EntryText.{entry_of}
-use Rattle.acl_posix.specs.InOrder.{in_order}
-use Rattle.acl_posix.specs.Validity.{IsValid, fault_of}
-use Rattle.acl_posix.specs.declared.reading.PieceFault.{PieceFault}
-use Rattle.acl_queries.specs.AclText.{accepted, acl_of, as_field, entries_of, nobody}
+use Rattle.acl_posix.specs.declared.acl_text.AclFault.TheVariants as cause
+use Rattle.acl_queries.specs.AclText.{acl_of, nobody}
 use Rattle.acl_queries.specs.Ask.{Ask, GiveAcl, GiveFlag, GiveGids, GiveId, GivePerms, WriteIds}
 use Rattle.acl_queries.specs.Asked.{Asked, acl_in, asked_in, flag_in, flag_of, gids_in, gids_of, id_in, id_of, perms_in, perms_of}
 use Rattle.acl_queries.specs.CommandLine.{Takes}
 use Rattle.acl_queries.specs.DecideLine.{decide_line}
-use Rattle.acl_queries.specs.declared.command.query_fault.FieldFault.TheVariants.{BadAcl, BadId, BadPerms, InvalidAcl, TooMany}
-use Rattle.acl_queries.proofs.AclLemmas.{entries_of-spelt, field_of}
+use Rattle.acl_queries.specs.declared.command.query_fault.FieldFault.TheVariants.{Acl, BadId, BadPerms, TooMany}
 
 -- Gids.
 
-Say-Write : (texts : List Text) (ids : List ℕ) → WriteIds texts ids → Say id_of texts ids
+Say-Write : (texts : List Text) (ids : List ℕ) → WriteIds texts ids → PiecesSay id_of texts ids
 Say-Write [] [] written = refl
 Say-Write [] (id ∷ ids) written = cc
 Say-Write (text ∷ texts) [] written = cc
@@ -36,7 +32,7 @@ Say-Write (text ∷ texts) (id ∷ ids) written =
     let more : map decimal_value texts ≡ map Some ids = cc in
     rw (first, Say-Write texts ids more) refl
 
-WriteIds-Say : (texts : List Text) (ids : List ℕ) → Say id_of texts ids → WriteIds texts ids
+WriteIds-Say : (texts : List Text) (ids : List ℕ) → PiecesSay id_of texts ids → WriteIds texts ids
 WriteIds-Say [] [] said = refl
 WriteIds-Say [] (id ∷ ids) said = cc
 WriteIds-Say (text ∷ texts) [] said = cc
@@ -45,29 +41,6 @@ WriteIds-Say (text ∷ texts) (id ∷ ids) said =
     let more : map id_of texts ≡ map Ok ids = cc in
     let first = given BadId (decimal_value text) id is in
     rw (first, WriteIds-Say texts ids more) refl
-
--- Entries.
-
-as_field-ok : (r : Result EntryValue PieceFault) (entry : EntryValue) → as_field r ≡ Ok entry → r ≡ Ok entry
-as_field-ok (Ok x) entry is = cc
-as_field-ok (Err fault) entry is = cc
-
-field_of-from : (piece : List ℕ) (entry : EntryValue) → field_of piece ≡ Ok entry → entry_of nobody piece ≡ Ok entry
-field_of-from piece entry = as_field-ok (entry_of nobody piece) entry
-
-acl_of-spelt : (text : Text) (entries : List EntryValue) → Spells (entry_of nobody) MAX_ENTRIES text entries → IsValid entries → acl_of text ≡ Ok (in_order entries)
-acl_of-spelt text entries spelt valid = rw (entries_of-spelt text entries spelt, (valid_iff entries).0 valid) refl
-
-acl_of-ok : (text : Text) (acl : List EntryValue) → acl_of text ≡ Ok acl
-    → (entries : List EntryValue) × Spells (entry_of nobody) MAX_ENTRIES text entries × IsValid entries × (in_order entries ≡ acl)
-acl_of-ok text acl is =
-    let read = bind_ok (entries_of text) accepted acl is in
-    let test = if_then (is_none (fault_of read.0)) InvalidAcl (in_order read.0) acl read.2 in (
-      read.0,
-      spelt-read (entry_of nobody) field_of TooMany MAX_ENTRIES text field_of-from read.0 read.1,
-      (valid_iff read.0).1 (is_none-true (fault_of read.0) test.0),
-      test.1,
-    )
 
 -- Fields.
 
@@ -88,7 +61,7 @@ module _ (words : List Text) where
   perms_in-given perms (text, given, is) = rw (given, is) refl
 
   acl_in-given : (acl : List EntryValue) → GiveAcl words acl → acl_in rows ≡ Ok acl
-  acl_in-given acl (text, entries, given, spelt, valid, same) = rw (given, ← same) (acl_of-spelt text entries spelt valid)
+  acl_in-given acl (text, given, spells) = rw given (ap (map_fault (λ fault. Acl fault)) (acl_of-spelt nobody text acl spells))
 
   -- a field that reads is given
   GiveId-read : (name : Text) (id : ℕ) → id_in name rows ≡ Ok id → GiveId words name id
@@ -109,9 +82,9 @@ module _ (words : List Text) where
 
   GiveAcl-read : (acl : List EntryValue) → acl_in rows ≡ Ok acl → GiveAcl words acl
   GiveAcl-read acl is =
-      let text = bind_ok (or_fault BadAcl (first_of (codes "text") rows)) acl_of acl is in
-      let spelt = acl_of-ok text.0 acl text.2 in
-      (text.0, spelt.0, given BadAcl _ _ text.1, spelt.1, spelt.2, spelt.3)
+      let text = bind_ok (or_fault (Acl cause.BadAcl) (first_of (codes "text") rows)) acl_of acl is in
+      let spelt = map_fault-ok (λ fault. Acl fault) (posix.acl_of nobody (pieces text.0)) acl text.2 in
+      (text.0, given (Acl cause.BadAcl) _ _ text.1, acl_of-ok nobody text.0 acl spelt)
 
   -- a flag is set exactly if it is given
   flag_of-given : (value : Option Text) → (flag_of value ≡ true) ↔ (value ≡ Some (codes "true"))

@@ -39,7 +39,8 @@ no_first_difference before after (request ∷ more) difference (here, later) (in
 no_first_difference before after (request ∷ more) difference (here, later) (inr (same, differs)) = no_first_difference before after more difference later differs
 
 no_request_differs : (owner group : ℕ) (first second : AnyAcl) (difference : Difference) → RequestsAlike owner group first second → ¬ RequestsDiffer owner group first second difference
-no_request_differs owner group (Posix first) (Posix second) difference alike differs = no_first_difference (grants first owner group) (grants second owner group) whole_requests difference alike differs
+no_request_differs owner group (Posix first) (Posix second) difference alike differs = no_first_difference
+    (grants first owner group) (grants second owner group) whole_requests difference alike differs
 no_request_differs owner group (Posix first) (Nfs4 second) difference alike never = never
 no_request_differs owner group (Nfs4 first) (Posix second) difference alike never = never
 no_request_differs owner group (Nfs4 first) (Nfs4 second) difference alike never = never

@@ -1,5 +1,7 @@
 -- Which entries decide, and that no others count.
-use Rattle.std.proofs.Common.{◌≡◌, ◌∙◌, ◌+◌, ◌^◌, ℕ, suc, arith, IsSomeAnd, slice_get, Bool, true, false, ◌&&◌, ◌||◌, ◌==◌, cond, List, [], ◌∷◌, ◌++◌, Option, Some, option_map, find, refl, sym, ap, ap₂, subst}
+use Rattle.std.proofs.Common.{◌≡◌, ◌∙◌, ◌+◌, ◌^◌, ℕ, suc, arith, IsSomeAnd, slice_get, Bool, true, false}
+use Rattle.std.proofs.Common.{◌&&◌, ◌||◌, ◌==◌, cond, List, [], ◌∷◌, ◌++◌, Option, Some, option_map, find}
+use Rattle.std.proofs.Common.{refl, sym, ap, ap₂, subst}
 use Rattle.std.specs.List.{list_any, filter, position_from}
 use Rattle.std.specs.Prelude.{unwrap_or}
 use Rattle.std.specs.Option.{option_map_or}
@@ -18,7 +20,9 @@ use Rattle.acl_nfs4.specs.Ace.{Nfsace4, decides, is_allow}
 use Rattle.acl_nfs4.proofs.MaskBits.{contains-one}
 use Rattle.acl_nfs4.specs.Evaluation.{allows, speaks}
 use Rattle.acl_nfs4.specs.declared.who.Who.{Who}
-use Rattle.acl_queries.specs.Explanation.{AreSameOrSilent, AreSameWhere, ClassesDecide, FirstSpeakersDecide, LaterEntriesDontCount, OtherEntriesDontCount, SilentEntriesDontCount, SaidBy, counts, is_of_class, speaks_of}
+use Rattle.acl_queries.specs.Explanation.{AreSameOrSilent, AreSameWhere, ClassesDecide, FirstSpeakersDecide}
+use Rattle.acl_queries.specs.Explanation.{LaterEntriesDontCount, OtherEntriesDontCount}
+use Rattle.acl_queries.specs.Explanation.{SilentEntriesDontCount, SaidBy, counts, is_of_class, speaks_of}
 use Rattle.acl_queries.specs.declared.explanation.Class.{Class}
 use Rattle.acl_queries.specs.declared.explanation.Class.TheVariants.{Owner, User, Group, Other}
 

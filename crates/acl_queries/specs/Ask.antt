@@ -4,15 +4,11 @@ use Rattle.std.specs.Prelude.{codes}
 use Rattle.clap.specs.Words.{Text, first_of, matches_of}
 use Rattle.acl_names.specs.Bytes.{comma}
 use Rattle.acl_names.specs.Ids.{decimal_value}
-use Rattle.acl_names.specs.ListText.{Spells}
 use Rattle.acl_names.specs.Pieces.{parts}
 use Rattle.acl_names.specs.declared.limits.TheConstants.{MAX_GROUPS_OF_USER}
+use Rattle.acl_posix.specs.AclText.{SpellsAcl}
 use Rattle.acl_posix.specs.Entry.{EntryValue}
-use Rattle.acl_posix.specs.EntryText.{entry_of}
-use Rattle.acl_posix.specs.InOrder.{in_order}
 use Rattle.acl_posix.specs.PermsText.{perms_of_text}
-use Rattle.acl_posix.specs.Validity.{IsValid}
-use Rattle.acl_posix.specs.declared.limits.TheConstants.{MAX_ENTRIES}
 use Rattle.acl_queries.specs.AclText.{nobody}
 use Rattle.acl_queries.specs.Asked.{Asked}
 use Rattle.acl_queries.specs.CommandLine.{Takes}
@@ -42,11 +38,9 @@ abbrev pub GivePerms : List Text → ℕ → Type 0
 GivePerms words perms = (text : Text) × GiveText words (codes "perms") text
     × (perms_of_text text ≡ Some perms)
 
--- the words give a text that spells valid entries, and the access control list is those in order
+-- the words give a text that spells the access control list
 abbrev pub GiveAcl : List Text → List EntryValue → Type 0
-GiveAcl words acl = (text : Text) × (entries : List EntryValue) × GiveText words (codes "text") text
-    × Spells (entry_of nobody) MAX_ENTRIES text entries
-    × IsValid entries × (in_order entries ≡ acl)
+GiveAcl words acl = (text : Text) × GiveText words (codes "text") text × SpellsAcl nobody text acl
 
 -- the words set the flag exactly if this is true; the parser gives it a value then, `true`
 abbrev pub GiveFlag : List Text → Text → Bool → Type 0

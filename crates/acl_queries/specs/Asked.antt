@@ -11,10 +11,11 @@ use Rattle.acl_names.specs.Steps.{◌>>=◌, or_fault}
 use Rattle.acl_names.specs.declared.limits.TheConstants.{MAX_GROUPS_OF_USER}
 use Rattle.acl_posix.specs.Entry.{EntryValue}
 use Rattle.acl_posix.specs.PermsText.{perms_of_text}
+use Rattle.acl_posix.specs.declared.acl_text.AclFault.TheVariants as acl
 use Rattle.acl_queries.specs.AclText.{acl_of}
 use Rattle.acl_queries.specs.declared.command.query_fault.FieldFault.{FieldFault}
 use Rattle.acl_queries.specs.declared.command.query_fault.FieldFault.TheVariants.{BadId, BadPerms}
-use Rattle.acl_queries.specs.declared.command.query_fault.FieldFault.TheVariants.{BadAcl, TooMany}
+use Rattle.acl_queries.specs.declared.command.query_fault.FieldFault.TheVariants.{Acl, TooMany}
 
 -- whether the requester may do all of what is requested with a file of this owner, this group and
 -- this access control list; and, with nfs4, which NFSv4 list it translates to
@@ -66,7 +67,7 @@ abbrev pub optional_perms_in : List Row → Result (Option ℕ) FieldFault
 optional_perms_in rows = perms_given (first_of (codes "perms") rows)
 
 abbrev pub acl_in : List Row → Result (List EntryValue) FieldFault
-acl_in rows = or_fault BadAcl (first_of (codes "text") rows) >>= acl_of
+acl_in rows = or_fault (Acl acl.BadAcl) (first_of (codes "text") rows) >>= acl_of
 
 abbrev pub flag_in : Text → List Row → Bool
 flag_in name rows = flag_of (first_of name rows)

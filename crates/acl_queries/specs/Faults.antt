@@ -7,10 +7,10 @@ use Rattle.clap.specs.declared.error.kind.ErrorKind.{ErrorKind}
 use Rattle.clap.specs.declared.error.kind.ErrorKind.TheVariants.{OutOfMemory}
 use Rattle.acl_nfs4.specs.declared.acl.AceFault.{AceFault}
 use Rattle.acl_nfs4.specs.declared.acl.AceFault.TheVariants as aces
-use Rattle.acl_posix.specs.declared.acl.Invalid.{Invalid}
-use Rattle.acl_posix.specs.declared.acl.Invalid.TheVariants as invalid
-use Rattle.acl_posix.specs.declared.entries.TextFault.{TextFault}
-use Rattle.acl_posix.specs.declared.entries.TextFault.TheVariants as text
+use Rattle.acl_posix.specs.AclText as posix
+use Rattle.acl_posix.specs.declared.acl_text.AclFault.TheVariants as acl
+use Rattle.acl_posix.specs.declared.acl_text.ReadAclFault.{ReadAclFault}
+use Rattle.acl_posix.specs.declared.acl_text.ReadAclFault.TheVariants as read
 use Rattle.acl_queries.specs.ErrorOutput.{SaysFault, line_of_words}
 use Rattle.acl_queries.specs.RunFaults.{run_fault_line}
 use Rattle.acl_queries.specs.declared.command.run_fault.RunFault.TheVariants.{Memory, Output}
@@ -19,9 +19,7 @@ use Rattle.acl_queries.specs.declared.command.query_fault.QueryFault.{QueryFault
 use Rattle.acl_queries.specs.declared.command.query_fault.QueryFault.TheVariants.{Field, Usage, Run}
 use Rattle.acl_queries.specs.declared.command.query_fault.FieldFault.{FieldFault}
 use Rattle.acl_queries.specs.declared.command.query_fault.FieldFault.TheVariants.{BadId, TooMany}
-use Rattle.acl_queries.specs.declared.command.query_fault.FieldFault.TheVariants.{BadPerms, BadAcl}
-use Rattle.acl_queries.specs.declared.command.query_fault.FieldFault.TheVariants.{UnknownName}
-use Rattle.acl_queries.specs.declared.command.query_fault.FieldFault.TheVariants.{InvalidAcl}
+use Rattle.acl_queries.specs.declared.command.query_fault.FieldFault.TheVariants.{BadPerms, Acl}
 use Rattle.acl_queries.specs.declared.command.query_fault.FieldFault.TheVariants.{BadStyle}
 use Rattle.acl_queries.specs.declared.command.query_fault.FieldFault.TheVariants.{InheritOnly}
 
@@ -29,9 +27,7 @@ abbrev pub field_fault_words : FieldFault → List ℕ
 field_fault_words BadId = codes "bad-id"
 field_fault_words TooMany = codes "too-many"
 field_fault_words BadPerms = codes "bad-perms"
-field_fault_words BadAcl = codes "bad-acl"
-field_fault_words UnknownName = codes "unknown-name"
-field_fault_words InvalidAcl = codes "invalid-acl"
+field_fault_words (Acl fault) = posix.fault_word fault
 field_fault_words BadStyle = codes "bad-style"
 field_fault_words InheritOnly = codes "inherit-only"
 
@@ -98,25 +94,17 @@ out_of_memory = Run Memory
 abbrev pub failed_write : QueryFault
 failed_write = Run Output
 
--- a text that is refused, and entries that are
-abbrev pub fault_of_text : TextFault → QueryFault
-fault_of_text text.Syntax = Field BadAcl
-fault_of_text text.UnknownName = Field UnknownName
-fault_of_text text.TooMany = Field TooMany
-fault_of_text text.Memory = Run Memory
+-- why a list of either style is not read
+abbrev pub fault_of_acl : ReadAclFault → QueryFault
+fault_of_acl (read.Acl fault) = Field (Acl fault)
+fault_of_acl read.Memory = Run Memory
 
 abbrev pub fault_of_aces : AceFault → QueryFault
-fault_of_aces aces.Syntax = Field BadAcl
-fault_of_aces aces.UnknownName = Field UnknownName
-fault_of_aces aces.TooMany = Field TooMany
+fault_of_aces aces.Syntax = Field (Acl acl.BadAcl)
+fault_of_aces aces.UnknownName = Field (Acl acl.UnknownName)
+fault_of_aces aces.TooMany = Field (Acl acl.TooMany)
 fault_of_aces aces.InheritOnly = Field InheritOnly
 fault_of_aces aces.Memory = Run Memory
-
-abbrev pub fault_of_invalid : Invalid → QueryFault
-fault_of_invalid invalid.Missing = Field InvalidAcl
-fault_of_invalid invalid.Repeated = Field InvalidAcl
-fault_of_invalid invalid.NoMask = Field InvalidAcl
-fault_of_invalid invalid.Memory = Run Memory
 
 -- words are refused for this, if the parser finds these faults in them, and the fields read so: the
 -- parser's fault, or else the first field's

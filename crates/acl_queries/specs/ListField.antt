@@ -1,29 +1,29 @@
 -- Which list of either style a field spells.
-use Rattle.std.specs.Prelude.{List, Result, Ok, Err, codes, if◌then◌else◌, bytes_eq}
+use Rattle.std.specs.Prelude.{List, Result, Ok, Err, option_and_then}
 use Rattle.clap.specs.Words.{Text, Row, first_of}
 use Rattle.acl_names.specs.Pieces.{pieces}
 use Rattle.acl_names.specs.ReadList.{at_most_read}
 use Rattle.acl_names.specs.Steps.{◌>>=◌, or_fault}
+use Rattle.acl_bridge.specs.Style.{style_of}
+use Rattle.acl_bridge.specs.declared.style.Style.{Style}
+use Rattle.acl_bridge.specs.declared.style.Style.TheVariants as style
 use Rattle.acl_nfs4.specs.Ace.{Nfsace4}
 use Rattle.acl_nfs4.specs.AceText.{piece_value}
 use Rattle.acl_nfs4.specs.declared.limits.TheConstants.{MAX_ACES}
 use Rattle.acl_nfs4.specs.declared.reading.PieceFault.{PieceFault}
 use Rattle.acl_nfs4.specs.declared.reading.PieceFault.TheVariants as piece
+use Rattle.acl_posix.specs.declared.acl_text.AclFault.TheVariants as acl
 use Rattle.acl_queries.specs.AclText.{acl_of, nobody}
 use Rattle.acl_queries.specs.declared.command.list.AnyAcl.{AnyAcl}
 use Rattle.acl_queries.specs.declared.command.list.AnyAcl.TheVariants as list
-use Rattle.acl_queries.specs.declared.command.list.Style.{Style}
-use Rattle.acl_queries.specs.declared.command.list.Style.TheVariants as style
 use Rattle.acl_queries.specs.declared.command.query_fault.FieldFault.{FieldFault}
-use Rattle.acl_queries.specs.declared.command.query_fault.FieldFault.TheVariants.{BadAcl, BadStyle}
+use Rattle.acl_queries.specs.declared.command.query_fault.FieldFault.TheVariants.{Acl, BadStyle}
 use Rattle.acl_queries.specs.declared.command.query_fault.FieldFault.TheVariants.{InheritOnly}
-use Rattle.acl_queries.specs.declared.command.query_fault.FieldFault.TheVariants.{TooMany}
-use Rattle.acl_queries.specs.declared.command.query_fault.FieldFault.TheVariants.{UnknownName}
 
 -- a faulty piece of an NFSv4 list, as the fault of the field
 abbrev pub ace_fault : PieceFault → FieldFault
-ace_fault piece.Syntax = BadAcl
-ace_fault piece.UnknownName = UnknownName
+ace_fault piece.Syntax = Acl acl.BadAcl
+ace_fault piece.UnknownName = Acl acl.UnknownName
 ace_fault piece.InheritOnly = InheritOnly
 
 abbrev pub as_ace : Result Nfsace4 PieceFault → Result Nfsace4 FieldFault
@@ -32,14 +32,8 @@ as_ace (Err fault) = Err (ace_fault fault)
 
 -- the entries of the NFSv4 list that a text spells, at most 128
 abbrev pub aces_of : Text → Result (List Nfsace4) FieldFault
-aces_of text = at_most_read TooMany MAX_ACES (λ piece. as_ace (piece_value nobody piece))
-    (pieces text)
-
--- the style of list that has this name
-abbrev pub style_of : Text → Result Style FieldFault
-style_of text =
-    if bytes_eq text (codes "posix") then Ok style.Posix
-    else (if bytes_eq text (codes "nfs4") then Ok style.Nfs4 else Err BadStyle)
+aces_of text = at_most_read (Acl acl.TooMany) MAX_ACES
+    (λ piece. as_ace (piece_value nobody piece)) (pieces text)
 
 -- the list of this style that a text spells
 abbrev pub list_of : Style → Text → Result AnyAcl FieldFault
@@ -49,5 +43,5 @@ list_of style.Nfs4 text = aces_of text >>= (λ aces. Ok (list.Nfs4 aces))
 -- the fields of a list by name: its style, and then its text
 abbrev pub list_in : Text → Text → List Row → Result AnyAcl FieldFault
 list_in style_name text_name rows = do
-  style ← or_fault BadStyle (first_of style_name rows) >>= style_of
-  or_fault BadAcl (first_of text_name rows) >>= list_of style
+  style ← or_fault BadStyle (option_and_then style_of (first_of style_name rows))
+  or_fault (Acl acl.BadAcl) (first_of text_name rows) >>= list_of style

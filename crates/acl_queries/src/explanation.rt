@@ -11,7 +11,7 @@ ghost use Rattle.acl_queries.specs.Explanation.{is_of_class, lacks, speaks_of};
 
 use acl_names::{Gid, Requester, Uid};
 use acl_nfs4::{Ace, Acl4, Mask};
-use acl_posix::{Acl, Entry, Perms, Tag};
+use acl_posix::{Acl, Entry, Perms, Tag, without};
 use bitflags::Flags;
 
 /// The class of entries of a POSIX list that decides about somebody.
@@ -112,11 +112,10 @@ pub fn effective_perms(acl: &Acl, entry: &Entry) -> Perms
 }
 
 /// What the entry lacks of the request, as far as the mask leaves its permissions.
-#[tactic(auto, unfolding(acl_names::specs::Bits::without))]
 pub fn lacks(acl: &Acl, entry: &Entry, request: Perms) -> Perms
     ensures { bits_of result ≡ lacks acl.now entry.now (bits_of request) }
 {
-    request.symmetric_difference(request.intersection(effective_perms(acl, entry)))
+    without(request, effective_perms(acl, entry))
 }
 
 /// Whether the entry decides about the requester, and has all of the bits.

@@ -21,18 +21,29 @@ use Rattle.acl_runs.specs.declared.error_limits.ErrorLimits.{ErrorLimits}
 use Rattle.acl_runs.specs.declared.workers.Gathered.{Gathered}
 use Rattle.acl_runs.proofs.SettlingLemmas.{some_item}
 
-module _ {C P I R K : Type 0} (rest : C → List I) (handling : P → Handling R K) (replies : P) (limit : Option ℕ) (ends : List (End I R)) (sessions : List C) (workers : List (Handle C P I R K)) (gathered : Gathered I R K) (started : AreStarted replies limit ends sessions workers) (joined : AreGathered rest handling workers gathered) where
+module _ {C P I R K : Type 0} (rest : C → List I) (handling : P → Handling R K) (replies : P)
+    (limit : Option ℕ) (ends : List (End I R)) (sessions : List C) (workers : List (Handle C P I R K))
+    (gathered : Gathered I R K) (started : AreStarted replies limit ends sessions workers)
+    (joined : AreGathered rest handling workers gathered) where
   -- what one worker hands on, of the end and the requests with which it was started
   served_at : (k : ℕ) (requests : C) (end : End I R) (answers : Vec K Global) (output : Vec ℕ Global) → k < length sessions
-      → IsServed (handling replies) limit (rest (get_or sessions k requests)) (get_or gathered.ends.items k end) (get_or gathered.answers.items k answers).items (get_or gathered.outputs.items k output).items
+      → IsServed (handling replies) limit (rest (get_or sessions k requests))
+      (get_or gathered.ends.items k end) (get_or gathered.answers.items k answers).items
+      (get_or gathered.outputs.items k output).items
   served_at k requests end answers output below =
       let worker : Handle C P I R K = some_item workers k (omega (arith, below, started.count)) in
       let promise = (get_or workers k worker).promise in
       let begun = started.each k end requests worker below in
       let kept = (joined.each k worker end answers output (omega (arith, below, started.count))).served in
-      subst (λ r. IsServed (handling r) limit (rest (get_or sessions k requests)) (get_or gathered.ends.items k end) (get_or gathered.answers.items k answers).items (get_or gathered.outputs.items k output).items) begun.replies_are
-      (subst (λ l. IsServed (handling promise.replies.now) l (rest (get_or sessions k requests)) (get_or gathered.ends.items k end) (get_or gathered.answers.items k answers).items (get_or gathered.outputs.items k output).items) begun.max_errors_is
-      (subst (λ c. IsServed (handling promise.replies.now) promise.max_errors (rest c) (get_or gathered.ends.items k end) (get_or gathered.answers.items k answers).items (get_or gathered.outputs.items k output).items) begun.requests_are kept))
+      subst (λ r. IsServed (handling r) limit (rest (get_or sessions k requests))
+      (get_or gathered.ends.items k end) (get_or gathered.answers.items k answers).items
+      (get_or gathered.outputs.items k output).items) begun.replies_are
+      (subst (λ l. IsServed (handling promise.replies.now) l (rest (get_or sessions k requests))
+      (get_or gathered.ends.items k end) (get_or gathered.answers.items k answers).items
+      (get_or gathered.outputs.items k output).items) begun.max_errors_is
+      (subst (λ c. IsServed (handling promise.replies.now) promise.max_errors (rest c)
+      (get_or gathered.ends.items k end) (get_or gathered.answers.items k answers).items
+      (get_or gathered.outputs.items k output).items) begun.requests_are kept))
 
   stays_at : (k : ℕ) (end : End I R) → length ends ≡ length sessions → k < length sessions → StaysEndOf (get_or ends k end) (get_or gathered.ends.items k end)
   stays_at k end count below =
@@ -53,7 +64,9 @@ module _ {C P I R K : Type 0} (rest : C → List I) (handling : P → Handling R
         each = λ k none end answers output below.
             let within : k < length sessions = omega (arith, below, count, started.count) in
             let requests : C = some_item sessions k within in
-            subst (λ wanted. IsServed (handling replies) limit wanted (get_or gathered.ends.items k end) (get_or gathered.answers.items k answers).items (get_or gathered.outputs.items k output).items) (sym (get_or-map rest sessions k requests none within))
+            subst (λ wanted. IsServed (handling replies) limit wanted (get_or gathered.ends.items k end)
+            (get_or gathered.answers.items k answers).items
+            (get_or gathered.outputs.items k output).items) (sym (get_or-map rest sessions k requests none within))
             (served_at k requests end answers output within);
       }
 
@@ -67,7 +80,10 @@ module _ {C P I R K : Type 0} (rest : C → List I) (handling : P → Handling R
 
 module _ {State I R : Type 0} (next : State → I → State) (reply : State → I → R) where
   -- the halves of a broker that was opened and split
-  pub ready_of : (service : State) (sessions : ℕ) (broker : BrokerState State I R) (ends : List (End I R)) (taker : TakerState State I R) → StandsAt next reply (opening_point service sessions) broker → length ends ≡ length broker.lanes → AreEndsOf ends taker.sides → AreSplitOf broker.lanes ends taker.sides → taker.journal ≡ broker.journal → IsReady sessions ends taker
+  pub ready_of : (service : State) (sessions : ℕ) (broker : BrokerState State I R) (ends : List (End I R))
+      (taker : TakerState State I R) → StandsAt next reply (opening_point service sessions) broker
+      → length ends ≡ length broker.lanes → AreEndsOf ends taker.sides
+      → AreSplitOf broker.lanes ends taker.sides → taker.journal ≡ broker.journal → IsReady sessions ends taker
   ready_of service sessions broker ends taker stands count are split journal =
       record {
         count = count ∙ stands.count;
@@ -91,14 +107,18 @@ module _ {State I R : Type 0} (next : State → I → State) (reply : State → 
   positive (suc allowed) some = omega arith
 
   -- the limits with which a run begins
-  pub limits_begin : (opening : State) (sessions : ℕ) (ends : List (End I R)) (taker : TakerState State I R) (limit : Option ℕ) (limits : ErrorLimits) → IsReady sessions ends taker → Keeps next reply opening taker → limit ≢ Some 0 → StartsWith limit sessions limits → AreLimited is_error limit limits taker.sides
+  pub limits_begin : (opening : State) (sessions : ℕ) (ends : List (End I R)) (taker : TakerState State I R)
+      (limit : Option ℕ) (limits : ErrorLimits) → IsReady sessions ends taker → Keeps next reply opening taker
+      → limit ≢ Some 0 → StartsWith limit sessions limits → AreLimited is_error limit limits taker.sides
   limits_begin opening sessions ends taker None limits ready keeps some starts = tt
   limits_begin opening sessions ends taker (Some allowed) limits ready keeps some starts =
       let count : sessions ≡ length taker.sides = sym ready.count ∙ ready.pairs.0 in (
         ap length starts ∙ length-replicate sessions allowed ∙ count,
         λ session left side below.
             let answers : made (get_or taker.sides session side) ≡ [] = (keeps.each session side below).answered ∙ ap (λ entries. answers_to next reply session opening entries) ready.journal in
-            let left_is : get_or limits.left.items session left ≡ allowed = ap (λ items. get_or items session left) starts ∙ get_or-replicate sessions session allowed left (omega (arith, below, count)) in
+            let left_is : get_or limits.left.items session left
+            ≡ allowed = ap (λ items. get_or items session left) starts
+            ∙ get_or-replicate sessions session allowed left (omega (arith, below, count)) in
             record {
               live = λ _. (omega (arith, left_is, positive allowed some), omega (arith, left_is, ap (λ all. errors_in is_error all) answers));
               over = λ over. absurd (both_ways (get_or taker.sides session side).cancelled (ready.live session side below) over);

@@ -1,5 +1,7 @@
 -- The taker's sides under a limit of errors.
-use Rattle.std.proofs.Common.{ap, sym, ◌∙◌, subst, append_assoc, arith, get_or, drop, inl, inr, ◌≡◌, ◌≢◌, ℕ, zero, suc, ◌+◌, ◌-◌, ◌<◌, ◌≤◌, Bool, true, false, List, [], ◌∷◌, ◌++◌, length, refl, Option, Some, None, Result, Ok, Err, nat_eq, if◌then◌else◌}
+use Rattle.std.proofs.Common.{ap, sym, ◌∙◌, subst, append_assoc, arith, get_or, drop, inl, inr, ◌≡◌, ◌≢◌, ℕ}
+use Rattle.std.proofs.Common.{zero, suc, ◌+◌, ◌-◌, ◌<◌, ◌≤◌, Bool, true, false, List, [], ◌∷◌, ◌++◌, length}
+use Rattle.std.proofs.Common.{refl, Option, Some, None, Result, Ok, Err, nat_eq, if◌then◌else◌}
 use Rattle.std.proofs.lemmas.Bool.{both_ways, eqb-true}
 use Rattle.std.proofs.lemmas.List.{append_cancel_left}
 use Rattle.std.proofs.lemmas.Bool.Decides.{eqb_tells, leb_tells}
@@ -62,7 +64,9 @@ module _ {I R : Type 0} where
   delivered_made false old new moves = (ap (λ g. g ++ outbox new) moves.3 ∙ ap (λ box. given old ++ box) moves.2, moves.1.3.1)
 
 module _ {State I R : Type 0} (next : State → I → State) (reply : State → I → R) where
-  pub owes_more : (opening : State) (old new : TakerState State I R) (session : ℕ) (default : TakerSide I R) → session < length old.sides → Keeps next reply opening old → Keeps next reply opening new → AppendsOne session old.journal new.journal → length new.sides ≡ length old.sides
+  pub owes_more : (opening : State) (old new : TakerState State I R) (session : ℕ) (default : TakerSide I R)
+      → session < length old.sides → Keeps next reply opening old → Keeps next reply opening new
+      → AppendsOne session old.journal new.journal → length new.sides ≡ length old.sides
       → (get_or new.sides session default).answers ≡ (get_or old.sides session default).answers → OwesMore (get_or old.sides session default) (get_or new.sides session default)
   owes_more opening old new session default below keeps keeps' appends count same =
       let side = get_or old.sides session default in
@@ -91,7 +95,9 @@ module _ {I R : Type 0} (is_error : R → Bool) where
     over = λ over. subst (λ replies. EndsAtError is_error allowed replies) (sym same.0) (limited.over (sym same.1 ∙ over));
   }
 
-  pub limited_more : (allowed left : ℕ) (old new : TakerSide I R) (more : OwesMore old new) → old.cancelled ≡ false → new.cancelled ≡ false → is_error more.reply ≡ false → IsLimited is_error allowed left old → IsLimited is_error allowed left new
+  pub limited_more : (allowed left : ℕ) (old new : TakerSide I R) (more : OwesMore old new)
+      → old.cancelled ≡ false → new.cancelled ≡ false → is_error more.reply ≡ false
+      → IsLimited is_error allowed left old → IsLimited is_error allowed left new
   limited_more allowed left old new more live live' fine limited =
       let was = limited.live live in
       record {
@@ -99,7 +105,9 @@ module _ {I R : Type 0} (is_error : R → Bool) where
         over = λ over. absurd (both_ways new.cancelled live' over);
       }
 
-  pub limited_fewer : (allowed left : ℕ) (old new : TakerSide I R) (more : OwesMore old new) → old.cancelled ≡ false → new.cancelled ≡ false → is_error more.reply ≡ true → nat_eq (left - 1) 0 ≡ false → IsLimited is_error allowed left old → IsLimited is_error allowed (left - 1) new
+  pub limited_fewer : (allowed left : ℕ) (old new : TakerSide I R) (more : OwesMore old new)
+      → old.cancelled ≡ false → new.cancelled ≡ false → is_error more.reply ≡ true
+      → nat_eq (left - 1) 0 ≡ false → IsLimited is_error allowed left old → IsLimited is_error allowed (left - 1) new
   limited_fewer allowed left old new more live live' error not_last limited =
       let was = limited.live live in
       let some : 0 < left - 1 = some_left (left - 1) not_last in
@@ -108,7 +116,9 @@ module _ {I R : Type 0} (is_error : R → Bool) where
         over = λ over. absurd (both_ways new.cancelled live' over);
       }
 
-  pub limited_over : (allowed left : ℕ) (old mid new : TakerSide I R) (more : OwesMore old mid) → old.cancelled ≡ false → is_error more.reply ≡ true → nat_eq (left - 1) 0 ≡ true → CancelsAlone mid new → IsLimited is_error allowed left old → IsLimited is_error allowed (left - 1) new
+  pub limited_over : (allowed left : ℕ) (old mid new : TakerSide I R) (more : OwesMore old mid)
+      → old.cancelled ≡ false → is_error more.reply ≡ true → nat_eq (left - 1) 0 ≡ true → CancelsAlone mid new
+      → IsLimited is_error allowed left old → IsLimited is_error allowed (left - 1) new
   limited_over allowed left old mid new more live error last cancels limited =
       let was = limited.live live in
       let all : made new ≡ made old ++ more.reply ∷ [] = made_is mid new (ap (λ side. side.answers) cancels) (ap (λ side. side.outbox) cancels) ∙ more.made in
@@ -129,7 +139,8 @@ module _ {I R : Type 0} (is_error : R → Bool) where
       → ((allowed left : ℕ) (side : TakerSide I R) → session < length sides → length limits.left.items ≡ length sides
       → (length limits'.left.items ≡ length limits.left.items)
       × ((other : ℕ) (d : ℕ) → other ≢ session → get_or limits'.left.items other d ≡ get_or limits.left.items other d)
-      × (IsLimited is_error allowed (get_or limits.left.items session left) (get_or sides session side) → IsLimited is_error allowed (get_or limits'.left.items session left) (get_or sides' session side)))
+      × (IsLimited is_error allowed (get_or limits.left.items session left) (get_or sides session side)
+      → IsLimited is_error allowed (get_or limits'.left.items session left) (get_or sides' session side)))
       → (length sides ≤ session → limits' ≡ limits)
       → AreLimited is_error limit limits sides → AreLimited is_error limit limits' sides'
   limits_by None limits limits' session sides sides' others here beyond limited = tt
@@ -148,7 +159,9 @@ module _ {I R : Type 0} (is_error : R → Bool) where
               let within : s < length sides = omega (arith, below, others.0) in
               let one = here allowed left side (omega (arith, inside.1)) limited.0 in
               elim (eqb_tells s session) [
-                | inl same ↦ subst (λ at. IsLimited is_error allowed (get_or limits'.left.items at left) (get_or sides' at side)) (sym same.1) (one.2 (limited.1 session left side (omega (arith, inside.1))))
+                | inl same ↦ subst (λ at. IsLimited is_error allowed (get_or limits'.left.items at left)
+                    (get_or sides' at side)) (sym same.1)
+                    (one.2 (limited.1 session left side (omega (arith, inside.1))))
                 | inr differs ↦ subst (λ found. IsLimited is_error allowed found (get_or sides' s side)) (sym (one.1 s left differs.1))
                     (subst (λ found. IsLimited is_error allowed (get_or limits.left.items s left) found) (sym (others.1 s side differs.1)) (limited.1 s left side within))
               ],

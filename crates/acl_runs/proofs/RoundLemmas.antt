@@ -8,12 +8,14 @@ module _ {I : Type 0} where
   items_own : (session : ℕ) (items : List I) → items_from session (entries_of session items) ≡ items
   items_own session [] = refl
   items_own session (item ∷ items) =
-      ap (λ test. if test then item ∷ items_from session (entries_of session items) else items_from session (entries_of session items)) (eq-eqb session session refl) ∙ ap (λ rest. item ∷ rest) (items_own session items)
+      ap (λ test. if test then item ∷ items_from session (entries_of session items) else items_from session
+      (entries_of session items)) (eq-eqb session session refl) ∙ ap (λ rest. item ∷ rest) (items_own session items)
 
   items_other : (session other : ℕ) (items : List I) → (other ≡ session → ⊥) → items_from session (entries_of other items) ≡ []
   items_other session other [] differ = refl
   items_other session other (item ∷ items) differ =
-      ap (λ test. if test then item ∷ items_from session (entries_of other items) else items_from session (entries_of other items)) (ne_eqb other session differ) ∙ items_other session other items differ
+      ap (λ test. if test then item ∷ items_from session (entries_of other items) else items_from session
+      (entries_of other items)) (ne_eqb other session differ) ∙ items_other session other items differ
 
   items_before : (session first : ℕ) (lists : List (List I)) → session < first → items_from session (heads first lists) ≡ []
   items_before session first [] below = refl

@@ -22,17 +22,23 @@ module _ {I : Type 0} where
   known_entries n session [] below = tt
   known_entries n session (item ∷ items) below = (below, known_entries n session items below)
 
-  known_both : (n : ℕ) (front back : List (JournalEntry I)) → AllByRecursion (λ entry. entry.session < n) front → AllByRecursion (λ entry. entry.session < n) back → AllByRecursion (λ entry. entry.session < n) (front ++ back)
+  known_both : (n : ℕ) (front back : List (JournalEntry I))
+      → AllByRecursion (λ entry. entry.session < n) front → AllByRecursion (λ entry. entry.session < n) back
+      → AllByRecursion (λ entry. entry.session < n) (front ++ back)
   known_both n [] back known known' = known'
   known_both n (entry ∷ front) back known known' = (known.0, known_both n front back known.1 known')
 
   known_heads : (n session : ℕ) (lists : List (List I)) → session + length lists ≤ n → AllByRecursion (λ entry. entry.session < n) (heads session lists)
   known_heads n session [] few = tt
-  known_heads n session (list ∷ lists) few = known_both n (entries_of session (take 1 list)) (heads (suc session) lists) (known_entries n session (take 1 list) (omega (arith, few))) (known_heads n (suc session) lists (omega (arith, few)))
+  known_heads n session (list ∷ lists) few = known_both n (entries_of session (take 1 list))
+      (heads (suc session) lists) (known_entries n session (take 1 list) (omega (arith, few)))
+      (known_heads n (suc session) lists (omega (arith, few)))
 
   known_rounds : (n most : ℕ) (lists : List (List I)) → length lists ≤ n → AllByRecursion (λ entry. entry.session < n) (rounds most lists)
   known_rounds n zero lists few = tt
-  known_rounds n (suc most) lists few = known_both n (heads 0 lists) (rounds most (map (drop 1) lists)) (known_heads n 0 lists (omega (arith, few))) (known_rounds n most (map (drop 1) lists) (omega (arith, few, length-map lists (drop 1))))
+  known_rounds n (suc most) lists few = known_both n (heads 0 lists) (rounds most (map (drop 1) lists))
+      (known_heads n 0 lists (omega (arith, few))) (known_rounds n most (map (drop 1) lists)
+      (omega (arith, few, length-map lists (drop 1))))
 
   few_at : (n : ℕ) (lists : List (List I)) (session : ℕ) → AllByRecursion (λ list. length list ≤ n) lists → length (get_or lists session []) ≤ n
   few_at n [] session few = omega arith
@@ -47,7 +53,9 @@ module _ {C State I R K : Type 0} (rest : C → List I) (next : State → I → 
     outputs = λ session progress below. (begun.fresh session progress below).1 ∙ ap (λ j. flat_map handling.text (answers_to next reply session service j)) (sym begun.journal);
   }
 
-  module _ (service : State) (sessions : List C) (most : ℕ) (old new : Run C State I R) (report : RunReport State (JournalEntry I) R) (begun : HasBegun rest service sessions old) (served_all : AllRounds rest next reply handling.text most old new) (told : IsReported new report) where
+  module _ (service : State) (sessions : List C) (most : ℕ) (old new : Run C State I R)
+      (report : RunReport State (JournalEntry I) R) (begun : HasBegun rest service sessions old)
+      (served_all : AllRounds rest next reply handling.text most old new) (told : IsReported new report) where
     journal_is : report.journal.items ≡ rounds most (map rest sessions)
     journal_is = ap (λ j. j.items) told.journal ∙ served_all.journal ∙ ap (λ front. front ++ rounds most (rests rest old)) begun.journal ∙ ap (λ lists. rounds most lists) begun.rests_are
 
@@ -62,22 +70,31 @@ module _ {C State I R K : Type 0} (rest : C → List I) (next : State → I → 
         let many : length new.sessions.items ≡ length wanted = served_all.count ∙ begun.count ∙ sym (length-map sessions rest) in
         record {
           known = subst (λ j. AllByRecursion (λ entry. entry.session < length wanted) j) (sym journal_is) (known_rounds (length wanted) most wanted (omega arith));
-          served = λ session none below. ap (λ j. items_from session j) journal_is ∙ items_rounds most session wanted ∙ take_all most (get_or wanted session []) (few_at most wanted session few) ∙ get_or_default wanted session [] none below;
+          served = λ session none below. ap (λ j. items_from session j) journal_is
+              ∙ items_rounds most session wanted ∙ take_all most (get_or wanted session [])
+              (few_at most wanted session few) ∙ get_or_default wanted session [] none below;
           answered = told.answered ∙ many;
           answers = λ session none below.
               let within : session < length new.sessions.items = omega (arith, below, many) in
               let progress : Progress C R = some_item new.sessions.items session within in
-              ap (λ (v : Vec R Global). v.items) (told.answers session progress none within) ∙ had.answers session progress within ∙ ap (λ j. answers_to next reply session service j) (sym same) ∙ sym (map-id (answers_to next reply session service report.journal.items));
+              ap (λ (v : Vec R Global). v.items) (told.answers session progress none within)
+              ∙ had.answers session progress within
+              ∙ ap (λ j. answers_to next reply session service j) (sym same)
+              ∙ sym (map-id (answers_to next reply session service report.journal.items));
           printed = told.printed ∙ many;
           outputs = λ session none below.
               let within : session < length new.sessions.items = omega (arith, below, many) in
               let progress : Progress C R = some_item new.sessions.items session within in
-              ap (λ (v : Vec ℕ Global). v.items) (told.outputs session progress none within) ∙ had.outputs session progress within ∙ ap (λ j. flat_map handling.text (answers_to next reply session service j)) (sym same);
+              ap (λ (v : Vec ℕ Global). v.items) (told.outputs session progress none within)
+              ∙ had.outputs session progress within
+              ∙ ap (λ j. flat_map handling.text (answers_to next reply session service j)) (sym same);
           state = told.service_is ∙ had.state ∙ ap (λ j. state_after next service j) (sym same);
         }
 
 -- what holds of each session's requests holds of their lists
-pub all_rest : {C I : Type 0} (rest : C → List I) (most : ℕ) (sessions : List C) → ((k : ℕ) (d : C) → k < length sessions → length (rest (get_or sessions k d)) ≤ most) → AllByRecursion (λ list. length list ≤ most) (map rest sessions)
+pub all_rest : {C I : Type 0} (rest : C → List I) (most : ℕ) (sessions : List C)
+    → ((k : ℕ) (d : C) → k < length sessions → length (rest (get_or sessions k d)) ≤ most)
+    → AllByRecursion (λ list. length list ≤ most) (map rest sessions)
 all_rest rest most [] all = tt
 all_rest rest most (session ∷ sessions) all = (all 0 session (omega arith), all_rest rest most sessions (λ k d below. all (suc k) d (omega (arith, below))))
 

@@ -2,7 +2,9 @@
 use Rattle.std.specs.List.{AllByRecursion, flat_map}
 use Rattle.std.specs.declared.vec.Vec.{Vec}
 use Rattle.std.specs.declared.alloc.Global.{Global}
-use Rattle.std.proofs.Common.{ap, sym, ◌∙◌, subst, append_assoc, append-nil, length-append, arith, get_or, inl, inr, ◌≡◌, ◌⊎◌, ℕ, suc, ◌<◌, ◌≤◌, Bool, true, false, List, [], ◌∷◌, ◌++◌, length, map, refl, Option, Some, None, if◌then◌else◌, ◌==◌}
+use Rattle.std.proofs.Common.{ap, sym, ◌∙◌, subst, append_assoc, append-nil, length-append, arith, get_or}
+use Rattle.std.proofs.Common.{inl, inr, ◌≡◌, ◌⊎◌, ℕ, suc, ◌<◌, ◌≤◌, Bool, true, false, List, [], ◌∷◌, ◌++◌}
+use Rattle.std.proofs.Common.{length, map, refl, Option, Some, None, if◌then◌else◌, ◌==◌}
 use Rattle.std.proofs.lemmas.List.{nil_from_length, get_or-map}
 use mathlib.Core.List.{IsPrefix}
 use Rattle.acl_broker.specs.Journal.{items_from, state_after, answers_to}
@@ -59,7 +61,9 @@ module _ {State I R : Type 0} (next : State → I → State) (reply : State → 
   pub length-answers_to : (session : ℕ) (state : State) (journal : List (JournalEntry I)) → length (answers_to next reply session state journal) ≡ length (items_from session journal)
   length-answers_to session state [] = refl
   length-answers_to session state (entry ∷ journal) =
-      more_if (entry.session == session) (reply state entry.item) entry.item (answers_to next reply session (next state entry.item) journal) (items_from session journal) (length-answers_to session (next state entry.item) journal)
+      more_if (entry.session == session) (reply state entry.item) entry.item
+      (answers_to next reply session (next state entry.item) journal) (items_from session journal)
+      (length-answers_to session (next state entry.item) journal)
 
 module _ {R : Type 0} (is_error : R → Bool) where
   -- answers that use up the errors are all, if the last of all is the last error allowed
@@ -67,9 +71,22 @@ module _ {R : Type 0} (is_error : R → Bool) where
   all_polled allowed polled answers front uses ends = elim (with_last front.0) [
     | inl none ↦ sym (append-nil polled) ∙ ap (λ more. polled ++ more) (sym none) ∙ front.1
     | inr found ↦
-        let is_last : found.1 ≡ ends.last = last_same (polled ++ found.0) ends.before found.1 ends.last (append_assoc polled found.0 (found.1 ∷ []) ∙ ap (λ more. polled ++ more) (sym found.2) ∙ front.1 ∙ ends.all) in
+        let is_last : found.1 ≡ ends.last = last_same (polled ++ found.0) ends.before found.1 ends.last
+        (append_assoc polled found.0 (found.1 ∷ []) ∙ ap (λ more. polled ++ more) (sym found.2) ∙ front.1
+        ∙ ends.all) in
         let one : errors_in is_error (found.1 ∷ []) ≡ 1 = ap (λ b. length (if b then found.1 ∷ [] else [])) (ap is_error is_last ∙ ends.error) in
-        absurd (omega (arith, uses, ends.count, ap (λ all. errors_in is_error all) front.1, errors_in-append is_error polled front.0, ap (λ more. errors_in is_error more) found.2, errors_in-append is_error found.0 (found.1 ∷ []), one))
+        absurd (omega (
+          arith,
+          uses,
+          ends.count,
+          ap (λ all. errors_in is_error all) front.1,
+          errors_in-append
+              is_error polled front.0,
+          ap (λ more. errors_in is_error more) found.2,
+          errors_in-append is_error
+              found.0 (found.1 ∷ []),
+          one,
+        ))
   ]
 
 module _ {I R : Type 0} (is_error : R → Bool) where
@@ -87,8 +104,18 @@ module _ {I R : Type 0} (is_error : R → Bool) where
   served_up_to (Some allowed) wanted sent items polled answers false as_many items_are polled_are (inl whole) limited =
       let front : IsPrefix items wanted = subst (λ all. IsPrefix items all) whole.0 items_are in
       let few = length-prefix items wanted front in
-      let short = length-prefix polled answers polled_are in
-      ((front, inl ((limited allowed refl).0 refl, whole_front items wanted front (omega (arith, as_many, few, short, whole.1)))), whole_front polled answers polled_are (omega (arith, as_many, few, short, whole.1)))
+      let short = length-prefix polled answers polled_are in (
+        (
+          front,
+          inl (
+            (limited allowed refl).0 refl,
+            whole_front items wanted front
+                (omega (arith, as_many, few, short, whole.1)),
+          ),
+        ),
+        whole_front polled answers polled_are
+            (omega (arith, as_many, few, short, whole.1)),
+      )
   served_up_to (Some allowed) wanted sent items polled answers true as_many items_are polled_are (inl whole) limited =
       let front : IsPrefix items wanted = subst (λ all. IsPrefix items all) whole.0 items_are in
       let few = length-prefix items wanted front in
@@ -100,7 +127,9 @@ module _ {I R : Type 0} (is_error : R → Bool) where
       ((prefix_trans items sent wanted items_are part.0, inr ((limited allowed refl).1 refl)), all_polled is_error allowed polled answers polled_are part.1 ((limited allowed refl).1 refl))
 
 module _ {State I R K : Type 0} (next : State → I → State) (reply : State → I → R) (handling : Handling R K) where
-  limit_at : (opening : State) (taker : TakerState State I R) (limit : Option ℕ) (limits : ErrorLimits) (session : ℕ) (side : TakerSide I R) → Keeps next reply opening taker → AreLimited handling.is_error limit limits taker.sides → session < length taker.sides
+  limit_at : (opening : State) (taker : TakerState State I R) (limit : Option ℕ) (limits : ErrorLimits)
+      (session : ℕ) (side : TakerSide I R) → Keeps next reply opening taker
+      → AreLimited handling.is_error limit limits taker.sides → session < length taker.sides
       → (allowed : ℕ) → limit ≡ Some allowed
       → (((get_or taker.sides session side).cancelled ≡ false → errors_in handling.is_error (answers_to next reply session opening taker.journal) < allowed)
       × ((get_or taker.sides session side).cancelled ≡ true → EndsAtError handling.is_error allowed (answers_to next reply session opening taker.journal)))
@@ -114,7 +143,9 @@ module _ {State I R K : Type 0} (next : State → I → State) (reply : State �
       )
 
   -- the report of a run, from what each session was served and where the rejoined broker stands
-  pub report_of : (opening : State) (limit : Option ℕ) (limits : ErrorLimits) (wanted : List (List I)) (taker : TakerState State I R) (gathered : Gathered I R K) (broker : BrokerState State I R) (report : RunReport State (JournalEntry I) K)
+  pub report_of : (opening : State) (limit : Option ℕ) (limits : ErrorLimits) (wanted : List (List I))
+      (taker : TakerState State I R) (gathered : Gathered I R K) (broker : BrokerState State I R)
+      (report : RunReport State (JournalEntry I) K)
       → Keeps next reply opening taker → AreLimited handling.is_error limit limits taker.sides → AreServed handling limit wanted gathered → AreEndsOf gathered.ends.items taker.sides
       → ((point : Point State I R) → IsPointOf opening taker gathered.ends.items point → StandsAt next reply point broker)
       → report.journal.items ≡ taker.journal → report.service ≡ taker.service → report.answers ≡ gathered.answers → report.outputs ≡ gathered.outputs
@@ -130,26 +161,46 @@ module _ {State I R K : Type 0} (next : State → I → State) (reply : State �
       let end : End I R = some_item ends session (omega (arith, below, served.ends)) in
       let side : TakerSide I R = some_item taker.sides session within in
       let lane = stood.each session fresh_lane within in
-      let is : IsServed handling limit (get_or wanted session none) (get_or ends session end) (get_or gathered.answers.items session answers).items (get_or gathered.outputs.items session output).items = served.each session none end answers output below in
-      let items_are : IsPrefix (items_from session journal) (sent_by (get_or ends session end)) = subst (λ all. IsPrefix (items_from session journal) all) (get_or-map sent_by ends session end [] (omega (arith, below, served.ends))) lane.merged in
+      let is : IsServed handling limit (get_or wanted session none) (get_or ends session end)
+      (get_or gathered.answers.items session answers).items
+      (get_or gathered.outputs.items session output).items = served.each session none end answers output below in
+      let items_are : IsPrefix (items_from session journal) (sent_by (get_or ends session end)) = subst
+      (λ all. IsPrefix (items_from session journal) all)
+      (get_or-map sent_by ends session end [] (omega (arith, below, served.ends))) lane.merged in
       let polled = polled_by (get_or ends session end) in
-      let polled_are : IsPrefix polled (answers_of session) =
-      ((get_or broker.lanes session fresh_lane).owed, ap (λ front. front ++ (get_or broker.lanes session fresh_lane).owed) (sym (get_or-map polled_by ends session end [] (omega (arith, below, served.ends)))) ∙ lane.answered) in
+      let polled_are : IsPrefix polled (answers_of session) = (
+        (get_or broker.lanes session fresh_lane).owed,
+        ap (λ front. front
+            ++ (get_or broker.lanes session fresh_lane).owed)
+            (sym (get_or-map polled_by ends session end [] (omega (arith, below, served.ends)))) ∙ lane.answered,
+      ) in
       let all : IsServedUpTo handling.is_error limit (get_or wanted session none) (items_from session journal) (answers_of session) × (polled ≡ answers_of session) =
-      served_up_to handling.is_error limit (get_or wanted session none) (sent_by (get_or ends session end)) (items_from session journal) polled (answers_of session) (get_or taker.sides session side).cancelled
+      served_up_to handling.is_error limit (get_or wanted session none) (sent_by (get_or ends session end))
+      (items_from session journal) polled (answers_of session) (get_or taker.sides session side).cancelled
       (length-answers_to next reply session opening journal) items_are polled_are is.sent (limit_at opening taker limit limits session side keeps limited within) in
-      let both : IsServedUpTo handling.is_error limit (get_or wanted session none) (items_from session journal) (answers_of session) × ((get_or gathered.answers.items session answers).items ≡ map handling.keep (answers_of session)) × ((get_or gathered.outputs.items session output).items ≡ flat_map handling.text (answers_of session)) =
+      let both : IsServedUpTo handling.is_error limit (get_or wanted session none)
+      (items_from session journal) (answers_of session)
+      × ((get_or gathered.answers.items session answers).items ≡ map handling.keep (answers_of session))
+      × ((get_or gathered.outputs.items session output).items ≡ flat_map handling.text (answers_of session)) =
       (all.0, is.kept_is ∙ ap (λ answers. map handling.keep answers) all.1, is.output_is ∙ ap (λ answers. flat_map handling.text answers) all.1) in
       both in
       let wanted_at = λ (session : ℕ) (below : session < length wanted). some_item wanted session below in
       let answers_at = λ (session : ℕ) (below : session < length wanted). some_item gathered.answers.items session (omega (arith, below, served.answers)) in
       let output_at = λ (session : ℕ) (below : session < length wanted). some_item gathered.outputs.items session (omega (arith, below, served.outputs)) in
       record {
-        known = subst (λ entries. AllByRecursion (λ entry. entry.session < length wanted) entries) (sym journal_is) (subst (λ n. AllByRecursion (λ entry. entry.session < n) journal) sessions keeps.known);
-        served = λ session none below. subst (λ entries. IsServedUpTo handling.is_error limit (get_or wanted session none) (items_from session entries) (answers_to next reply session opening entries)) (sym journal_is) (one session none (answers_at session below) (output_at session below) below).0;
+        known = subst (λ entries. AllByRecursion (λ entry. entry.session < length wanted) entries)
+            (sym journal_is) (subst (λ n. AllByRecursion (λ entry. entry.session < n) journal) sessions keeps.known);
+        served = λ session none below. subst (λ entries. IsServedUpTo handling.is_error limit
+            (get_or wanted session none) (items_from session entries)
+            (answers_to next reply session opening entries)) (sym journal_is)
+            (one session none (answers_at session below) (output_at session below) below).0;
         answered = ap (λ answers. length answers.items) answers_are ∙ served.answers;
-        answers = λ session none below. ap (λ answers. (get_or answers.items session none).items) answers_are ∙ (one session (wanted_at session below) none (output_at session below) below).1 ∙ ap (λ entries. map handling.keep (answers_to next reply session opening entries)) (sym journal_is);
+        answers = λ session none below. ap (λ answers. (get_or answers.items session none).items) answers_are
+            ∙ (one session (wanted_at session below) none (output_at session below) below).1
+            ∙ ap (λ entries. map handling.keep (answers_to next reply session opening entries)) (sym journal_is);
         printed = ap (λ outputs. length outputs.items) outputs_are ∙ served.outputs;
-        outputs = λ session none below. ap (λ outputs. (get_or outputs.items session none).items) outputs_are ∙ (one session (wanted_at session below) (answers_at session below) none below).2 ∙ ap (λ entries. flat_map handling.text (answers_to next reply session opening entries)) (sym journal_is);
+        outputs = λ session none below. ap (λ outputs. (get_or outputs.items session none).items) outputs_are
+            ∙ (one session (wanted_at session below) (answers_at session below) none below).2
+            ∙ ap (λ entries. flat_map handling.text (answers_to next reply session opening entries)) (sym journal_is);
         state = service_is ∙ keeps.state ∙ ap (λ entries. state_after next opening entries) (sym journal_is);
       }

@@ -44,8 +44,11 @@ module _ {I R : Type 0} (is_error : R → Bool) where
       (λ allowed left side below count. (refl, λ other d differs. refl, here allowed (get_or limits.left.items session left) side below)) (λ past. refl)
 
   -- an error of the session is counted, and its limit holds on with what is left
-  counts_down : (limits limits' : ErrorLimits) (session : ℕ) (last : Bool) (old new : List (TakerSide I R)) → CountsDown session limits last limits' → session < length old → SameExceptAt session old new
-      → ((allowed left : ℕ) (side : TakerSide I R) → nat_eq (left - 1) 0 ≡ last → IsLimited is_error allowed left (get_or old session side) → IsLimited is_error allowed (left - 1) (get_or new session side))
+  counts_down : (limits limits' : ErrorLimits) (session : ℕ) (last : Bool) (old new : List (TakerSide I R))
+      → CountsDown session limits last limits' → session < length old → SameExceptAt session old new
+      → ((allowed left : ℕ) (side : TakerSide I R) → nat_eq (left - 1) 0 ≡ last
+      → IsLimited is_error allowed left (get_or old session side)
+      → IsLimited is_error allowed (left - 1) (get_or new session side))
       → (limit : Option ℕ) → AreLimited is_error limit limits old → AreLimited is_error limit limits' new
   counts_down limits limits' session last old new counts inside others here limit = limits_by is_error limit limits limits' session old new others
       (λ allowed left side below count.
@@ -65,7 +68,10 @@ module _ {State I R : Type 0} (next : State → I → State) (reply : State → 
   }
 
   -- a take that is refused
-  pub takes_on_refused : (old new : TakerState State I R) (limits : ErrorLimits) (session : ℕ) (why : TakeRefused) → KeepEnds old.sides new.sides → StillKeeps next reply old new → SideMoves session old.sides new.sides (TakeMoves (Err why)) → SameExceptAt session old.sides new.sides → TakesOn next reply is_error old limits new limits
+  pub takes_on_refused : (old new : TakerState State I R) (limits : ErrorLimits) (session : ℕ)
+      (why : TakeRefused) → KeepEnds old.sides new.sides → StillKeeps next reply old new
+      → SideMoves session old.sides new.sides (TakeMoves (Err why)) → SameExceptAt session old.sides new.sides
+      → TakesOn next reply is_error old limits new limits
   takes_on_refused old new limits session why pairs keeps moves others = record {
     pairs = pairs;
     keeps = keeps;
@@ -76,7 +82,10 @@ module _ {State I R : Type 0} (next : State → I → State) (reply : State → 
   }
 
   -- a delivery
-  pub takes_on_delivered : (old new : TakerState State I R) (limits : ErrorLimits) (session : ℕ) (delivered : Bool) → KeepEnds old.sides new.sides → StillKeeps next reply old new → SideMoves session old.sides new.sides (DeliverMoves delivered) → SameExceptAt session old.sides new.sides → TakesOn next reply is_error old limits new limits
+  pub takes_on_delivered : (old new : TakerState State I R) (limits : ErrorLimits) (session : ℕ)
+      (delivered : Bool) → KeepEnds old.sides new.sides → StillKeeps next reply old new
+      → SideMoves session old.sides new.sides (DeliverMoves delivered)
+      → SameExceptAt session old.sides new.sides → TakesOn next reply is_error old limits new limits
   takes_on_delivered old new limits session delivered pairs keeps moves others = record {
     pairs = pairs;
     keeps = keeps;
@@ -86,7 +95,12 @@ module _ {State I R : Type 0} (next : State → I → State) (reply : State → 
         limit;
   }
 
-  module _ (old new : TakerState State I R) (limits : ErrorLimits) (session place : ℕ) (inside : session < length old.sides) (pairs : KeepEnds old.sides new.sides) (keeps : StillKeeps next reply old new) (appends : AppendsOne session old.journal new.journal) (moves : SideMoves session old.sides new.sides (TakeMoves (Ok place))) (others : SameExceptAt session old.sides new.sides) (failed : Bool) (last_fails : SideSatisfies session new.sides (λ side. LastFails is_error failed (outbox side))) where
+  module _ (old new : TakerState State I R) (limits : ErrorLimits) (session place : ℕ)
+      (inside : session < length old.sides) (pairs : KeepEnds old.sides new.sides)
+      (keeps : StillKeeps next reply old new) (appends : AppendsOne session old.journal new.journal)
+      (moves : SideMoves session old.sides new.sides (TakeMoves (Ok place)))
+      (others : SameExceptAt session old.sides new.sides) (failed : Bool)
+      (last_fails : SideSatisfies session new.sides (λ side. LastFails is_error failed (outbox side))) where
     -- what is owed after an accepted take, and whether it is an error
     more_of : (opening : State) (default : TakerSide I R) → Keeps next reply opening old → OwesMore (get_or old.sides session default) (get_or new.sides session default)
     more_of opening default kept = owes_more next reply opening old new session default inside kept (keeps opening kept) appends others.0 (moves default inside).answers
@@ -123,7 +137,9 @@ module _ {State I R : Type 0} (next : State → I → State) (reply : State → 
 
     -- one whose answer is the last error allowed, after which the session is cancelled
     pub takes_on_over : (limits' : ErrorLimits) (last : Bool) (after : TakerState State I R) → failed ≡ true → CountsDown session limits last limits' → last ≡ true
-        → KeepEnds new.sides after.sides → StillKeeps next reply new after → SideMoves session new.sides after.sides CancelsAlone → SameExceptAt session new.sides after.sides → TakesOn next reply is_error old limits after limits'
+        → KeepEnds new.sides after.sides → StillKeeps next reply new after
+        → SideMoves session new.sides after.sides CancelsAlone
+        → SameExceptAt session new.sides after.sides → TakesOn next reply is_error old limits after limits'
     takes_on_over limits' last after fails counts is_last pairs' keeps' cancels others' = record {
       pairs = λ ends are. pairs' ends (pairs ends are);
       keeps = λ opening kept. keeps' opening (keeps opening kept);

@@ -8,7 +8,7 @@ use Rattle.acl_broker.specs.Journal.{items_from, state_after, answers_to}
 use Rattle.acl_broker.specs.declared.steps.JournalEntry.{JournalEntry}
 use Rattle.acl_names.specs.Directory.{Known}
 use Rattle.acl_tree.specs.Tree.{NodesUnderUmask}
-use Rattle.acl_lang.specs.Printed.{answer_text, printed}
+use Rattle.acl_lang.specs.Printed.{answer_text, answers_text}
 use Rattle.acl_lang.specs.Texts.{requests_of}
 use Rattle.acl_lang.specs.declared.answer.Answer.{Answer}
 use Rattle.acl_lang.specs.declared.text.Numbered.{Numbered}
@@ -23,7 +23,9 @@ use Rattle.acl_service.specs.declared.served.Served.{Served}
 use Rattle.acl_service.specs.declared.sessions.report.Report.{Report}
 
 -- the service answers as its tree does
-pub served_answers : (session : ℕ) (served : Served) (journal : List (JournalEntry Numbered)) → answers_to next_served reply_served session served journal ≡ answers_in served.directory.now served.tree journal session
+pub served_answers : (session : ℕ) (served : Served) (journal : List (JournalEntry Numbered))
+    → answers_to next_served reply_served session served journal
+    ≡ answers_in served.directory.now served.tree journal session
 served_answers session served [] = refl
 served_answers session served (entry ∷ journal) =
     ap (λ answers. if entry.session == session then reply_served served entry.item ∷ answers else answers) (served_answers session (next_served served entry.item) journal)
@@ -46,8 +48,12 @@ explains served limit texts run is =
     record {
       entries = subst (λ n. AllByRecursion (λ entry. entry.session < n) journal) count is.known;
       served = λ session none below.
-          subst (λ requests. IsServedUpTo is_error limit requests (items_from session journal) (answers_in known served.tree journal session)) (get_or-map (λ text. requests_of known text.items) texts session none [] below)
-          (subst (λ answers. IsServedUpTo is_error limit (get_or wanted session []) (items_from session journal) answers) (served_answers session served journal) (is.served session [] (within session below)));
+          subst (λ requests. IsServedUpTo is_error limit requests (items_from session journal)
+          (answers_in known served.tree journal session))
+          (get_or-map (λ text. requests_of known text.items) texts session none [] below)
+          (subst (λ answers. IsServedUpTo is_error limit (get_or wanted session [])
+          (items_from session journal) answers) (served_answers session served journal)
+          (is.served session [] (within session below)));
       answered = is.answered ∙ count;
       answers = λ session none below. is.answers session none (within session below) ∙ map-id (answers_to next_served reply_served session served journal) ∙ served_answers session served journal;
       outputs_are = is.printed ∙ count;
@@ -78,7 +84,7 @@ explained_by known tree limit texts run report same is = record {
       (ap (λ (answers : Vec (Vec Answer Global) Global). (get_or answers.items session none).items) same.answers ∙ is.answers session none below);
   outputs_are = ap (λ (outputs : Vec (Vec ℕ Global) Global). length outputs.items) same.outputs ∙ is.outputs_are;
   outputs = λ session none below.
-      subst (λ entries. (get_or report.outputs.items session none).items ≡ printed known (answers_in known tree entries session)) (sym same.journal)
+      subst (λ entries. (get_or report.outputs.items session none).items ≡ answers_text known (answers_in known tree entries session)) (sym same.journal)
       (ap (λ (outputs : Vec (Vec ℕ Global) Global). (get_or outputs.items session none).items) same.outputs ∙ is.outputs session none below);
   result = same.tree ∙ is.result ∙ ap (λ entries. tree_after_journal known tree entries) (sym same.journal);
 }
@@ -91,7 +97,9 @@ alone_items (entry ∷ journal) own =
     ∙ ap (λ test. if test then entry.item ∷ items_from 0 journal else items_from 0 journal) (sym (eq-eqb entry.session 0 (omega (arith, own.0))))
 
 -- and answers them one after the other
-alone_answers : (known : Known) (tree : NodesUnderUmask) (journal : List (JournalEntry Numbered)) → AllByRecursion (λ entry. entry.session < 1) journal → answers_in known tree journal 0 ≡ answers_of known tree (map (λ entry. entry.item) journal)
+alone_answers : (known : Known) (tree : NodesUnderUmask) (journal : List (JournalEntry Numbered))
+    → AllByRecursion (λ entry. entry.session < 1) journal
+    → answers_in known tree journal 0 ≡ answers_of known tree (map (λ entry. entry.item) journal)
 alone_answers known tree [] own = refl
 alone_answers known tree (entry ∷ journal) own =
     let more = answers_in known (tree_after_one known tree entry.item) journal 0 in
@@ -105,6 +113,6 @@ served_alone known tree text report is =
     let requests : map (λ entry. entry.item) journal ≡ requests_of known text.items = alone_items journal is.entries ∙ is.served 0 text (omega arith) in
     record {
       output = λ none.
-          is.outputs 0 none (omega arith) ∙ ap (λ answers. printed known answers) (alone_answers known tree journal is.entries ∙ ap (λ items. answers_of known tree items) requests);
+          is.outputs 0 none (omega arith) ∙ ap (λ answers. answers_text known answers) (alone_answers known tree journal is.entries ∙ ap (λ items. answers_of known tree items) requests);
       result = is.result ∙ ap (λ items. tree_after known tree items) requests;
     }

@@ -6,7 +6,7 @@ use Rattle.acl_names.specs.Bytes.{newline}
 use Rattle.acl_names.specs.Directory.{Known}
 use Rattle.acl_names.specs.Pieces.{lines_of, parts, without_empty_last}
 use Rattle.acl_lang.specs.Lines.{line_of}
-use Rattle.acl_lang.specs.Texts.{numbered, requests_from, requests_of}
+use Rattle.acl_lang.specs.Texts.{numbered_request, requests_from, requests_of}
 use Rattle.acl_lang.specs.declared.line.Line.{Line}
 use Rattle.acl_lang.specs.declared.line.Line.TheVariants.{Nothing, Command}
 
@@ -17,14 +17,21 @@ fewer_parts ((byte ∷ bytes) ∷ []) = omega arith
 fewer_parts ([] ∷ part ∷ more) = omega (arith, fewer_parts (part ∷ more))
 fewer_parts ((byte ∷ bytes) ∷ part ∷ more) = omega (arith, fewer_parts (part ∷ more))
 
-one_at_most : (line : ℕ) (read : Line) → length (numbered line read) ≤ 1
+one_at_most : (line : ℕ) (read : Line) → length (numbered_request line read) ≤ 1
 one_at_most line Nothing = omega arith
 one_at_most line (Command request) = omega arith
 
 fewer_requests : (known : Known) (before : ℕ) (lines : List (List ℕ)) → length (requests_from known before lines) ≤ length lines
 fewer_requests known before [] = omega arith
 fewer_requests known before (line ∷ lines) =
-    omega (arith, length-append (numbered (before + 1) (line_of known line)) (requests_from known (before + 1) lines), one_at_most (before + 1) (line_of known line), fewer_requests known (before + 1) lines)
+    omega (
+      arith,
+      length-append (numbered_request (before + 1) (line_of known line))
+          (requests_from known (before + 1) lines),
+      one_at_most (before + 1)
+          (line_of known line),
+      fewer_requests known (before + 1) lines,
+    )
 
 -- a text has at most one request more than bytes
 pub few_requests : (known : Known) (text : List ℕ) → length (requests_of known text) ≤ length text + 1

@@ -2,8 +2,8 @@
 use Rattle.std.specs.Prelude.{◌≡◌, ⊤, ℕ, List, Option, Some, None, Result, Ok, Err, IsOkAnd}
 use Rattle.acl_names.specs.Directory.{AnswersAs, Known, fault_of, gid_of, uid_of}
 use Rattle.acl_names.specs.Steps.{◌>>=◌, or_fault}
-use Rattle.acl_names.specs.declared.directory.SetupFault.{SetupFault}
-use Rattle.acl_names.specs.declared.directory.SetupFault.TheVariants as parts
+use Rattle.acl_names.specs.declared.directory.fault.SetupFault.{SetupFault}
+use Rattle.acl_names.specs.declared.directory.fault.SetupFault.TheVariants as parts
 use Rattle.acl_tree.specs.Commands.{root_alone}
 use Rattle.acl_tree.specs.Tree.{NodesUnderUmask}
 use Rattle.toml.specs.Data.{Members}

@@ -3,7 +3,7 @@ use Rattle.std.specs.Prelude.{ℕ, List, [], ◌∷◌}
 use Rattle.acl_names.specs.Directory.{Known}
 use Rattle.acl_tree.specs.Apply.{next, reply}
 use Rattle.acl_tree.specs.Tree.{NodesUnderUmask}
-use Rattle.acl_lang.specs.Printed.{printed}
+use Rattle.acl_lang.specs.Printed.{answers_text}
 use Rattle.acl_lang.specs.Texts.{requests_of}
 use Rattle.acl_lang.specs.declared.answer.Answer.{Answer}
 use Rattle.acl_lang.specs.declared.text.Numbered.{Numbered}
@@ -32,4 +32,4 @@ answers_of known tree (numbered ∷ more) = answer_to known tree numbered ∷ an
 
 -- what is printed of a session with this text
 abbrev pub session_text : Known → NodesUnderUmask → List ℕ → List ℕ
-session_text known tree text = printed known (answers_of known tree (requests_of known text))
+session_text known tree text = answers_text known (answers_of known tree (requests_of known text))

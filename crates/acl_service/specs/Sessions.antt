@@ -9,7 +9,7 @@ use Rattle.acl_tree.specs.Tree.{NodesUnderUmask}
 use Rattle.acl_tree.specs.declared.reply.Reply.{Reply}
 use Rattle.acl_tree.specs.declared.reply.Reply.TheVariants.{Done, Node, Granted, Denied, Translated}
 use Rattle.acl_tree.specs.declared.reply.Reply.TheVariants.{TranslatedBoth, Refused, Fault}
-use Rattle.acl_lang.specs.Printed.{answer_text, printed}
+use Rattle.acl_lang.specs.Printed.{answer_text, answers_text}
 use Rattle.acl_lang.specs.Texts.{requests_of}
 use Rattle.acl_lang.specs.declared.answer.Answer.{Answer}
 use Rattle.acl_lang.specs.declared.text.Numbered.{Numbered}
@@ -76,7 +76,7 @@ pub record ExplainsSessions (known : Known) (tree : NodesUnderUmask) (limit : Op
   pub outputs_are : length report.outputs.items ≡ length texts
   pub outputs : (session : ℕ) (none : Vec ℕ Global) → session < length texts
       → (slice_index_or report.outputs.items session none).items
-      ≡ printed known (answers_in known tree report.journal.items session)
+      ≡ answers_text known (answers_in known tree report.journal.items session)
   -- and the tree is the journal's result
   pub result : report.tree ≡ tree_after_journal known tree report.journal.items
 

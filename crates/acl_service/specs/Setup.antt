@@ -1,11 +1,10 @@
 -- What a setup says, as a function of its table.
-use Rattle.std.specs.Prelude.{ℕ, ◌-◌, ◌&&◌, Bool, nat_le, List, [], ◌∷◌, Option, Some, None, codes}
-use Rattle.std.specs.Prelude.{if◌then◌else◌, bytes_eq}
-use Rattle.acl_names.specs.Bytes.{digit_0, digit_7}
+use Rattle.std.specs.Prelude.{ℕ, List, Option, Some, codes}
 use Rattle.acl_names.specs.Directory.{Known, KnownGroup, KnownUser}
+use Rattle.acl_bridge.specs.Style.{style_of}
+use Rattle.acl_bridge.specs.declared.style.Style.{Style}
 use Rattle.acl_posix.specs.Mode.{Classes}
-use Rattle.acl_tree.specs.declared.node_acl.Style.{Style}
-use Rattle.acl_tree.specs.declared.node_acl.Style.TheVariants.{Posix, Nfs4}
+use Rattle.acl_posix.specs.ModeText.{mode_of_octal}
 use Rattle.toml.specs.Data.{Data, Members, as_table}
 use Rattle.acl_service.specs.SetupTable.{◌>>=◌, id_at, items_at, table_at, text_at, texts_at}
 
@@ -21,30 +20,12 @@ pub record Setup : Type 0 where
   pub root : Root
   pub known : Known
 
--- an octal digit
-abbrev pub is_octal : ℕ → Bool
-is_octal byte = nat_le digit_0 byte && nat_le byte digit_7
-
--- a mode: three octal digits
-abbrev pub mode_of : List ℕ → Option Classes
-mode_of (user ∷ group ∷ other ∷ []) =
-    if is_octal user && is_octal group && is_octal other
-    then Some (record { user = user - digit_0; group = group - digit_0; other = other - digit_0 })
-    else None
-mode_of _ = None
-
--- `posix` or `nfs4`
-abbrev pub style_of : List ℕ → Option Style
-style_of text =
-    if bytes_eq text (codes "posix") then Some Posix
-    else (if bytes_eq text (codes "nfs4") then Some Nfs4 else None)
-
 -- owner = "..", group = "..", mode = "OOO", style = "posix" or "nfs4"
 unfoldable pub root_in : Members → Option Root
 root_in table = do
   owner ← text_at (codes "owner") table
   group ← text_at (codes "group") table
-  mode ← text_at (codes "mode") table >>= mode_of
+  mode ← text_at (codes "mode") table >>= mode_of_octal
   style ← text_at (codes "style") table >>= style_of
   Some (record { owner = owner; group = group; mode = mode; style = style })
 
@@ -70,7 +51,7 @@ group_in value = do
 unfoldable pub setup_in : Members → Option Setup
 setup_in table = do
   domain ← text_at (codes "domain") table
-  umask ← text_at (codes "umask") table >>= mode_of
+  umask ← text_at (codes "umask") table >>= mode_of_octal
   root ← table_at (codes "root") table >>= root_in
   users ← items_at user_in (codes "user") table
   groups ← items_at group_in (codes "group") table

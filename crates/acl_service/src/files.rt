@@ -35,7 +35,7 @@ fn read_all<'a, I: Read>(
     reader: &mut I,
 ) -> Result<Vec<u8>, FilesFault<'a>>
     ensures capped { IfOk result (λ bytes. length bytes.items ≤ MAX_TEXT_LEN) }
-    ensures told { IfOk result (λ bytes. HasBytes (I.remaining reader.old) bytes.items) }
+    ensures bytes { IfOk result (λ bytes. HasBytes (I.remaining reader.old) bytes.items) }
     ensures refused { IfErr result (IsReadFault name.entry.now) }
 {
     match read_capped(alloc, reader, MAX_TEXT_LEN) {
@@ -52,7 +52,8 @@ pub fn read_file<'a, F: OpenFiles>(
     name: &'a str,
 ) -> Result<Vec<u8>, FilesFault<'a>>
     ensures capped { IfOk result (λ bytes. length bytes.items ≤ MAX_TEXT_LEN) }
-    ensures told { IfOk result (λ bytes. HasBytes (F.bytes_of files.now name.entry.now) bytes.items) }
+    ensures bytes { IfOk result (λ bytes.
+        HasBytes (F.bytes_of files.now name.entry.now) bytes.items) }
     ensures refused { IfErr result (IsReadFault name.entry.now) }
 {
     match files.open(name) {
@@ -70,7 +71,7 @@ fn read_session<'a, F: OpenFiles, I: Read>(
     name: &'a str,
 ) -> Result<Vec<u8>, FilesFault<'a>>
     ensures capped { IfOk result (λ text. length text.items ≤ MAX_TEXT_LEN) }
-    ensures told { IfOk result (λ text.
+    ensures bytes { IfOk result (λ text.
         HasBytes (bytes_of_session (F.bytes_of files.now) (I.remaining input.old) name.entry.now)
         text.items) }
     ensures untouched { bytes_eq name.entry.now (codes "-") ≡ false → input.new ≡ input.old }
@@ -95,7 +96,7 @@ pub fn read_sessions<'a, F: OpenFiles, I: Read>(
     ensures count { IfOk result (λ texts. length texts.items ≡ length names.now) }
     ensures capped { IfOk result (λ texts. All (λ text. length text.items ≤ MAX_TEXT_LEN)
         texts.items) }
-    ensures told { IfOk result (λ texts. HaveBytes (F.bytes_of files.now) (I.remaining input.old)
+    ensures bytes { IfOk result (λ texts. HaveBytes (F.bytes_of files.now) (I.remaining input.old)
         (map (λ name. name.now) names.now) texts.items) }
     ensures untouched { input_count (map (λ name. name.now) names.now) ≡ 0 → input.new ≡ input.old }
     ensures refused { IfErr result (IsReadFaultAmong (map (λ name. name.now) names.now)) }

@@ -26,6 +26,5 @@ pub use served::Served;
 pub(crate) use served::ServedInPrint;
 pub use sessions::{Report, serve, serve_rounds};
 pub use setup::{
-    Root, Setup, SetupError, id_at, read_mode, read_setup, read_style, read_table, table_at,
-    text_at, value_at,
+    Root, Setup, SetupError, id_at, read_setup, read_table, table_at, text_at, value_at,
 };

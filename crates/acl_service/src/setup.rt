@@ -9,7 +9,7 @@ mod value;
 use acl_names::Directory;
 use acl_tree::Tree;
 pub use fault::SetupError;
-pub use fields::{Root, Setup, read_mode, read_style, read_table};
+pub use fields::{Root, Setup, read_table};
 use std::alloc::Global;
 pub use value::{id_at, table_at, text_at, value_at};
 

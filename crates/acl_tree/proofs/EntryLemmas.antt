@@ -1,5 +1,7 @@
 -- Entries that were put in the order of their paths are those of the finite map.
-use Rattle.std.proofs.Common.{T, ◌≡◌, ◌∙◌, ◌≤◌, ◌+◌, ◌<◌, ℕ, zero, suc, Bool, true, false, cond, ◌&&◌, List, [], ◌∷◌, map as each, Option, Some, option_map, refl, sym, ap, ap₂, subst, nat_lt, length, get_or, arith, is_eq, is_lt, nat_cmp, bytes_eq, Ordering}
+use Rattle.std.proofs.Common.{T, ◌≡◌, ◌∙◌, ◌≤◌, ◌+◌, ◌<◌, ℕ, zero, suc, Bool, true, false, cond, ◌&&◌, List}
+use Rattle.std.proofs.Common.{[], ◌∷◌, map as each, Option, Some, option_map, refl, sym, ap, ap₂, subst}
+use Rattle.std.proofs.Common.{nat_lt, length, get_or, arith, is_eq, is_lt, nat_cmp, bytes_eq, Ordering}
 use Rattle.std.specs.Cmp.Lexicographic.{slice_cmp, nat_list_cmp_total, same_text}
 use Rattle.std.specs.FinMap as finite
 use Rattle.std.specs.FinMap.{nat_cmp-IsAntisymmetric, slice_cmp-IsAntisymmetric, get-from_entries, get-entries, entries_sorted}

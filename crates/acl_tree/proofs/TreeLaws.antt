@@ -10,7 +10,7 @@ use Rattle.acl_posix.specs.Mode.{Classes}
 use Rattle.acl_nfs4.specs.declared.inheritance.Kind.TheVariants.{Dir}
 use Rattle.acl_tree.specs.declared.limits.TheConstants.{MAX_NODES}
 use Rattle.acl_tree.specs.declared.node.Node.{Node}
-use Rattle.acl_tree.specs.declared.node_acl.Style.{Style}
+use Rattle.acl_bridge.specs.declared.style.Style.{Style}
 use Rattle.acl_tree.specs.declared.request.Request.{Request}
 use Rattle.acl_tree.specs.Apply.{next}
 use Rattle.acl_tree.specs.Commands.{root_alone}
@@ -19,7 +19,9 @@ use Rattle.acl_tree.specs.Path.{is_path, parent}
 use Rattle.acl_tree.specs.Requests.{NamesAPath, path_of}
 use Rattle.acl_tree.specs.Shape.{IsDirectory, KeepsKindAndOwners, KeepsNodes, NodesLieInDirectories, NodesAreAtPaths, IsWithinLimit}
 use Rattle.acl_tree.specs.Tree.{Nodes, NodesUnderUmask}
-use Rattle.acl_tree.specs.TreeLaws.{after_all, IsMadeByCommands, FilesNeverHaveADefault, ParentsAreDirectories, TreesAreWithinTheLimit, TreesHavePathsAlone, TheUmaskStays, NodesStay, OtherCommandsLeaveANode}
+use Rattle.acl_tree.specs.TreeLaws.{after_all, IsMadeByCommands, FilesNeverHaveADefault}
+use Rattle.acl_tree.specs.TreeLaws.{ParentsAreDirectories, TreesAreWithinTheLimit, TreesHavePathsAlone}
+use Rattle.acl_tree.specs.TreeLaws.{TheUmaskStays, NodesStay, OtherCommandsLeaveANode}
 use Rattle.acl_tree.proofs.CommandLaws.{keeps_the_umask}
 use Rattle.acl_tree.proofs.FileLaws.{keeps_files_without_default, root_is_no_file_with_default}
 use Rattle.acl_tree.proofs.NodeLaws.{at_put, keeps_nodes, stays_at_its_path, keeps_directories, keeps_paths, keeps_limit}
@@ -93,7 +95,9 @@ the_umask_stays directory tree made =
 
 pub nodes_stay : NodesStay
 nodes_stay directory tree requests =
-    all_keep directory (KeepsNodes tree) further tree requests (λ path node there. subst (λ found. IsSomeAnd found (KeepsKindAndOwners node)) (sym there) (record { kind = refl; owner = refl; group = refl }))
+    all_keep directory (KeepsNodes tree) further tree requests
+    (λ path node there. subst (λ found. IsSomeAnd found (KeepsKindAndOwners node)) (sym there)
+    (record { kind = refl; owner = refl; group = refl }))
   where
     further : (from : NodesUnderUmask) (request : Request) → KeepsNodes tree from → KeepsNodes tree (next directory from request)
     further from request kept path node there = by (map.get from.nodes path) refl (kept path node there)

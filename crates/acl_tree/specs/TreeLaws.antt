@@ -8,7 +8,7 @@ use Rattle.acl_tree.specs.Requests.{NamesAPath, path_of}
 use Rattle.acl_tree.specs.Shape.{FilesHaveNoDefault, NodesLieInDirectories, NodesAreAtPaths}
 use Rattle.acl_tree.specs.Shape.{IsWithinLimit, KeepsNodes, IsSameAt}
 use Rattle.acl_tree.specs.Tree.{NodesUnderUmask}
-use Rattle.acl_tree.specs.declared.node_acl.Style.{Style}
+use Rattle.acl_bridge.specs.declared.style.Style.{Style}
 use Rattle.acl_tree.specs.declared.request.Request.{Request}
 
 -- the tree after all of the commands, one after the other

@@ -3,7 +3,7 @@ ghost use Rattle.std.specs.Prelude.{◌≡◌, IfOk};
 ghost use Rattle.acl_posix.specs.Perms.{bits_of};
 ghost use Rattle.acl_tree.specs.Nodes.{is_dir, may, view_of, with_access, with_default, with_mode};
 ghost use Rattle.acl_tree.specs.Nodes.{with_nfs4};
-ghost use Rattle.acl_tree.specs.Refusals.{Changes};
+ghost use Rattle.acl_tree.specs.Refusals.{ChangesTo};
 
 use crate::node_acl::try_clone_boxed;
 use crate::refusal::Refusal;
@@ -70,7 +70,7 @@ impl Node {
 
     /// Sets the access list. A default list stays; an NFSv4 list goes.
     pub(crate) fn set_access(&mut self, alloc: Global, acl: &Acl) -> Result<(), Refusal>
-        ensures { Changes (with_access acl.now self.old) self.old result self.new }
+        ensures { ChangesTo (with_access acl.now self.old) self.old result self.new }
     {
         // The copy comes first, so that the node is as it was if memory runs out.
         let new = acl.try_clone(alloc)?;
@@ -92,7 +92,7 @@ impl Node {
         alloc: Global,
         default: &Option<Boxed<Acl>>,
     ) -> Result<(), Refusal>
-        ensures { Changes (with_default default.now self.old) self.old result self.new }
+        ensures { ChangesTo (with_default default.now self.old) self.old result self.new }
     {
         let is_dir = self.is_dir();
         let NodeAcl::Posix { default: place, .. } = &mut self.acl else {
@@ -107,7 +107,7 @@ impl Node {
 
     /// Sets the NFSv4 list. POSIX lists go.
     pub(crate) fn set_nfs4(&mut self, alloc: Global, acl: &Acl4) -> Result<(), Refusal>
-        ensures { Changes (with_nfs4 acl.now self.old) self.old result self.new }
+        ensures { ChangesTo (with_nfs4 acl.now self.old) self.old result self.new }
     {
         if !self.is_dir() && acl.has_inheritance() {
             return Err(Refusal::Fault(TreeFault::InheritOnFile));
@@ -119,7 +119,7 @@ impl Node {
 
     /// Changes the mode.
     pub(crate) fn change_mode(&mut self, alloc: Global, mode: Mode) -> Result<(), Refusal>
-        ensures { Changes (with_mode mode self.old) self.old result self.new }
+        ensures { ChangesTo (with_mode mode self.old) self.old result self.new }
     {
         self.acl.change_mode(alloc, mode)
     }

@@ -1,29 +1,20 @@
 //! The access control lists of a node, of either style.
 ghost use Rattle.std.specs.Prelude.{◌≡◌, IfOk};
-ghost use Rattle.acl_names.specs.Bits.{without};
 ghost use Rattle.acl_posix.specs.Perms.{bits_of};
 ghost use Rattle.acl_nfs4.specs.Mask.{mask_bits};
 ghost use Rattle.acl_tree.specs.NodeAcls.{acl_at_creation, acl_with_mode, beyond_umask};
 ghost use Rattle.acl_tree.specs.NodeAcls.{default_below, grants4, list_grants, mode_shown};
 ghost use Rattle.acl_tree.specs.NodeAcls.{root_acl};
-ghost use Rattle.acl_tree.specs.Refusals.{Answers, Changes};
+ghost use Rattle.acl_tree.specs.Refusals.{ComesTo, ChangesTo};
 
 use crate::Boxed;
 use crate::refusal::Refusal;
+use acl_bridge::Style;
 use acl_names::{Gid, Requester, Uid};
 use acl_nfs4::{Acl4, Fault4, Kind, Mask, mask_of};
-use acl_posix::{Acl, Mode, Perms};
+use acl_posix::{Acl, Mode, Perms, without};
 use bitflags::Flags;
 use std::alloc::{AllocError, Global};
-
-/// Which of the two styles of access control list a node has.
-#[derive(Clone, Copy, Debug, PartialEq, Eq)]
-pub enum Style {
-    /// POSIX lists: one for access, and on a directory perhaps a default one.
-    Posix,
-    /// One NFSv4 list.
-    Nfs4,
-}
 
 /// The access control lists of a node.
 #[derive(Debug, Drop)]
@@ -67,14 +58,6 @@ fn default_below(alloc: Global, kind: Kind, default: &Acl) -> Result<Option<Acl>
         Kind::Dir => Ok(Some(default.try_clone(alloc)?)),
         Kind::File => Ok(None),
     }
-}
-
-/// The permissions that are not among those removed.
-#[tactic(auto, unfolding(acl_names::specs::Bits::without))]
-fn without(perms: Perms, removed: Perms) -> Perms
-    ensures { bits_of result ≡ without (bits_of perms) (bits_of removed) }
-{
-    perms.symmetric_difference(perms.intersection(removed))
 }
 
 /// The mode without what the umask has.
@@ -159,7 +142,7 @@ impl NodeAcl {
 
     /// Changes the mode; a default list stays.
     pub(crate) fn change_mode(&mut self, alloc: Global, mode: Mode) -> Result<(), Refusal>
-        ensures { Changes (acl_with_mode self.old mode) self.old result self.new }
+        ensures { ChangesTo (acl_with_mode self.old mode) self.old result self.new }
     {
         match self {
             NodeAcl::Posix { access, .. } => {
@@ -179,7 +162,7 @@ impl NodeAcl {
         umask: Mode,
         mode: Mode,
     ) -> Result<NodeAcl, Refusal>
-        ensures { Answers (acl_at_creation kind umask self.now mode) result }
+        ensures { ComesTo (acl_at_creation kind umask self.now mode) result }
     {
         match self {
             NodeAcl::Posix { default: None, .. } => Ok(NodeAcl::Posix {

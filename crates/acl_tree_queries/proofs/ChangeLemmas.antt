@@ -1,5 +1,8 @@
 -- What is told of two listings: of the one before, of the one after, and of what is gone.
-use Rattle.std.proofs.Common.{append-nil, ◌≡◌, ◌∙◌, ◌<◌, ◌++◌, ℕ, Bool, true, false, List, [], ◌∷◌, Option, Some, None, Result, Ok, Err, ap, arith, bytes_eq, get_or, length, length-append, map as each, refl, subst, sym, zero, suc, OnErr, OnOk, take, length-take, option_and_then, option_map}
+use Rattle.std.proofs.Common.{append-nil, ◌≡◌, ◌∙◌, ◌<◌, ◌++◌, ℕ, Bool, true, false, List, [], ◌∷◌, Option}
+use Rattle.std.proofs.Common.{Some, None, Result, Ok, Err, ap, arith, bytes_eq, get_or, length, length-append}
+use Rattle.std.proofs.Common.{map as each, refl, subst, sym, zero, suc, OnErr, OnOk, take, length-take}
+use Rattle.std.proofs.Common.{option_and_then, option_map}
 use Rattle.std.specs.List.{AllByRecursion, list_any}
 use Rattle.std.specs.Option.{option_map_or}
 use Rattle.std.specs.Borrow.{Bor}
@@ -18,7 +21,7 @@ use Rattle.acl_tree.specs.declared.node.Node.{Node}
 use Rattle.acl_listings.specs.Block.{FileValue, file_of, path_of}
 use Rattle.acl_listings.specs.Listing.{Block}
 use Rattle.acl_listings.specs.declared.fault.BlockFault.{BlockFault}
-use Rattle.acl_listings.specs.declared.fault.BlockFault.TheVariants.{TooLong, BadHeader, RepeatedPath, UnknownOwner, UnknownGroup, BadAcl, UnknownName, TooMany, InvalidAcl}
+use Rattle.acl_listings.specs.declared.fault.BlockFault.TheVariants.{TooLong, BadHeader, RepeatedPath, UnknownOwner, UnknownGroup, Acl}
 use Rattle.acl_listings.proofs.PathLemmas.{path_of-file}
 use Rattle.acl_queries.specs.Output.{AppendsFront}
 use Rattle.acl_tree_queries.specs.ChangeSteps.{AreMet, TellsFaultOf, TellsFile, TellsFound, TellsGoneOf, TellsNext, TellsOfKnown, is_marked, read_placed}
@@ -27,11 +30,14 @@ use Rattle.acl_tree_queries.specs.Kept.{first_place, has_path, is_earlier, place
 use Rattle.acl_tree_queries.specs.ImpactText.{impact_text}
 use Rattle.acl_tree_queries.specs.ListingText.{AreAll, AreFirst, TellsInTurn, node_of}
 use Rattle.acl_tree_queries.specs.Nodes.{TellsOfEach, TellsOfFirst}
-use Rattle.acl_tree_queries.specs.Placed.{Placed, placed, placed_behind}
+use Rattle.acl_tree_queries.specs.Placed.{Placed, in_places, in_places_after}
 use Rattle.acl_tree_queries.specs.Readings.{Reading, is_among, is_at, reading_of, repeats, repeats_one_of, unless_repeated}
 use Rattle.acl_tree_queries.specs.declared.impact_command.changes.ChangeText.{ChangeText}
 use Rattle.acl_tree_queries.specs.declared.impact_command.text.Findings.{Findings}
-use Rattle.acl_tree_queries.proofs.PlacedLemmas.{each_and_each, each_and_first, each_in_place, each_of_longer, first_in_place, first_of_longer, placed_shown, placed_split, no_item, put, show_placed, shown_each, shown_first, some_item}
+use Rattle.acl_tree_queries.proofs.PlacedLemmas.{each_and_each, each_and_first, each_in_place, each_of_longer}
+use Rattle.acl_tree_queries.proofs.PlacedLemmas.{first_in_place, first_of_longer, placed_shown, placed_split}
+use Rattle.acl_tree_queries.proofs.PlacedLemmas.{no_item, put, show_placed, shown_each, shown_first}
+use Rattle.acl_tree_queries.proofs.PlacedLemmas.{some_item}
 use Rattle.acl_tree_queries.proofs.PlacesLemmas.{earlier_repeats, find_found, first_here, marks_repeat, met_among}
 
 -- a block that says something of a file repeats no path
@@ -43,10 +49,7 @@ said_once true (Err BadHeader) file is = cc
 said_once true (Err RepeatedPath) file is = cc
 said_once true (Err UnknownOwner) file is = cc
 said_once true (Err UnknownGroup) file is = cc
-said_once true (Err BadAcl) file is = cc
-said_once true (Err UnknownName) file is = cc
-said_once true (Err TooMany) file is = cc
-said_once true (Err InvalidAcl) file is = cc
+said_once true (Err (Acl fault)) file is = cc
 
 module _ (known : Known) (before : List Block) where
   -- where a block stands that says something of a file is the first place of its path
@@ -104,31 +107,31 @@ module _ (known : Known) (users : List Identity) (before : List Block) where
   TellsBehind seen here = TellsAfter known users (read before) (read_placed known (record { earlier = seen; here = here }))
 
   abbrev befores : List Item
-  befores = each Before (placed (read before))
+  befores = each Before (in_places (read before))
 
   abbrev afters : List Block → List Item
-  afters after = each After (placed (read after))
+  afters after = each After (in_places (read after))
 
   abbrev gones : List Item
-  gones = each Gone (placed (read before))
+  gones = each Gone (in_places (read before))
 
   -- ---- in the places of the blocks, as in those of what they come to
 
   module _ (after blocks : List Block) (made : Placed Reading → Item) (Means : Placed Block → List ℕ → Type 0)
       (means : (item : Placed Block) (text : List ℕ) → Means item text → Tells after (made (read_placed known item)) text) where
-    read_each : (text : List ℕ) → TellsOfEach Means (placed blocks) text → TellsOfEach (Tells after) (each made (placed (read blocks))) text
+    read_each : (text : List ℕ) → TellsOfEach Means (in_places blocks) text → TellsOfEach (Tells after) (each made (in_places (read blocks))) text
     read_each text tells =
         subst (λ items. TellsOfEach (Tells after) (each made items) text) (sym (placed_shown (reading_of known) blocks))
-        (shown_each made (λ item. Tells after (made item)) (Tells after) (λ item text tells. tells) (each (show_placed (reading_of known)) (placed blocks)) text
-        (shown_each (show_placed (reading_of known)) Means (λ item. Tells after (made item)) means (placed blocks) text tells))
+        (shown_each made (λ item. Tells after (made item)) (Tells after) (λ item text tells. tells) (each (show_placed (reading_of known)) (in_places blocks)) text
+        (shown_each (show_placed (reading_of known)) Means (λ item. Tells after (made item)) means (in_places blocks) text tells))
 
-    read_first : (text : List ℕ) → TellsOfFirst Means (placed blocks) text → TellsOfFirst (Tells after) (each made (placed (read blocks))) text
+    read_first : (text : List ℕ) → TellsOfFirst Means (in_places blocks) text → TellsOfFirst (Tells after) (each made (in_places (read blocks))) text
     read_first text tells =
         subst (λ items. TellsOfFirst (Tells after) (each made items) text) (sym (placed_shown (reading_of known) blocks))
-        (shown_first made (λ item. Tells after (made item)) (Tells after) (λ item text tells. tells) (each (show_placed (reading_of known)) (placed blocks)) text
-        (shown_first (show_placed (reading_of known)) Means (λ item. Tells after (made item)) means (placed blocks) text tells))
+        (shown_first made (λ item. Tells after (made item)) (Tells after) (λ item text tells. tells) (each (show_placed (reading_of known)) (in_places blocks)) text
+        (shown_first (show_placed (reading_of known)) Means (λ item. Tells after (made item)) means (in_places blocks) text tells))
 
-  faults_of : (after : List Block) (text : List ℕ) → TellsOfEach (TellsFaultOf known) (placed before) text → TellsOfEach (Tells after) befores text
+  faults_of : (after : List Block) (text : List ℕ) → TellsOfEach (TellsFaultOf known) (in_places before) text → TellsOfEach (Tells after) befores text
   faults_of after = read_each after before Before (TellsFaultOf known) (λ item text tells. tells)
 
   nexts_of : (after seen : List Block) (text : List ℕ) → TellsInTurn TellsBehind seen text → TellsOfEach (Tells after) (afters seen) text
@@ -137,13 +140,13 @@ module _ (known : Known) (users : List Identity) (before : List Block) where
   abbrev IsGone : List Block → Placed Block → List ℕ → Type 0
   IsGone after item = Tells after (Gone (read_placed known item))
 
-  gones_of : (after : List Block) (met : List Bool) → AreMet before after met → (text : List ℕ) → TellsOfEach (TellsGoneOf known met) (placed before) text
+  gones_of : (after : List Block) (met : List Bool) → AreMet before after met → (text : List ℕ) → TellsOfEach (TellsGoneOf known met) (in_places before) text
       → TellsOfEach (Tells after) gones text
   gones_of after met are text tells =
       read_each after before Gone (IsGone after) (λ item text tells. tells) text
       (each_in_place before (TellsGoneOf known met) (IsGone after) (gone_by_mark known before after met are) text tells)
 
-  first_gones_of : (after : List Block) (met : List Bool) → AreMet before after met → (text : List ℕ) → TellsOfFirst (TellsGoneOf known met) (placed before) text
+  first_gones_of : (after : List Block) (met : List Bool) → AreMet before after met → (text : List ℕ) → TellsOfFirst (TellsGoneOf known met) (in_places before) text
       → TellsOfFirst (Tells after) gones text
   first_gones_of after met are text tells =
       read_first after before Gone (IsGone after) (λ item text tells. tells) text
@@ -152,8 +155,8 @@ module _ (known : Known) (users : List Identity) (before : List Block) where
   -- ---- all of it, and each front of it
 
   pub all_told : (coming : Option (List Block)) (seen : List Block) → AreAll coming seen → (met : List Bool) → AreMet before seen met
-      → (faults next gone : List ℕ) → TellsOfEach (TellsFaultOf known) (placed before) faults → TellsInTurn TellsBehind seen next
-      → TellsOfEach (TellsGoneOf known met) (placed before) gone
+      → (faults next gone : List ℕ) → TellsOfEach (TellsFaultOf known) (in_places before) faults → TellsInTurn TellsBehind seen next
+      → TellsOfEach (TellsGoneOf known met) (in_places before) gone
       → IfSome coming (λ after. TellsBetween TellsOfEach known users before after (faults ++ (next ++ gone)))
   all_told coming seen all met are faults next gone first second third =
       if_known coming _ λ blocks is.
@@ -161,28 +164,28 @@ module _ (known : Known) (users : List Identity) (before : List Block) where
       (each_and_each (Tells seen) befores (afters seen ++ gones) faults (next ++ gone) (faults_of seen faults first)
       (each_and_each (Tells seen) (afters seen) gones next gone (nexts_of seen seen next second) (gones_of seen met are gone third)))
 
-  pub begun_in_faults : (coming : Option (List Block)) (faults : List ℕ) → TellsOfFirst (TellsFaultOf known) (placed before) faults
+  pub begun_in_faults : (coming : Option (List Block)) (faults : List ℕ) → TellsOfFirst (TellsFaultOf known) (in_places before) faults
       → IfSome coming (λ after. TellsBetween TellsOfFirst known users before after faults)
   begun_in_faults coming faults first =
       if_known coming _ λ after is.
       first_of_longer (Tells after) befores (afters after ++ gones) faults
       (read_first after before Before (TellsFaultOf known) (λ item text tells. tells) faults first)
 
-  pub begun_after_faults : (coming : Option (List Block)) (faults : List ℕ) → TellsOfEach (TellsFaultOf known) (placed before) faults
+  pub begun_after_faults : (coming : Option (List Block)) (faults : List ℕ) → TellsOfEach (TellsFaultOf known) (in_places before) faults
       → IfSome coming (λ after. TellsBetween TellsOfFirst known users before after faults)
   begun_after_faults coming faults first =
       if_known coming _ λ after is. each_of_longer (Tells after) befores (afters after ++ gones) faults (faults_of after faults first)
 
   afters_split : (seen left : List Block) → (more : List Item) × (afters (seen ++ left) ≡ afters seen ++ more)
   afters_split seen left = (
-    each After (placed_behind (read seen) (read left)),
-    ap (λ readings. each After (placed readings)) (map-append (reading_of known) seen left)
+    each After (in_places_after (read seen) (read left)),
+    ap (λ readings. each After (in_places readings)) (map-append (reading_of known) seen left)
         ∙ ap (each After) (placed_split (read seen) (read left))
-        ∙ map-append After (placed (read seen)) (placed_behind (read seen) (read left)),
+        ∙ map-append After (in_places (read seen)) (in_places_after (read seen) (read left)),
   )
 
   pub begun_in_next : (coming : Option (List Block)) (seen : List Block) → AreFirst coming seen → (faults next : List ℕ)
-      → TellsOfEach (TellsFaultOf known) (placed before) faults → TellsInTurn TellsBehind seen next
+      → TellsOfEach (TellsFaultOf known) (in_places before) faults → TellsInTurn TellsBehind seen next
       → IfSome coming (λ after. TellsBetween TellsOfFirst known users before after (faults ++ next))
   begun_in_next coming seen all faults next first second =
       if_known coming _ λ after is.
@@ -194,8 +197,8 @@ module _ (known : Known) (users : List Identity) (before : List Block) where
       (first_of_longer (Tells after) (afters after) gones next of_after)
 
   pub begun_in_gone : (coming : Option (List Block)) (seen : List Block) → AreAll coming seen → (met : List Bool) → AreMet before seen met
-      → (faults next gone : List ℕ) → TellsOfEach (TellsFaultOf known) (placed before) faults → TellsInTurn TellsBehind seen next
-      → TellsOfFirst (TellsGoneOf known met) (placed before) gone
+      → (faults next gone : List ℕ) → TellsOfEach (TellsFaultOf known) (in_places before) faults → TellsInTurn TellsBehind seen next
+      → TellsOfFirst (TellsGoneOf known met) (in_places before) gone
       → IfSome coming (λ after. TellsBetween TellsOfFirst known users before after (faults ++ (next ++ gone)))
   begun_in_gone coming seen all met are faults next gone first second third =
       if_known coming _ λ blocks is.
@@ -262,14 +265,14 @@ module _ {T E : Type 0} (result : Result T E) (known : Known) (kept : List Block
 
   -- for its fault
   pub tells_fault : OnOk result (new ≡ old ++ fault_in (reading_of known block) said)
-      → IfSome (slice_get (placed kept) place) (λ item. OnOk result ((more : List ℕ) × TellsFaultOf known item more × (new ≡ old ++ more)))
+      → IfSome (slice_get (in_places kept) place) (λ item. OnOk result ((more : List ℕ) × TellsFaultOf known item more × (new ≡ old ++ more)))
   tells_fault went =
       some_item kept place (λ item. OnOk result ((more : List ℕ) × TellsFaultOf known item more × (new ≡ old ++ more))) block at
       (on_ok_weaker result (λ is. (fault_in (reading_of known block) said, ap (fault_in (reading_of known block)) once, is)) went)
 
   -- for its path
   pub tells_gone : (met : List Bool) (marked : Bool) → marked ≡ get_or met place false → OnOk result (new ≡ old ++ gone_unless (λ path. marked) said)
-      → IfSome (slice_get (placed kept) place) (λ item. OnOk result ((more : List ℕ) × TellsGoneOf known met item more × (new ≡ old ++ more)))
+      → IfSome (slice_get (in_places kept) place) (λ item. OnOk result ((more : List ℕ) × TellsGoneOf known met item more × (new ≡ old ++ more)))
   tells_gone met marked mark went =
       let within : place < length kept = slice_get_within kept place block at in
       let len : length (take place kept) ≡ place = omega (arith, within, length-take {A = Block}) in
@@ -287,10 +290,10 @@ module _ (known : Known) (kept : List Block) (place : ℕ) (met : List Bool) (ma
   abbrev TellsNone : Placed Block → Type 0
   TellsNone item = (more : List ℕ) × TellsGoneOf known met item more × (out ≡ out ++ more)
 
-  pub tells_met : IfSome (slice_get (placed kept) place) TellsNone
+  pub tells_met : IfSome (slice_get (in_places kept) place) TellsNone
   tells_met = by (slice_get kept place) refl
     where
-      by : (found : Option Block) → slice_get kept place ≡ found → IfSome (slice_get (placed kept) place) TellsNone
+      by : (found : Option Block) → slice_get kept place ≡ found → IfSome (slice_get (in_places kept) place) TellsNone
       by None is = no_item kept place TellsNone is
       by (Some block) is =
           let within : place < length kept = slice_get_within kept place block is in
@@ -324,14 +327,19 @@ found_reading known before None = refl
 found_reading known before (Some place) = get_shown (reading_of known) before place
 
 module _ (teller : ChangeText) (place : Option ℕ) (block : Block) (at : option_and_then (slice_get teller.before.now) place ≡ Some block) (file : FileValue) where
-  pub tells_since : (reading : Result FileValue BlockFault) → file_of (directory teller) block.text ≡ reading → (text : List ℕ) → TellsSince (directory teller) (asking teller) reading file text → TellsFile teller place file text
+  pub tells_since : (reading : Result FileValue BlockFault) → file_of (directory teller) block.text ≡ reading
+      → (text : List ℕ) → TellsSince (directory teller) (asking teller) reading file text
+      → TellsFile teller place file text
   tells_since reading is text tells =
-      subst (λ found. TellsChange (directory teller) (asking teller) found file text) (sym (found_reading (directory teller) teller.before.now place ∙ ap (option_map (reading_of (directory teller))) at))
+      subst (λ found. TellsChange (directory teller) (asking teller) found file text)
+      (sym (found_reading (directory teller) teller.before.now place
+      ∙ ap (option_map (reading_of (directory teller))) at))
       (subst (λ reading. TellsSince (directory teller) (asking teller) reading file text) (sym is) tells)
 
   pub tells_impact : {T E : Type 0} (result : Result T E) (old : FileValue) → file_of (directory teller) block.text ≡ Ok old → (before after : Node) → before ≡ node_of old → after ≡ node_of file
       → (out new : List ℕ)
-      → OnOk result ((found : Option Impact) × IsImpact (access.file_of before) (access.file_of after) (asking teller) found × (new ≡ out ++ impact_text (directory teller) (asking teller) file.path found))
+      → OnOk result ((found : Option Impact) × IsImpact (access.file_of before) (access.file_of after)
+      (asking teller) found × (new ≡ out ++ impact_text (directory teller) (asking teller) file.path found))
       → OnOk result ((more : List ℕ) × TellsFile teller place file more × (new ≡ out ++ more))
   tells_impact result old is before after first second out new told =
       on_ok_weaker result

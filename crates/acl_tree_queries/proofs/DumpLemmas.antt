@@ -1,5 +1,7 @@
 -- The lines of a dump, one more at a time.
-use Rattle.std.proofs.Common.{◌≡◌, ◌∙◌, ◌<◌, ◌≤◌, ◌+◌, ◌++◌, ℕ, zero, suc, List, [], ◌∷◌, Result, Err, IfErr, ap, append_assoc, append-nil, arith, get_or, length, length-append, map as each, refl, subst, sym, take}
+use Rattle.std.proofs.Common.{◌≡◌, ◌∙◌, ◌<◌, ◌≤◌, ◌+◌, ◌++◌, ℕ, zero, suc, List, [], ◌∷◌, Result, Err, IfErr}
+use Rattle.std.proofs.Common.{ap, append_assoc, append-nil, arith, get_or, length, length-append, map as each}
+use Rattle.std.proofs.Common.{refl, subst, sym, take}
 use Rattle.std.specs.List.{flat_map}
 use Rattle.std.proofs.lemmas.Grind.{flat_map-append}
 use Rattle.std.proofs.lemmas.List.{map-append, take_more}

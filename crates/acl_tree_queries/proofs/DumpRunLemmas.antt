@@ -1,5 +1,7 @@
 -- The session that a dump prints makes the tree again.
-use Rattle.std.proofs.Common.{◌≡◌, ◌∙◌, ◌++◌, ◌+◌, ℕ, Bool, true, false, cond, not, List, [], ◌∷◌, All, Option, Some, None, Ok, Err, Vec, Global, ap, map as each, refl, sym, arith, bytes_eq, length, nat_lt, ◌==◌}
+use Rattle.std.proofs.Common.{◌≡◌, ◌∙◌, ◌++◌, ◌+◌, ℕ, Bool, true, false, cond, not, List, [], ◌∷◌, All}
+use Rattle.std.proofs.Common.{Option, Some, None, Ok, Err, Vec, Global, ap, map as each, refl, sym, arith}
+use Rattle.std.proofs.Common.{bytes_eq, length, nat_lt, ◌==◌}
 use Rattle.std.specs.FinMap as map
 use Rattle.std.specs.FinMap.{get-entries, entries_sorted}
 use Rattle.std.specs.List.{AllByRecursion, flat_map, list_all}
@@ -26,15 +28,15 @@ use Rattle.acl_tree.specs.declared.node_acl.NodeAcl.TheVariants.{Posix, Nfs4}
 use Rattle.acl_tree.specs.declared.request.Request.{Request}
 use Rattle.acl_tree.specs.declared.request.Request.TheVariants.{Get, SetAccess, SetDefault, SetNfs4, Chmod, Create, Check, Check4, Translate, Bad}
 use Rattle.acl_tree.proofs.TreeLaws.{trees_have_paths_alone}
-use Rattle.acl_audit.specs.Dump.{closing, creation, dump, making, setting, no_mode, root, set_default, set_lists}
+use Rattle.acl_audit.specs.Dump.{close_command, creation, dump, make_commands, set_commands, no_mode, root, set_default, set_lists}
 use Rattle.acl_audit.proofs.DumpLemmas.{dumps_make_the_tree}
 use Rattle.acl_audit.proofs.SavedLemmas.{and_left, and_right, ascend, found_each, found_in, truth, weaker}
 use Rattle.acl_lang.specs.CommandText.{ReadsAgain, numbered_from}
 use Rattle.acl_lang.specs.Commands.{asked_by, command, set_access}
 use Rattle.acl_lang.specs.Lines.{line_of, line_of_trimmed, request_of}
 use Rattle.acl_lang.specs.Refusals.{Asked}
-use Rattle.acl_lang.specs.Shapes.{Asks}
-use Rattle.acl_lang.specs.Texts.{numbered, requests_from, requests_of}
+use Rattle.acl_lang.specs.Shapes.{AsksFor}
+use Rattle.acl_lang.specs.Texts.{numbered_request, requests_from, requests_of}
 use Rattle.acl_lang.specs.declared.limits.TheConstants.{MAX_LINE_LEN}
 use Rattle.acl_lang.specs.declared.line.Line.{Line}
 use Rattle.acl_lang.specs.declared.line.Line.TheVariants.{Nothing, Command}
@@ -52,7 +54,7 @@ use Rattle.acl_tree_queries.proofs.OpenedLemmas.{IsRootAlone, left_by_both, open
 
 -- ---- the requests of a text name paths
 
-asks_name_paths : (known : Known) (line : List ℕ) (request : Request) → Asks known line request → NamesAPath request
+asks_name_paths : (known : Known) (line : List ℕ) (request : Request) → AsksFor known line request → NamesAPath request
 asks_name_paths known line (Get path) asks = asks.1
 asks_name_paths known line (SetAccess path acl) asks = asks.2
 asks_name_paths known line (SetDefault path default) asks = asks.2
@@ -65,7 +67,7 @@ asks_name_paths known line (Translate path) asks = asks.1
 asks_name_paths known line (Bad fault) asks = absurd asks
 
 abbrev request_in : Numbered → Request
-request_in numbered = numbered.request
+request_in numbered_request = numbered_request.request
 
 -- a line's request, if it has one
 abbrev LineNamesAPath : Line → Type 0
@@ -92,7 +94,7 @@ line_names_a_path known line = by (nat_lt MAX_LINE_LEN (length line))
     by false = trimmed_names_a_path known (trim line)
 
 one_more_names : (line : ℕ) (one : Line) (more : List Numbered) → LineNamesAPath one → All NamesAPath (each request_in more)
-    → All NamesAPath (each request_in (numbered line one ++ more))
+    → All NamesAPath (each request_in (numbered_request line one ++ more))
 one_more_names line Nothing more names are = are
 one_more_names line (Command request) more names are = All-cons NamesAPath request (each request_in more) names are
 
@@ -163,18 +165,18 @@ after_numbered_from : (known : Known) (tree : NodesUnderUmask) (before : ℕ) (r
 after_numbered_from known tree before [] = refl
 after_numbered_from known tree before (request ∷ more) = after_numbered_from known (next known tree request) (before + 1) more
 
-making_names_paths : (known : Known) (tree : NodesUnderUmask) (made : IsMadeByCommands known tree) → All NamesAPath made.requests → All NamesAPath (making tree)
+making_names_paths : (known : Known) (tree : NodesUnderUmask) (made : IsMadeByCommands known tree) → All NamesAPath made.requests → All NamesAPath (make_commands tree)
 making_names_paths known tree made names =
     let es : List Entry = map.entries tree.nodes in
     let up : ascend es ≡ true = truth (ascend es) (entries_sorted tree.nodes) in
     let are : AllByRecursion (λ (e : Entry). is_path e.0 ≡ true) es =
     weaker (λ e. found_in e.0 es ≡ Some e.1) (λ e. is_path e.0 ≡ true) (λ e found. trees_have_paths_alone known tree made names e.0 e.1 (get-entries tree.nodes e.0 ∙ found)) es
     (found_each es es (λ q node found. found) up) in
-    All-append NamesAPath (flat_map creation es) (flat_map setting es) (each_names_a_path creation creation_names_a_path es are)
-    (each_names_a_path setting (λ entry is. lists_name_a_path entry.0 entry.1.acl is) es are)
+    All-append NamesAPath (flat_map creation es) (flat_map set_commands es) (each_names_a_path creation creation_names_a_path es are)
+    (each_names_a_path set_commands (λ entry is. lists_name_a_path entry.0 entry.1.acl is) es are)
 
 -- the first line, in another way to write it than that of the others, closes the root
-closing_again : (known : Known) → line_of known closing_line ≡ Command closing
+closing_again : (known : Known) → line_of known closing_line ≡ Command close_command
 unfolding command set_access at_most_read entry_of perms_of_text
 closing_again known = refl
 
@@ -201,9 +203,9 @@ run_again known new alone sessions question trees text left is =
       made = left ∙ left_is known new sessions ∙ ap (λ (t : NodesUnderUmask). after_all known t (requests_in known sessions)) alone.is;
     } in
     let names : All NamesAPath made.requests = all_name_paths known sessions in
-    let again : All ReadsAgain (making tree) = all_read_again (making tree) is.dumped (making_names_paths known tree made names) in
+    let again : All ReadsAgain (make_commands tree) = all_read_again (make_commands tree) is.dumped (making_names_paths known tree made names) in
     ap (λ bytes. tree_after known new (requests_of known bytes)) is.text_is
-    ∙ ap (tree_after known new) (session_behind known closing_line closing (omega arith) closing_lacks_newline (closing_again known) (making tree) again)
+    ∙ ap (tree_after known new) (session_behind known closing_line close_command (omega arith) closing_lacks_newline (closing_again known) (make_commands tree) again)
     ∙ after_numbered_from known new 0 (dump tree)
     ∙ ap (λ (t : NodesUnderUmask). after_all known t (dump tree)) alone.is
     ∙ dumps_make_the_tree known tree made names

@@ -5,7 +5,7 @@ use Rattle.std.specs.Prelude.{IfSome}
 use Rattle.clap.specs.Words.{Row, Text, matches_of}
 use Rattle.acl_names.specs.Directory.{Known}
 use Rattle.acl_audit.specs.Impact.{requesters_of}
-use Rattle.acl_listings.specs.Cursor.{coming, handed}
+use Rattle.acl_listings.specs.Cursor.{blocks_to_come, as_handed_out}
 use Rattle.acl_listings.specs.Listing.{Block, blocks_of}
 use Rattle.acl_listings.proofs.HandedLemmas.{file-handed, path-handed}
 use Rattle.acl_service.specs.RunWords.{input_count}
@@ -24,26 +24,26 @@ use Rattle.acl_tree_queries.specs.declared.question.fault.QuestionFault.{Questio
 use Rattle.acl_tree_queries.specs.declared.question.fault.QuestionFault.TheVariants.{Words, Files, Setup, LineTooLong, Unread, Run}
 
 -- a block comes to the same as what is handed out of it
-reading-handed : (known : Known) (block : Block) → reading_of known (handed block) ≡ reading_of known block
+reading-handed : (known : Known) (block : Block) → reading_of known (as_handed_out block) ≡ reading_of known block
 reading-handed known block = λ i. record { line = block.line; path = path-handed block.text i; file = file-handed known block.text i }
 
-readings-handed : (known : Known) (blocks : List Block) → each (reading_of known) (each handed blocks) ≡ each (reading_of known) blocks
+readings-handed : (known : Known) (blocks : List Block) → each (reading_of known) (each as_handed_out blocks) ≡ each (reading_of known) blocks
 readings-handed known [] = refl
 readings-handed known (block ∷ blocks) =
-    ap (λ first. first ∷ each (reading_of known) (each handed blocks)) (reading-handed known block)
+    ap (λ first. first ∷ each (reading_of known) (each as_handed_out blocks)) (reading-handed known block)
     ∙ ap (λ more. reading_of known block ∷ more) (readings-handed known blocks)
 
 module _ (Tells : (Item → List ℕ → Type 0) → List Item → List ℕ → Type 0) (known : Known) (text : List ℕ) where
   abbrev Between : List Reading → List Reading → Type 0
   Between before after = Tells (TellsItem known (requesters_of known) before after) (items_of before after) text
 
-  pub told_of_both : (before after : Option (List ℕ)) → TellsOfKnown Tells known (coming 1 before) (coming 1 after) text
+  pub told_of_both : (before after : Option (List ℕ)) → TellsOfKnown Tells known (blocks_to_come 1 before) (blocks_to_come 1 after) text
       → IfSome before (λ before. IfSome after (λ after. TellsBetween Tells known (requesters_of known) (blocks_of before) (blocks_of after) text))
   told_of_both None after tells = tt
   told_of_both (Some before) None tells = tt
   told_of_both (Some before) (Some after) tells =
       subst (λ later. Between (each (reading_of known) (blocks_of before)) later) (readings-handed known (blocks_of after))
-      (subst (λ earlier. Between earlier (each (reading_of known) (each handed (blocks_of after)))) (readings-handed known (blocks_of before)) tells)
+      (subst (λ earlier. Between earlier (each (reading_of known) (each as_handed_out (blocks_of after)))) (readings-handed known (blocks_of before)) tells)
 
 -- two names of standard input
 pub both_inputs : (before after : Text) → bytes_eq before (codes "-") ≡ true → bytes_eq after (codes "-") ≡ true → 1 < input_count (before ∷ after ∷ [])

@@ -7,7 +7,7 @@ use Rattle.clap.specs.Words.{Row, Text}
 use Rattle.acl_names.specs.Ascending.{IsAscending}
 use Rattle.acl_names.specs.Directory.{Known}
 use Rattle.acl_listings.specs.Block.{FileValue, file_of}
-use Rattle.acl_listings.specs.Cursor.{coming, handed}
+use Rattle.acl_listings.specs.Cursor.{blocks_to_come, as_handed_out}
 use Rattle.acl_listings.specs.Listing.{Block, blocks_of}
 use Rattle.acl_listings.specs.declared.fault.BlockFault.{BlockFault}
 use Rattle.acl_listings.proofs.HandedLemmas.{file-handed, path-handed}
@@ -36,25 +36,25 @@ module _ (known : Known) (perms : Option ℕ) where
   Tells = TellsBlock known perms
 
   -- what is told of what is handed out of a block is told of the block
-  told_handed : (block : Block) (text : List ℕ) → Tells (handed block) text → Tells block text
+  told_handed : (block : Block) (text : List ℕ) → Tells (as_handed_out block) text → Tells block text
   told_handed block text tells =
-      tells ∙ ap (text_of_file known perms (handed block)) (file-handed known block.text) ∙ by (file_of known block.text)
+      tells ∙ ap (text_of_file known perms (as_handed_out block)) (file-handed known block.text) ∙ by (file_of known block.text)
     where
-      by : (reading : Result FileValue BlockFault) → text_of_file known perms (handed block) reading ≡ text_of_file known perms block reading
+      by : (reading : Result FileValue BlockFault) → text_of_file known perms (as_handed_out block) reading ≡ text_of_file known perms block reading
       by (Ok file) = refl
       by (Err fault) = ap (fault_text fault block.line) (path-handed block.text)
 
   -- blocks that were told of in turn are those of the listing, or the first of them
 
-  pub told_of_listing : (told : Option (List ℕ)) (seen : List Block) → AreAll (coming 1 told) seen → (text : List ℕ) → TellsInTurn (λ earlier. Tells) seen text → TellsOfListing Tells told text
+  pub told_of_listing : (told : Option (List ℕ)) (seen : List Block) → AreAll (blocks_to_come 1 told) seen → (text : List ℕ) → TellsInTurn (λ earlier. Tells) seen text → TellsOfListing Tells told text
   told_of_listing None seen all text tells = tt
   told_of_listing (Some listing) seen all text tells =
-      each_means handed Tells Tells told_handed (blocks_of listing) text (subst (λ blocks. TellsOfEach Tells blocks text) (sym all) (each_of_turn Tells seen text tells))
+      each_means as_handed_out Tells Tells told_handed (blocks_of listing) text (subst (λ blocks. TellsOfEach Tells blocks text) (sym all) (each_of_turn Tells seen text tells))
 
-  pub told_of_front : (told : Option (List ℕ)) (seen : List Block) → AreFirst (coming 1 told) seen → (text : List ℕ) → TellsInTurn (λ earlier. Tells) seen text → TellsOfFront Tells told text
+  pub told_of_front : (told : Option (List ℕ)) (seen : List Block) → AreFirst (blocks_to_come 1 told) seen → (text : List ℕ) → TellsInTurn (λ earlier. Tells) seen text → TellsOfFront Tells told text
   told_of_front None seen first text tells = tt
   told_of_front (Some listing) seen (left, are) text tells =
-      first_means handed Tells Tells told_handed (blocks_of listing) text
+      first_means as_handed_out Tells Tells told_handed (blocks_of listing) text
       (subst (λ blocks. TellsOfFirst Tells blocks text) (sym are) (each_of_longer Tells seen left text (each_of_turn Tells seen text tells)))
 
 -- who there is by the setup that the words name

@@ -6,7 +6,7 @@ use Rattle.acl_names.specs.Steps.{◌>>=◌, or_fault}
 use Rattle.acl_posix.specs.Mode.{Classes}
 use Rattle.acl_tree.specs.Commands.{root_alone}
 use Rattle.acl_tree.specs.Tree.{NodesUnderUmask}
-use Rattle.acl_tree.specs.declared.node_acl.Style.{Style}
+use Rattle.acl_bridge.specs.declared.style.Style.{Style}
 use Rattle.acl_lang.specs.Texts.{requests_of}
 use Rattle.acl_service.specs.Opened.{IsOpened, Opened, Opens, opened_by, unless}
 use Rattle.acl_service.specs.Runs.{tree_after}

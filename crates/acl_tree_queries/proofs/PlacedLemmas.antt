@@ -5,7 +5,7 @@ use Rattle.std.proofs.lemmas.List.{map-append, take_all, take-append-drop}
 use Rattle.std.proofs.Math.Seq.{take-append-add, take-append_seam}
 use Rattle.acl_tree_queries.specs.ListingText.{TellsInTurn}
 use Rattle.acl_tree_queries.specs.Nodes.{TellsOfEach, TellsOfFirst}
-use Rattle.acl_tree_queries.specs.Placed.{Placed, placed, placed_behind}
+use Rattle.acl_tree_queries.specs.Placed.{Placed, in_places, in_places_after}
 use Rattle.acl_tree_queries.proofs.NodesLemmas.{one_more}
 
 module _ {A : Type 0} where
@@ -14,30 +14,30 @@ module _ {A : Type 0} where
 
   -- ---- where they stand
 
-  placed_at_behind : (earlier more : List A) (place : ℕ) → slice_get (placed_behind earlier more) place ≡ option_map (put (earlier ++ take place more)) (slice_get more place)
+  placed_at_behind : (earlier more : List A) (place : ℕ) → slice_get (in_places_after earlier more) place ≡ option_map (put (earlier ++ take place more)) (slice_get more place)
   placed_at_behind earlier [] place = refl
   placed_at_behind earlier (here ∷ more) zero = ap (λ e. Some (put e here)) (sym (append-nil earlier))
   placed_at_behind earlier (here ∷ more) (suc place) =
       placed_at_behind (earlier ++ here ∷ []) more place ∙ ap (λ e. option_map (put e) (slice_get more place)) (append_assoc earlier (here ∷ []) (take place more))
 
-  pub placed_at : (items : List A) (place : ℕ) → slice_get (placed items) place ≡ option_map (put (take place items)) (slice_get items place)
+  pub placed_at : (items : List A) (place : ℕ) → slice_get (in_places items) place ≡ option_map (put (take place items)) (slice_get items place)
   placed_at items place = placed_at_behind [] items place
 
-  length_behind : (earlier more : List A) → length (placed_behind earlier more) ≡ length more
+  length_behind : (earlier more : List A) → length (in_places_after earlier more) ≡ length more
   length_behind earlier [] = refl
   length_behind earlier (here ∷ more) = ap suc (length_behind (earlier ++ here ∷ []) more)
 
-  pub length_placed : (items : List A) → length (placed items) ≡ length items
+  pub length_placed : (items : List A) → length (in_places items) ≡ length items
   length_placed items = length_behind [] items
 
-  split_behind : (earlier seen left : List A) → placed_behind earlier (seen ++ left) ≡ placed_behind earlier seen ++ placed_behind (earlier ++ seen) left
-  split_behind earlier [] left = ap (λ e. placed_behind e left) (sym (append-nil earlier))
+  split_behind : (earlier seen left : List A) → in_places_after earlier (seen ++ left) ≡ in_places_after earlier seen ++ in_places_after (earlier ++ seen) left
+  split_behind earlier [] left = ap (λ e. in_places_after e left) (sym (append-nil earlier))
   split_behind earlier (here ∷ seen) left =
       ap (λ items. put earlier here ∷ items)
       (split_behind (earlier ++ here ∷ []) seen left
-      ∙ ap (λ e. placed_behind (earlier ++ here ∷ []) seen ++ placed_behind e left) (append_assoc earlier (here ∷ []) seen))
+      ∙ ap (λ e. in_places_after (earlier ++ here ∷ []) seen ++ in_places_after e left) (append_assoc earlier (here ∷ []) seen))
 
-  pub placed_split : (seen left : List A) → placed (seen ++ left) ≡ placed seen ++ placed_behind seen left
+  pub placed_split : (seen left : List A) → in_places (seen ++ left) ≡ in_places seen ++ in_places_after seen left
   placed_split seen left = split_behind [] seen left
 
   -- ---- what is told of them
@@ -47,10 +47,10 @@ module _ {A : Type 0} where
       → TellsInTurn Tells (seen ++ here ∷ []) (told ++ text)
   turn_more Tells seen told each here text tells =
       let Means : Placed A → List ℕ → Type 0 = λ item. Tells item.earlier item.here in
-      subst (λ items. TellsOfEach Means items (told ++ text)) (sym (placed_split seen (here ∷ []))) (one_more Means (placed seen) told each (put seen here) text tells)
+      subst (λ items. TellsOfEach Means items (told ++ text)) (sym (placed_split seen (here ∷ []))) (one_more Means (in_places seen) told each (put seen here) text tells)
 
   -- where those before it play no part
-  each_behind : (Tells : A → List ℕ → Type 0) (earlier items : List A) (text : List ℕ) → TellsOfEach (λ (item : Placed A). Tells item.here) (placed_behind earlier items) text
+  each_behind : (Tells : A → List ℕ → Type 0) (earlier items : List A) (text : List ℕ) → TellsOfEach (λ (item : Placed A). Tells item.here) (in_places_after earlier items) text
       → TellsOfEach Tells items text
   each_behind Tells earlier [] text tells = tells
   each_behind Tells earlier (here ∷ items) text (first, rest, of_here, more, is) = (first, rest, of_here, each_behind Tells (earlier ++ here ∷ []) items rest more, is)
@@ -61,8 +61,8 @@ module _ {A : Type 0} where
   -- where it is known where each of them stands
   module _ (whole : List A) (Tells Means : Placed A → List ℕ → Type 0)
       (means : (item : Placed A) (rest : List A) → whole ≡ item.earlier ++ item.here ∷ rest → (text : List ℕ) → Tells item text → Means item text) where
-    front_in_place : (count : ℕ) (earlier more : List A) → whole ≡ earlier ++ more → (text : List ℕ) → TellsOfEach Tells (take count (placed_behind earlier more)) text
-        → TellsOfEach Means (take count (placed_behind earlier more)) text
+    front_in_place : (count : ℕ) (earlier more : List A) → whole ≡ earlier ++ more → (text : List ℕ) → TellsOfEach Tells (take count (in_places_after earlier more)) text
+        → TellsOfEach Means (take count (in_places_after earlier more)) text
     front_in_place zero earlier more is text tells = tells
     front_in_place (suc count) earlier [] is text tells = tells
     front_in_place (suc count) earlier (here ∷ more) is text (first, rest, of_here, behind, are) = (
@@ -73,13 +73,13 @@ module _ {A : Type 0} where
       are,
     )
 
-    pub first_in_place : (text : List ℕ) → TellsOfFirst Tells (placed whole) text → TellsOfFirst Means (placed whole) text
+    pub first_in_place : (text : List ℕ) → TellsOfFirst Tells (in_places whole) text → TellsOfFirst Means (in_places whole) text
     first_in_place text (count, tells) = (count, front_in_place count [] whole refl text tells)
 
-    pub each_in_place : (text : List ℕ) → TellsOfEach Tells (placed whole) text → TellsOfEach Means (placed whole) text
+    pub each_in_place : (text : List ℕ) → TellsOfEach Tells (in_places whole) text → TellsOfEach Means (in_places whole) text
     each_in_place text tells =
-        let count = length (placed whole) in
-        let all : take count (placed whole) ≡ placed whole = take_all count (placed whole) (omega arith) in
+        let count = length (in_places whole) in
+        let all : take count (in_places whole) ≡ in_places whole = take_all count (in_places whole) (omega arith) in
         subst (λ items. TellsOfEach Means items text) all
         (front_in_place count [] whole refl text (subst (λ items. TellsOfEach Tells items text) (sym all) tells))
 
@@ -88,13 +88,13 @@ module _ {A B : Type 0} (shown : A → B) where
   abbrev pub show_placed : Placed A → Placed B
   show_placed item = record { earlier = each shown item.earlier; here = shown item.here }
 
-  shown_behind : (earlier items : List A) → placed_behind (each shown earlier) (each shown items) ≡ each show_placed (placed_behind earlier items)
+  shown_behind : (earlier items : List A) → in_places_after (each shown earlier) (each shown items) ≡ each show_placed (in_places_after earlier items)
   shown_behind earlier [] = refl
   shown_behind earlier (here ∷ items) =
       ap (λ more. record { earlier = each shown earlier; here = shown here } ∷ more)
-      (ap (λ e. placed_behind e (each shown items)) (sym (map-append shown earlier (here ∷ []))) ∙ shown_behind (earlier ++ here ∷ []) items)
+      (ap (λ e. in_places_after e (each shown items)) (sym (map-append shown earlier (here ∷ []))) ∙ shown_behind (earlier ++ here ∷ []) items)
 
-  pub placed_shown : (items : List A) → placed (each shown items) ≡ each show_placed (placed items)
+  pub placed_shown : (items : List A) → in_places (each shown items) ≡ each show_placed (in_places items)
   placed_shown items = shown_behind [] items
 
 -- ---- what is told of several lists
@@ -147,10 +147,10 @@ module _ {A B : Type 0} (shown : A → B) (Tells : A → List ℕ → Type 0) (M
 
 -- what is so of the thing at a place in a list
 module _ {A : Type 0} (items : List A) (place : ℕ) (P : Placed A → Type 0) where
-  pub no_item : slice_get items place ≡ None → IfSome (slice_get (placed items) place) P
+  pub no_item : slice_get items place ≡ None → IfSome (slice_get (in_places items) place) P
   no_item none = subst (λ found. IfSome found P) (sym (placed_at items place ∙ ap (option_map (put (take place items))) none)) tt
 
-  pub some_item : (here : A) → slice_get items place ≡ Some here → P (put (take place items) here) → IfSome (slice_get (placed items) place) P
+  pub some_item : (here : A) → slice_get items place ≡ Some here → P (put (take place items) here) → IfSome (slice_get (in_places items) place) P
   some_item here is holds = subst (λ found. IfSome found P) (sym (placed_at items place ∙ ap (option_map (put (take place items))) is)) holds
 
 -- what is told of the next of some things, if there is one more

@@ -1,5 +1,8 @@
 -- The places of the blocks that have a path, and the marks of those that were met.
-use Rattle.std.proofs.Common.{◌≡◌, ◌∙◌, ◌<◌, ◌&&◌, ◌||◌, ◌++◌, ℕ, zero, suc, Bool, true, false, cond, List, [], ◌∷◌, Option, Some, None, ap, arith, bytes_eq, get_or, is_none, is_some, length, map as each, nat_lt, not, option_and_then, option_copied, option_map, refl, replicate, set, subst, sym, take}
+use Rattle.std.proofs.Common.{◌≡◌, ◌∙◌, ◌<◌, ◌&&◌, ◌||◌, ◌++◌, ℕ, zero, suc, Bool, true, false, cond, List}
+use Rattle.std.proofs.Common.{[], ◌∷◌, Option, Some, None, ap, arith, bytes_eq, get_or, is_none, is_some}
+use Rattle.std.proofs.Common.{length, map as each, nat_lt, not, option_and_then, option_copied, option_map}
+use Rattle.std.proofs.Common.{refl, replicate, set, subst, sym, take}
 use Rattle.std.specs.Borrow.{Bor}
 use Rattle.std.specs.List.{find, list_any}
 use Rattle.std.specs.Option.{option_map_or}
@@ -15,7 +18,7 @@ use Rattle.acl_names.proofs.AnyLemmas.{list_any-agree, list_any-map}
 use Rattle.acl_names.specs.Directory.{Known}
 use Rattle.acl_listings.specs.Block.{path_of}
 use Rattle.acl_listings.specs.Listing.{Block}
-use Rattle.acl_tree_queries.specs.ChangeSteps.{AreMet, is_marked, is_met, is_place, marked}
+use Rattle.acl_tree_queries.specs.ChangeSteps.{AreMet, is_marked, is_met, is_place, with_mark}
 use Rattle.acl_tree_queries.specs.Kept.{first_place, has_path, is_earlier, place_of}
 use Rattle.acl_tree_queries.specs.Readings.{Reading, is_among, is_at, reading_of, repeats, repeats_one_of}
 
@@ -241,7 +244,7 @@ or_true false = refl
 
 module _ (before seen : List Block) (met : List Bool) (are : AreMet before seen met) (block : Block) where
   -- the marks of one block more
-  pub met_more : AreMet before (seen ++ block ∷ []) (marked met (place_of before block.text))
+  pub met_more : AreMet before (seen ++ block ∷ []) (with_mark met (place_of before block.text))
   met_more = by (place_of before block.text) refl
     where
       more : (place : ℕ) (found : Option ℕ) → place_of before block.text ≡ found → is_met before (seen ++ block ∷ []) place ≡ (is_met before seen place || is_place place found)
@@ -250,7 +253,7 @@ module _ (before seen : List Block) (met : List Bool) (are : AreMet before seen 
           ∙ ap (λ found. is_met before seen place || (is_place place found || false)) is
           ∙ ap (λ b. is_met before seen place || b) (or-false (is_place place found))
 
-      by : (found : Option ℕ) → place_of before block.text ≡ found → AreMet before (seen ++ block ∷ []) (marked met found)
+      by : (found : Option ℕ) → place_of before block.text ≡ found → AreMet before (seen ++ block ∷ []) (with_mark met found)
       by None is = record {
         count = are.count;
         each = λ place within. are.each place within ∙ sym (more place None is ∙ or-false (is_met before seen place));

@@ -53,9 +53,9 @@ abbrev pub is_marked : List Bool → Option ℕ → Bool
 is_marked met None = false
 is_marked met (Some place) = get_or met place false
 
-abbrev pub marked : List Bool → Option ℕ → List Bool
-marked met None = met
-marked met (Some place) = set met place true
+abbrev pub with_mark : List Bool → Option ℕ → List Bool
+with_mark met None = met
+with_mark met (Some place) = set met place true
 
 -- from one state to the other it was told of these blocks after
 pub record HasTold (first : ChangeText) (seen : List Block) (last : ChangeText) : Type 0 where

@@ -1,7 +1,7 @@
 -- The lines of a dump.
 use Rattle.std.specs.Prelude.{◌≡◌, ◌<◌, ◌++◌, ℕ, List, [], ◌∷◌, All, Contains, codes, length}
 use Rattle.acl_names.specs.Bytes.{newline}
-use Rattle.acl_audit.specs.Dump.{making}
+use Rattle.acl_audit.specs.Dump.{make_commands}
 use Rattle.acl_tree.specs.Requests.{NamesAPath}
 use Rattle.acl_tree.specs.Tree.{NodesUnderUmask}
 use Rattle.acl_tree.specs.declared.request.Request.{Request}
@@ -22,7 +22,7 @@ abbrev pub closing_line : List ℕ
 closing_line = codes "set / access u::-,g::-,o::-"
 
 abbrev pub dump_text : NodesUnderUmask → List ℕ
-dump_text tree = (closing_line ++ newline ∷ []) ++ session_text (making tree)
+dump_text tree = (closing_line ++ newline ∷ []) ++ session_text (make_commands tree)
 
 -- a text grew by the lines of these requests
 pub record AddsLines (requests : List Request) (old new : List ℕ) : Type 0 where

@@ -19,7 +19,7 @@ use Rattle.acl_tree_queries.specs.ImpactText.{impact_text, new_text}
 use Rattle.acl_tree_queries.specs.ListingText.{fault_text, node_of}
 use Rattle.acl_tree_queries.specs.Listings.{AreListedTwice, ListedTwice, two_listings_in}
 use Rattle.acl_tree_queries.specs.Nodes.{TellsOfEach, TellsOfFirst}
-use Rattle.acl_tree_queries.specs.Placed.{Placed, placed}
+use Rattle.acl_tree_queries.specs.Placed.{Placed, in_places}
 use Rattle.acl_tree_queries.specs.QuestionMeaning.{listing_meaning}
 use Rattle.acl_tree_queries.specs.Readings.{Reading, is_among, is_at, reading_of, repeats}
 use Rattle.acl_tree_queries.specs.Readings.{repeats_one_of, unless_repeated}
@@ -33,8 +33,8 @@ pub data Item : Type 0 where
   Gone : Placed Reading → Item
 
 abbrev pub items_of : List Reading → List Reading → List Item
-items_of before after = map Before (placed before) ++ (map After (placed after)
-    ++ map Gone (placed before))
+items_of before after = map Before (in_places before) ++ (map After (in_places after)
+    ++ map Gone (in_places before))
 
 -- the line of a block that doesn't read
 abbrev pub fault_in : Reading → Result FileValue BlockFault → List ℕ

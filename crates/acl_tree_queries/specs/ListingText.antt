@@ -8,7 +8,7 @@ use Rattle.acl_listings.specs.Faults.{fault_word}
 use Rattle.acl_listings.specs.Listing.{Block, blocks_of}
 use Rattle.acl_listings.specs.declared.fault.BlockFault.{BlockFault}
 use Rattle.acl_tree_queries.specs.Nodes.{TellsOfEach, TellsOfFirst}
-use Rattle.acl_tree_queries.specs.Placed.{placed}
+use Rattle.acl_tree_queries.specs.Placed.{in_places}
 
 -- a listed file as a node: default lists decide no access
 abbrev pub node_of : FileValue → Node
@@ -35,7 +35,7 @@ TellsOfFront Tells told text = IfSome told (λ listing. TellsOfFirst Tells (bloc
 -- a text is what is told of each of these, one after the other, each after those before it
 abbrev pub TellsInTurn : {A : Type 0} → (List A → A → List ℕ → Type 0) → List A → List ℕ → Type 0
 TellsInTurn Tells items text =
-    TellsOfEach (λ item. Tells item.earlier item.here) (placed items) text
+    TellsOfEach (λ item. Tells item.earlier item.here) (in_places items) text
 
 -- all blocks that were to come were seen, if it is known which
 abbrev pub AreAll : Option (List Block) → List Block → Type 0

@@ -7,11 +7,11 @@ pub record Placed (A : Type 0) : Type 0 where
   pub here : A
 
 -- each of them, behind these
-abbrev pub placed_behind : {A : Type 0} → List A → List A → List (Placed A)
-placed_behind earlier [] = []
-placed_behind earlier (here ∷ more) =
-    record { earlier = earlier; here = here } ∷ placed_behind (earlier ++ here ∷ []) more
+abbrev pub in_places_after : {A : Type 0} → List A → List A → List (Placed A)
+in_places_after earlier [] = []
+in_places_after earlier (here ∷ more) =
+    record { earlier = earlier; here = here } ∷ in_places_after (earlier ++ here ∷ []) more
 
 -- each of them in its place
-abbrev pub placed : {A : Type 0} → List A → List (Placed A)
-placed items = placed_behind [] items
+abbrev pub in_places : {A : Type 0} → List A → List (Placed A)
+in_places items = in_places_after [] items

@@ -2,7 +2,7 @@
 ghost use Rattle.std.specs.Prelude.{◌≡◌, ◌++◌, ◌∷◌, ℕ, IfErr, IfOk, List, [], Ok, OnErr, OnOk};
 ghost use Rattle.std.specs.Io.KnownBytes.{Appends, Keeps};
 ghost use Rattle.acl_listings.specs.Block.{file_of, path_of};
-ghost use Rattle.acl_listings.specs.Cursor.{coming};
+ghost use Rattle.acl_listings.specs.Cursor.{blocks_to_come};
 ghost use Rattle.acl_listings.specs.Faults.{IsFaultOf};
 ghost use Rattle.acl_listings.specs.Listing.{Block as BlockValue};
 ghost use Rattle.acl_listings.specs.Views.{view_file};
@@ -140,11 +140,11 @@ pub(crate) fn write_blocks<T: BlockText, R: Read + Drop, W: Write>(
 ) -> Result<(), BlocksFault>
     requires { T.Told teller.old [] teller.old }
     ensures written { OnOk result ((seen : List BlockValue) × (text : List ℕ)
-        × AreAll (coming 1 (R.remaining reader)) seen × T.Told teller.old seen teller.new
+        × AreAll (blocks_to_come 1 (R.remaining reader)) seen × T.Told teller.old seen teller.new
         × TellsInTurn (T.Tells teller.old) seen text
         × Appends (W.contents out.old) (W.contents out.new) text) }
     ensures cut { OnErr result ((seen : List BlockValue) × (text : List ℕ)
-        × AreFirst (coming 1 (R.remaining reader)) seen
+        × AreFirst (blocks_to_come 1 (R.remaining reader)) seen
         × TellsInTurn (T.Tells teller.old) seen text
         × AppendsFront (W.contents out.old) (W.contents out.new) text) }
     ensures refused { IfErr result IsBlocksFault }

@@ -6,7 +6,7 @@ ghost use Rattle.std.specs.Ordering.{nat_cmp};
 ghost use Rattle.std.specs.Io.KnownBytes.{Appends, Keeps};
 ghost use Rattle.clap.specs.Words.{found_of, rows_of};
 ghost use Rattle.acl_names.specs.Ascending.{IsAscending};
-ghost use Rattle.acl_listings.specs.Cursor.{coming};
+ghost use Rattle.acl_listings.specs.Cursor.{blocks_to_come};
 ghost use Rattle.acl_listings.specs.Listing.{Block as BlockValue};
 ghost use Rattle.acl_queries.specs.Output.{AppendsFront};
 ghost use Rattle.acl_service.specs.Opened.{Opens};
@@ -117,12 +117,12 @@ pub(crate) fn write_listing<'a, F: OpenFiles, I: Read, T: BlockText, W: Write>(
 ) -> Result<(), QuestionFault<'a>>
     requires { T.Told teller.old [] teller.old }
     ensures written { OnOk result ((seen : List BlockValue) × (text : List ℕ)
-        × AreAll (coming 1
+        × AreAll (blocks_to_come 1
         (bytes_of_session (F.bytes_of files.now) (I.remaining input.old) name.entry.now)) seen
         × TellsInTurn (T.Tells teller.old) seen text
         × Appends (W.contents out.old) (W.contents out.new) text) }
     ensures cut { OnErr result ((seen : List BlockValue) × (text : List ℕ)
-        × AreFirst (coming 1
+        × AreFirst (blocks_to_come 1
         (bytes_of_session (F.bytes_of files.now) (I.remaining input.old) name.entry.now)) seen
         × TellsInTurn (T.Tells teller.old) seen text
         × AppendsFront (W.contents out.old) (W.contents out.new) text) }

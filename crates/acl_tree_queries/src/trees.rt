@@ -67,7 +67,7 @@ fn read_named<'a, F: OpenFiles, I: Read>(
     requires { input_count (all_names (option_map shown_names names)) ≤ 1 }
     ensures short { IfOk result (λ texts. All (λ text. length text.items ≤ MAX_TEXT_LEN)
         texts.items) }
-    ensures told { IfOk result (λ texts. HaveBytes (F.bytes_of files.now) (I.remaining input.old)
+    ensures bytes { IfOk result (λ texts. HaveBytes (F.bytes_of files.now) (I.remaining input.old)
         (all_names (option_map shown_names names.entry)) texts.items) }
     ensures untouched { input_count (all_names (option_map shown_names names.entry)) ≡ 0
         → input.new ≡ input.old }

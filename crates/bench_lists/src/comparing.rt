@@ -41,12 +41,9 @@ fn are_alike(alloc: Global, first: &Acl, second: &Acl) -> Option<bool> {
 }
 
 /// Whether requests of several permissions are.
-fn are_alike_as_a_whole(alloc: Global, first: &Acl, second: &Acl) -> Option<bool> {
+fn are_alike_as_a_whole(first: &Acl, second: &Acl) -> Option<bool> {
     let owners = owners()?;
-    match whole_request_difference(alloc, first, &owners, second, &owners) {
-        Ok(found) => Some(found.is_none()),
-        Err(_) => None,
-    }
+    Some(whole_request_difference(first, &owners, second, &owners).is_none())
 }
 
 fn times_compared(alloc: Global, first: &[u8], second: &[u8], rounds: u32) -> Option<u64> {
@@ -64,7 +61,7 @@ fn times_compared_whole(alloc: Global, first: &[u8], second: &[u8], rounds: u32)
     let second = acl_of(alloc, second)?;
     let mut alike: u64 = 0;
     for _ in 0..rounds {
-        alike = alike.wrapping_add(u64::from(are_alike_as_a_whole(alloc, &first, &second)?));
+        alike = alike.wrapping_add(u64::from(are_alike_as_a_whole(&first, &second)?));
     }
     Some(alike)
 }

@@ -1,13 +1,13 @@
 //! What a listing tells, a line for each block: its number, and the path, the owner, the group and
 //! the list of its file in the short text form; or `fault`, the word and the path.
 use acl_listings::{Blocks, File, FileFault, path_of, read_file};
-use acl_names::{Directory, push_id};
+use acl_names::{Directory, push_decimal};
 use std::alloc::Global;
 use std::io::Read;
 use tests_common::directory;
 
 fn push_number(number: u32, out: &mut Vec<u8>) -> Option<()> {
-    push_id(None, number, out).ok()
+    push_decimal(number, out).ok()
 }
 
 fn push_file(file: &File<'_>, out: &mut Vec<u8>) -> Option<()> {

@@ -2,3 +2,4 @@
 mod comparison;
 mod refused_growths;
 mod sizes;
+mod style;

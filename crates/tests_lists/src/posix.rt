@@ -1,5 +1,7 @@
 //! Worked examples.
 mod access;
+mod acl_text;
+mod bits;
 mod fixture;
 mod hostile;
 mod mode;

@@ -12,39 +12,41 @@ ghost use Rattle.acl_posix.specs.Perms.{bits_of};
 ghost use Rattle.acl_posix.specs.Validity.{IsValid};
 
 use crate::{Acl, Entry, Perms, Tag};
-use acl_names::{Gid, Requester, Uid};
+use acl_names::{Gid, Subject, Uid};
 use bitflags::Flags;
 
 impl Acl {
-    /// Whether the requester may do all of what is requested with a file of this owner and this
+    /// Whether the subject may do all of what is requested with a file of this owner and this
     /// group: the access check of 1003.1e draft 17, section 23. The owner's entry decides for the
     /// owner, else the user's own entry, else the entries for the file's group and for groups by
-    /// their ids of which the requester is in some: one of them must have all of the request. Else
+    /// their ids of which the subject is in some: one of them must have all of the request. Else
     /// the others' entry decides. If there is a mask, the entries for users, the file's group and
     /// groups give no more than the mask has. It takes no memory.
-    pub fn grants(&self, owner: Uid, group: Gid, requester: &Requester, request: Perms) -> bool
-        ensures value { result ≡ grants self.now owner group requester.now (bits_of request) }
+    pub fn grants<S: Subject>(&self, owner: Uid, group: Gid, subject: &S, request: Perms) -> bool
+        ensures value { result
+            ≡ grants self.now owner group (S.identity subject.now) (bits_of request) }
 
         // The entries count as a set: in any other order they answer alike.
         ensures any_order { (entries : List EntryValue) → IsPermutation self.now entries
-            → result ≡ grants entries owner group requester.now (bits_of request) }
+            → result ≡ grants entries owner group (S.identity subject.now) (bits_of request) }
     {
-        self.decide(owner, group, requester, request)
+        self.decide(owner, group, subject, request)
     }
 
     /// The same, step by step.
     #[inline(always)]
-    fn decide(&self, owner: Uid, group: Gid, requester: &Requester, request: Perms) -> bool
+    fn decide<S: Subject>(&self, owner: Uid, group: Gid, subject: &S, request: Perms) -> bool
         ensures valid { IsValid self.now }
-        ensures value { result ≡ grants self.now owner group requester.now (bits_of request) }
+        ensures value { result
+            ≡ grants self.now owner group (S.identity subject.now) (bits_of request) }
     {
-        let uid = requester.uid();
+        let uid = subject.uid();
         if uid == owner {
             return self.first_has(request);
         }
         match self.user_answer(uid, request) {
             Some(answer) => answer,
-            None => match self.group_answer(requester, group, request) {
+            None => match self.group_answer(subject, group, request) {
                 Some(answer) => answer,
                 None => self.last_has(request),
             },
@@ -96,13 +98,14 @@ impl Acl {
         }
     }
 
-    /// Whether an entry for a group of the requester, and the mask, have all of the request, if
-    /// there is such an entry.
-    fn group_answer(&self, requester: &Requester, group: Gid, request: Perms) -> Option<bool>
+    /// Whether an entry for a group of the subject, and the mask, have all of the request, if there
+    /// is such an entry.
+    fn group_answer<S: Subject>(&self, subject: &S, group: Gid, request: Perms) -> Option<bool>
         ensures valid { IsValid self.now }
-        ensures value { result ≡ group_answer self.now group requester.now (bits_of request) }
+        ensures value { result
+            ≡ group_answer self.now group (S.identity subject.now) (bits_of request) }
     {
-        match groups_answer(self.entries(), requester, group, request) {
+        match groups_answer(self.entries(), subject, group, request) {
             Some(granted) => Some(granted && self.mask_allows(request)),
             None => None,
         }
@@ -119,19 +122,19 @@ impl Acl {
     }
 }
 
-/// Whether one of the entries for a group of the requester has all of the request, if there are
-/// such entries. It looks at each entry once, and no further than the first that has it.
-fn groups_answer(
+/// Whether one of the entries for a group of the subject has all of the request, if there are such
+/// entries. It looks at each entry once, and no further than the first that has it.
+fn groups_answer<S: Subject>(
     entries: &[Entry],
-    requester: &Requester,
+    subject: &S,
     group: Gid,
     request: Perms,
 ) -> Option<bool>
-    ensures { result ≡ groups_answer entries.now group requester.now (bits_of request) }
+    ensures { result ≡ groups_answer entries.now group (S.identity subject.now) (bits_of request) }
 {
     let mut answer = None;
     for entry in entries {
-        if is_for_group_of(requester, group, &entry.tag) {
+        if is_for_group_of(subject, group, &entry.tag) {
             if entry.perms.contains(request) {
                 return Some(true);
             }
@@ -141,13 +144,13 @@ fn groups_answer(
     answer
 }
 
-/// Whether it is the tag of a group that the requester is in: the file's group, or one by its id.
-fn is_for_group_of(requester: &Requester, group: Gid, tag: &Tag) -> bool
-    ensures { result ≡ is_for_group_of requester.now group tag.now }
+/// Whether it is the tag of a group that the subject is in: the file's group, or one by its id.
+fn is_for_group_of<S: Subject>(subject: &S, group: Gid, tag: &Tag) -> bool
+    ensures { result ≡ is_for_group_of (S.identity subject.now) group tag.now }
 {
     match tag {
-        Tag::GroupObj => requester.is_in_group(group),
-        Tag::Group(gid) => requester.is_in_group(*gid),
+        Tag::GroupObj => subject.is_in_group(group),
+        Tag::Group(gid) => subject.is_in_group(*gid),
         _ => false,
     }
 }

@@ -3,9 +3,10 @@
 ghost use Rattle.std.specs.Prelude.{◌≡◌, ◌≤◌, length, map, IfOk, IsOk, IfSome, option_map};
 ghost use Rattle.acl_posix.specs.Entry.{EntryValue};
 ghost use Rattle.acl_posix.specs.Mode.{mode_of, mode_perms, perms_at, group_class_tag, set_to};
-ghost use Rattle.acl_posix.specs.Mode.{met_with, chmod, at_creation, of_mode, calc_mask};
+ghost use Rattle.acl_posix.specs.Mode.{limit_to, chmod, at_creation, of_mode, calc_mask};
 ghost use Rattle.acl_posix.specs.Perms.{bits_of, IsPermissions};
 ghost use Rattle.acl_posix.specs.Access.{is_under_mask};
+ghost use Rattle.acl_posix.specs.declared.limits.TheConstants.{INLINE_ENTRIES};
 
 use crate::{Acl, Entry, Mode, Perms, Tag};
 use bitflags::Flags;
@@ -44,8 +45,8 @@ fn set_to(group_class: &Tag, mode: Mode, entry: Entry) -> Entry
 }
 
 /// The entry with no more than what the mode says of it.
-fn met_with(group_class: &Tag, mode: Mode, entry: Entry) -> Entry
-    ensures { result ≡ met_with group_class.now mode entry }
+fn limit_to(group_class: &Tag, mode: Mode, entry: Entry) -> Entry
+    ensures { result ≡ limit_to group_class.now mode entry }
 {
     match mode_perms(group_class, mode, entry.tag) {
         Some(perms) => Entry {
@@ -64,11 +65,11 @@ fn set_all(entries: &mut [Entry], group_class: &Tag, mode: Mode)
     }
 }
 
-fn meet_all(entries: &mut [Entry], group_class: &Tag, mode: Mode)
-    ensures { entries.new ≡ map (met_with group_class.now mode) entries.old }
+fn limit_all(entries: &mut [Entry], group_class: &Tag, mode: Mode)
+    ensures { entries.new ≡ map (limit_to group_class.now mode) entries.old }
 {
     for entry in entries.iter_mut() {
-        *entry = met_with(group_class, mode, *entry);
+        *entry = limit_to(group_class, mode, *entry);
     }
 }
 
@@ -124,15 +125,15 @@ impl Acl {
 
     /// The access control list of a new file with this mode, under a default access control list
     /// (1003.1e draft 17, section 23): the default list, its entries for the owner, the group class
-    /// and the others met with the mode's bits. Fails only if memory runs out, and not up to 8
-    /// entries.
+    /// and the others met with the mode's bits. Fails only if memory runs out, and not up to
+    /// `INLINE_ENTRIES`.
     pub fn at_creation(alloc: Global, default: &Acl, mode: Mode) -> Result<Acl, AllocError>
         ensures value { IfOk result (λ acl. acl ≡ at_creation default.now mode) }
-        ensures short { length default.now ≤ 8 → IsOk result }
+        ensures short { length default.now ≤ INLINE_ENTRIES → IsOk result }
     {
         let group_class = default.group_class_tag();
         let mut sorted = SmallVec::from_slice(alloc, default.sorted.as_slice())?;
-        meet_all(sorted.as_mut_slice(), &group_class, mode);
+        limit_all(sorted.as_mut_slice(), &group_class, mode);
         Ok(Acl { sorted })
     }
 
@@ -150,10 +151,10 @@ impl Acl {
         all
     }
 
-    /// The same list. It fails only if memory runs out, and not up to 8 entries.
+    /// The same list. It fails only if memory runs out, and not up to `INLINE_ENTRIES`.
     pub fn try_clone(&self, alloc: Global) -> Result<Acl, AllocError>
         ensures value { IfOk result (λ acl. acl ≡ self.now) }
-        ensures short { length self.now ≤ 8 → IsOk result }
+        ensures short { length self.now ≤ INLINE_ENTRIES → IsOk result }
     {
         let sorted = SmallVec::from_slice(alloc, self.sorted.as_slice())?;
         Ok(Acl { sorted })

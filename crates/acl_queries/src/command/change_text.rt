@@ -3,7 +3,7 @@ ghost use Rattle.std.specs.Prelude.{◌≡◌, ◌++◌, OnOk};
 ghost use Rattle.acl_nfs4.specs.Mask.{mask_bits};
 ghost use Rattle.acl_queries.specs.Differences.{bits_text, gids_text};
 
-use acl_names::{Gid, push_id};
+use acl_names::{Gid, push_decimal};
 use acl_nfs4::{Mask, push_mask};
 use bitflags::Flags;
 use std::alloc::AllocError;
@@ -19,13 +19,13 @@ pub fn push_gids(
 {
     match (gid, other_gid) {
         (None, None) => out.push(b'-')?,
-        (Some(gid), None) => push_id(None, gid.value(), out)?,
-        (None, Some(gid)) => push_id(None, gid.value(), out)?,
+        (Some(gid), None) => push_decimal(gid.value(), out)?,
+        (None, Some(gid)) => push_decimal(gid.value(), out)?,
         (Some(gid), Some(other)) => {
-            push_id(None, gid.value(), out)?;
+            push_decimal(gid.value(), out)?;
             if gid != other {
                 out.push(b',')?;
-                push_id(None, other.value(), out)?;
+                push_decimal(other.value(), out)?;
             }
         }
     }

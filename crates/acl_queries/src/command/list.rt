@@ -1,42 +1,23 @@
 //! Lists of either style, as fields write them: with ids, for the directory has no names.
 ghost use Rattle.std.specs.Prelude.{◌≡◌, Ok, IfErr, IfOk};
 ghost use Rattle.clap.specs.Words.{found_of, rows_of};
-ghost use Rattle.acl_queries.specs.ListField.{aces_of, list_in, list_of, style_of};
+ghost use Rattle.acl_queries.specs.ListField.{aces_of, list_in, list_of};
 ghost use Rattle.acl_queries.specs.Faults.{Explains};
 
 use super::acl::{empty_directory, read_acl};
 use super::fields::text_field;
 use super::query_fault::{FieldFault, QueryFault};
+use acl_bridge::Style;
 use acl_nfs4::{Acl4, read_aces};
-use acl_posix::Acl;
+use acl_posix::{Acl, AclFault};
 use clap::ArgMatches;
 use std::alloc::Global;
-
-/// A style of access control lists.
-#[derive(Clone, Copy, Debug, PartialEq, Eq)]
-pub(crate) enum Style {
-    Posix,
-    Nfs4,
-}
 
 /// An access control list of either style.
 #[derive(Drop)]
 pub(crate) enum AnyAcl {
     Posix(Acl),
     Nfs4(Acl4),
-}
-
-/// The style that a text names.
-fn read_style(text: &str) -> Result<Style, FieldFault>
-    ensures { result ≡ style_of text.now }
-{
-    if text == "posix" {
-        Ok(Style::Posix)
-    } else if text == "nfs4" {
-        Ok(Style::Nfs4)
-    } else {
-        Err(FieldFault::BadStyle)
-    }
 }
 
 /// The NFSv4 list that a text spells.
@@ -71,10 +52,12 @@ pub(crate) fn list_field(
     ensures refused { IfErr result (Explains (list_in style_name.now text_name.now
         (rows_of (found_of matches.now)))) }
 {
-    let style = read_style(text_field(matches, style_name).ok_or(FieldFault::BadStyle)?)?;
+    let style = text_field(matches, style_name)
+        .and_then(|name| Style::read(name))
+        .ok_or(FieldFault::BadStyle)?;
     read_list(
         alloc,
         style,
-        text_field(matches, text_name).ok_or(FieldFault::BadAcl)?,
+        text_field(matches, text_name).ok_or(FieldFault::Acl(AclFault::BadAcl))?,
     )
 }

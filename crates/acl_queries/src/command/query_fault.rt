@@ -3,7 +3,7 @@ ghost use Rattle.std.specs.Prelude.{◌≡◌};
 
 use crate::{CommandFault, ErrorOutput, RunFault};
 use acl_nfs4::AceFault;
-use acl_posix::{Invalid, TextFault};
+use acl_posix::{AclFault, ReadAclFault};
 use clap::error::ErrorKind;
 use std::alloc::{AllocError, AllocFailed};
 use std::io::Write;
@@ -13,14 +13,11 @@ use std::io::Write;
 pub enum FieldFault {
     /// An id is no decimal.
     BadId,
-    /// There are more than 32 groups, or more than 64 entries.
+    /// There are more than 32 groups.
     TooMany,
     BadPerms,
-    BadAcl,
-    /// An entry names someone whom the directory lacks.
-    UnknownName,
-    /// The entries are no access control list.
-    InvalidAcl,
+    /// A text spells no list.
+    Acl(AclFault),
     /// No style of list has this name.
     BadStyle,
     /// An entry has an effect neither where it stands nor below.
@@ -38,9 +35,7 @@ impl FieldFault {
             FieldFault::BadId => "bad-id",
             FieldFault::TooMany => "too-many",
             FieldFault::BadPerms => "bad-perms",
-            FieldFault::BadAcl => "bad-acl",
-            FieldFault::UnknownName => "unknown-name",
-            FieldFault::InvalidAcl => "invalid-acl",
+            FieldFault::Acl(fault) => fault.word(),
             FieldFault::BadStyle => "bad-style",
             FieldFault::InheritOnly => "inherit-only",
         }
@@ -124,17 +119,15 @@ impl From<FieldFault> for QueryFault {
     }
 }
 
-impl From<TextFault> for QueryFault {
-    ghost use Rattle.acl_queries.specs.Faults.{fault_of_text};
+impl From<ReadAclFault> for QueryFault {
+    ghost use Rattle.acl_queries.specs.Faults.{fault_of_acl};
 
-    ghost from_gives = { λ text becomes. becomes ≡ fault_of_text text };
+    ghost from_gives = { λ acl becomes. becomes ≡ fault_of_acl acl };
 
-    fn from(fault: TextFault) -> QueryFault {
+    fn from(fault: ReadAclFault) -> QueryFault {
         match fault {
-            TextFault::Syntax => QueryFault::Field(FieldFault::BadAcl),
-            TextFault::UnknownName => QueryFault::Field(FieldFault::UnknownName),
-            TextFault::TooMany => QueryFault::Field(FieldFault::TooMany),
-            TextFault::Memory => QueryFault::Run(RunFault::Memory),
+            ReadAclFault::Acl(fault) => QueryFault::Field(FieldFault::Acl(fault)),
+            ReadAclFault::Memory => QueryFault::Run(RunFault::Memory),
         }
     }
 }
@@ -146,24 +139,11 @@ impl From<AceFault> for QueryFault {
 
     fn from(fault: AceFault) -> QueryFault {
         match fault {
-            AceFault::Syntax => QueryFault::Field(FieldFault::BadAcl),
-            AceFault::UnknownName => QueryFault::Field(FieldFault::UnknownName),
-            AceFault::TooMany => QueryFault::Field(FieldFault::TooMany),
+            AceFault::Syntax => QueryFault::Field(FieldFault::Acl(AclFault::BadAcl)),
+            AceFault::UnknownName => QueryFault::Field(FieldFault::Acl(AclFault::UnknownName)),
+            AceFault::TooMany => QueryFault::Field(FieldFault::Acl(AclFault::TooMany)),
             AceFault::InheritOnly => QueryFault::Field(FieldFault::InheritOnly),
             AceFault::Memory => QueryFault::Run(RunFault::Memory),
-        }
-    }
-}
-
-impl From<Invalid> for QueryFault {
-    ghost use Rattle.acl_queries.specs.Faults.{fault_of_invalid};
-
-    ghost from_gives = { λ invalid becomes. becomes ≡ fault_of_invalid invalid };
-
-    fn from(fault: Invalid) -> QueryFault {
-        match fault {
-            Invalid::Memory => QueryFault::Run(RunFault::Memory),
-            _ => QueryFault::Field(FieldFault::InvalidAcl),
         }
     }
 }

@@ -70,7 +70,7 @@ fn between_posix_lists(
 {
     match posix_difference(alloc, first, owners, second, owners)? {
         Some(difference) => Ok(Some(difference)),
-        None => whole_request_difference(alloc, first, owners, second, owners),
+        None => Ok(whole_request_difference(first, owners, second, owners)),
     }
 }
 

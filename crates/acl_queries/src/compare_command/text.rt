@@ -3,7 +3,7 @@ ghost use Rattle.std.specs.Prelude.{◌≡◌, ◌++◌, IfOk, OnOk};
 ghost use Rattle.acl_queries.specs.Differences.{comparison_text, difference_text};
 
 use crate::command::change_text::{push_bits, push_gids};
-use acl_names::push_id;
+use acl_names::push_decimal;
 use acl_nfs4::Difference;
 use std::alloc::{AllocError, Global};
 
@@ -12,7 +12,7 @@ fn push_difference(difference: &Difference, out: &mut Vec<u8>) -> Result<(), All
     ensures { OnOk result (out.new.items ≡ out.old.items ++ difference_text difference.now) }
 {
     out.extend_from_slice("differ\nrequester ".as_bytes())?;
-    push_id(None, difference.asker.uid.value(), out)?;
+    push_decimal(difference.asker.uid.value(), out)?;
     out.push(b' ')?;
     push_gids(difference.asker.gid, difference.asker.other_gid, out)?;
     out.extend_from_slice("\nlost ".as_bytes())?;

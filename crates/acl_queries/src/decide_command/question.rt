@@ -13,7 +13,7 @@ use crate::command::perms::perms_field;
 use crate::command::query::Query;
 use crate::command::query_fault::{FieldFault, QueryFault};
 use acl_names::{Gid, Requester, Uid};
-use acl_posix::{Acl, Perms};
+use acl_posix::{Acl, AclFault, Perms};
 use clap::ArgMatches;
 use std::alloc::{AllocError, Global};
 use std::marker::Model;
@@ -65,7 +65,7 @@ fn acl_field(alloc: Global, matches: &ArgMatches<'_>) -> Result<Acl, QueryFault>
 {
     read_acl(
         alloc,
-        text_field(matches, "text").ok_or(FieldFault::BadAcl)?,
+        text_field(matches, "text").ok_or(FieldFault::Acl(AclFault::BadAcl))?,
     )
 }
 

@@ -1,16 +1,15 @@
 //! What the table of a setup says.
-ghost use Rattle.std.specs.Prelude.{◌≡◌, option_map};
 ghost use Rattle.toml.specs.View.{table_view};
-ghost use Rattle.acl_service.specs.Setup.{mode_of, root_in, setup_in, style_of};
+ghost use Rattle.acl_service.specs.Setup.{root_in, setup_in};
 ghost use Rattle.acl_service.specs.SetupTable.{IsReadingOf};
 ghost use Rattle.acl_service.specs.Shown.{root_shown, setup_shown};
 
 use super::fault::SetupError;
 use super::value::{FromValue, gid_at, items_at, table_at, text_at, texts_at, uid_at};
+use acl_bridge::Style;
 use acl_names::{Directory, Group, User};
-use acl_posix::{Mode, Perms};
-use acl_tree::{Style, Tree};
-use bitflags::Flags;
+use acl_posix::Mode;
+use acl_tree::Tree;
 use std::alloc::Global;
 use toml::{Table, Value};
 
@@ -69,31 +68,6 @@ impl FromValue for Group {
     }
 }
 
-/// Three octal digits.
-pub fn read_mode(text: &str) -> Option<Mode>
-    ensures { result ≡ mode_of text.now }
-{
-    match text.as_bytes() {
-        [user @ b'0'..=b'7', group @ b'0'..=b'7', other @ b'0'..=b'7'] => Some(Mode {
-            user: Perms::from_bits_retain(*user - b'0'),
-            group: Perms::from_bits_retain(*group - b'0'),
-            other: Perms::from_bits_retain(*other - b'0'),
-        }),
-        _ => None,
-    }
-}
-
-/// `posix` or `nfs4`.
-pub fn read_style(text: &str) -> Option<Style>
-    ensures { result ≡ style_of text.now }
-{
-    match text {
-        "posix" => Some(Style::Posix),
-        "nfs4" => Some(Style::Nfs4),
-        _ => None,
-    }
-}
-
 #[tactic(auto, unfolding(crate::specs::Setup::root_in))]
 fn read_root(alloc: Global, table: &Table) -> Result<Root, SetupError>
     ensures { IsReadingOf root_shown (root_in (table_view table.now)) result }
@@ -101,10 +75,10 @@ fn read_root(alloc: Global, table: &Table) -> Result<Root, SetupError>
     let owner = text_at(table, "owner").ok_or(SetupError::BadField)?;
     let group = text_at(table, "group").ok_or(SetupError::BadField)?;
     let mode = text_at(table, "mode")
-        .and_then(|text| read_mode(text))
+        .and_then(|text| Mode::from_octal(text.as_bytes()))
         .ok_or(SetupError::BadField)?;
     let style = text_at(table, "style")
-        .and_then(|text| read_style(text))
+        .and_then(|text| Style::read(text))
         .ok_or(SetupError::BadField)?;
     Ok(Root {
         owner: String::from_str(alloc, owner)?,
@@ -122,7 +96,7 @@ pub fn read_table(alloc: Global, table: &Table) -> Result<Setup, SetupError>
 {
     let domain = text_at(table, "domain").ok_or(SetupError::BadField)?;
     let umask = text_at(table, "umask")
-        .and_then(|text| read_mode(text))
+        .and_then(|text| Mode::from_octal(text.as_bytes()))
         .ok_or(SetupError::BadField)?;
     let root = read_root(alloc, table_at(table, "root").ok_or(SetupError::BadField)?)?;
     let users = items_at(alloc, table, "user")?;

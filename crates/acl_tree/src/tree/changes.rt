@@ -1,7 +1,7 @@
 //! The commands that change the tree.
 ghost use Rattle.std.specs.Prelude.{◌≡◌};
 ghost use Rattle.acl_tree.specs.Commands.{set_access, set_default, set_nfs4, change_mode, create};
-ghost use Rattle.acl_tree.specs.Refusals.{Changes};
+ghost use Rattle.acl_tree.specs.Refusals.{ChangesTo};
 
 use super::Tree;
 use crate::limits::MAX_NODES;
@@ -20,7 +20,7 @@ impl Tree {
         path: &Path,
         acl: &Acl,
     ) -> Result<(), Refusal>
-        ensures { Changes (set_access self.old path.now acl.now) self.old result self.new }
+        ensures { ChangesTo (set_access self.old path.now acl.now) self.old result self.new }
     {
         let Some(node) = self.node_mut(path) else {
             return Err(Refusal::Fault(TreeFault::NoSuchPath));
@@ -35,7 +35,7 @@ impl Tree {
         path: &Path,
         default: &Option<Boxed<Acl>>,
     ) -> Result<(), Refusal>
-        ensures { Changes (set_default self.old path.now default.now) self.old result self.new }
+        ensures { ChangesTo (set_default self.old path.now default.now) self.old result self.new }
     {
         let Some(node) = self.node_mut(path) else {
             return Err(Refusal::Fault(TreeFault::NoSuchPath));
@@ -45,7 +45,7 @@ impl Tree {
 
     /// Sets the NFSv4 list of the node at the path.
     pub(super) fn set_nfs4(&mut self, alloc: Global, path: &Path, acl: &Acl4) -> Result<(), Refusal>
-        ensures { Changes (set_nfs4 self.old path.now acl.now) self.old result self.new }
+        ensures { ChangesTo (set_nfs4 self.old path.now acl.now) self.old result self.new }
     {
         let Some(node) = self.node_mut(path) else {
             return Err(Refusal::Fault(TreeFault::NoSuchPath));
@@ -60,7 +60,7 @@ impl Tree {
         path: &Path,
         mode: Mode,
     ) -> Result<(), Refusal>
-        ensures { Changes (change_mode self.old path.now mode) self.old result self.new }
+        ensures { ChangesTo (change_mode self.old path.now mode) self.old result self.new }
     {
         let Some(node) = self.node_mut(path) else {
             return Err(Refusal::Fault(TreeFault::NoSuchPath));
@@ -78,7 +78,7 @@ impl Tree {
         owner: Uid,
         mode: Mode,
     ) -> Result<(), Refusal>
-        ensures { Changes (create directory.now self.old kind path.now owner mode) self.old result
+        ensures { ChangesTo (create directory.now self.old kind path.now owner mode) self.old result
             self.new }
     {
         let above = self.node_at(path.parent())?;

@@ -3,8 +3,8 @@ ghost use Rattle.std.specs.Prelude.{◌≡◌, []};
 ghost use Rattle.acl_names.specs.Directory.{requester_of};
 ghost use Rattle.acl_nfs4.specs.Mask.{mask_bits};
 ghost use Rattle.acl_posix.specs.Perms.{bits_of};
-ghost use Rattle.acl_tree.specs.Commands.{get, check, check4, translate, granted};
-ghost use Rattle.acl_tree.specs.Refusals.{Answers};
+ghost use Rattle.acl_tree.specs.Commands.{get, check, check4, translate, granted_or_denied};
+ghost use Rattle.acl_tree.specs.Refusals.{ComesTo};
 
 use super::Tree;
 use crate::node_acl::grants4;
@@ -16,15 +16,15 @@ use acl_posix::Perms;
 use std::alloc::Global;
 
 /// The reply to whether something may be done.
-fn granted(may: bool) -> Reply
-    ensures { result ≡ granted may }
+fn granted_or_denied(may: bool) -> Reply
+    ensures { result ≡ granted_or_denied may }
 {
     if may { Reply::Granted } else { Reply::Denied }
 }
 
 /// The requester for the uid of `stranger`: the directory's own, or `stranger`, who is in no group,
 /// if the directory has no such user.
-fn asking<'a>(directory: &'a Directory, stranger: &'a Requester) -> &'a Requester
+fn requester_or_stranger<'a>(directory: &'a Directory, stranger: &'a Requester) -> &'a Requester
     requires { stranger.now.gids ≡ [] }
     ensures { result.now ≡ requester_of directory.now stranger.now.uid }
 {
@@ -37,7 +37,7 @@ fn asking<'a>(directory: &'a Directory, stranger: &'a Requester) -> &'a Requeste
 impl Tree {
     /// Shows the node at the path.
     pub(super) fn get(&self, alloc: Global, path: &Path) -> Result<Reply, Refusal>
-        ensures { Answers (get self.now path.now) result }
+        ensures { ComesTo (get self.now path.now) result }
     {
         let node = self.node_at(path.as_bytes())?;
         let view = node.view(alloc, path)?;
@@ -58,8 +58,8 @@ impl Tree {
     {
         let node = self.node_at(path.as_bytes())?;
         let stranger = Requester::new(uid, Vec::new(alloc));
-        let requester = asking(directory, &stranger);
-        Ok(granted(node.may(requester, perms)))
+        let requester = requester_or_stranger(directory, &stranger);
+        Ok(granted_or_denied(node.may(requester, perms)))
     }
 
     /// Whether the NFSv4 list of the node at the path grants the user each bit of the mask. It
@@ -79,13 +79,13 @@ impl Tree {
             return Err(TreeFault::WrongStyle);
         };
         let stranger = Requester::new(uid, Vec::new(alloc));
-        let requester = asking(directory, &stranger);
-        Ok(granted(grants4(acl, node.owner, node.group, requester, mask)))
+        let requester = requester_or_stranger(directory, &stranger);
+        Ok(granted_or_denied(grants4(acl, node.owner, node.group, requester, mask)))
     }
 
     /// The POSIX lists of the node at the path as NFSv4 lists.
     pub(super) fn translate(&self, alloc: Global, path: &Path) -> Result<Reply, Refusal>
-        ensures { Answers (translate self.now path.now) result }
+        ensures { ComesTo (translate self.now path.now) result }
     {
         let node = self.node_at(path.as_bytes())?;
         let NodeAcl::Posix { access, default } = &node.acl else {

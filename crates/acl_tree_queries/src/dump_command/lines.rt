@@ -12,7 +12,7 @@ ghost use Rattle.acl_tree_queries.specs.DumpText.{AddsLines, HasLongLine, SaysAg
 
 use crate::question::AnswerFault;
 use acl_lang::MAX_LINE_LEN;
-use acl_names::{Uid, push_id};
+use acl_names::{Uid, push_decimal};
 use acl_nfs4::{Acl4, Kind};
 use acl_posix::Acl;
 use acl_tree::{Node, NodeAcl};
@@ -46,7 +46,7 @@ fn push_create(kind: Kind, path: &[u8], owner: Uid, out: &mut Vec<u8>) -> Result
     out.extend_from_slice(word)?;
     out.extend_from_slice(path)?;
     out.push(b' ')?;
-    push_id(None, number, out)?;
+    push_decimal(number, out)?;
     out.extend_from_slice(b" 000")
 }
 

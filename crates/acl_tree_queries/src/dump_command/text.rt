@@ -5,7 +5,7 @@ ghost use Rattle.std.specs.List.{flat_map};
 ghost use Rattle.std.specs.Map.Iter.{deref_pair};
 ghost use Rattle.acl_names.specs.Bytes.{newline};
 ghost use Rattle.acl_tree.specs.declared.node.Node.{Node as NodeValue};
-ghost use Rattle.acl_audit.specs.Dump.{creation, making, setting};
+ghost use Rattle.acl_audit.specs.Dump.{creation, make_commands, set_commands};
 ghost use Rattle.acl_tree_queries.specs.AnswerFaults.{IsAnswerFault};
 ghost use Rattle.acl_tree_queries.specs.DumpText.{AddsLines, HasLongLine, closing_line};
 
@@ -31,10 +31,10 @@ fn push_creations(entries: &[(&[u8], &Node)], out: &mut Vec<u8>) -> Result<(), A
 /// Appends the lines that give the nodes their lists.
 fn push_settings(entries: &[(&[u8], &Node)], out: &mut Vec<u8>) -> Result<(), AnswerFault>
     ensures lines { OnOk result (AddsLines
-        (flat_map setting (each (deref_pair {K = List ℕ} {X = NodeValue}) entries.now))
+        (flat_map set_commands (each (deref_pair {K = List ℕ} {X = NodeValue}) entries.now))
         out.old.items out.new.items) }
     ensures refused { IfErr result (IsAnswerFault (HasLongLine
-        (flat_map setting (each (deref_pair {K = List ℕ} {X = NodeValue}) entries.now)))) }
+        (flat_map set_commands (each (deref_pair {K = List ℕ} {X = NodeValue}) entries.now)))) }
 {
     for (path, node) in entries {
         push_lists(path, &node.acl, out)?;
@@ -49,9 +49,9 @@ const CLOSING: &[u8] = b"set / access u::-,g::-,o::-\n";
 /// closed, each node created, and then each given its lists. It is refused exactly if a line is
 /// longer than lines may be.
 pub(super) fn push_dump(alloc: Global, tree: &Tree, out: &mut Vec<u8>) -> Result<(), AnswerFault>
-    ensures lines { OnOk result (AddsLines (making tree.now)
+    ensures lines { OnOk result (AddsLines (make_commands tree.now)
         (out.old.items ++ (closing_line ++ newline ∷ [])) out.new.items) }
-    ensures refused { IfErr result (IsAnswerFault (HasLongLine (making tree.now))) }
+    ensures refused { IfErr result (IsAnswerFault (HasLongLine (make_commands tree.now))) }
 {
     let entries = tree.entries(alloc)?;
     out.extend_from_slice(CLOSING)?;

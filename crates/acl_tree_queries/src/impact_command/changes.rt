@@ -2,7 +2,7 @@
 ghost use Rattle.std.specs.Prelude.{◌≡◌, ◌++◌, ℕ, IfErr, IfSome, List, Ok, OnErr, OnOk};
 ghost use Rattle.std.specs.Io.KnownBytes.{Appends};
 ghost use Rattle.acl_listings.specs.Block.{file_of};
-ghost use Rattle.acl_listings.specs.Cursor.{coming};
+ghost use Rattle.acl_listings.specs.Cursor.{blocks_to_come};
 ghost use Rattle.acl_listings.specs.Views.{view_file};
 ghost use Rattle.acl_queries.specs.Output.{AppendsFront};
 ghost use Rattle.acl_tree_queries.specs.ChangeSteps.{TellsFile, TellsFound, is_marked};
@@ -119,10 +119,10 @@ pub(super) fn write_changes<A: Read + Drop, W: Write>(
     after: A,
     out: &mut W,
 ) -> Result<(), BlocksFault>
-    ensures written { OnOk result ((text : List ℕ) × IfSome (coming 1 (A.remaining after))
+    ensures written { OnOk result ((text : List ℕ) × IfSome (blocks_to_come 1 (A.remaining after))
         (λ after. TellsBetween TellsOfEach findings.entry.directory.now findings.entry.users.now
         before.now after text) × Appends (W.contents out.old) (W.contents out.new) text) }
-    ensures cut { OnErr result ((text : List ℕ) × IfSome (coming 1 (A.remaining after))
+    ensures cut { OnErr result ((text : List ℕ) × IfSome (blocks_to_come 1 (A.remaining after))
         (λ after. TellsBetween TellsOfFirst findings.entry.directory.now findings.entry.users.now
         before.now after text) × AppendsFront (W.contents out.old) (W.contents out.new) text) }
     ensures refused { IfErr result IsBlocksFault }

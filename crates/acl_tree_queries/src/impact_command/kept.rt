@@ -3,7 +3,7 @@ ghost use Rattle.std.specs.Prelude.{◌≡◌, ◌++◌, ◌∷◌, ℕ, IfErr, 
 ghost use Rattle.std.specs.Prelude.{length, map, option_map, slice_get};
 ghost use Rattle.std.specs.HashMap.{get_by};
 ghost use Rattle.std.specs.Option.{option_and_then};
-ghost use Rattle.acl_listings.specs.Cursor.{coming};
+ghost use Rattle.acl_listings.specs.Cursor.{blocks_to_come};
 ghost use Rattle.acl_tree_queries.specs.Kept.{block_of, first_place, has_path, is_earlier};
 ghost use Rattle.acl_tree_queries.specs.Kept.{place_of};
 ghost use Rattle.acl_tree_queries.specs.ListingFaults.{IsBlocksFault};
@@ -57,7 +57,7 @@ pub(super) fn keep_blocks<R: Read + Drop>(
     alloc: Global,
     reader: R,
 ) -> Result<Vec<KeptBlock>, BlocksFault>
-    ensures kept { IfOk result (λ kept. AreAll (coming 1 (R.remaining reader))
+    ensures kept { IfOk result (λ kept. AreAll (blocks_to_come 1 (R.remaining reader))
         (map block_of kept.items)) }
     ensures refused { IfErr result IsBlocksFault }
 {

@@ -5,7 +5,7 @@ ghost use Rattle.acl_listings.specs.Listing.{Block};
 ghost use Rattle.acl_queries.specs.Output.{AppendsFront};
 ghost use Rattle.acl_tree_queries.specs.AnswerFaults.{IsLack};
 ghost use Rattle.acl_tree_queries.specs.Nodes.{TellsOfEach, TellsOfFirst};
-ghost use Rattle.acl_tree_queries.specs.Placed.{Placed, placed};
+ghost use Rattle.acl_tree_queries.specs.Placed.{Placed, in_places};
 
 use super::kept::KeptListing;
 use crate::pieces::send_full;
@@ -26,7 +26,8 @@ pub(super) trait KeptText {
         place: usize,
         out: &mut Vec<u8>,
     ) -> Result<(), AllocError>
-        ensures { IfSome (slice_get (placed kept.now) place) (λ item. OnOk result ((more : List ℕ)
+        ensures { IfSome (slice_get (in_places kept.now) place) (λ item.
+            OnOk result ((more : List ℕ)
             × Tells self.now item more × (out.new.items ≡ out.old.items ++ more))) };
 }
 
@@ -39,10 +40,10 @@ pub(super) fn write_kept<T: KeptText, W: Write>(
     out: &mut W,
 ) -> Result<(), RunFault>
     ensures written { OnOk result ((text : List ℕ)
-        × TellsOfEach (T.Tells teller.now) (placed kept.now) text
+        × TellsOfEach (T.Tells teller.now) (in_places kept.now) text
         × Appends (W.contents out.old) (W.contents out.new) text) }
     ensures cut { OnErr result ((text : List ℕ)
-        × TellsOfFirst (T.Tells teller.now) (placed kept.now) text
+        × TellsOfFirst (T.Tells teller.now) (in_places kept.now) text
         × AppendsFront (W.contents out.old) (W.contents out.new) text) }
     ensures lack { IfErr result IsLack }
 {

@@ -3,7 +3,7 @@ ghost use Rattle.std.specs.Prelude.{◌≡◌, ◌≤◌, ◌⊎◌, ℕ, IfErr,
 ghost use Rattle.std.specs.Prelude.{false, map, true};
 ghost use Rattle.std.specs.Io.KnownBytes.{Appends, Keeps};
 ghost use Rattle.clap.specs.Words.{found_of, matches_of, rows_of};
-ghost use Rattle.acl_listings.specs.Cursor.{coming};
+ghost use Rattle.acl_listings.specs.Cursor.{blocks_to_come};
 ghost use Rattle.acl_queries.specs.ErrorOutput.{Reports};
 ghost use Rattle.acl_queries.specs.Meaning.{Ends, LeavesInput};
 ghost use Rattle.acl_queries.specs.Output.{AppendsFront};
@@ -98,10 +98,12 @@ fn write_between<'a, B: Read + Drop, A: Read + Drop, W: Write>(
     out: &mut W,
 ) -> Result<(), QuestionFault<'a>>
     ensures written { OnOk result ((text : List ℕ) × TellsOfKnown TellsOfEach directory.now
-        (coming 1 (B.remaining before.entry.1)) (coming 1 (A.remaining after.entry.1)) text
+        (blocks_to_come 1 (B.remaining before.entry.1))
+        (blocks_to_come 1 (A.remaining after.entry.1)) text
         × Appends (W.contents out.old) (W.contents out.new) text) }
     ensures cut { OnErr result ((text : List ℕ) × TellsOfKnown TellsOfFirst directory.now
-        (coming 1 (B.remaining before.entry.1)) (coming 1 (A.remaining after.entry.1)) text
+        (blocks_to_come 1 (B.remaining before.entry.1))
+        (blocks_to_come 1 (A.remaining after.entry.1)) text
         × AppendsFront (W.contents out.old) (W.contents out.new) text) }
     ensures refused { IfErr result (IsReadingFault before.entry.0.now after.entry.0.now) }
 {
@@ -134,16 +136,16 @@ fn write_listings<'a, F: OpenFiles, I: Read, W: Write>(
 ) -> Result<(), QuestionFault<'a>>
     requires { bytes_eq before.now (codes "-") ≡ true → bytes_eq after.now (codes "-") ≡ false }
     ensures written { OnOk result ((text : List ℕ) × TellsOfKnown TellsOfEach directory.now
-        (coming 1
+        (blocks_to_come 1
         (bytes_of_session (F.bytes_of files.now) (I.remaining input.old) before.entry.now))
-        (coming 1
+        (blocks_to_come 1
         (bytes_of_session (F.bytes_of files.now) (I.remaining input.old) after.entry.now))
         text × Appends (W.contents out.old) (W.contents out.new) text) }
     ensures cut { OnErr result (Keeps (W.contents out.old) (W.contents out.new)
         ⊎ ((text : List ℕ) × TellsOfKnown TellsOfFirst directory.now
-        (coming 1
+        (blocks_to_come 1
         (bytes_of_session (F.bytes_of files.now) (I.remaining input.old) before.entry.now))
-        (coming 1
+        (blocks_to_come 1
         (bytes_of_session (F.bytes_of files.now) (I.remaining input.old) after.entry.now))
         text × AppendsFront (W.contents out.old) (W.contents out.new) text)) }
     ensures silent { IfErr result (λ fault. question_status fault ≤ 2

@@ -1,6 +1,6 @@
 //! Which places of a listing were met.
 ghost use Rattle.std.specs.Prelude.{◌≡◌};
-ghost use Rattle.acl_tree_queries.specs.ChangeSteps.{is_marked, marked};
+ghost use Rattle.acl_tree_queries.specs.ChangeSteps.{is_marked, with_mark};
 
 /// Whether the place is marked, if there is one.
 pub(super) fn is_marked(met: &[bool], place: Option<usize>) -> bool
@@ -14,7 +14,7 @@ pub(super) fn is_marked(met: &[bool], place: Option<usize>) -> bool
 
 /// Marks the place, if there is one.
 pub(super) fn mark(met: &mut [bool], place: Option<usize>)
-    ensures { met.new ≡ marked met.old place }
+    ensures { met.new ≡ with_mark met.old place }
 {
     if let Some(place) = place {
         if place < met.len() {

@@ -10,7 +10,7 @@ ghost use Rattle.acl_tree_queries.specs.ImpactText.{new_text, user_text};
 
 use crate::nodes::NodeText;
 use acl_audit::{Change, Impact, impact_of, impact_on};
-use acl_names::{Asker, Directory, Gid, Requester, Uid, push_id};
+use acl_names::{Asker, Directory, Gid, Requester, Uid, push_decimal};
 use acl_queries::{push_bits, push_gids};
 use acl_tree::{Node, Tree};
 use std::alloc::{AllocError, Global};
@@ -37,10 +37,10 @@ fn push_all_gids(gids: &[Gid], out: &mut Vec<u8>) -> Result<(), AllocError>
         out.push(b'-')?;
         return Ok(());
     };
-    push_id(None, first.value(), out)?;
+    push_decimal(first.value(), out)?;
     for gid in others {
         out.push(b',')?;
-        push_id(None, gid.value(), out)?;
+        push_decimal(gid.value(), out)?;
     }
     Ok(())
 }
@@ -53,7 +53,7 @@ fn push_name(name: &str, uid: Uid, out: &mut Vec<u8>) -> Result<(), AllocError>
     out.extend_from_slice(b"differ ")?;
     out.extend_from_slice(name.as_bytes())?;
     out.push(b' ')?;
-    push_id(None, uid.value(), out)?;
+    push_decimal(uid.value(), out)?;
     out.push(b' ')?;
     Ok(())
 }

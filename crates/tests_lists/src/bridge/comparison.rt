@@ -21,10 +21,9 @@ fn told(alloc: Global, first: &str, second: &str, request: Perms) -> Option<Told
         owner: alice,
         group: staff,
     };
-    match request_difference(alloc, &before, &owners, &after, &owners, request) {
-        Ok(Some(it)) => Some(Some((it.before, [it.asker.gid, it.asker.other_gid]))),
-        Ok(None) => Some(None),
-        Err(_) => None,
+    match request_difference(&before, &owners, &after, &owners, request) {
+        Some(it) => Some(Some((it.before, [it.asker.gid, it.asker.other_gid]))),
+        None => Some(None),
     }
 }
 

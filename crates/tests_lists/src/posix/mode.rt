@@ -1,6 +1,6 @@
-//! Tests of the modes of POSIX lists, and of masks.
+//! Tests of modes as they are written, of the modes of POSIX lists, and of masks.
 use crate::posix::fixture::{mode, perms};
-use acl_posix::{Acl, Perms};
+use acl_posix::{Acl, Mode, Perms};
 use std::alloc::Global;
 use std::test::Fail;
 use tests_common::acl;
@@ -25,6 +25,11 @@ fn with_mode(alloc: Global, bits: u16) -> Option<Acl> {
 fn mode_and_masks(list: Option<Acl>) -> Option<(u16, Option<Perms>, Perms)> {
     let list = list?;
     Some((list.mode().bits(), list.mask(), list.calc_mask()))
+}
+
+#[test]
+fn three_octal_digits_are_a_mode(rt: HostRuntime) {
+    assert!(rt; Mode::from_octal(b"640") == mode(0o640));
 }
 
 #[test]

@@ -8,7 +8,7 @@ use tests_common::{acl, directory};
 
 /// A text of so many entries: those that a list has to have, and then users. The mask may be
 /// missing.
-fn text_of(alloc: Global, count: u32) -> Option<String> {
+pub fn text_of(alloc: Global, count: u32) -> Option<String> {
     let mut text = String::new(alloc);
     for (place, entry) in ["u::rw", ",g::r", ",o::-", ",m::r"].iter().enumerate() {
         if (place as u32) < count {

@@ -21,7 +21,7 @@ returns c =
     λ bit. c.allowed-is.ensures bit ∙ ap (λ (m : ℕ). has m bit && after who bit) compared in
     let apart : was ≢ is = λ same. true≢false (sym (eq-eqb was is same) ∙ sym c.eq.ensures ∙ c.if-eq.false) in
     record {
-      lost = λ bit. ap (λ (m : ℕ). has m bit) c.without.ensures ∙ lost-bit before after bits who was is are_before are_after bit;
-      gained = λ bit. ap (λ (m : ℕ). has m bit) c.without-2.ensures ∙ gained-bit before after bits who was is are_before are_after bit;
-      some = λ none. some_only was is apart (sym (ap₂ (λ (a b : ℕ). a ∪ b) c.without.ensures c.without-2.ensures) ∙ none);
+      lost = λ bit. ap (λ (m : ℕ). has m bit) (c.without.ensures tt) ∙ lost-bit before after bits who was is are_before are_after bit;
+      gained = λ bit. ap (λ (m : ℕ). has m bit) (c.without-2.ensures tt) ∙ gained-bit before after bits who was is are_before are_after bit;
+      some = λ none. some_only was is apart (sym (ap₂ (λ (a b : ℕ). a ∪ b) (c.without.ensures tt) (c.without-2.ensures tt)) ∙ none);
     }

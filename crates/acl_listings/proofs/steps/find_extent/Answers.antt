@@ -2,7 +2,9 @@ use Rattle.std.proofs.Common.{inl, inr, ap, arith, length, subst}
 use Rattle.acl_listings.specs.Extent.{IsExtent}
 use Rattle.acl_listings.proofs.StepsLemmas.{whole_extent}
 use Rattle.acl_listings.proofs.steps.find_extent.Goals as goal
-use Rattle.acl_listings.proofs.steps.find_extent.Goals.{then-is_closed-via-then-is_closed, then-is_closed-via-else-is_closed+then-extent-gt-MAX_BLOCK, then-is_closed-via-else-is_closed+else-extent-gt-MAX_BLOCK+then-has_ended}
+use Rattle.acl_listings.proofs.steps.find_extent.Goals.{then-is_closed-via-then-is_closed}
+use Rattle.acl_listings.proofs.steps.find_extent.Goals.{then-is_closed-via-else-is_closed+then-extent-gt-MAX_BLOCK}
+use Rattle.acl_listings.proofs.steps.find_extent.Goals.{then-is_closed-via-else-is_closed+else-extent-gt-MAX_BLOCK+then-has_ended}
 
 pub returns-then-is_closed-clause-whole : goal.returns-then-is_closed-clause-whole
 returns-then-is_closed-clause-whole g c =

@@ -38,7 +38,7 @@ loop-ace-preserved c =
       | then-concerns+then-is_allow w ↦
           let both = and_parts (decides ace) (applies ace.who) (sym c.concerns.ensures ∙ w.if-concerns.true) in
           subst (λ (now : ℕ). Grants applies (ace ∷ rest) open_bits ↔ Grants applies rest now)
-          (sym (ap mask_bits w.open-is ∙ w.without-open.ensures ∙ ap (λ (m : ℕ). without open_bits m) w.mask.ensures.value))
+          (sym (ap mask_bits w.open-is ∙ w.without-open.ensures tt ∙ ap (λ (m : ℕ). without open_bits m) w.mask.ensures.value))
           (Grants-allow applies ace rest open_bits both.0 both.1 (ap is_allow (sym w.kind.ensures) ∙ sym w.is_allow.ensures ∙ w.if-is_allow.true))
       | then-concerns+else-is_allow+else-intersects w ↦
           let both = and_parts (decides ace) (applies ace.who) (sym c.concerns.ensures ∙ w.if-concerns.true) in

@@ -1,5 +1,5 @@
 use Rattle.std.proofs.Common.{List, take}
-use Rattle.acl_names.specs.declared.letters.Letter.{Letter}
+use Rattle.acl_names.specs.declared.text.letters.Letter.{Letter}
 use Rattle.acl_names.proofs.LettersInTurn.{AreRead}
 use Rattle.acl_nfs4.specs.LetterBits.{GivesBitsOf}
 use Rattle.acl_nfs4.proofs.letter_bits.read_bits.Given as goal

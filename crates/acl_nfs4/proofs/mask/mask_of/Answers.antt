@@ -11,6 +11,6 @@ returns c =
     ∙ ap₂ (λ (a b : ℕ). a ∪ b)
     (c.union.ensures tt
     ∙ ap₂ (λ (a b : ℕ). a ∪ b)
-    (c.given-read.ensures tt ∙ ap (λ b. cond b 1 0) (c.contains.ensures tt ∙ contains-one c.args.perms.0 2))
-    (c.given-write.ensures tt ∙ ap (λ b. cond b 6 0) (c.contains-2.ensures tt ∙ contains-one c.args.perms.0 1)))
-    (c.given-execute.ensures tt ∙ ap (λ b. cond b 32 0) (c.contains-3.ensures tt ∙ contains-one c.args.perms.0 0))
+    (c.bits_if-read.ensures tt ∙ ap (λ b. cond b 1 0) (c.contains.ensures tt ∙ contains-one c.args.perms.0 2))
+    (c.bits_if-write.ensures tt ∙ ap (λ b. cond b 6 0) (c.contains-2.ensures tt ∙ contains-one c.args.perms.0 1)))
+    (c.bits_if-execute.ensures tt ∙ ap (λ b. cond b 32 0) (c.contains-3.ensures tt ∙ contains-one c.args.perms.0 0))

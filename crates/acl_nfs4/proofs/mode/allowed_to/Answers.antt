@@ -31,7 +31,7 @@ loop-ace-preserved c =
       | then-tells_mode_of w ↦
           let concerned = sym c.tells_mode_of.ensures ∙ w.if-tells_mode_of.true in
           let undecided : mask_bits c.if-tells_mode_of.open ≡ without open_bits ace.mask =
-          ap mask_bits w.open-is ∙ w.without-open.ensures ∙ ap (λ (m : ℕ). without open_bits m) w.mask-then-tells_mode_of.ensures.value in
+          ap mask_bits w.open-is ∙ w.without-open.ensures tt ∙ ap (λ (m : ℕ). without open_bits m) w.mask-then-tells_mode_of.ensures.value in
           let kind : w.is_allow.result ≡ is_allow ace.kind = w.is_allow.ensures ∙ ap is_allow w.kind.ensures in
           elim w.if-is_allow.branch [
             | then-is_allow w' ↦ λ so_far.

@@ -8,5 +8,5 @@ pub push_plain-requires : goal.push_plain-requires
 push_plain-requires g c = (
   search,
   denial-known c.args.group.0 (mask_bits c.marked_denied_to-denied.result)
-      (c.without.ensures ∙ ap (λ (m : ℕ). without m (mask_bits c.marked_denied_to-denied.result)) c.rest_of.ensures),
+      (c.without.ensures tt ∙ ap (λ (m : ℕ). without m (mask_bits c.marked_denied_to-denied.result)) c.rest_of.ensures),
 )

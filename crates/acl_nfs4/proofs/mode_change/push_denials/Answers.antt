@@ -4,13 +4,16 @@ use Rattle.acl_posix.specs.Perms.{bits_of}
 use Rattle.acl_nfs4.specs.Ace.{Nfsace4}
 use Rattle.acl_nfs4.specs.Marks.{mark_of, IsMarked}
 use Rattle.acl_nfs4.proofs.MarkLemmas.{marked-more, names-about}
-use Rattle.acl_nfs4.specs.ModeChange.{denial_of, denials, named_in, names}
+use Rattle.acl_nfs4.specs.ModeChange.{denial_of, denials, named_whos, names}
 use Rattle.acl_nfs4.specs.declared.who.Who.{Who}
 use Rattle.acl_nfs4.proofs.ListLemmas.{OnErr-from}
 use Rattle.acl_nfs4.proofs.ModeChangeNamed.{made-new, made-again, made-none, made-ahead}
 use Rattle.acl_nfs4.proofs.ModeChangeParts.{too_long-within}
 use Rattle.acl_nfs4.proofs.mode_change.push_denials.Goals as goal
-use Rattle.acl_nfs4.proofs.mode_change.push_denials.Goals.{then-names_someone+then-not-any_marked_names+in_ok-push_denial, else-names_someone, else-names_someone-via-then-names_someone+else-not-any_marked_names, else-names_someone-via-else-names_someone}
+use Rattle.acl_nfs4.proofs.mode_change.push_denials.Goals.{then-names_someone+then-not-any_marked_names+in_ok-push_denial}
+use Rattle.acl_nfs4.proofs.mode_change.push_denials.Goals.{else-names_someone}
+use Rattle.acl_nfs4.proofs.mode_change.push_denials.Goals.{else-names_someone-via-then-names_someone+else-not-any_marked_names}
+use Rattle.acl_nfs4.proofs.mode_change.push_denials.Goals.{else-names_someone-via-else-names_someone}
 
 pub returns-in_err-push_denial-clause-full : goal.returns-in_err-push_denial-clause-full
 returns-in_err-push_denial-clause-full g c =
@@ -23,7 +26,7 @@ returns-in_err-push_denial-clause-full g c =
     OnErr-from c.from_residual.result
     (too_long-within g.row.N c.loop-place.draft (f ace.who) ahead.0 (c.args.draft.now ++ denials (bits_of c.args.group) aces)
     (ap (λ (xs : List Nfsace4). xs ++ (f ace.who ++ ahead.0)) c.loop-place.invariant.0
-    ∙ append_assoc c.args.draft.now (flat_map f (named_in (take i aces))) (f ace.who ++ ahead.0)
+    ∙ append_assoc c.args.draft.now (flat_map f (named_whos (take i aces))) (f ace.who ++ ahead.0)
     ∙ ap (λ (xs : List Nfsace4). c.args.draft.now ++ xs) ahead.1)
     (rw (← c.who-then-not-any_marked_names.ensures) c.in_err-push_denial.ensures.full))
 
@@ -38,9 +41,9 @@ loop-place-preserved g c =
         | then-names_someone+then-not-any_marked_names+in_ok-push_denial w ↦
             w.draft-is ∙ w.in_ok-push_denial.ensures.ok
             ∙ ap (λ (xs : List Nfsace4). xs ++ f w.who-then-not-any_marked_names.result) c.loop-place.invariant.0
-            ∙ append_assoc front (flat_map f (named_in (take i aces))) (f w.who-then-not-any_marked_names.result)
+            ∙ append_assoc front (flat_map f (named_whos (take i aces))) (f w.who-then-not-any_marked_names.result)
             ∙ ap (λ (xs : List Nfsace4). front ++ xs)
-            (ap (λ who. flat_map f (named_in (take i aces)) ++ f who) w.who-then-not-any_marked_names.ensures
+            (ap (λ who. flat_map f (named_whos (take i aces)) ++ f who) w.who-then-not-any_marked_names.ensures
             ∙ sym (made-new f aces i ace c.loop-place-test.true c.index-aces-place.is (sym c.names_someone.ensures ∙ w.if-names_someone.true)
             (ap (λ who. list_any (names who) (take i aces)) (sym w.who.ensures) ∙ sym w.any_marked_names.ensures ∙ w.if-not-any_marked_names.true)))
         | else-names_someone w ↦

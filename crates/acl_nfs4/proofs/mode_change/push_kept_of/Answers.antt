@@ -2,7 +2,7 @@ use Rattle.std.proofs.Common.{◌≡◌, ◌∙◌, sym, ap, ap₂, subst, ◌++
 use Rattle.acl_posix.specs.Perms.{bits_of}
 use Rattle.acl_nfs4.specs.Ace.{Nfsace4, unless_empty}
 use Rattle.acl_nfs4.specs.Acl.{IsTooLong}
-use Rattle.acl_nfs4.specs.ModeChange.{kept_of}
+use Rattle.acl_nfs4.specs.ModeChange.{kept_of_entry}
 use Rattle.acl_nfs4.proofs.ModeChangeKept.{effective_part}
 use Rattle.acl_nfs4.proofs.ListLemmas.{OnErr-from}
 use Rattle.acl_nfs4.proofs.ModeChangeParts.{kept_of-stays, kept_of-parts, kept_of-rest, too_long-within}
@@ -27,7 +27,7 @@ returns-in_err-push-clause-full g c =
     let group = bits_of c.args.group in
     let ace = c.args.ace.now in
     OnErr-from c.from_residual.result
-    (too_long-within g.row.N c.args.draft.now (c.inherited_part.result ∷ []) (unless_empty (effective_part group ace)) (c.args.draft.now ++ kept_of group ace)
+    (too_long-within g.row.N c.args.draft.now (c.inherited_part.result ∷ []) (unless_empty (effective_part group ace)) (c.args.draft.now ++ kept_of_entry group ace)
     (ap (λ (xs : List Nfsace4). c.args.draft.now ++ xs)
     (ap (λ (part : Nfsace4). part ∷ unless_empty (effective_part group ace)) c.inherited_part.ensures.value
     ∙ sym (kept_of-parts group ace (sym c.decides.ensures ∙ c.if-not-decides.false) (sym c.is_inheritable.ensures ∙ c.if-is_inheritable.true))))
@@ -35,7 +35,7 @@ returns-in_err-push-clause-full g c =
 
 -- both parts are what the entry leaves
 parts : (g : Over) (c : After-push_unless_empty g) → c.push-then-is_inheritable.new.self ++ unless_empty c.effective_part.result
-    ≡ c.args.draft.now ++ kept_of (bits_of c.args.group) c.args.ace.now
+    ≡ c.args.draft.now ++ kept_of_entry (bits_of c.args.group) c.args.ace.now
 parts g c =
     let group = bits_of c.args.group in
     let ace = c.args.ace.now in
@@ -55,11 +55,11 @@ returns-then-is_inheritable-clause-full g c =
     subst (λ (xs : List Nfsace4). OnErr c.push_unless_empty.result (IsTooLong g.row.N xs)) (parts g c) c.push_unless_empty.ensures.full
 
 -- what its mask keeps is what the entry leaves
-rest : (g : Over) (c : After-push_unless_empty-2 g) → c.args.draft.now ++ unless_empty c.reduced.result
-    ≡ c.args.draft.now ++ kept_of (bits_of c.args.group) c.args.ace.now
+rest : (g : Over) (c : After-push_unless_empty-2 g) → c.args.draft.now ++ unless_empty c.with_kept_mask.result
+    ≡ c.args.draft.now ++ kept_of_entry (bits_of c.args.group) c.args.ace.now
 rest g c =
     ap (λ (xs : List Nfsace4). c.args.draft.now ++ xs)
-    (ap unless_empty c.reduced.ensures
+    (ap unless_empty c.with_kept_mask.ensures
     ∙ sym (kept_of-rest (bits_of c.args.group) c.args.ace.now (sym c.decides.ensures ∙ c.if-not-decides.false)
     (sym c.is_inheritable.ensures ∙ c.if-is_inheritable.false)))
 

@@ -11,16 +11,27 @@ returns-in_err-take g c =
 pub returns-then-not-newest_failed : goal.returns-then-not-newest_failed
 returns-then-not-newest_failed g c =
     let taken = c.in_ok-take.ensures in
-    takes_on_fine _ _ _ (view c.args.taker.now) (view c.take.new.self) c.args.limits.now c.args.session c.in_ok-take.field-0 (inside_of (length (view c.args.taker.now).sides) c.args.session c.in_ok-take.field-0 taken.unknown) taken.pairs taken.keeps taken.appended taken.side taken.others c.newest_failed.result c.newest_failed.ensures c.if-not-newest_failed.true
+    takes_on_fine _ _ _ (view c.args.taker.now) (view c.take.new.self) c.args.limits.now c.args.session
+    c.in_ok-take.field-0 (inside_of (length (view c.args.taker.now).sides) c.args.session
+    c.in_ok-take.field-0 taken.unknown) taken.pairs taken.keeps taken.appended taken.side taken.others
+    c.newest_failed.result c.newest_failed.ensures c.if-not-newest_failed.true
 
 pub returns-then-not-count : goal.returns-then-not-count
 returns-then-not-count g c =
     let taken = c.in_ok-take.ensures in
-    takes_on_fewer _ _ _ (view c.args.taker.now) (view c.take.new.self) c.args.limits.now c.args.session c.in_ok-take.field-0 (inside_of (length (view c.args.taker.now).sides) c.args.session c.in_ok-take.field-0 taken.unknown) taken.pairs taken.keeps taken.appended taken.side taken.others c.newest_failed.result c.newest_failed.ensures
+    takes_on_fewer _ _ _ (view c.args.taker.now) (view c.take.new.self) c.args.limits.now c.args.session
+    c.in_ok-take.field-0 (inside_of (length (view c.args.taker.now).sides) c.args.session
+    c.in_ok-take.field-0 taken.unknown) taken.pairs taken.keeps taken.appended taken.side taken.others
+    c.newest_failed.result c.newest_failed.ensures
     c.count.new.self c.count.result c.if-not-newest_failed.false c.count.ensures c.if-not-count.true
 
 pub returns : goal.returns
 returns g c =
     let taken = c.in_ok-take.ensures in
-    takes_on_over _ _ _ (view c.args.taker.now) (view c.take.new.self) c.args.limits.now c.args.session c.in_ok-take.field-0 (inside_of (length (view c.args.taker.now).sides) c.args.session c.in_ok-take.field-0 taken.unknown) taken.pairs taken.keeps taken.appended taken.side taken.others c.newest_failed.result c.newest_failed.ensures
-    c.count.new.self c.count.result (view c.cancel.new.self) c.if-not-newest_failed.false c.count.ensures c.if-not-count.false c.cancel.ensures.pairs c.cancel.ensures.keeps (λ default below. (c.cancel.ensures.side default below).1) c.cancel.ensures.others
+    takes_on_over _ _ _ (view c.args.taker.now) (view c.take.new.self) c.args.limits.now c.args.session
+    c.in_ok-take.field-0 (inside_of (length (view c.args.taker.now).sides) c.args.session
+    c.in_ok-take.field-0 taken.unknown) taken.pairs taken.keeps taken.appended taken.side taken.others
+    c.newest_failed.result c.newest_failed.ensures
+    c.count.new.self c.count.result (view c.cancel.new.self) c.if-not-newest_failed.false c.count.ensures
+    c.if-not-count.false c.cancel.ensures.pairs c.cancel.ensures.keeps
+    (λ default below. (c.cancel.ensures.side default below).1) c.cancel.ensures.others

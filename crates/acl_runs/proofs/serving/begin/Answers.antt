@@ -12,7 +12,9 @@ returns-clause-begun g c =
     let same : c.len-count.result ≡ length c.args.sessions.now.items = omega (arith, c.len-count.ensures, c.args.sessions.now.ok.0) in
     record {
       ready = subst (λ count. IsReady count c.split-ends.result.0.items (taker.view c.split-ends.result.1)) same
-          (ready_of _ _ c.args.service c.len-count.result (view c.in-Ok.broker) c.split-ends.result.0.items (taker.view c.split-ends.result.1) c.in-Ok.ensures.stands halves.count halves.ends halves.lanes halves.journal);
+          (ready_of _ _ c.args.service c.len-count.result (view c.in-Ok.broker) c.split-ends.result.0.items
+          (taker.view c.split-ends.result.1) c.in-Ok.ensures.stands halves.count halves.ends halves.lanes
+          halves.journal);
       limits = subst (λ count. StartsWith c.args.max_errors count c.in_ok-limits.limits) same c.in_ok-limits.ensures;
       many = c.requires.count.1;
       few = c.requires.few;

@@ -5,7 +5,10 @@ use Rattle.acl_runs.proofs.worker.submit_all.Goals as goal
 
 pub returns-then-not-branch : goal.returns-then-not-branch
 returns-then-not-branch g c =
-    submits_less _ (Open c.args.end.now) (Open c.loop.end) (Open c.submit_waiting.new.end) c.args.printed.now c.loop.printed c.submit_waiting.new.printed (g.C.RequestSource.rest c.args.requests) (g.C.RequestSource.rest c.loop.requests) c.in-Some-next.request c.in_ok-submit_waiting.field-0 (c.loop.nth + 1)
+    submits_less _ (Open c.args.end.now) (Open c.loop.end)
+    (Open c.submit_waiting.new.end) c.args.printed.now c.loop.printed c.submit_waiting.new.printed
+    (g.C.RequestSource.rest c.args.requests) (g.C.RequestSource.rest c.loop.requests)
+    c.in-Some-next.request c.in_ok-submit_waiting.field-0 (c.loop.nth + 1)
     c.loop.invariant.1 c.in_ok-submit_waiting.ensures.done c.in_ok-submit_waiting.ensures.over c.if-not-branch.true
 
 pub loop-preserved : goal.loop-preserved
@@ -13,7 +16,10 @@ loop-preserved g c =
     let next : g.C.RequestSource.rest c.loop.requests ≡ c.in-Some-next.request ∷ g.C.RequestSource.rest c.next-in-loop.new.self =
     c.in-Ok.ensures.next ∙ ap (λ next. option_to_list next ++ g.C.RequestSource.rest c.next-in-loop.new.self) c.in-Some-next.is in (
       omega (arith, c.loop.invariant.0, ap length next),
-      advances_by_one _ (Open c.args.end.now) (Open c.loop.end) (Open c.submit_waiting.new.end) c.args.printed.now c.loop.printed c.submit_waiting.new.printed (g.C.RequestSource.rest c.args.requests) (g.C.RequestSource.rest c.loop.requests) (g.C.RequestSource.rest c.next-in-loop.new.self) c.in-Some-next.request c.in_ok-submit_waiting.field-0
+      advances_by_one _ (Open c.args.end.now) (Open c.loop.end)
+          (Open c.submit_waiting.new.end) c.args.printed.now c.loop.printed c.submit_waiting.new.printed
+          (g.C.RequestSource.rest c.args.requests) (g.C.RequestSource.rest c.loop.requests)
+          (g.C.RequestSource.rest c.next-in-loop.new.self) c.in-Some-next.request c.in_ok-submit_waiting.field-0
           c.loop.invariant.1 next c.in_ok-submit_waiting.ensures.done c.if-not-branch.false,
     )
 
@@ -22,8 +28,14 @@ loop-preserved-in_ok-print_ready g c =
     let next : g.C.RequestSource.rest c.loop.requests ≡ c.in-Some-next.request ∷ g.C.RequestSource.rest c.next-in-loop.new.self =
     c.in-Ok.ensures.next ∙ ap (λ next. option_to_list next ++ g.C.RequestSource.rest c.next-in-loop.new.self) c.in-Some-next.is in (
       omega (arith, c.loop.invariant.0, ap length next),
-      advances_then _ (Open c.args.end.now) (Open c.submit_waiting.new.end) (Open c.print_ready.new.end) c.args.printed.now c.submit_waiting.new.printed c.print_ready.new.printed (g.C.RequestSource.rest c.args.requests) (g.C.RequestSource.rest c.next-in-loop.new.self) (g.C.RequestSource.rest c.next-in-loop.new.self) []
-          (advances_by_one _ (Open c.args.end.now) (Open c.loop.end) (Open c.submit_waiting.new.end) c.args.printed.now c.loop.printed c.submit_waiting.new.printed (g.C.RequestSource.rest c.args.requests) (g.C.RequestSource.rest c.loop.requests) (g.C.RequestSource.rest c.next-in-loop.new.self) c.in-Some-next.request c.in_ok-submit_waiting.field-0
+      advances_then _ (Open c.args.end.now) (Open c.submit_waiting.new.end)
+          (Open c.print_ready.new.end) c.args.printed.now c.submit_waiting.new.printed
+          c.print_ready.new.printed (g.C.RequestSource.rest c.args.requests)
+          (g.C.RequestSource.rest c.next-in-loop.new.self) (g.C.RequestSource.rest c.next-in-loop.new.self) []
+          (advances_by_one _ (Open c.args.end.now) (Open c.loop.end)
+          (Open c.submit_waiting.new.end) c.args.printed.now c.loop.printed c.submit_waiting.new.printed
+          (g.C.RequestSource.rest c.args.requests) (g.C.RequestSource.rest c.loop.requests)
+          (g.C.RequestSource.rest c.next-in-loop.new.self) c.in-Some-next.request c.in_ok-submit_waiting.field-0
           c.loop.invariant.1 next c.in_ok-submit_waiting.ensures.done c.if-not-branch.false)
           refl c.in_ok-print_ready.ensures,
     )

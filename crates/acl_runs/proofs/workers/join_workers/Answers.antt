@@ -28,7 +28,9 @@ loop-worker-preserved g c =
       room_outputs = search rules;
       left = λ k d below. let h = was.left (k + 1) d in grind rules;
       joined = λ k worker end answers output below.
-          each_after_three (λ i e a o. IsKept g.C.RequestSource.rest g.P.Replies.handling (get_or first i worker) e a.items o.items) (vec_items old.ends) (vec_items old.answers) (vec_items old.outputs) (Closed finished.end) finished.printed.answers finished.printed.output
+          each_after_three (λ i e a o. IsKept g.C.RequestSource.rest g.P.Replies.handling
+          (get_or first i worker) e a.items o.items) (vec_items old.ends) (vec_items old.answers)
+          (vec_items old.outputs) (Closed finished.end) finished.printed.answers finished.printed.output
           (vec_items c.push_reserved.new.self) (vec_items c.push_reserved-in-loop-worker.new.self) (vec_items c.push_reserved-in-loop-worker-2.new.self) done
           (omega (arith, old.ends.ok.0), omega (arith, old.answers.ok.0, was.answers), omega (arith, old.outputs.ok.0, was.outputs))
           c.push_reserved.ensures.items c.push_reserved-in-loop-worker.ensures.items c.push_reserved-in-loop-worker-2.ensures.items
@@ -47,5 +49,9 @@ returns g c =
       answers = omega (arith, gathered.answers.ok.0, was.answers, all);
       outputs = omega (arith, gathered.outputs.ok.0, was.outputs, all);
       each = λ k worker end answers output below.
-          subst (λ ws. IsKept g.C.RequestSource.rest g.P.Replies.handling (get_or ws k worker) (get_or (vec_items gathered.ends) k end) (vec_items (get_or (vec_items gathered.answers) k answers)) (vec_items (get_or (vec_items gathered.outputs) k output))) began.0 (was.joined k worker end answers output (omega (arith, all, below)));
+          subst (λ ws. IsKept g.C.RequestSource.rest g.P.Replies.handling (get_or ws k worker)
+          (get_or (vec_items gathered.ends) k end) (vec_items
+          (get_or (vec_items gathered.answers) k answers))
+          (vec_items (get_or (vec_items gathered.outputs) k output))) began.0
+          (was.joined k worker end answers output (omega (arith, all, below)));
     }

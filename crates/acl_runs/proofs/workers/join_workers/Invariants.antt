@@ -14,5 +14,9 @@ invariant-loop-worker g l =
       room_answers : into_iter_len first ≤ vec_capacity l.gathered.answers;
       room_outputs : into_iter_len first ≤ vec_capacity l.gathered.outputs;
       left : (k : ℕ) (worker : _) → k < into_iter_len rest → get_or (into_iter_items rest) k worker ≡ get_or (into_iter_items first) (done + k) worker;
-      joined : (k : ℕ) (worker : _) (end : _) (answers : _) (output : _) → k < done → IsKept g.C.RequestSource.rest g.P.Replies.handling (get_or (into_iter_items first) k worker) (get_or (vec_items l.gathered.ends) k end) (vec_items (get_or (vec_items l.gathered.answers) k answers)) (vec_items (get_or (vec_items l.gathered.outputs) k output));
+      joined : (k : ℕ) (worker : _) (end : _) (answers : _) (output : _) → k < done
+          → IsKept g.C.RequestSource.rest g.P.Replies.handling (get_or (into_iter_items first) k worker)
+          (get_or (vec_items l.gathered.ends) k end) (vec_items
+          (get_or (vec_items l.gathered.answers) k answers))
+          (vec_items (get_or (vec_items l.gathered.outputs) k output));
     }

@@ -13,9 +13,13 @@ start_worker-requires-clause-few g c κs bounds =
     let taken = c.in-Some-next.ensures in
     let first = into_iter_items c.into_iter-sessions.result in
     let next : c.in-Some-next.requests ≡ get_or first done c.in-Some-next.requests =
-    sym (ap (λ xs. get_or xs 0 c.in-Some-next.requests) taken.items) ∙ was.left_too 0 c.in-Some-next.requests (omega (arith, step.1)) ∙ ap (λ n. get_or first n c.in-Some-next.requests) (add-zero done) in
+    sym (ap (λ xs. get_or xs 0 c.in-Some-next.requests) taken.items)
+    ∙ was.left_too 0 c.in-Some-next.requests (omega (arith, step.1))
+    ∙ ap (λ n. get_or first n c.in-Some-next.requests) (add-zero done) in
     let inside : done < length c.args.sessions.items = omega (arith, was.count, step.1, c.into_iter-end-iterator.ensures.into_iter_gives.1, c.args.ends.ok.0, c.requires.count) in
-    let items : get_or first done c.in-Some-next.requests ≡ get_or c.args.sessions.items done c.in-Some-next.requests = ap (λ xs. get_or xs done c.in-Some-next.requests) c.into_iter-sessions.ensures.rest in
+    let items : get_or first done c.in-Some-next.requests
+    ≡ get_or c.args.sessions.items done c.in-Some-next.requests =
+    ap (λ xs. get_or xs done c.in-Some-next.requests) c.into_iter-sessions.ensures.rest in
     subst (λ r. length (g.C.RequestSource.rest r) < 2 ^ 32) (sym (next ∙ items)) (c.requires.few done c.in-Some-next.requests inside)
 
 -- The end that is taken stood first among the rest, so it is the one at the next place; and so with the requests.
@@ -46,7 +50,10 @@ loop-end-preserved g c =
       left = λ k d below. let h = was.left (k + 1) d in grind rules;
       left_too = λ k d below. let h = was.left_too (k + 1) d in grind rules;
       started = λ k end requests last below.
-          each_after_push (λ i x. IsStarted replies limit (get_or first i end) (get_or first_too i requests) x) (vec_items c.loop-end.workers) worker (vec_items c.push_reserved.new.self) done c.push_reserved.ensures.items (omega (arith, c.loop-end.workers.ok.0))
+          each_after_push (λ i x. IsStarted replies limit (get_or first i end)
+          (get_or first_too i requests) x) (vec_items c.loop-end.workers) worker
+          (vec_items c.push_reserved.new.self) done c.push_reserved.ensures.items
+          (omega (arith, c.loop-end.workers.ok.0))
           (λ i x low. was.started i end requests x low) (here end requests) k last (subst (λ n. k < n) grown below);
     }
 
@@ -58,7 +65,11 @@ returns g c =
     record {
       count = omega (arith, was.count, over.0, began.1, c.loop-end.workers.ok.0, c.args.ends.ok.0, c.requires.count);
       each = λ k end requests worker below.
-          subst (λ ends. IsStarted c.args.setting.now.replies.now c.args.setting.now.max_errors (get_or ends k end) (get_or c.args.sessions.items k requests) (get_or (vec_items c.loop-end.workers) k worker)) began.0
-          (subst (λ sessions. IsStarted c.args.setting.now.replies.now c.args.setting.now.max_errors (get_or (into_iter_items c.into_iter-end-iterator.result) k end) (get_or sessions k requests) (get_or (vec_items c.loop-end.workers) k worker)) c.into_iter-sessions.ensures.rest
+          subst (λ ends. IsStarted c.args.setting.now.replies.now c.args.setting.now.max_errors
+          (get_or ends k end) (get_or c.args.sessions.items k requests)
+          (get_or (vec_items c.loop-end.workers) k worker)) began.0
+          (subst (λ sessions. IsStarted c.args.setting.now.replies.now c.args.setting.now.max_errors
+          (get_or (into_iter_items c.into_iter-end-iterator.result) k end) (get_or sessions k requests)
+          (get_or (vec_items c.loop-end.workers) k worker)) c.into_iter-sessions.ensures.rest
           (was.started k end requests worker (omega (arith, was.count, over.0, began.1, c.args.ends.ok.0, c.requires.count, below))));
     }

@@ -13,5 +13,7 @@ invariant-loop-end g l =
       room : into_iter_len first ≤ vec_capacity l.workers;
       left : (k : ℕ) (end : _) → k < into_iter_len rest → get_or (into_iter_items rest) k end ≡ get_or (into_iter_items first) (done + k) end;
       left_too : (k : ℕ) (requests : _) → k < into_iter_len rest → get_or (into_iter_items l.sessions) k requests ≡ get_or (into_iter_items l.initial.sessions) (done + k) requests;
-      started : (k : ℕ) (end : _) (requests : _) (worker : _) → k < done → IsStarted l.setting.replies.now l.setting.max_errors (get_or (into_iter_items first) k end) (get_or (into_iter_items l.initial.sessions) k requests) (get_or (vec_items l.workers) k worker);
+      started : (k : ℕ) (end : _) (requests : _) (worker : _) → k < done
+          → IsStarted l.setting.replies.now l.setting.max_errors (get_or (into_iter_items first) k end)
+          (get_or (into_iter_items l.initial.sessions) k requests) (get_or (vec_items l.workers) k worker);
     }

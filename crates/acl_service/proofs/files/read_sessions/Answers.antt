@@ -39,7 +39,7 @@ loop-name-preserved g c =
           (HaveBytes-more bytes_of first so_far before name text was.told
           (told_before bytes_of (g.I.Read.remaining c.loop-name.input) first name text.items
           (λ is. ap g.I.Read.remaining (was.untouched (omega (arith, few, input_count-next so_far name is))))
-          c.in_ok-text.ensures.told)));
+          c.in_ok-text.ensures.bytes)));
     }
 
 pub returns-in_err-text-clause-untouched : goal.returns-in_err-text-clause-untouched

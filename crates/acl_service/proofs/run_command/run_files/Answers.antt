@@ -61,14 +61,18 @@ runs_rows g c WentOut runs =
 
 pub returns-in_default-clause-ended : goal.returns-in_default-clause-ended
 returns-in_default-clause-ended g c =
-    Ends-files _ (files_meaning (g.F.OpenFiles.bytes_of c.args.files.now) (g.I.Read.remaining c.args.input.now) (rows_of (found_of c.args.matches.now))) _ _ SessionCount c.report.ensures.status (Keeps-refl _)
+    Ends-files _ (files_meaning (g.F.OpenFiles.bytes_of c.args.files.now)
+    (g.I.Read.remaining c.args.input.now) (rows_of (found_of c.args.matches.now))) _ _ SessionCount
+    c.report.ensures.status (Keeps-refl _)
 
 pub returns-in_default-clause-input : goal.returns-in_default-clause-input
 returns-in_default-clause-input g c = record { untouched = λ none. refl; unread = λ two. refl }
 
 pub returns-in-Err-clause-ended : goal.returns-in-Err-clause-ended
 returns-in-Err-clause-ended g c =
-    Ends-files _ (files_meaning (g.F.OpenFiles.bytes_of c.args.files.now) (g.I.Read.remaining c.args.input.now) (rows_of (found_of c.args.matches.now))) _ _ c.in-Err.fault c.report-in-Err.ensures.status (Keeps-refl _)
+    Ends-files _ (files_meaning (g.F.OpenFiles.bytes_of c.args.files.now)
+    (g.I.Read.remaining c.args.input.now) (rows_of (found_of c.args.matches.now))) _ _ c.in-Err.fault
+    c.report-in-Err.ensures.status (Keeps-refl _)
 
 pub returns-in-Err-clause-input : goal.returns-in-Err-clause-input
 returns-in-Err-clause-input g c = record {
@@ -80,7 +84,8 @@ returns-in-Err-clause-input g c = record {
 pub returns-in-Ok-clause-ended : goal.returns-in-Ok-clause-ended
 returns-in-Ok-clause-ended g c =
     Ends-map (texts_meaning c.as_slice.result.now c.as_slice-in-Ok.result.now c.flag_field.result c.limit_field.result)
-    (files_meaning (g.F.OpenFiles.bytes_of c.args.files.now) (g.I.Read.remaining c.args.input.now) (rows_of (found_of c.args.matches.now))) _ _ _ (runs_rows g c) (runs_rows g c) c.run_texts.ensures.ended
+    (files_meaning (g.F.OpenFiles.bytes_of c.args.files.now) (g.I.Read.remaining c.args.input.now)
+    (rows_of (found_of c.args.matches.now))) _ _ _ (runs_rows g c) (runs_rows g c) c.run_texts.ensures.ended
 
 pub returns-in-Ok-clause-input : goal.returns-in-Ok-clause-input
 returns-in-Ok-clause-input g c =

@@ -8,4 +8,6 @@ use Rattle.acl_service.proofs.sessions.serve_in_print.Goals as goal
 pub returns : goal.returns
 returns g c =
     let served : Served = record { alloc = c.args.alloc; directory = c.args.directory; tree = c.args.tree } in
-    explained served c.args.max_errors c.args.texts.now (map rest_of c.in_ok-sessions.sessions.items) c.in_ok-run.run' (report_of c.in_ok-run.run') c.in_ok-sessions.ensures.requests refl c.in_ok-run.ensures
+    explained served c.args.max_errors c.args.texts.now
+    (map rest_of c.in_ok-sessions.sessions.items) c.in_ok-run.run'
+    (report_of c.in_ok-run.run') c.in_ok-sessions.ensures.requests refl c.in_ok-run.ensures

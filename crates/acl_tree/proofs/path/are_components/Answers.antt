@@ -25,7 +25,9 @@ returns-then-not-is_component_of_path_bytes c =
     let rest = c.loop-rest.rest.now in
     let end = c.path_bytes_len-end in
     let slash = at_slash rest end.result end.ensures.value (omega (arith, c.if-end-rest.false)) c.if-rest-end-ne-SLASH.false in
-    let component : is_component (take end.result rest) ≡ false = sym (c.is_component_of_path_bytes-in-loop-rest.ensures (all_path_bytes (take end.result rest) slash.0)) ∙ c.if-not-is_component_of_path_bytes.true in
+    let component : is_component (take end.result rest)
+    ≡ false = sym (c.is_component_of_path_bytes-in-loop-rest.ensures
+    (all_path_bytes (take end.result rest) slash.0)) ∙ c.if-not-is_component_of_path_bytes.true in
     sym (slash.1 ∙ ap (λ b. b && list_all is_component (parts SLASH (drop (end.result + 1) rest))) component) ∙ c.loop-rest.invariant
 
 pub loop-rest-preserved : goal.loop-rest-preserved
@@ -33,5 +35,9 @@ loop-rest-preserved c =
     let rest = c.loop-rest.rest.now in
     let end = c.path_bytes_len-end in
     let slash = at_slash rest end.result end.ensures.value (omega (arith, c.if-end-rest.false)) c.if-rest-end-ne-SLASH.false in
-    let component : is_component (take end.result rest) ≡ true = sym (c.is_component_of_path_bytes-in-loop-rest.ensures (all_path_bytes (take end.result rest) slash.0)) ∙ c.if-not-is_component_of_path_bytes.false in
-    rw (take_rest, take_rest, drop_more rest end.result 0 (omega (arith, c.if-end-rest.false))) (sym (slash.1 ∙ ap (λ b. b && list_all is_component (parts SLASH (drop (end.result + 1) rest))) component) ∙ c.loop-rest.invariant)
+    let component : is_component (take end.result rest)
+    ≡ true = sym (c.is_component_of_path_bytes-in-loop-rest.ensures
+    (all_path_bytes (take end.result rest) slash.0)) ∙ c.if-not-is_component_of_path_bytes.false in
+    rw (take_rest, take_rest, drop_more rest end.result 0 (omega (arith, c.if-end-rest.false)))
+    (sym (slash.1 ∙ ap (λ b. b && list_all is_component (parts SLASH (drop (end.result + 1) rest)))
+    component) ∙ c.loop-rest.invariant)

@@ -8,6 +8,6 @@ returns-clause-opened g c =
     let tree = c.in_ok-directory._tree in (
       c.in_ok-setup.setup.items,
       tree,
-      c.in_ok-setup.ensures.told,
+      c.in_ok-setup.ensures.bytes,
       subst (λ (bytes : List ℕ). Opens bytes directory tree) c.as_slice.ensures.value c.in_ok-directory.ensures.opened,
     )

@@ -55,7 +55,7 @@ returns-in_err-after-clause-refused g c =
 pub returns-clause-before : goal.returns-clause-before
 returns-clause-before g c =
     subst (λ names. HaveBytes (g.F.OpenFiles.bytes_of c.args.files.now) (g.I.Read.remaining c.args.input.now) (all_names names) c.in_ok-before.before.items)
-    c.names_field-before.ensures c.in_ok-before.ensures.told
+    c.names_field-before.ensures c.in_ok-before.ensures.bytes
 
 pub returns-clause-after : goal.returns-clause-after
 returns-clause-after g c =
@@ -71,7 +71,7 @@ returns-clause-after g c =
     told_from_start bytes_of start later (input_count (before_in rows)) (after_in rows) c.in_ok-after.after.items
     (subst (λ n. n ≤ 1) (ap₂ (λ (a b : ℕ). a + b) before after) once)
     (λ none. ap g.I.Read.remaining (c.read_named.ensures.untouched (counted ∙ none)))
-    (subst (λ names. HaveBytes bytes_of later (all_names names) c.in_ok-after.after.items) c.names_field-after.ensures c.in_ok-after.ensures.told)
+    (subst (λ names. HaveBytes bytes_of later (all_names names) c.in_ok-after.after.items) c.names_field-after.ensures c.in_ok-after.ensures.bytes)
 
 pub returns-clause-untouched : goal.returns-clause-untouched
 returns-clause-untouched g c none =

@@ -11,7 +11,9 @@ returns-then-asks_of_listing-clause-ended g c =
     let input = g.I.Read.remaining c.args.input.now in
     let words = map g.S.AsStr.text c.args.words.now in
     let asks : asks_of_listing words ≡ true = search rules in
-    subst (λ (listed : Bool). Ends (meaning_if listed (who_of_listing files input words) (who_of_tree files input words)) c.ask_of_listing.result (g.W.Write.contents c.args.out.now) (g.W.Write.contents c.ask_of_listing.new.out))
+    subst (λ (listed : Bool). Ends (meaning_if listed (who_of_listing files input words)
+    (who_of_tree files input words)) c.ask_of_listing.result (g.W.Write.contents c.args.out.now)
+    (g.W.Write.contents c.ask_of_listing.new.out))
     (sym asks) c.ask_of_listing.ensures.ended
 
 pub returns-else-asks_of_listing-clause-ended : goal.returns-else-asks_of_listing-clause-ended
@@ -20,5 +22,7 @@ returns-else-asks_of_listing-clause-ended g c =
     let input = g.I.Read.remaining c.args.input.now in
     let words = map g.S.AsStr.text c.args.words.now in
     let asks : asks_of_listing words ≡ false = search rules in
-    subst (λ (listed : Bool). Ends (meaning_if listed (who_of_listing files input words) (who_of_tree files input words)) c.ask.result (g.W.Write.contents c.args.out.now) (g.W.Write.contents c.ask.new.out))
+    subst (λ (listed : Bool). Ends (meaning_if listed (who_of_listing files input words)
+    (who_of_tree files input words)) c.ask.result (g.W.Write.contents c.args.out.now)
+    (g.W.Write.contents c.ask.new.out))
     (sym asks) c.ask.ensures.ended

@@ -9,6 +9,8 @@ use Rattle.acl_lint.proofs.command_line.LintLineCommandLine.command.Goals as goa
 pub returns : goal.returns
 unfolding lint_line
 returns c =
-    let described : app_of c.after_help.result ≡ new_app (codes "lint") = ap app_of_fields c.after_help.ensures ∙ ap app_of_fields c.about.ensures ∙ ap app_of_fields c.in_ok-bin_name.ensures.0 ∙ c.new.ensures.app in
+    let described : app_of c.after_help.result ≡ new_app
+    (codes "lint") = ap app_of_fields c.after_help.ensures ∙ ap app_of_fields c.about.ensures
+    ∙ ap app_of_fields c.in_ok-bin_name.ensures.0 ∙ c.new.ensures.app in
     let setup = app_of-arg _ c.in_ok-arg.field-0 _ c.in_ok-arg.ensures c.setup_option.ensures.local described c.setup_option.ensures.rule in
     IfOk-weaker c.arg-2.result _ _ (λ command added. app_of-arg _ command _ added c.session_words.ensures.local setup c.session_words.ensures.rule) c.arg-2.ensures

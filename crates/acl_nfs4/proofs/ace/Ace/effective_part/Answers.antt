@@ -15,7 +15,7 @@ pub with_flags-requires-clause-group : goal.with_flags-requires-clause-group
 with_flags-requires-clause-group c =
     ap (λ (f : ℕ). has f identifier_group) (c.without_inheritance.ensures ∙ ap (λ (f : ℕ). without f inheritance_flags) c.flags.ensures.value)
     ∙ cleared-group_flag c.args.self.now.flags
-    ∙ sym (ap (λ (ace : Nfsace4). has ace.flags identifier_group) c.reduced.ensures)
+    ∙ sym (ap (λ (ace : Nfsace4). has ace.flags identifier_group) c.with_kept_mask.ensures)
 
 pub returns-clause-effective : goal.returns-clause-effective
 returns-clause-effective c =

@@ -8,12 +8,12 @@ use Rattle.acl_nfs4.proofs.ModeChangeGrants.{grants-owner, grants-group, grants-
 use Rattle.acl_nfs4.proofs.ModeChangeTwice.{with_mode-twice}
 use Rattle.acl_nfs4.proofs.ModeChangeLeaves.{audits-with_mode, inherit_only-with_mode, inherited-with_mode}
 use Rattle.acl_nfs4.proofs.acl.Acl4.chmod4.Goals as goal
-use Rattle.acl_nfs4.proofs.acl.Acl4.chmod4.Goals.{Joined-self-finished}
+use Rattle.acl_nfs4.proofs.acl.Acl4.chmod4.Goals.{Joined-self-into_acl}
 
 -- the new list is the old one with the mode set
-set : (c : Joined-self-finished) → with_mode c.args.self.now c.args.mode ≡ c.finished.result
+set : (c : Joined-self-into_acl) → with_mode c.args.self.now c.args.mode ≡ c.into_acl.result
 set c =
-    sym (c.finished.ensures ∙ c.in-Ok.ensures.ok ∙ ap (λ (aces : List Nfsace4). with_mode aces c.args.mode) c.aces.ensures.value)
+    sym (c.into_acl.ensures ∙ c.in-Ok.ensures.ok ∙ ap (λ (aces : List Nfsace4). with_mode aces c.args.mode) c.aces.ensures.value)
 
 pub returns-in-Ok-clause-shown : goal.returns-in-Ok-clause-shown
 returns-in-Ok-clause-shown c = subst (λ (new : List Nfsace4). mode_of new ≡ c.args.mode) (set c) (mode_of-with_mode c.args.self.now c.args.mode (subst AreClasses c.mode.view_is c.mode.invariant))

@@ -1,6 +1,6 @@
 use Rattle.std.proofs.Common.{◌≡◌, ◌↔◌, subst, List, None, ℕ}
 use Rattle.acl_nfs4.specs.Ace.{Nfsace4}
-use Rattle.acl_nfs4.specs.Comparison.{AlikeAt, DecideAlike, IsDifference, OfEachWho, decided_at}
+use Rattle.acl_nfs4.specs.Comparison.{AlikeFor, DecideAlike, IsDifference, OfEachAsker, decided_at}
 use Rattle.acl_nfs4.specs.Mask.{mask_bits}
 use Rattle.acl_nfs4.proofs.AllowedBits.{none_exactly, difference_tells}
 use Rattle.acl_nfs4.proofs.ComparisonLemmas.{pairs_suffice}
@@ -13,13 +13,12 @@ returns-clause-none c =
     let owners = c.args.owners.now in
     let other_owners = c.args.other_owners.now in
     let bits : ℕ = mask_bits c.args.bits in
-    let stranger = c.stranger.result in
-    let found = c.difference_of.result in
+    let found = c.difference_by_pairs.result in
     subst (λ (xs : List Nfsace4). (found ≡ None) ↔ DecideAlike (decided_at xs owners) (decided_at c.args.other.now other_owners) bits) c.aces-first.ensures.value
     (subst (λ (ys : List Nfsace4). (found ≡ None) ↔ DecideAlike (decided_at first owners) (decided_at ys other_owners) bits) c.aces-second.ensures.value
     (none_exactly found
-    (OfEachWho first (λ who. OfEachWho second (λ other. AlikeAt first second owners other_owners bits stranger who other)))
+    (OfEachAsker (λ (ace : Nfsace4). ace.who) first second owners other_owners (AlikeFor first second owners other_owners bits))
     (DecideAlike (decided_at first owners) (decided_at second other_owners) bits)
-    (IsDifference (decided_at first owners) (decided_at second other_owners) bits) c.difference_of.ensures
-    (pairs_suffice first second owners other_owners bits stranger c.stranger.ensures.first c.stranger.ensures.second)
+    (IsDifference (decided_at first owners) (decided_at second other_owners) bits) c.difference_by_pairs.ensures
+    (pairs_suffice first second owners other_owners bits)
     (difference_tells (decided_at first owners) (decided_at second other_owners) bits)))

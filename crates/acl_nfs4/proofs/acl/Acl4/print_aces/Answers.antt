@@ -8,7 +8,7 @@ use Rattle.acl_nfs4.proofs.acl.Acl4.print_aces.Goals as goal
 pub returns-else-is_err-clause-read_again : goal.returns-else-is_err-clause-read_again
 returns-else-is_err-clause-read_again c =
     on_ok_weaker c.push_lines-printed.result
-    (λ have. aces_spelt c.args.directory.now c.tell_names_apart.ensures c.args.self.now c.aces-aces.ensures.aces
+    (λ have. aces_spelt c.args.directory.now c.names_read_back.ensures c.args.self.now c.aces-aces.ensures.aces
     (subst HaveIds c.aces-aces.ensures.value have))
     c.push_lines-printed.ensures.have_ids
 

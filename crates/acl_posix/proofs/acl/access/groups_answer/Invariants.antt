@@ -5,7 +5,7 @@ use Rattle.acl_posix.proofs.acl.access.groups_answer.Given as goal
 
 -- what the entries so far answer, of which none has all of the request
 abbrev pub invariant-loop-entry : goal.invariant-loop-entry
-invariant-loop-entry l = record {
-  answer : l.answer ≡ groups_answer (take l.entry-index l.entries) l.group l.requester (bits_of l.request);
-  none : group_has l.requester l.group (take l.entry-index l.entries) (bits_of l.request) ≡ false;
+invariant-loop-entry g l = record {
+  answer : l.answer ≡ groups_answer (take l.entry-index l.entries) l.group (g.S.Subject.identity l.subject) (bits_of l.request);
+  none : group_has (g.S.Subject.identity l.subject) l.group (take l.entry-index l.entries) (bits_of l.request) ≡ false;
 }

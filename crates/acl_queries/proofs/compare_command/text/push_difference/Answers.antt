@@ -23,7 +23,7 @@ returns c =
     ∙ ap (λ (xs : List ℕ). xs ++ lost) (c.in_ok-extend_from_slice-2.ensures.items
     ∙ ap₂ (λ (xs ys : List ℕ). xs ++ ys) (c.in_ok-push_gids.ensures
     ∙ ap (λ (xs : List ℕ). xs ++ gids) (c.in_ok-push.ensures.items
-    ∙ ap (λ (xs : List ℕ). xs ++ codes " ") (c.in_ok-push_id.ensures.text
+    ∙ ap (λ (xs : List ℕ). xs ++ codes " ") (c.in_ok-push_decimal.ensures.text
     ∙ ap₂ (λ (xs : List ℕ) (n : ℕ). xs ++ decimal n) (c.in_ok-extend_from_slice.ensures.items
     ∙ ap (λ (xs : List ℕ). out ++ xs) c.as_bytes.ensures.value) c.value.ensures.value)))
     c.as_bytes-2.ensures.value))

@@ -18,10 +18,17 @@ loop-requests-preserved g c =
     record {
       count = search rules;
       room = search rules;
-      rests_are = ap (λ sessions. map rest_of sessions ++ map g.C.RequestSource.rest (into_iter_items c.next.new.self)) pushed ∙ ap (λ front. front ++ map g.C.RequestSource.rest (into_iter_items c.next.new.self)) (map-append rest_of old (progress ∷ []))
-          ∙ append_assoc (map rest_of old) (rest_of progress ∷ []) (map g.C.RequestSource.rest (into_iter_items c.next.new.self)) ∙ ap (λ items. map rest_of old ++ map g.C.RequestSource.rest items) (sym step.0) ∙ was.rests_are;
+      rests_are = ap (λ sessions. map rest_of sessions ++ map g.C.RequestSource.rest
+          (into_iter_items c.next.new.self)) pushed ∙ ap (λ front. front
+          ++ map g.C.RequestSource.rest (into_iter_items c.next.new.self)) (map-append rest_of old (progress ∷ []))
+          ∙ append_assoc (map rest_of old) (rest_of progress ∷ [])
+          (map g.C.RequestSource.rest (into_iter_items c.next.new.self))
+          ∙ ap (λ items. map rest_of old ++ map g.C.RequestSource.rest items) (sym step.0) ∙ was.rests_are;
       fresh = λ k d below.
-          each_after_push (λ i s. (vec_items s.answers ≡ []) × (vec_items s.output ≡ [])) old progress new (vec_len c.loop-requests.begun) pushed (omega (arith, c.loop-requests.begun.ok.0)) (λ i s low. was.fresh i s low) (c.new.ensures.items, c.new-in-loop-requests.ensures.items) k d (subst (λ n. k < n) grown below);
+          each_after_push (λ i s. (vec_items s.answers ≡ []) × (vec_items s.output ≡ [])) old progress new
+          (vec_len c.loop-requests.begun) pushed (omega (arith, c.loop-requests.begun.ok.0))
+          (λ i s low. was.fresh i s low) (c.new.ensures.items, c.new-in-loop-requests.ensures.items) k d
+          (subst (λ n. k < n) grown below);
     }
 
 pub returns : goal.returns
@@ -33,7 +40,10 @@ returns g c =
     let none_left : into_iter_items c.loop-requests.requests-iterator ≡ [] = nil_from_length _ (omega (arith, over.0, c.loop-requests.requests-iterator.rest.ok.0)) in
     record {
       count = omega (arith, was.count, over.0, began.1, c.loop-requests.begun.ok.0, c.args.sessions.ok.0);
-      rests_are = sym (append-nil _) ∙ ap (λ items. map (λ (progress : Progress g.row.C.Denot g.row.S-Reply.Denot). g.C.RequestSource.rest progress.requests) (vec_items c.loop-requests.begun) ++ map g.C.RequestSource.rest items) (sym none_left) ∙ was.rests_are ∙ ap (λ items. map g.C.RequestSource.rest items) began.0;
+      rests_are = sym (append-nil _) ∙ ap (λ items. map
+          (λ (progress : Progress g.row.C.Denot g.row.S-Reply.Denot). g.C.RequestSource.rest
+          progress.requests) (vec_items c.loop-requests.begun) ++ map g.C.RequestSource.rest items)
+          (sym none_left) ∙ was.rests_are ∙ ap (λ items. map g.C.RequestSource.rest items) began.0;
       service_is = search rules;
       journal = search rules;
       fresh = λ k progress below. was.fresh k progress (omega (arith, below, c.loop-requests.begun.ok.0));

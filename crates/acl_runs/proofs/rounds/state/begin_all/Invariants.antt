@@ -9,6 +9,10 @@ invariant-loop-requests g l =
     record {
       count : vec_len l.begun + into_iter_len rest ≡ into_iter_len first;
       room : into_iter_len first ≤ vec_capacity l.begun;
-      rests_are : map (λ (progress : Progress g.row.C.Denot g.row.S-Reply.Denot). g.C.RequestSource.rest progress.requests) (vec_items l.begun) ++ map g.C.RequestSource.rest (into_iter_items rest) ≡ map g.C.RequestSource.rest (into_iter_items first);
-      fresh : (k : ℕ) (progress : Progress g.row.C.Denot g.row.S-Reply.Denot) → k < vec_len l.begun → (vec_items (get_or (vec_items l.begun) k progress).answers ≡ []) × (vec_items (get_or (vec_items l.begun) k progress).output ≡ []);
+      rests_are : map (λ (progress : Progress g.row.C.Denot g.row.S-Reply.Denot). g.C.RequestSource.rest
+          progress.requests) (vec_items l.begun) ++ map g.C.RequestSource.rest
+          (into_iter_items rest) ≡ map g.C.RequestSource.rest (into_iter_items first);
+      fresh : (k : ℕ) (progress : Progress g.row.C.Denot g.row.S-Reply.Denot) → k < vec_len l.begun
+          → (vec_items (get_or (vec_items l.begun) k progress).answers ≡ [])
+          × (vec_items (get_or (vec_items l.begun) k progress).output ≡ []);
     }

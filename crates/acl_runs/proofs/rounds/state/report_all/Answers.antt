@@ -19,10 +19,16 @@ loop-progress-preserved g c =
       room_outputs = search rules;
       left = λ k d below. sym (ap (λ xs. get_or xs (suc k) d) step.0) ∙ was.left (suc k) d (omega (arith, step.1, below)) ∙ ap (λ n. get_or first n d) (omega (arith, grown));
       answers_are = λ k progress none below.
-          each_after_push (λ i x. x ≡ (get_or first i progress).answers) (vec_items c.loop-progress.answers) c.in-Some.progress.answers (vec_items c.push_reserved.new.self) done c.push_reserved.ensures.items (omega (arith, c.loop-progress.answers.ok.0))
+          each_after_push (λ i x. x ≡ (get_or first i progress).answers)
+          (vec_items c.loop-progress.answers) c.in-Some.progress.answers
+          (vec_items c.push_reserved.new.self) done c.push_reserved.ensures.items
+          (omega (arith, c.loop-progress.answers.ok.0))
           (λ i x low. was.answers_are i progress x low) (ap (λ s. s.answers) (next_progress progress)) k none (subst (λ n. k < n) grown below);
       outputs_are = λ k progress none below.
-          each_after_push (λ i x. x ≡ (get_or first i progress).output) (vec_items c.loop-progress.outputs) c.in-Some.progress.output (vec_items c.push_reserved-in-loop-progress.new.self) done c.push_reserved-in-loop-progress.ensures.items (omega (arith, c.loop-progress.outputs.ok.0, was.outputs))
+          each_after_push (λ i x. x ≡ (get_or first i progress).output)
+          (vec_items c.loop-progress.outputs) c.in-Some.progress.output
+          (vec_items c.push_reserved-in-loop-progress.new.self) done
+          c.push_reserved-in-loop-progress.ensures.items (omega (arith, c.loop-progress.outputs.ok.0, was.outputs))
           (λ i x low. was.outputs_are i progress x low) (ap (λ s. s.output) (next_progress progress)) k none (subst (λ n. k < n) grown below);
     }
 

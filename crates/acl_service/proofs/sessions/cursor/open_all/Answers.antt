@@ -26,7 +26,9 @@ loop-text-preserved c =
           ap (λ items. map rest_of items) c.push_reserved.ensures.items ∙ map-append rest_of (vec_items old) (c.new.result ∷ []) ∙ ap (λ front. front ++ rest_of c.new.result ∷ []) was.requests
           ∙ ap (λ last. map wanted (take done texts) ++ last ∷ []) new_is ∙ sym (map_more wanted texts done c.text-item.result c.loop-text-test.true);
       few = λ k d below.
-          each_after_push (λ i cursor. length (rest_of cursor) < 2 ^ 32) (vec_items old) c.new.result (vec_items c.push_reserved.new.self) done c.push_reserved.ensures.items (omega (arith, was.count, old.ok.0))
+          each_after_push (λ i cursor. length (rest_of cursor) < 2 ^ 32) (vec_items old) c.new.result
+          (vec_items c.push_reserved.new.self) done c.push_reserved.ensures.items
+          (omega (arith, was.count, old.ok.0))
           (λ i d low. was.few i d (omega (arith, low, was.count, old.ok.0)))
           (omega (arith, ap length c.new.ensures, few_requests known c.as_slice.result.now, c.requires done c.text-item.result c.loop-text-test.true, ap length (text_is c.text-item.result)))
           k d (omega (arith, below, grown, c.push_reserved.new.self.ok.0));

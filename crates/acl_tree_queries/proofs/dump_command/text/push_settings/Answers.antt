@@ -3,7 +3,7 @@ use Rattle.std.specs.List.{flat_map}
 use Rattle.std.specs.Map.Iter.{deref_pair}
 use Rattle.std.proofs.lemmas.Result.{err_from_is_err_and}
 use Rattle.acl_tree.specs.declared.node.Node.{Node}
-use Rattle.acl_audit.specs.Dump.{setting}
+use Rattle.acl_audit.specs.Dump.{set_commands}
 use Rattle.acl_tree_queries.specs.AnswerFaults.{IsAnswerFault}
 use Rattle.acl_tree_queries.specs.DumpText.{HasLongLine}
 use Rattle.acl_tree_queries.proofs.DumpLemmas.{fault_weaker, long_within, next_lines, of_fault}
@@ -16,11 +16,11 @@ returns-in_err-push_lists-clause-refused c =
     let item = c.loop-path-item.result in
     let here : get_or items at item ≡ item = search rules in
     let within : at < length items = search rules in
-    let whole = HasLongLine (flat_map setting (each (deref_pair {K = List ℕ} {X = Node}) items)) in
+    let whole = HasLongLine (flat_map set_commands (each (deref_pair {K = List ℕ} {X = Node}) items)) in
     let p = err_from_is_err_and c.from_residual.result c.from_residual.ensures.1 in
     of_fault c.from_residual.result p.0 (IsAnswerFault whole) p.1
     (subst (IsAnswerFault whole) (sym p.2)
-    (fault_weaker _ whole (long_within (deref_pair {K = List ℕ} {X = Node}) setting items at item within here) _ c.in_err-push_lists.ensures.refused))
+    (fault_weaker _ whole (long_within (deref_pair {K = List ℕ} {X = Node}) set_commands items at item within here) _ c.in_err-push_lists.ensures.refused))
 
 pub loop-path-preserved : goal.loop-path-preserved
 loop-path-preserved c =
@@ -29,5 +29,5 @@ loop-path-preserved c =
     let item = c.loop-path-item.result in
     let here : get_or items at item ≡ item = search rules in
     let within : at < length items = search rules in
-    next_lines (deref_pair {K = List ℕ} {X = Node}) setting items at item within here c.args.out.now.items c.loop-path.out.items c.push_lists.new.out.items
+    next_lines (deref_pair {K = List ℕ} {X = Node}) set_commands items at item within here c.args.out.now.items c.loop-path.out.items c.push_lists.new.out.items
     c.loop-path.invariant c.in_ok-push_lists.ensures.lines

@@ -1,4 +1,6 @@
-use Rattle.std.proofs.Common.{rules, ◌≡◌, ◌∙◌, ◌<◌, ◌+◌, ◌++◌, ℕ, true, false, cond, List, [], ◌∷◌, None, Some, ap, bytes_eq, get_or, is_none, length, length-take, map, option_map, arith, subst, sym, take}
+use Rattle.std.proofs.Common.{rules, ◌≡◌, ◌∙◌, ◌<◌, ◌+◌, ◌++◌, ℕ, true, false, cond, List, [], ◌∷◌, None}
+use Rattle.std.proofs.Common.{Some, ap, bytes_eq, get_or, is_none, length, length-take, map, option_map}
+use Rattle.std.proofs.Common.{arith, subst, sym, take}
 use Rattle.std.specs.HashMap.{get_by}
 use Rattle.std.specs.Cmp.Lexicographic.{nat_list_eq_equiv}
 use Rattle.std.proofs.lemmas.List.{get_or-map, length-map, take_more}

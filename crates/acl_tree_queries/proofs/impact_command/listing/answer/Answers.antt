@@ -5,7 +5,7 @@ use Rattle.clap.specs.Words.{found_of, rows_of}
 use Rattle.acl_queries.specs.Output.{AppendsFront}
 use Rattle.acl_service.specs.RunWords.{bytes_of_session, input_count}
 use Rattle.acl_tree_queries.specs.ChangeSteps.{TellsOfKnown}
-use Rattle.acl_listings.specs.Cursor.{coming}
+use Rattle.acl_listings.specs.Cursor.{blocks_to_come}
 use Rattle.acl_tree_queries.specs.ImpactAnswer.{asks_impact}
 use Rattle.acl_tree_queries.specs.ImpactListing.{IsImpactListed, IsImpactListedBegun}
 use Rattle.acl_tree_queries.specs.ImpactListingLine.{impact_listing_line}
@@ -39,8 +39,8 @@ returns-clause-answered g c =
     c.in_ok-matches.ensures.taken (record {}) refl listed are (
       written.0,
       told_of_both TellsOfEach directory written.0 first second
-          (subst (λ one. TellsOfKnown TellsOfEach directory (coming 1 one) (coming 1 second) written.0) (ap (bytes_of_session bytes_of input) c.listing_field-before.ensures)
-          (subst (λ one. TellsOfKnown TellsOfEach directory (coming 1 (bytes_of_session bytes_of input c.listing_field-before.result.now)) (coming 1 one) written.0)
+          (subst (λ one. TellsOfKnown TellsOfEach directory (blocks_to_come 1 one) (blocks_to_come 1 second) written.0) (ap (bytes_of_session bytes_of input) c.listing_field-before.ensures)
+          (subst (λ one. TellsOfKnown TellsOfEach directory (blocks_to_come 1 (bytes_of_session bytes_of input c.listing_field-before.result.now)) (blocks_to_come 1 one) written.0)
           (ap (bytes_of_session bytes_of input) c.after_field-after.ensures) written.1)),
       written.2,
     ))
@@ -69,8 +69,8 @@ returns-clause-cut g c =
           c.in_ok-matches.ensures.taken (record {}) refl listed are (
             begun.0,
             told_of_both TellsOfFirst directory begun.0 first second
-                (subst (λ one. TellsOfKnown TellsOfFirst directory (coming 1 one) (coming 1 second) begun.0) (ap (bytes_of_session bytes_of input) c.listing_field-before.ensures)
-                (subst (λ one. TellsOfKnown TellsOfFirst directory (coming 1 (bytes_of_session bytes_of input c.listing_field-before.result.now)) (coming 1 one) begun.0)
+                (subst (λ one. TellsOfKnown TellsOfFirst directory (blocks_to_come 1 one) (blocks_to_come 1 second) begun.0) (ap (bytes_of_session bytes_of input) c.listing_field-before.ensures)
+                (subst (λ one. TellsOfKnown TellsOfFirst directory (blocks_to_come 1 (bytes_of_session bytes_of input c.listing_field-before.result.now)) (blocks_to_come 1 one) begun.0)
                 (ap (bytes_of_session bytes_of input) c.after_field-after.ensures) begun.1)),
             begun.2,
           ))

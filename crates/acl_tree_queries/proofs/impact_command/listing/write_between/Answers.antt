@@ -1,7 +1,7 @@
 use Rattle.std.proofs.Common.{rules, ◌≡◌, ◌∙◌, List, [], Option, ap, map, subst, sym}
 use Rattle.std.specs.Io.KnownBytes.{Keeps}
 use Rattle.acl_audit.specs.Impact.{requesters_of}
-use Rattle.acl_listings.specs.Cursor.{coming}
+use Rattle.acl_listings.specs.Cursor.{blocks_to_come}
 use Rattle.acl_listings.specs.Listing.{Block}
 use Rattle.acl_queries.proofs.OutputLemmas.{front_of_none}
 use Rattle.acl_tree_queries.specs.Kept.{block_of}
@@ -27,8 +27,8 @@ returns-in_err-users-clause-cut g c =
 pub returns-in-Ok-write_changes-clause-written : goal.returns-in-Ok-write_changes-clause-written
 returns-in-Ok-write_changes-clause-written g c =
     let known = c.args.directory.now in
-    let before : Option (List Block) = coming 1 (g.B.Read.remaining c.args.before.1) in
-    let after : Option (List Block) = coming 1 (g.A.Read.remaining c.args.after.1) in
+    let before : Option (List Block) = blocks_to_come 1 (g.B.Read.remaining c.args.before.1) in
+    let after : Option (List Block) = blocks_to_come 1 (g.A.Read.remaining c.args.after.1) in
     let kept : List Block = c.in_ok-kept.kept in
     let all : AreAll before kept = subst (AreAll before) (ap (map block_of) (sym c.as_slice.ensures.value) ∙ sym c.in_ok-kept.ensures) c.in-Ok.ensures.kept in
     let users : c.as_slice-2.result.now ≡ requesters_of known = c.as_slice-2.ensures.value ∙ c.in_ok-users.ensures in
@@ -38,8 +38,8 @@ returns-in-Ok-write_changes-clause-written g c =
 pub returns-clause-cut : goal.returns-clause-cut
 returns-clause-cut g c =
     let known = c.args.directory.now in
-    let before : Option (List Block) = coming 1 (g.B.Read.remaining c.args.before.1) in
-    let after : Option (List Block) = coming 1 (g.A.Read.remaining c.args.after.1) in
+    let before : Option (List Block) = blocks_to_come 1 (g.B.Read.remaining c.args.before.1) in
+    let after : Option (List Block) = blocks_to_come 1 (g.A.Read.remaining c.args.after.1) in
     let kept : List Block = c.in_ok-kept.kept in
     let all : AreAll before kept = subst (AreAll before) (ap (map block_of) (sym c.as_slice.ensures.value) ∙ sym c.in_ok-kept.ensures) c.in-Ok.ensures.kept in
     let users : c.as_slice-2.result.now ≡ requesters_of known = c.as_slice-2.ensures.value ∙ c.in_ok-users.ensures in

@@ -9,7 +9,9 @@ use Rattle.acl_queries.proofs.compare_command.command_line.ComparisonCommandLine
 pub returns : goal.returns
 unfolding compare_line
 returns c =
-    let described : app_of c.after_help.result ≡ new_app (codes "compare") = ap app_of_fields c.after_help.ensures ∙ ap app_of_fields c.about.ensures ∙ ap app_of_fields c.in_ok-bin_name.ensures.0 ∙ c.new.ensures.app in
+    let described : app_of c.after_help.result ≡ new_app
+    (codes "compare") = ap app_of_fields c.after_help.ensures ∙ ap app_of_fields c.about.ensures
+    ∙ ap app_of_fields c.in_ok-bin_name.ensures.0 ∙ c.new.ensures.app in
     let owner = app_of-arg _ c.in_ok-arg.field-0 _ c.in_ok-arg.ensures c.owner_option.ensures.local described c.owner_option.ensures.rule in
     let group = app_of-arg _ c.in_ok-arg-2.field-0 _ c.in_ok-arg-2.ensures c.group_option.ensures.local owner c.group_option.ensures.rule in
     let style = app_of-arg _ c.in_ok-arg-3.field-0 _ c.in_ok-arg-3.ensures c.required_word.ensures.local group c.required_word.ensures.rule in

@@ -9,7 +9,8 @@ use Rattle.acl_service.proofs.run_command.command_line.RunLineCommandLine.comman
 pub returns : goal.returns
 unfolding run_line
 returns c =
-    let described : app_of c.after_help.result ≡ new_app (codes "run") = ap app_of_fields c.after_help.ensures ∙ ap app_of_fields c.about.ensures ∙ ap app_of_fields c.in_ok-bin_name.ensures.0 ∙ c.new.ensures.app in
+    let described : app_of c.after_help.result ≡ new_app (codes "run") = ap app_of_fields c.after_help.ensures
+    ∙ ap app_of_fields c.about.ensures ∙ ap app_of_fields c.in_ok-bin_name.ensures.0 ∙ c.new.ensures.app in
     let setup = app_of-arg _ c.in_ok-arg.field-0 _ c.in_ok-arg.ensures c.setup_option.ensures.local described c.setup_option.ensures.rule in
     let journal = app_of-arg _ c.in_ok-arg-2.field-0 _ c.in_ok-arg-2.ensures c.flag.ensures.local setup c.flag.ensures.rule in
     let limit = app_of-arg _ c.in_ok-arg-3.field-0 _ c.in_ok-arg-3.ensures c.limit_option.ensures.local journal c.limit_option.ensures.rule in

@@ -9,7 +9,8 @@ use Rattle.acl_tree_queries.proofs.who_command.question.WhoQuestionCommandLine.c
 pub returns : goal.returns
 unfolding who_line
 returns c =
-    let described : app_of c.after_help.result ≡ new_app (codes "who") = ap app_of_fields c.after_help.ensures ∙ ap app_of_fields c.about.ensures ∙ ap app_of_fields c.in_ok-bin_name.ensures.0 ∙ c.new.ensures.app in
+    let described : app_of c.after_help.result ≡ new_app (codes "who") = ap app_of_fields c.after_help.ensures
+    ∙ ap app_of_fields c.about.ensures ∙ ap app_of_fields c.in_ok-bin_name.ensures.0 ∙ c.new.ensures.app in
     let first = app_of-arg _ c.in_ok-arg.field-0 _ c.in_ok-arg.ensures c.setup_option.ensures.local described c.setup_option.ensures.rule in
     let second = app_of-arg _ c.in_ok-arg-2.field-0 _ c.in_ok-arg-2.ensures c.optional_perms_option.ensures.local first c.optional_perms_option.ensures.rule in
     IfOk-weaker c.arg-3.result _ _ (λ command added. app_of-arg _ command _ added c.optional_word.ensures.local second c.optional_word.ensures.rule) c.arg-3.ensures

@@ -1,0 +1,18 @@
+use Rattle.std.proofs.Common.{Err, ap, rules}
+use Rattle.acl_names.specs.Pieces.{pieces}
+use Rattle.acl_names.specs.Steps.{map_fault}
+use Rattle.acl_posix.specs.AclText as posix
+use Rattle.acl_lang.specs.Fields.{acl_of}
+use Rattle.acl_lang.specs.Refusals.{ReadsAs, acl_line_fault, acl_refusal}
+use Rattle.acl_lang.proofs.ListLemmas.{Reads-acl}
+use Rattle.acl_lang.proofs.fields.read_acl.Goals as goal
+
+pub returns-in_err-read_acl : goal.returns-in_err-read_acl
+returns-in_err-read_acl c =
+    let fault = c.in_err-read_acl.field-0.0 in
+    let refused : ReadsAs (acl_of c.args.directory.now c.args.text.now) (Err (acl_refusal fault)) =
+    Reads-acl (posix.acl_of c.args.directory.now (pieces c.args.text.now)) fault c.in_err-read_acl.ensures.value in
+    search (rules, refused)
+
+pub returns : goal.returns
+returns c = ap (map_fault acl_line_fault) c.in_ok-read_acl.ensures.value

@@ -1,5 +1,0 @@
-use Rattle.acl_names.proofs.DirectoryLemmas.{tells_names_apart}
-use Rattle.acl_names.proofs.directory.Directory.tell_names_apart.Goals as goal
-
-pub returns : goal.returns
-returns c = tells_names_apart c.args.self.now (rw c.self.view_is at c.self.invariant).faultless

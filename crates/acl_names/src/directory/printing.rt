@@ -1,0 +1,76 @@
+//! Printing ids: by the directory's names, or in decimal.
+
+ghost use Rattle.std.specs.Prelude.{◌≡◌, ◌≤◌, ◌<◌, ◌+◌, ◌++◌, length, take};
+ghost use Rattle.std.specs.Prelude.{option_map, unwrap_or, decimal, vec_len, vec_capacity, OnOk};
+ghost use Rattle.std.specs.Prelude.{OnErr, IfSome};
+ghost use Rattle.acl_names.specs.declared.limits.TheConstants.{MAX_ID, MAX_NAME_LEN};
+
+use crate::{Directory, Gid, Uid, push_decimal, put_bytes, put_decimal};
+use std::alloc::AllocError;
+
+/// Appends the name, or the decimal of an id that has none. If memory runs out, what `out` held
+/// still stands in front; that happens only if `out` has no room for the text.
+pub fn push_id(name: Option<&str>, id: u32, out: &mut Vec<u8>) -> Result<(), AllocError>
+    ensures text { OnOk result (out.new.items
+        ≡ out.old.items ++ unwrap_or (option_map (λ bytes. bytes.now) name.entry) (decimal id)) }
+    ensures kept { take (length out.old.items) out.new.items ≡ out.old.items }
+    ensures room { OnErr result (vec_capacity out.old
+        < vec_len out.old + length (unwrap_or (option_map (λ bytes. bytes.now) name.entry)
+        (decimal id))) }
+    ensures capacity { vec_capacity out.old ≤ vec_capacity out.new }
+{
+    match name {
+        Some(name) => out.extend_from_slice(name.as_bytes()),
+        None => push_decimal(id, out),
+    }
+}
+
+/// Appends the name, or the decimal of an id that has none. `out` must have room for `MAX_NAME_LEN`
+/// bytes, and the name be no longer.
+#[inline(always)]
+fn put_id(name: Option<&str>, id: u32, out: &mut Vec<u8>)
+    requires room { vec_len out.old + MAX_NAME_LEN ≤ vec_capacity out.old }
+    requires short { IfSome name (λ bytes. length bytes.now ≤ MAX_NAME_LEN) }
+    ensures text { out.new.items ≡ out.old.items
+        ++ unwrap_or (option_map (λ bytes. bytes.now) name.entry) (decimal id) }
+    ensures len { vec_len out.new ≤ vec_len out.old + MAX_NAME_LEN }
+    ensures capacity { vec_capacity out.new ≡ vec_capacity out.old }
+{
+    match name {
+        Some(name) => put_bytes(name.as_bytes(), out),
+        None => put_decimal(id, out),
+    }
+}
+
+impl Directory {
+    ghost use Rattle.acl_names.specs.Directory.{group_name, user_name};
+    ghost use Rattle.acl_names.specs.Ids.{id_text};
+
+    /// Appends the name of the user with this uid, or the decimal if no user has it. `out` must
+    /// have room for `MAX_NAME_LEN` bytes.
+    #[inline(always)]
+    pub fn put_user(&self, uid: Uid, out: &mut Vec<u8>)
+        requires { vec_len out.old + MAX_NAME_LEN ≤ vec_capacity out.old }
+        ensures text { out.new.items ≡ out.old.items ++ id_text (user_name self.now) uid }
+        ensures in_range { uid ≤ MAX_ID }
+        ensures len { vec_len out.new ≤ vec_len out.old + MAX_NAME_LEN }
+        ensures capacity { vec_capacity out.new ≡ vec_capacity out.old }
+    {
+        self.names_read_back();
+        put_id(self.user_name(uid), uid.value(), out);
+    }
+
+    /// Appends the name of the group with this gid, or the decimal if no group has it. `out` must
+    /// have room for `MAX_NAME_LEN` bytes.
+    #[inline(always)]
+    pub fn put_group(&self, gid: Gid, out: &mut Vec<u8>)
+        requires { vec_len out.old + MAX_NAME_LEN ≤ vec_capacity out.old }
+        ensures text { out.new.items ≡ out.old.items ++ id_text (group_name self.now) gid }
+        ensures in_range { gid ≤ MAX_ID }
+        ensures len { vec_len out.new ≤ vec_len out.old + MAX_NAME_LEN }
+        ensures capacity { vec_capacity out.new ≡ vec_capacity out.old }
+    {
+        self.names_read_back();
+        put_id(self.group_name(gid), gid.value(), out);
+    }
+}

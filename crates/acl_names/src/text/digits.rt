@@ -1,0 +1,99 @@
+//! Printing decimals.
+
+ghost use Rattle.std.specs.Prelude.{◌≡◌, ◌≤◌, ◌<◌, ◌+◌, ◌/◌, ◌%◌, ◌++◌, decimal, length};
+ghost use Rattle.std.specs.Prelude.{take, vec_len, vec_capacity, OnOk, OnErr};
+ghost use Rattle.acl_names.specs.Digits.{pair};
+ghost use Rattle.acl_names.specs.declared.limits.TheConstants.{MAX_DIGITS};
+
+use itoa::Buffer;
+use std::alloc::AllocError;
+
+/// Appends the decimal. If memory runs out, what `out` held still stands in front; that happens
+/// only if `out` has no room for the text.
+pub fn push_decimal(number: u32, out: &mut Vec<u8>) -> Result<(), AllocError>
+    ensures text { OnOk result (out.new.items ≡ out.old.items ++ decimal number) }
+    ensures kept { take (length out.old.items) out.new.items ≡ out.old.items }
+    ensures room { OnErr result (vec_capacity out.old < vec_len out.old + length (decimal number)) }
+    ensures capacity { vec_capacity out.old ≤ vec_capacity out.new }
+{
+    out.extend_from_slice(Buffer::new().format(number).as_bytes())
+}
+
+/// Appends the decimal. `out` must have room for `MAX_DIGITS` bytes.
+#[inline(always)]
+pub fn put_decimal(number: u32, out: &mut Vec<u8>)
+    requires { vec_len out.old + MAX_DIGITS ≤ vec_capacity out.old }
+    ensures text { out.new.items ≡ out.old.items ++ decimal number }
+    ensures len { vec_len out.new ≤ vec_len out.old + MAX_DIGITS }
+    ensures capacity { vec_capacity out.new ≡ vec_capacity out.old }
+{
+    if number < 10_000 {
+        put_first_four(number, out);
+    } else if number < 100_000_000 {
+        put_first_four(number / 10_000, out);
+        put_four(number % 10_000, out);
+    } else {
+        put_first_two(number / 100_000_000, out);
+        put_four(number / 10_000 % 10_000, out);
+        put_four(number % 10_000, out);
+    }
+}
+
+/// The decimal of a number of at most four digits.
+#[inline(always)]
+fn put_first_four(number: u32, out: &mut Vec<u8>)
+    requires small { number < 10000 }
+    requires room { vec_len out.old + 4 ≤ vec_capacity out.old }
+    ensures text { out.new.items ≡ out.old.items ++ decimal number }
+    ensures len { vec_len out.new ≤ vec_len out.old + 4 }
+    ensures capacity { vec_capacity out.new ≡ vec_capacity out.old }
+{
+    if number < 100 {
+        put_first_two(number, out);
+    } else {
+        put_first_two(number / 100, out);
+        put_two(number % 100, out);
+    }
+}
+
+/// The decimal of a number of at most two digits.
+#[inline(always)]
+fn put_first_two(number: u32, out: &mut Vec<u8>)
+    requires small { number < 100 }
+    requires room { vec_len out.old + 2 ≤ vec_capacity out.old }
+    ensures text { out.new.items ≡ out.old.items ++ decimal number }
+    ensures len { vec_len out.new ≤ vec_len out.old + 2 }
+    ensures capacity { vec_capacity out.new ≡ vec_capacity out.old }
+{
+    if number < 10 {
+        out.push_reserved(b'0' + number as u8);
+    } else {
+        put_two(number, out);
+    }
+}
+
+/// Four digits.
+#[inline(always)]
+fn put_four(number: u32, out: &mut Vec<u8>)
+    requires small { number < 10000 }
+    requires room { vec_len out.old + 4 ≤ vec_capacity out.old }
+    ensures text { out.new.items ≡ out.old.items ++ (pair (number / 100) ++ pair (number % 100)) }
+    ensures len { vec_len out.new ≡ vec_len out.old + 4 }
+    ensures capacity { vec_capacity out.new ≡ vec_capacity out.old }
+{
+    put_two(number / 100, out);
+    put_two(number % 100, out);
+}
+
+/// Two digits.
+#[inline(always)]
+fn put_two(number: u32, out: &mut Vec<u8>)
+    requires small { number < 100 }
+    requires room { vec_len out.old + 2 ≤ vec_capacity out.old }
+    ensures text { out.new.items ≡ out.old.items ++ pair number }
+    ensures len { vec_len out.new ≡ vec_len out.old + 2 }
+    ensures capacity { vec_capacity out.new ≡ vec_capacity out.old }
+{
+    out.push_reserved(b'0' + (number / 10) as u8);
+    out.push_reserved(b'0' + (number % 10) as u8);
+}

@@ -1,0 +1,82 @@
+//! Texts that are sets of letters, by a table of letters and bits.
+
+ghost use Rattle.std.specs.Prelude.{◌≡◌, ◌≤◌, ◌<◌, ◌+◌, ◌==◌, ◌++◌, ◌∷◌, [], not, filter, take};
+ghost use Rattle.std.specs.Prelude.{length, bit_and, vec_len, vec_capacity, OnOk, OnErr};
+ghost use Rattle.std.specs.List.{list_any};
+ghost use Rattle.acl_names.specs.Letters.{occurs, repeats, is_letter_of, letters_of, letters_text};
+ghost use Rattle.acl_names.specs.Letters.{bits_of_rows, IsTable, HasBitsOf};
+
+use std::alloc::AllocError;
+
+/// A bit and the letter that stands for it.
+#[derive(Clone, Copy, Debug, PartialEq, Eq)]
+pub struct Letter {
+    /// The letter's byte.
+    pub letter: u8,
+    /// The bit as a set of this one bit.
+    pub bit: u32,
+}
+
+/// The bits whose letters make up the text: letters of the table alone, in any order, each at most
+/// once, or none.
+pub fn read_letters(table: &[Letter], text: &[u8]) -> Option<u32>
+    ensures { result ≡ letters_of table.now text.now }
+{
+    let mut bits = 0;
+    for (at, byte) in text.iter().enumerate() {
+        if !is_letter_of(table, *byte) {
+            return None;
+        }
+        if stands_in(*byte, &text[..at]) {
+            return None;
+        }
+        bits |= bits_of_letter(table, *byte);
+    }
+    Some(bits)
+}
+
+fn is_letter_of(table: &[Letter], byte: u8) -> bool
+    ensures { result ≡ is_letter_of table.now byte }
+{
+    table.iter().any(|row| row.letter == byte)
+}
+
+fn stands_in(byte: u8, text: &[u8]) -> bool
+    ensures { result ≡ list_any (λ x. x == byte) text.now }
+{
+    text.iter().any(|own| *own == byte)
+}
+
+/// The bits for which the letter stands.
+fn bits_of_letter(table: &[Letter], letter: u8) -> u32
+    ensures { result ≡ bits_of_rows (filter (λ row. row.letter == letter) table.now) }
+{
+    let mut bits = 0;
+    for row in table {
+        if row.letter == letter {
+            bits |= row.bit;
+        }
+    }
+    bits
+}
+
+/// Appends the letters of the bits that are set, in the order of the table. If memory runs out, the
+/// letters that found room stand in `out`; that happens only if `out` has no room for all of them.
+#[tactic(auto, using(crate::proofs::LettersAgain::letters_again))]
+pub fn push_letters(table: &[Letter], bits: u32, out: &mut Vec<u8>) -> Result<(), AllocError>
+    ensures text { OnOk result (out.new.items ≡ out.old.items ++ letters_text table.now bits) }
+    // What is printed is read as these bits.
+    ensures read_again { IsTable table.now → HasBitsOf table.now bits
+        → letters_of table.now (letters_text table.now bits) ≡ Some bits }
+    ensures kept { take (length out.old.items) out.new.items ≡ out.old.items }
+    ensures room { OnErr result (vec_capacity out.old
+        < vec_len out.old + length (letters_text table.now bits)) }
+    ensures capacity { vec_capacity out.old ≤ vec_capacity out.new }
+{
+    for row in table {
+        if bits & row.bit != 0 {
+            out.push(row.letter)?;
+        }
+    }
+    Ok(())
+}

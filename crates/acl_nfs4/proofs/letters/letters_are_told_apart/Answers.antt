@@ -1,5 +1,0 @@
-use Rattle.acl_nfs4.proofs.LetterLemmas.{flag_table_is, mask_table_is}
-use Rattle.acl_nfs4.proofs.letters.letters_are_told_apart.Goals as goal
-
-pub returns : goal.returns
-returns c = record { flags = flag_table_is; mask = mask_table_is }

@@ -1,5 +1,0 @@
-use Rattle.acl_nfs4.proofs.ShapeLemmas.{value_is_shape}
-use Rattle.acl_nfs4.proofs.reading.pieces_have_shapes.Goals as goal
-
-pub returns : goal.returns
-returns c = value_is_shape
