@@ -108,7 +108,7 @@ class Whole(unittest.TestCase):
         status, lines, calls = self.run_test("--minutes", "150")
         self.assertEqual(status, 1)
         self.assertTrue(any("rt ci was not done in 150 minutes" in it for it in lines))
-        self.assertEqual(lines[-1], "3 passed, 11 failed")
+        self.assertTrue(lines[-1].startswith("3 passed, 11 failed (within env RT_JOBS="))
         self.assertTrue(lines[-2].startswith("failed: within scripts/refused-growths: "))
         self.assertEqual(calls[-1], "wrong-bodies --minutes 0")
 
@@ -129,13 +129,14 @@ class Whole(unittest.TestCase):
         tried = "wrong bodies: 9 of 9 were tried"
         self.part("wrong-bodies", 0, f"{told}\n{tried}\n8 passed, 1 failed\n")
         status, lines, _ = self.run_test("--minutes", "150")
-        self.assertEqual((status, lines[-3:]), (1, [tried, told, "30 passed, 1 failed"]))
+        last = "30 passed, 1 failed (wrong body acl_names/one: NOT REFUSED)"
+        self.assertEqual((status, lines[-3:]), (1, [tried, told, last]))
 
     def test_a_part_that_does_not_say_what_failed_is_named(self):
         self.part("layout", 0, "1 passed, 2 failed\n")
         status, lines, _ = self.run_test()
-        told = "failed: within scripts/layout: 1 passed, 2 failed"
-        self.assertEqual((status, lines[-2:]), (1, [told, "24 passed, 2 failed"]))
+        told = "within scripts/layout: 1 passed, 2 failed"
+        self.assertEqual((status, lines[-2:]), (1, [f"failed: {told}", f"24 passed, 2 failed ({told})"]))
 
     def test_wrong_usage_runs_nothing(self):
         option = "--minutes"

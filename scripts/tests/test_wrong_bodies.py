@@ -378,6 +378,13 @@ class Ending(unittest.TestCase):
                 self.fail("a lane was held")
         self.assertLess(time.monotonic() - begun, SLOW)
 
+    def test_nothing_begins_on_a_full_disk(self):
+        self.enterContext(patch.object(lanes, "has_disk", lambda: False))
+        for is_proof in (True, False):
+            with self.assertRaises(Ended):
+                with lanes.Lanes(1, Clock()).lane(is_proof, (0, 0)):
+                    self.fail("a lane was held")
+
     def test_another_kit_stops_it(self):
         with tempfile.TemporaryDirectory() as room:
             Path(room, "rt").write_text("#!/bin/sh\necho rattle-kit-99z logic 0\n")

@@ -1,7 +1,9 @@
-"""How many commands run side by side, by the memory that is free."""
+"""How many commands run side by side, by the memory and the disk that are free."""
 
 import heapq
 import os
+import shutil
+import tempfile
 from contextlib import contextmanager
 from pathlib import Path
 
@@ -11,7 +13,9 @@ from wrong_bodies.clock import Ended
 ROOM = 8 << 20
 # And before a further check of edits begins, in KiB: it leaves the room of a proof, which would otherwise wait for its end.
 ROOM_OF_EDITS = 12 << 20
-# How many seconds either waits before it looks for memory again.
+# What has to be free of the disk before either begins, in bytes: each works on a copy of its crate, and of what was proved of it.
+ROOM_ON_DISK = 4 << 30
+# How many seconds either waits before it looks for room again.
 PAUSE = 5
 
 
@@ -26,9 +30,15 @@ def free_memory():
     return next(int(it.split()[1]) for it in lines if it.startswith("MemAvailable:"))
 
 
+def has_disk():
+    """Whether the disk that holds the copies has room for a further one."""
+    return shutil.disk_usage(tempfile.gettempdir()).free > ROOM_ON_DISK
+
+
 class Lanes:
-    """So many checks of edits side by side, and a further one only if there is memory; a proof waits for memory alone. Of those that
-    wait, the one of the lowest place goes first. None waits once there is no time left."""
+    """So many checks of edits side by side, and a further one only if there is memory; a proof waits for memory alone, and
+    either for the disk. Of those that wait, the one of the lowest place goes first. None waits once there is no time left, or
+    if the disk is full and nothing runs that could free it."""
 
     def __init__(self, count, clock):
         """Makes so many lanes, all of them free, for as long as a clock has time."""
@@ -36,20 +46,26 @@ class Lanes:
 
     def has_room(self, is_proof):
         """Whether a further proof, or else a further check of edits, may begin."""
+        if not has_disk():
+            return False
         if self.busy == 0:
             return True
         if is_proof:
             return free_memory() > ROOM
         return self.busy < self.count and free_memory() > ROOM_OF_EDITS
 
+    def is_over(self):
+        """Whether nothing further begins: no time is left, or the disk is full and nothing runs that could free it."""
+        return self.clock.is_over or self.busy == 0 and not has_disk()
+
     @contextmanager
     def lane(self, is_proof, place):
-        """Waits for a lane by the place among those that wait and holds it meanwhile, or raises Ended if there is no time left."""
+        """Waits for a lane by the place among those that wait and holds it meanwhile, or raises Ended if there is no time, or no disk."""
         with self.turn:
             heapq.heappush(self.waiting, place)
-            while not (self.clock.is_over or self.waiting[0] == place and self.has_room(is_proof)):
+            while not (self.is_over() or self.waiting[0] == place and self.has_room(is_proof)):
                 self.turn.wait(PAUSE)
-            if self.clock.is_over:
+            if self.is_over():
                 raise Ended
             heapq.heappop(self.waiting)
             self.busy += 1
