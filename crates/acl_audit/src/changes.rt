@@ -1,5 +1,5 @@
 //! What lists decide otherwise, for somebody or for anybody.
-ghost use Rattle.std.specs.Prelude.{◌≡◌, IfOk, IsTrue, List, MatchOption, Option, map};
+ghost use Rattle.std.specs.Prelude.{◌≡◌, IfOk, List, MatchOption, Option, map};
 ghost use Rattle.acl_nfs4.specs.Mask.{mask_bits, mode_bits};
 ghost use Rattle.acl_posix.specs.Entry.{EntryValue};
 ghost use Rattle.acl_posix.specs.Perms.{bits_of};

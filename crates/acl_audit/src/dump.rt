@@ -1,6 +1,5 @@
 //! The commands that make a tree again.
-ghost use Rattle.std.specs.Prelude.{◌≡◌, ◌++◌, [], ◌∷◌, IfOk, OnOk};
-ghost use Rattle.acl_posix.specs.Entry.{EntryValue};
+ghost use Rattle.std.specs.Prelude.{◌≡◌, ◌++◌, IfOk, OnOk};
 ghost use Rattle.acl_tree.specs.declared.request.Request.TheVariants.{Create, SetAccess};
 ghost use Rattle.acl_audit.specs.Dump.{closed_list, creation, no_mode, set_default, set_lists};
 

@@ -1,5 +1,5 @@
 //! Files whose lists are the same, which need no comparison.
-ghost use Rattle.std.specs.Prelude.{◌≡◌, IsTrue};
+ghost use Rattle.std.specs.Prelude.{IsTrue};
 ghost use Rattle.acl_audit.specs.Changes.{IsAlikeToAll, file_of};
 ghost use Rattle.acl_audit.specs.Steps.{HasSameAccess};
 

@@ -1,12 +1,11 @@
 //! Who may do what, line by line.
 ghost use Rattle.std.specs.Prelude.{◌≡◌, ◌++◌, OnOk};
-ghost use Rattle.std.specs.List.{flat_map};
 ghost use Rattle.acl_names.specs.Directory.{requester_of};
 ghost use Rattle.acl_posix.specs.Perms.{bits_of};
 ghost use Rattle.acl_tree.specs.Nodes.{may};
 ghost use Rattle.acl_audit.specs.Letters.{effective};
 ghost use Rattle.acl_audit.specs.Who.{letters_line, may_line, node_lines};
-ghost use Rattle.acl_audit.specs.Who.{node_lines_of_those_who_may, user_line, user_line_if};
+ghost use Rattle.acl_audit.specs.Who.{node_lines_of_those_who_may};
 
 use crate::letters::effective;
 use acl_names::{Directory, Requester, Uid, User};

@@ -1,8 +1,7 @@
 //! The passes over a list that make its translation.
-ghost use Rattle.std.specs.Prelude.{◌≡◌, ◌<◌, ◌≤◌, false, [], ◌∷◌, ◌++◌, length, option_map};
-ghost use Rattle.std.specs.Prelude.{if◌then◌else◌, IsOk, OnOk};
+ghost use Rattle.std.specs.Prelude.{◌≡◌, ◌<◌, ◌≤◌, false, [], ◌∷◌, ◌++◌, length};
+ghost use Rattle.std.specs.Prelude.{IsOk, OnOk};
 ghost use Rattle.acl_names.specs.Bits.{◌∩◌};
-ghost use Rattle.acl_posix.specs.Access.{is_under_mask, under_mask};
 ghost use Rattle.acl_posix.specs.Perms.{bits_of};
 ghost use Rattle.acl_nfs4.specs.Ace.{is_idle, plain_ace};
 ghost use Rattle.acl_nfs4.specs.declared.limits.TheConstants.{INLINE_ACES, MAX_ACES};
@@ -83,21 +82,6 @@ impl Effect {
                 .union(Flags::DIRECTORY_INHERIT)
                 .union(Flags::INHERIT_ONLY),
         }
-    }
-}
-
-/// An entry's permissions as far as the mask, if there is one, leaves them.
-fn effective_perms(entry: &Entry, mask: Option<Perms>) -> Perms
-    ensures { bits_of result
-        ≡ (if is_under_mask entry.now.tag then under_mask (option_map bits_of mask) entry.now.perms
-        else entry.now.perms) }
-{
-    if !entry.tag.is_under_mask() {
-        return entry.perms;
-    }
-    match mask {
-        Some(mask) => entry.perms.intersection(mask),
-        None => entry.perms,
     }
 }
 
@@ -205,13 +189,7 @@ pub(crate) fn append_pass(
     let mask = acl.mask();
     for entry in acl.entries() {
         if class.contains(entry.tag) {
-            append_made(
-                aces,
-                part,
-                entry.who(),
-                effective_perms(entry, mask),
-                effect,
-            )?;
+            append_made(aces, part, entry.who(), entry.perms_under(mask), effect)?;
         }
     }
     Ok(())

@@ -1,7 +1,6 @@
 //! Comparing POSIX lists for everyone, by the requests of more than one permission.
 ghost use Rattle.std.specs.Prelude.{◌≡◌, MatchOption, map};
 ghost use Rattle.std.specs.List.{AllByRecursion};
-ghost use Rattle.acl_names.specs.Bits.{◌∩◌};
 ghost use Rattle.acl_nfs4.specs.Mask.{mask_bits};
 ghost use Rattle.acl_posix.specs.Perms.{bits_of};
 ghost use Rattle.acl_bridge.specs.Comparison.{GrantAlikeToAll, IsFirstDifference};

@@ -1,6 +1,5 @@
 //! The commands.
 
-ghost use Rattle.std.specs.Prelude.{◌≡◌};
 ghost use Rattle.acl_lang.specs.Commands.{asked_by, check, check4, chmod, command, create, get};
 ghost use Rattle.acl_lang.specs.Commands.{set, set_access, set_default, set_list, set_nfs4};
 ghost use Rattle.acl_lang.specs.Commands.{translate};

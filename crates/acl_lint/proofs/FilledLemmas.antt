@@ -16,7 +16,7 @@ use Rattle.toml.specs.Data.{Data, Items, Members, as_array, as_table, get_member
 use Rattle.acl_lint.specs.FieldKeys.{key_in_group, key_in_root, key_in_user, key_of_array, key_of_fields}
 use Rattle.acl_lint.specs.FieldKeys.{key_of_root, key_of_table, key_of_tables, key_of_value, mode_at, or_key}
 use Rattle.acl_lint.specs.FieldKeys.{style_at, unless_read}
-use Rattle.acl_lint.specs.Keys.{Key, group_of_user, in_table, index_text, named}
+use Rattle.acl_lint.specs.Keys.{Key, group_of_user, in_table, index_text, key_of_name}
 use Rattle.acl_lint.specs.LintLaws.{TellsAPlace}
 use Rattle.acl_lint.specs.LintText.{place_text, shown_piece}
 use Rattle.acl_lint.specs.PartsKeys.{groups_share_id, groups_share_name, is_in_too_many, is_misnamed_group}
@@ -58,10 +58,10 @@ or_named (Some key) second here later = here
 
 in_root : (root : Members) → IsNamed (key_in_root root)
 in_root root =
-    unless_named (text_at (codes "owner") root) (named (codes "root.owner")) _ tt
-    (unless_named (text_at (codes "group") root) (named (codes "root.group")) _ tt
-    (unless_named (mode_at (codes "mode") root) (named (codes "root.mode")) _ tt
-    (unless_named (style_at (codes "style") root) (named (codes "root.style")) _ tt tt)))
+    unless_named (text_at (codes "owner") root) (key_of_name (codes "root.owner")) _ tt
+    (unless_named (text_at (codes "group") root) (key_of_name (codes "root.group")) _ tt
+    (unless_named (mode_at (codes "mode") root) (key_of_name (codes "root.mode")) _ tt
+    (unless_named (style_at (codes "style") root) (key_of_name (codes "root.style")) _ tt tt)))
 
 of_root : (root : Option Members) → IsNamed (key_of_root root)
 of_root None = tt
@@ -97,13 +97,13 @@ module _ (name : List ℕ) (filled : IsFilled name) (key_in : ℕ → Members �
 
 of_fields : (table : Members) → IsNamed (key_of_fields table)
 of_fields table =
-    unless_named (text_at (codes "domain") table) (named (codes "domain")) _ tt
-    (unless_named (mode_at (codes "umask") table) (named (codes "umask")) _ tt
+    unless_named (text_at (codes "domain") table) (key_of_name (codes "domain")) _ tt
+    (unless_named (mode_at (codes "umask") table) (key_of_name (codes "umask")) _ tt
     (or_named _ _ (of_root (table_at (codes "root") table))
     (or_named _ _ (of_value (codes "user") tt key_in_user in_user (get_member (codes "user") table))
     (of_value (codes "group") tt key_in_group in_group (get_member (codes "group") table)))))
 
-of_owners : (known : Bool) → IsFilled (cond known (named (codes "root.group")) (named (codes "root.owner"))).name
+of_owners : (known : Bool) → IsFilled (cond known (key_of_name (codes "root.group")) (key_of_name (codes "root.owner"))).name
 of_owners true = tt
 of_owners false = tt
 
@@ -131,11 +131,11 @@ either_named false key other here later = later
 
 of_parts : (domain : List ℕ) (users : List KnownUser) (groups : List KnownGroup) (fault : SetupFault) → IsNamed (key_of_parts domain users groups fault)
 of_parts domain users groups parts.TooMany =
-    either_named (nat_lt MAX_USERS (length users)) (named (codes "user")) _ tt
-    (either_named (nat_lt MAX_GROUPS (length groups)) (named (codes "group")) _ tt
+    either_named (nat_lt MAX_USERS (length users)) (key_of_name (codes "user")) _ tt
+    (either_named (nat_lt MAX_GROUPS (length groups)) (key_of_name (codes "group")) _ tt
     (of_a_user (codes ".groups") (position is_in_too_many users)))
 of_parts domain users groups parts.BadName =
-    either_named (not (has_domain_shape domain)) (named (codes "domain")) _ tt
+    either_named (not (has_domain_shape domain)) (key_of_name (codes "domain")) _ tt
     (or_named _ _ (of_a_user (codes ".name") (position is_misnamed_user users)) (of_a_group (codes ".name") (position is_misnamed_group groups)))
 of_parts domain users groups parts.RepeatedName =
     or_named _ _ (of_a_user (codes ".name") (repeated_in users_share_name users))

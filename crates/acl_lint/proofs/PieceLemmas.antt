@@ -16,7 +16,7 @@ use Rattle.acl_nfs4.specs.Ace.{Nfsace4}
 use Rattle.acl_nfs4.specs.AceText.{piece_value}
 use Rattle.acl_nfs4.specs.declared.limits.TheConstants.{MAX_ACES}
 use Rattle.acl_nfs4.specs.declared.reading.PieceFault as aces
-use Rattle.acl_posix.specs.AclText.{accepted, entries_of, entry_in, piece_fault}
+use Rattle.acl_posix.specs.AclText.{acl_of_entries, entries_of, entry_in, piece_fault}
 use Rattle.acl_posix.specs.Entry.{EntryValue}
 use Rattle.acl_posix.specs.EntryText.{entry_of}
 use Rattle.acl_posix.specs.InOrder.{in_order}
@@ -197,7 +197,7 @@ module _ (known : Known) (kind text : List ℕ) (fault : LineFault) where
         (sym nfs4)
         (aces_first nfs4 _ (unread-first (piece_value known) as_ace ace_oks ace_errs (take MAX_ACES (pieces text)) 0 fault most))
 
-    accepted_fault : (entries : Result (List EntryValue) AclFault) → map_fault acl_line_fault (entries >>= accepted) ≡ Err fault → map_fault acl_line_fault entries ≡ Err fault
+    accepted_fault : (entries : Result (List EntryValue) AclFault) → map_fault acl_line_fault (entries >>= acl_of_entries) ≡ Err fault → map_fault acl_line_fault entries ≡ Err fault
     accepted_fault (Ok entries) is = absurd (of_test (is_none (entries_fault entries)) is)
       where
         of_test : (b : Bool) → map_fault acl_line_fault (cond b (Ok (in_order entries)) (Err acl.InvalidAcl)) ≡ Err fault → ⊥

@@ -9,7 +9,7 @@ use Rattle.acl_bridge.specs.declared.style.Style.{Style}
 use Rattle.acl_posix.specs.Mode.{Classes}
 use Rattle.acl_posix.specs.ModeText.{mode_of_octal}
 use Rattle.acl_service.specs.SetupTable.{◌>>=◌, id_at, table_at, text_at, texts_at}
-use Rattle.acl_lint.specs.Keys.{Key, in_table, named}
+use Rattle.acl_lint.specs.Keys.{Key, in_table, key_of_name}
 
 -- the mode and the style at a key
 abbrev pub mode_at : List ℕ → Members → Option Classes
@@ -31,13 +31,13 @@ or_key None other = other
 -- in the table `root`, and of that table
 abbrev pub key_in_root : Members → Option Key
 key_in_root root =
-    unless_read (text_at (codes "owner") root) (named (codes "root.owner"))
-    (unless_read (text_at (codes "group") root) (named (codes "root.group"))
-    (unless_read (mode_at (codes "mode") root) (named (codes "root.mode"))
-    (unless_read (style_at (codes "style") root) (named (codes "root.style")) None)))
+    unless_read (text_at (codes "owner") root) (key_of_name (codes "root.owner"))
+    (unless_read (text_at (codes "group") root) (key_of_name (codes "root.group"))
+    (unless_read (mode_at (codes "mode") root) (key_of_name (codes "root.mode"))
+    (unless_read (style_at (codes "style") root) (key_of_name (codes "root.style")) None)))
 
 abbrev pub key_of_root : Option Members → Option Key
-key_of_root None = Some (named (codes "root"))
+key_of_root None = Some (key_of_name (codes "root"))
 key_of_root (Some root) = key_in_root root
 
 -- in the table `user[index]`, and in the table `group[index]`
@@ -67,7 +67,7 @@ key_of_tables name key_in index (item first more) =
 
 -- of an array
 abbrev pub key_of_array : List ℕ → (ℕ → Members → Option Key) → Option Items → Option Key
-key_of_array name key_in None = Some (named name)
+key_of_array name key_in None = Some (key_of_name name)
 key_of_array name key_in (Some items) = key_of_tables name key_in 0 items
 
 -- of an array that may be absent
@@ -78,8 +78,8 @@ key_of_value name key_in (Some value) = key_of_array name key_in (as_array value
 -- of a setup
 abbrev pub key_of_fields : Members → Option Key
 key_of_fields table =
-    unless_read (text_at (codes "domain") table) (named (codes "domain"))
-    (unless_read (mode_at (codes "umask") table) (named (codes "umask"))
+    unless_read (text_at (codes "domain") table) (key_of_name (codes "domain"))
+    (unless_read (mode_at (codes "umask") table) (key_of_name (codes "umask"))
     (or_key (key_of_root (table_at (codes "root") table))
     (or_key (key_of_value (codes "user") key_in_user (get_member (codes "user") table))
     (key_of_value (codes "group") key_in_group (get_member (codes "group") table)))))
@@ -87,4 +87,4 @@ key_of_fields table =
 -- of the root's owner, if no user has its name, and else of the root's group
 abbrev pub key_of_owners : List ℕ → List KnownUser → Key
 key_of_owners owner users = if list_any (λ user. bytes_eq user.name owner) users
-    then named (codes "root.group") else named (codes "root.owner")
+    then key_of_name (codes "root.group") else key_of_name (codes "root.owner")

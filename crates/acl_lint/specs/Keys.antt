@@ -17,8 +17,8 @@ abbrev pub key_text : Key → List ℕ
 key_text key = key.name ++ index_text key.index ++ key.field ++ index_text key.item
 
 -- `name`
-abbrev pub named : List ℕ → Key
-named name = record { name = name; index = None; field = []; item = None }
+abbrev pub key_of_name : List ℕ → Key
+key_of_name name = record { name = name; index = None; field = []; item = None }
 
 -- `name[index]`, and a key in that table
 abbrev pub in_table : List ℕ → ℕ → List ℕ → Key

@@ -12,7 +12,7 @@ use Rattle.acl_names.specs.declared.directory.fault.SetupFault.TheVariants.{Unkn
 use Rattle.acl_names.specs.declared.directory.fault.SetupFault.TheVariants.{TooMany, Memory}
 use Rattle.acl_names.specs.declared.limits.TheConstants.{MAX_USERS, MAX_GROUPS, MAX_GROUPS_OF_USER}
 use Rattle.acl_lint.specs.FieldKeys.{or_key}
-use Rattle.acl_lint.specs.Keys.{Key, group_of_user, in_table, named}
+use Rattle.acl_lint.specs.Keys.{Key, group_of_user, in_table, key_of_name}
 
 -- the index of the first that is as one before it is, of those after these
 abbrev pub repeated_from : {A : Type 0} → (A → A → Bool) → List A → ℕ → List A → Option ℕ
@@ -58,8 +58,8 @@ is_in_too_many user = nat_lt MAX_GROUPS_OF_USER (length user.groups)
 -- a list has too many, or a user is in too many groups
 abbrev pub key_of_too_many : List KnownUser → List KnownGroup → Option Key
 key_of_too_many users groups =
-    if nat_lt MAX_USERS (length users) then Some (named (codes "user"))
-    else (if nat_lt MAX_GROUPS (length groups) then Some (named (codes "group"))
+    if nat_lt MAX_USERS (length users) then Some (key_of_name (codes "user"))
+    else (if nat_lt MAX_GROUPS (length groups) then Some (key_of_name (codes "group"))
     else of_user (codes ".groups") (position is_in_too_many users))
 
 abbrev pub is_misnamed_user : KnownUser → Bool
@@ -71,7 +71,7 @@ is_misnamed_group group = not (has_name_shape group.name)
 -- the domain, or the first user or group, is malformed
 abbrev pub key_of_bad_name : List ℕ → List KnownUser → List KnownGroup → Option Key
 key_of_bad_name domain users groups =
-    if not (has_domain_shape domain) then Some (named (codes "domain"))
+    if not (has_domain_shape domain) then Some (key_of_name (codes "domain"))
     else or_key (of_user (codes ".name") (position is_misnamed_user users))
     (of_group (codes ".name") (position is_misnamed_group groups))
 

@@ -1,6 +1,4 @@
 //! The command line of `lint`.
-ghost use Rattle.std.specs.Prelude.{◌≡◌, IfOk};
-ghost use Rattle.clap.specs.Words.{app_of};
 
 use acl_queries::CommandLine;
 use acl_queries::options::setup_option;

@@ -1,5 +1,5 @@
 //! The first key of a setup that doesn't read.
-ghost use Rattle.std.specs.Prelude.{◌≡◌, ℕ, List, Option, codes, is_some, option_map};
+ghost use Rattle.std.specs.Prelude.{◌≡◌, ℕ, List, Option, codes, is_some};
 ghost use Rattle.toml.specs.Data.{Members, as_array, as_str, as_table, get_member};
 ghost use Rattle.toml.specs.View.{items_view, table_view, view};
 ghost use Rattle.acl_service.specs.SetupTable.{each_item, table_at, texts_at};
@@ -133,7 +133,7 @@ fn key_of_value<T: TableOf>(table: &Table) -> Option<Key>
     };
     match value.as_array() {
         Some(values) => key_of_tables::<T>(values.as_slice()),
-        None => Some(Key::named(T::name())),
+        None => Some(Key::of_name(T::name())),
     }
 }
 
@@ -161,16 +161,16 @@ fn key_in_root(root: &Table) -> Option<Key>
     ensures { result ≡ key_in_root (table_view root.now) }
 {
     if text_at(root, "owner").is_none() {
-        return Some(Key::named("root.owner"));
+        return Some(Key::of_name("root.owner"));
     }
     if text_at(root, "group").is_none() {
-        return Some(Key::named("root.group"));
+        return Some(Key::of_name("root.group"));
     }
     if !has_mode(root, "mode") {
-        return Some(Key::named("root.mode"));
+        return Some(Key::of_name("root.mode"));
     }
     if !has_style(root, "style") {
-        return Some(Key::named("root.style"));
+        return Some(Key::of_name("root.style"));
     }
     None
 }
@@ -180,7 +180,7 @@ fn key_of_root(table: &Table) -> Option<Key>
 {
     match table_at(table, "root") {
         Some(root) => key_in_root(root),
-        None => Some(Key::named("root")),
+        None => Some(Key::of_name("root")),
     }
 }
 
@@ -190,10 +190,10 @@ pub(crate) fn key_of_fields(table: &Table) -> Option<Key>
     ensures { result ≡ key_of_fields (table_view table.now) }
 {
     if text_at(table, "domain").is_none() {
-        return Some(Key::named("domain"));
+        return Some(Key::of_name("domain"));
     }
     if !has_mode(table, "umask") {
-        return Some(Key::named("umask"));
+        return Some(Key::of_name("umask"));
     }
     if let Some(key) = key_of_root(table) {
         return Some(key);
@@ -210,8 +210,8 @@ pub(crate) fn key_of_owners(owner: &str, users: &[User]) -> Key
 {
     for user in users {
         if user.name.as_str() == owner {
-            return Key::named("root.group");
+            return Key::of_name("root.group");
         }
     }
-    Key::named("root.owner")
+    Key::of_name("root.owner")
 }

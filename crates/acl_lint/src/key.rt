@@ -1,6 +1,6 @@
 //! Keys of a setup, as TOML writes them.
 ghost use Rattle.std.specs.Prelude.{◌≡◌, ◌++◌, OnOk};
-ghost use Rattle.acl_lint.specs.Keys.{group_of_user, in_table, index_text, key_text, named};
+ghost use Rattle.acl_lint.specs.Keys.{group_of_user, in_table, index_text, key_of_name, key_text};
 
 use itoa::Buffer;
 use std::alloc::AllocError;
@@ -31,8 +31,8 @@ impl Model for Key {
 
 impl Key {
     /// `name`
-    pub(crate) fn named(name: &'static str) -> Key
-        ensures { result ≡ named name.entry.now }
+    pub(crate) fn of_name(name: &'static str) -> Key
+        ensures { result ≡ key_of_name name.entry.now }
     {
         Key {
             name,

@@ -91,10 +91,10 @@ fn key_of_too_many(users: &[User], groups: &[Group]) -> Option<Key>
     ensures { result ≡ key_of_too_many users.now groups.now }
 {
     if users.len() > MAX_USERS {
-        return Some(Key::named("user"));
+        return Some(Key::of_name("user"));
     }
     if groups.len() > MAX_GROUPS {
-        return Some(Key::named("group"));
+        return Some(Key::of_name("group"));
     }
     let index = user_in_too_many(users)?;
     Some(Key::in_table("user", index, ".groups"))
@@ -129,7 +129,7 @@ fn key_of_bad_name(domain: &str, users: &[User], groups: &[Group]) -> Option<Key
     ensures { result ≡ key_of_bad_name domain.now users.now groups.now }
 {
     if !is_domain(domain.as_bytes()) {
-        return Some(Key::named("domain"));
+        return Some(Key::of_name("domain"));
     }
     if let Some(index) = misnamed_user(users) {
         return Some(Key::in_table("user", index, ".name"));

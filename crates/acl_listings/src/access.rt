@@ -1,7 +1,7 @@
 //! The access list of a block.
 
-ghost use Rattle.std.specs.Prelude.{◌≡◌, IfOk, not, filter};
-ghost use Rattle.std.specs.List.{list_any, flat_map};
+ghost use Rattle.std.specs.Prelude.{◌≡◌, IfOk};
+ghost use Rattle.std.specs.List.{list_any};
 ghost use Rattle.acl_names.specs.Bytes.{newline};
 ghost use Rattle.acl_names.specs.Pieces.{parts, pieces};
 ghost use Rattle.acl_listings.specs.Access.{access_of, access_pieces, acl_of, is_default};

@@ -1,6 +1,6 @@
 //! How far the first block of a text reaches.
 
-ghost use Rattle.std.specs.Prelude.{◌≡◌, ◌<◌, length};
+ghost use Rattle.std.specs.Prelude.{◌<◌};
 ghost use Rattle.acl_listings.specs.Extent.{BeginsLine, GoesOnBy, IsExtent};
 
 use acl_names::before_byte;

@@ -7,7 +7,7 @@ use Rattle.acl_names.specs.Pieces.{pieces}
 use Rattle.acl_names.specs.Steps.{map_fault}
 use Rattle.acl_names.proofs.ReadListLemmas.{read-fault, read-many, read-spelt, spelt-read}
 use Rattle.acl_names.proofs.StepLemmas.{bind_ok, if_then, is_none-true, map_fault-ok}
-use Rattle.acl_posix.specs.AclText.{ReadsAs, SpellsAcl, accepted, acl_of, entries_fault, entries_of, entry_in, piece_fault, text_fault}
+use Rattle.acl_posix.specs.AclText.{ReadsAs, SpellsAcl, acl_of_entries, acl_of, entries_fault, entries_of, entry_in, piece_fault, text_fault}
 use Rattle.acl_posix.specs.Canonical.{IsAcl}
 use Rattle.acl_posix.specs.Entry.{EntryValue}
 use Rattle.acl_posix.specs.EntryText.{entry_of}
@@ -59,7 +59,7 @@ module _ (known : Known) (words : List ℕ) where
   -- a list that is read is spelt
   pub acl_of-ok : (acl : List EntryValue) → acl_of known (pieces words) ≡ Ok acl → SpellsAcl known words acl
   acl_of-ok acl is =
-      let read = bind_ok (entries_of known (pieces words)) accepted acl is in
+      let read = bind_ok (entries_of known (pieces words)) acl_of_entries acl is in
       let test = if_then (is_none (fault_of read.0)) InvalidAcl (in_order read.0) acl read.2 in
       record {
         entries = read.0;

@@ -48,11 +48,14 @@ abbrev pub under_mask : Option ℕ → ℕ → ℕ
 under_mask None perms = perms
 under_mask (Some mask) perms = perms ∩ mask
 
--- the effective permissions of an entry: its own, as far as the mask leaves them
+-- the permissions of an entry as far as this mask, if there is one, leaves them
+abbrev pub perms_under : Option ℕ → EntryValue → ℕ
+perms_under mask entry =
+    if is_under_mask entry.tag then under_mask mask entry.perms else entry.perms
+
+-- the effective permissions of an entry of a list: its own, as far as the list's mask leaves them
 abbrev pub effective_perms : List EntryValue → EntryValue → ℕ
-effective_perms acl entry = if is_under_mask entry.tag
-    then under_mask (perms_of Mask acl) entry.perms
-    else entry.perms
+effective_perms acl = perms_under (perms_of Mask acl)
 
 -- A request is granted if one of the entries that decide has the whole of it in its effective
 -- permissions.

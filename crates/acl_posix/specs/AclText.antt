@@ -35,12 +35,13 @@ abbrev pub entries_of : Known → List (List ℕ) → Result (List EntryValue) A
 entries_of known pieces = at_most_read TooMany MAX_ENTRIES (entry_in known) pieces
 
 -- the access control list of these entries
-abbrev pub accepted : List EntryValue → Result (List EntryValue) AclFault
-accepted entries = if is_none (fault_of entries) then Ok (in_order entries) else Err InvalidAcl
+abbrev pub acl_of_entries : List EntryValue → Result (List EntryValue) AclFault
+acl_of_entries entries =
+    if is_none (fault_of entries) then Ok (in_order entries) else Err InvalidAcl
 
 -- the access control list that pieces say
 abbrev pub acl_of : Known → List (List ℕ) → Result (List EntryValue) AclFault
-acl_of known pieces = entries_of known pieces >>= accepted
+acl_of known pieces = entries_of known pieces >>= acl_of_entries
 
 -- the text spells valid entries, and this is the list of these in canonical order
 pub record SpellsAcl (known : Known) (text : List ℕ) (acl : List EntryValue) : Type 0 where

@@ -47,7 +47,7 @@ impl Model for Acl {
 impl Acl {
     ghost use Rattle.acl_posix.specs.Entry.{EntryValue, perms_of};
     ghost use Rattle.acl_posix.specs.Validity.{IsValid, IsRefusedFor, fault_of};
-    ghost use Rattle.acl_posix.specs.Canonical.{IsAcl, IsCanonical};
+    ghost use Rattle.acl_posix.specs.Canonical.{IsAcl};
     ghost use Rattle.acl_posix.specs.InOrder.{in_order};
     ghost use Rattle.acl_posix.specs.Perms.{bits_of, IsPermissions};
 

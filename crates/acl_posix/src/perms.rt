@@ -2,14 +2,12 @@
 
 ghost use Rattle.std.specs.Prelude.{⊤, ◌≡◌, ◌==◌, [], ◌∷◌, IfSome, codes, if◌then◌else◌};
 ghost use Rattle.std.specs.Prelude.{option_map};
-ghost use Rattle.std.specs.Int.RustNames.{bit_and, bit_or};
 ghost use Rattle.std.specs.List.{list_all};
 ghost use Rattle.acl_names.specs.Bytes.{hyphen};
 ghost use Rattle.acl_names.specs.Letters.{occurs, repeats};
 ghost use Rattle.acl_posix.specs.Front.{BeginsWithPerms};
 ghost use Rattle.acl_posix.specs.Perms.{bits_of, IsPermissions};
 ghost use Rattle.acl_posix.specs.PermsText.{is_perms_byte, perms_of_text, perms_with};
-ghost use Rattle.acl_posix.specs.PermsText.{three_letters};
 
 use crate::bits::bits_if;
 use bitflags::{Flag, Flags};

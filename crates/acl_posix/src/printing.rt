@@ -1,8 +1,7 @@
 //! Printing access control lists: the long text form (1003.1e draft 17, section 23).
 
-ghost use Rattle.std.specs.Prelude.{◌≡◌, ◌≤◌, ◌<◌, ◌++◌, ◌∷◌, [], not, length, vec_len};
+ghost use Rattle.std.specs.Prelude.{◌≡◌, ◌≤◌, ◌<◌, ◌++◌, ◌∷◌, [], length, vec_len};
 ghost use Rattle.std.specs.Prelude.{vec_capacity, ◌+◌, ◌*◌, option_map, OnOk, OnErr, None, codes};
-ghost use Rattle.acl_names.specs.Bits.{has_all};
 ghost use Rattle.acl_names.specs.Bytes.{colon, newline};
 ghost use Rattle.acl_names.specs.ListText.{Spells};
 ghost use Rattle.acl_posix.specs.Entry.{HavePermissions, perms_of};

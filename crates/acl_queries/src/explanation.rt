@@ -2,7 +2,7 @@
 ghost use Rattle.std.specs.Prelude.{◌≡◌};
 ghost use Rattle.acl_nfs4.specs.Mask.{mask_bits};
 ghost use Rattle.acl_nfs4.specs.Who.{matches};
-ghost use Rattle.acl_posix.specs.Access.{effective_perms, is_for_group_of, is_under_mask};
+ghost use Rattle.acl_posix.specs.Access.{effective_perms, is_for_group_of};
 ghost use Rattle.acl_posix.specs.Entry.{same_tag};
 ghost use Rattle.acl_posix.specs.Perms.{bits_of};
 ghost use Rattle.std.specs.List.{list_any};
@@ -101,21 +101,11 @@ impl Class {
     }
 }
 
-/// The effective permissions of an entry: its own, as far as the mask leaves them.
-pub fn effective_perms(acl: &Acl, entry: &Entry) -> Perms
-    ensures { bits_of result ≡ effective_perms acl.now entry.now }
-{
-    match acl.mask() {
-        Some(mask) if entry.tag.is_under_mask() => entry.perms.intersection(mask),
-        _ => entry.perms,
-    }
-}
-
 /// What the entry lacks of the request, as far as the mask leaves its permissions.
 pub fn lacks(acl: &Acl, entry: &Entry, request: Perms) -> Perms
     ensures { bits_of result ≡ lacks acl.now entry.now (bits_of request) }
 {
-    without(request, effective_perms(acl, entry))
+    without(request, acl.effective_perms(entry))
 }
 
 /// Whether the entry decides about the requester, and has all of the bits.

@@ -19,7 +19,7 @@ pub use command::{
 pub use compare_command::compare;
 pub use decide_command::decide;
 pub use explain_command::explain;
-pub use explanation::{Class, class_of, effective_perms, first_speaker, lacks};
+pub use explanation::{Class, class_of, first_speaker, lacks};
 pub use laws::{
     alike_lists_differ_for_nobody, explanation_laws, statuses_are_those_of_the_words,
     words_ask_what_they_give,

@@ -6,7 +6,7 @@ pub trait RequestSource: Send + Drop {
     /// What is requested.
     type Request: Send + Drop;
 
-    ghost use Rattle.std.specs.Prelude.{◌≡◌, ◌++◌, [], List, IfOk, IfNone, OnErr, option_to_list};
+    ghost use Rattle.std.specs.Prelude.{◌≡◌, ◌++◌, [], List, IfOk, IfNone, option_to_list};
 
     /// The requests that are still to come.
     ghost rest: { Self → List Self.Request };

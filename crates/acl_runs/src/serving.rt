@@ -1,5 +1,5 @@
 //! All sessions in threads of their own.
-ghost use Rattle.std.specs.Prelude.{◌≡◌, ◌≢◌, ◌<◌, ◌≤◌, ◌^◌, All, length, map, Some, IfOk};
+ghost use Rattle.std.specs.Prelude.{◌≢◌, ◌<◌, ◌≤◌, ◌^◌, All, length, map, Some, IfOk};
 ghost use Rattle.acl_broker.specs.Ends.{AreEndsOf};
 ghost use Rattle.acl_broker.specs.Takers.{view, Keeps};
 ghost use Rattle.acl_broker.specs.declared.limits.TheConstants.{SESSIONS};

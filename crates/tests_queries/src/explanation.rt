@@ -2,7 +2,7 @@
 use acl_names::{Gid, Requester, Uid};
 use acl_nfs4::Mask;
 use acl_posix::{Perms, Tag};
-use acl_queries::{Class, class_of, effective_perms, first_speaker, lacks};
+use acl_queries::{Class, class_of, first_speaker, lacks};
 use bitflags::Flags;
 use std::alloc::Global;
 use tests_common::{acl, acl4};
@@ -30,7 +30,7 @@ fn posix(alloc: Global) -> Option<Explained> {
     let mut count = 0;
     for entry in list.entries() {
         if class.has(group, &requester, entry.tag) && count < 2 {
-            told[count] = (effective_perms(&list, entry), lacks(&list, entry, asked));
+            told[count] = (list.effective_perms(entry), lacks(&list, entry, asked));
             count += 1;
         }
     }

@@ -1,6 +1,6 @@
 //! Lists of what has a name and an id, in which both are found by binary search.
 
-ghost use Rattle.std.specs.Prelude.{◌≡◌, ◌==◌, ℕ, false, not, nat_eq, List, find, map, length};
+ghost use Rattle.std.specs.Prelude.{◌≡◌, ◌==◌, ℕ, false, not, nat_eq, List, find, length};
 ghost use Rattle.std.specs.Prelude.{option_map, IfOk, IsOk, IsTrue};
 ghost use Rattle.std.specs.List.{list_any};
 ghost use Rattle.std.specs.List.Sorted.{IsPermutation};

@@ -1,6 +1,6 @@
 //! Users.
 
-ghost use Rattle.std.specs.Prelude.{◌≡◌, nat_lt, [], length, count_by, find, is_none, option_map};
+ghost use Rattle.std.specs.Prelude.{◌≡◌, [], length, count_by, find, is_none, option_map};
 ghost use Rattle.std.specs.Prelude.{string_bytes, IfOk};
 ghost use Rattle.std.specs.Cmp.Lexicographic.{slice_cmp};
 ghost use Rattle.std.specs.List.{filter_map, list_any};

@@ -1,8 +1,7 @@
 //! Spaces and tabs round a text.
 
-ghost use Rattle.std.specs.Prelude.{◌≡◌, ◌≤◌, ◌++◌, length};
+ghost use Rattle.std.specs.Prelude.{◌≡◌, ◌≤◌, length};
 ghost use Rattle.std.specs.List.{position_or_len};
-ghost use Rattle.acl_names.specs.Plain.{ends_field, IsField};
 ghost use Rattle.acl_names.specs.Pieces.{after_word, first_word, is_blank, trim, trim_end};
 ghost use Rattle.acl_names.specs.Pieces.{trim_start};
 

@@ -1,9 +1,9 @@
 //! Texts that are sets of letters, by a table of letters and bits.
 
-ghost use Rattle.std.specs.Prelude.{◌≡◌, ◌≤◌, ◌<◌, ◌+◌, ◌==◌, ◌++◌, ◌∷◌, [], not, filter, take};
-ghost use Rattle.std.specs.Prelude.{length, bit_and, vec_len, vec_capacity, OnOk, OnErr};
+ghost use Rattle.std.specs.Prelude.{◌≡◌, ◌≤◌, ◌<◌, ◌+◌, ◌==◌, ◌++◌, filter, take};
+ghost use Rattle.std.specs.Prelude.{length, vec_len, vec_capacity, OnOk, OnErr};
 ghost use Rattle.std.specs.List.{list_any};
-ghost use Rattle.acl_names.specs.Letters.{occurs, repeats, is_letter_of, letters_of, letters_text};
+ghost use Rattle.acl_names.specs.Letters.{is_letter_of, letters_of, letters_text};
 ghost use Rattle.acl_names.specs.Letters.{bits_of_rows, IsTable, HasBitsOf};
 
 use std::alloc::AllocError;

@@ -1,10 +1,8 @@
 //! The access check.
 
 ghost use Rattle.std.specs.Prelude.{◌≡◌, ◌&&◌, List};
-ghost use Rattle.std.specs.List.{list_any};
 ghost use Rattle.std.specs.List.Sorted.{IsPermutation};
-ghost use Rattle.acl_names.specs.Bits.{has_all};
-ghost use Rattle.acl_posix.specs.Access.{grants, is_for_group_of};
+ghost use Rattle.acl_posix.specs.Access.{effective_perms, grants, is_for_group_of};
 ghost use Rattle.acl_posix.specs.CheckSteps.{group_answer, groups_answer, mask_allows, tag_answer};
 ghost use Rattle.acl_posix.specs.CheckSteps.{tag_has, user_answer};
 ghost use Rattle.acl_posix.specs.Entry.{EntryValue};
@@ -109,6 +107,14 @@ impl Acl {
             Some(granted) => Some(granted && self.mask_allows(request)),
             None => None,
         }
+    }
+
+    /// The effective permissions of an entry: its own, as far as the list's mask leaves them. The
+    /// entry needn't be one of the list.
+    pub fn effective_perms(&self, entry: &Entry) -> Perms
+        ensures { bits_of result ≡ effective_perms self.now entry.now }
+    {
+        entry.perms_under(self.mask())
     }
 
     /// Whether the mask, if there is one, has all of the request.

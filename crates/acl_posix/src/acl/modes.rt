@@ -1,7 +1,6 @@
 //! What modes have to do with access control lists.
 
 ghost use Rattle.std.specs.Prelude.{◌≡◌, ◌≤◌, length, map, IfOk, IsOk, IfSome, option_map};
-ghost use Rattle.acl_posix.specs.Entry.{EntryValue};
 ghost use Rattle.acl_posix.specs.Mode.{mode_of, mode_perms, perms_at, group_class_tag, set_to};
 ghost use Rattle.acl_posix.specs.Mode.{limit_to, chmod, at_creation, of_mode, calc_mask};
 ghost use Rattle.acl_posix.specs.Perms.{bits_of, IsPermissions};

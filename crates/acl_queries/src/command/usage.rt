@@ -1,5 +1,4 @@
 //! Words that the parser of command lines refuses.
-ghost use Rattle.std.specs.Prelude.{◌≡◌};
 
 use crate::{CommandFault, ErrorOutput, RunFault};
 use clap::error::ErrorKind;

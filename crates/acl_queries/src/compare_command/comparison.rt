@@ -1,10 +1,8 @@
 //! What the words of `compare` ask, and the answer.
-ghost use Rattle.std.specs.Prelude.{◌≡◌, codes, IfErr, IfOk, MatchOption, Ok};
-ghost use Rattle.clap.specs.Words.{found_of, rows_of};
+ghost use Rattle.std.specs.Prelude.{◌≡◌, IfOk, MatchOption, Ok};
 ghost use Rattle.acl_queries.specs.declared.command.list.AnyAcl.TheVariants as list;
 ghost use Rattle.acl_queries.specs.Comparing.{between};
 ghost use Rattle.acl_queries.specs.Differences.{AreAlike, Differ};
-ghost use Rattle.acl_queries.specs.Faults.{Explains};
 
 use super::text::answer_text;
 use crate::command::ids::{gid_field, uid_field};

@@ -1,6 +1,4 @@
 //! The command line of `decide`.
-ghost use Rattle.std.specs.Prelude.{◌≡◌, IfOk};
-ghost use Rattle.clap.specs.Words.{app_of};
 
 use super::question::Question;
 use crate::CommandLine;

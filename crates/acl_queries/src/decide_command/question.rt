@@ -1,5 +1,5 @@
 //! What the words of `decide` ask.
-ghost use Rattle.std.specs.Prelude.{◌≡◌, codes, Ok, IfErr, IfOk};
+ghost use Rattle.std.specs.Prelude.{◌≡◌, Ok, IfErr, IfOk};
 ghost use Rattle.clap.specs.Words.{found_of, rows_of};
 ghost use Rattle.acl_queries.specs.Asked.{acl_in};
 ghost use Rattle.acl_queries.specs.Faults.{Explains};

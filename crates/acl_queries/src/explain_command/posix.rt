@@ -7,7 +7,7 @@ ghost use Rattle.acl_queries.specs.ExplainText.{entry_line_if, mask_line, mask_l
 ghost use Rattle.acl_queries.specs.ExplainText.{posix_reasons};
 
 use super::question::Question;
-use crate::explanation::{Class, class_of, effective_perms, lacks};
+use crate::explanation::{Class, class_of, lacks};
 use acl_names::Directory;
 use acl_posix::{Acl, Entry, Perms, push_entry, push_perms};
 use std::alloc::AllocError;
@@ -46,7 +46,7 @@ fn push_entry_line(
     out.extend_from_slice("entry ".as_bytes())?;
     push_entry(entry, directory, out)?;
     out.push(b' ')?;
-    push_perms(effective_perms(acl, entry), out)?;
+    push_perms(acl.effective_perms(entry), out)?;
     out.push(b' ')?;
     push_perms(lacks(acl, entry, request), out)?;
     out.push(b'\n')?;

@@ -1,7 +1,5 @@
 //! What the words of `explain` ask.
-ghost use Rattle.std.specs.Prelude.{◌≡◌, codes, Ok, IfErr, IfOk};
-ghost use Rattle.clap.specs.Words.{found_of, rows_of};
-ghost use Rattle.acl_queries.specs.Faults.{Explains};
+ghost use Rattle.std.specs.Prelude.{Ok};
 
 use super::text::explanation_text;
 use crate::command::ids::{gid_field, gids_field, uid_field};

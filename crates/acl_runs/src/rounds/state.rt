@@ -1,5 +1,5 @@
 //! A run in rounds as it stands: how it begins, and what it reports.
-ghost use Rattle.std.specs.Prelude.{◌≡◌, ◌<◌, [], length, map, IfOk};
+ghost use Rattle.std.specs.Prelude.{◌<◌, IfOk};
 ghost use Rattle.acl_runs.specs.RoundsState.{HasBegun, IsReported};
 
 use crate::{RequestSource, RunReport};

@@ -1,5 +1,5 @@
 //! Rounds of turns.
-ghost use Rattle.std.specs.Prelude.{◌≡◌, ◌<◌, ◌≤◌, ◌^◌, All, None, length, map, IfOk, OnOk};
+ghost use Rattle.std.specs.Prelude.{◌<◌, ◌^◌, None, length, IfOk, OnOk};
 ghost use Rattle.acl_runs.specs.Turns.{AnswersNext, Turns, Rounds, AllRounds};
 
 use super::state::{Progress, Run};

@@ -1,5 +1,4 @@
 //! Why files give no texts.
-ghost use Rattle.std.specs.Prelude.{◌≡◌};
 
 use crate::RunFault;
 use acl_queries::{CommandFault, ErrorOutput};

@@ -1,6 +1,6 @@
 //! The command line of `run`, and its fields.
-ghost use Rattle.std.specs.Prelude.{◌≡◌, ◌≢◌, IfOk, Some, codes, false, map, option_map};
-ghost use Rattle.clap.specs.Words.{all_of, app_of, found_of, rows_of, rule_of};
+ghost use Rattle.std.specs.Prelude.{◌≡◌, ◌≢◌, Some, codes, false, map, option_map};
+ghost use Rattle.clap.specs.Words.{all_of, found_of, rows_of, rule_of};
 ghost use Rattle.acl_service.specs.RunLine.{limit_option, session_words};
 ghost use Rattle.acl_service.specs.RunWords.{HasLimit, IsLimit, setup_in};
 

@@ -1,5 +1,5 @@
 //! Sessions whose texts are at hand.
-ghost use Rattle.std.specs.Prelude.{◌≡◌, ◌≢◌, ◌≤◌, ℕ, All, IfErr, IsErrOf, List, OnOk, Some};
+ghost use Rattle.std.specs.Prelude.{◌≢◌, ◌≤◌, ℕ, All, IfErr, IsErrOf, List, OnOk, Some};
 ghost use Rattle.std.specs.Prelude.{length, map};
 ghost use Rattle.std.specs.Io.KnownBytes.{Appends, Keeps};
 ghost use Rattle.acl_lang.specs.declared.limits.TheConstants.{MAX_TEXT_LEN};

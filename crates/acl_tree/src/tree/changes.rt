@@ -1,5 +1,4 @@
 //! The commands that change the tree.
-ghost use Rattle.std.specs.Prelude.{◌≡◌};
 ghost use Rattle.acl_tree.specs.Commands.{set_access, set_default, set_nfs4, change_mode, create};
 ghost use Rattle.acl_tree.specs.Refusals.{ChangesTo};
 

@@ -1,6 +1,4 @@
 //! What the words of `dump` ask.
-ghost use Rattle.std.specs.Prelude.{◌≡◌, IfOk};
-ghost use Rattle.clap.specs.Words.{app_of};
 
 use super::text::push_dump;
 use crate::question::{AnswerFault, Question};

@@ -1,5 +1,5 @@
 //! The session that makes a tree again.
-ghost use Rattle.std.specs.Prelude.{◌≡◌, ◌++◌, ◌∷◌, [], ℕ, IfErr, List, OnOk, map as each};
+ghost use Rattle.std.specs.Prelude.{◌++◌, ◌∷◌, [], ℕ, IfErr, List, OnOk, map as each};
 ghost use Rattle.std.specs.FinMap as map;
 ghost use Rattle.std.specs.List.{flat_map};
 ghost use Rattle.std.specs.Map.Iter.{deref_pair};

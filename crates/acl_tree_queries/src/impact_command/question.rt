@@ -1,6 +1,4 @@
 //! What the words of `impact` ask.
-ghost use Rattle.std.specs.Prelude.{◌≡◌, IfOk};
-ghost use Rattle.clap.specs.Words.{app_of};
 
 use super::text::{Findings, ImpactText};
 use crate::nodes::write_nodes;

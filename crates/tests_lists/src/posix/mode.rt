@@ -27,6 +27,18 @@ fn mode_and_masks(list: Option<Acl>) -> Option<(u16, Option<Perms>, Perms)> {
     Some((list.mode().bits(), list.mask(), list.calc_mask()))
 }
 
+/// The effective permissions of the first two entries and of the last.
+fn effective(list: &Acl) -> Option<[Perms; 3]> {
+    match list.entries() {
+        [owner, user, .., other] => Some([
+            list.effective_perms(owner),
+            list.effective_perms(user),
+            list.effective_perms(other),
+        ]),
+        _ => None,
+    }
+}
+
 #[test]
 fn three_octal_digits_are_a_mode(rt: HostRuntime) {
     assert!(rt; Mode::from_octal(b"640") == mode(0o640));
@@ -43,5 +55,14 @@ fn a_mask_is_shown_in_the_mode(rt: HostRuntime) -> Result<(), Fail> {
     assert_eq!(rt; masked, Some((0o664, perms("rw"), all)));
     let set = mode_and_masks(with_mode(rt.alloc(), 0o600));
     assert_eq!(rt; set, Some((0o600, Some(none), all)));
+    Ok(())
+}
+
+#[test]
+fn a_mask_limits_users_and_not_the_others(rt: HostRuntime) -> Result<(), Fail> {
+    let read = perms("r").ok_or("permissions")?;
+    let all = perms("rwx").ok_or("permissions")?;
+    let list = acl(rt.alloc(), "u::rwx,u:bob:rwx,g::-,m::r,o::rwx").ok_or("a list")?;
+    assert_eq!(rt; effective(&list), Some([all, read, all]));
     Ok(())
 }
