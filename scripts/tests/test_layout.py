@@ -2,6 +2,7 @@
 
 import importlib.machinery
 import importlib.util
+import tempfile
 import unittest
 from pathlib import Path
 
@@ -54,3 +55,30 @@ class Faults(unittest.TestCase):
         self.assertEqual(self.numbers("one.rt", ".rt", head, "    three();", value), [3])
         for call in ("let _ = end.close();", "let _three = two()?;", "let _ = self"):
             self.assertEqual(self.numbers("one.rt", ".rt", head, "    three();", call), [])
+
+    def test_a_ghost_name_is_used(self):
+        head, use = "//! One.", "ghost use Some.place.{two, \u25cc\u2261\u25cc, lines};"
+        self.assertEqual(self.numbers("one.rt", ".rt", head, use, "ensures { two \u2261 lines }"), [])
+        self.assertEqual(self.numbers("one.rt", ".rt", head, use, "ensures { two lines }"), [2])
+        self.assertEqual(self.numbers("one.rt", ".rt", head, use, "/// two \u2261 lines"), [2, 2, 2])
+        self.assertEqual(self.numbers("one.rt", ".rt", head, use, "two \u2261 two_lines"), [2])
+        renamed = "ghost use Some.place.{two as other};"
+        self.assertEqual(self.numbers("one.rt", ".rt", head, renamed, "ensures { other }"), [])
+
+
+class Pages(unittest.TestCase):
+    def numbers(self, *lines):
+        """The numbers of the lines of a page that are at fault, beside a page with one heading."""
+        with tempfile.TemporaryDirectory() as room:
+            Path(room, "two.md").write_text("# The two, and `more`\n")
+            page = Path(room, "one.md")
+            page.write_text("\n".join(lines))
+            return [it for it, _ in layout.faults_of_page(page)]
+
+    def test_a_line_has_at_most_110_columns_outside_tables_and_code(self):
+        long = "x" * 111
+        self.assertEqual(self.numbers(long, "| " + long, "```sh", long, "```", long), [1, 6])
+
+    def test_a_link_leads_somewhere(self):
+        self.assertEqual(self.numbers("[a](two.md) [b](two.md#the-two-and-more) [c](https://x.y)"), [])
+        self.assertEqual(self.numbers("[a](three.md)", "[b](two.md#three)", "# Me", "[c](#me)"), [1, 2])
