@@ -1,8 +1,8 @@
 //! What `lint` is refused for, and what it lacks.
-use crate::fixture::{Sheet, Shelf, ask, ends};
-use acl_lint::lint;
+use crate::fixture::Lint;
 use acl_service::ErrorOutput;
 use std::test::Fail;
+use tests_files::{Command, Sheet};
 
 /// The words, the status, and what standard error has.
 const FAULTS: [(&[&str], u8, &str); 4] = [
@@ -37,7 +37,7 @@ const FAULTS: [(&[&str], u8, &str); 4] = [
 #[test]
 fn faults_of_files(rt: HostRuntime) {
     for (words, status, fault) in FAULTS {
-        assert!(rt; ends(rt.alloc(), words, status, "", fault), "{fault}");
+        assert!(rt; Lint.ends(rt.alloc(), words, status, "", fault), "{fault}");
     }
 }
 
@@ -47,7 +47,7 @@ fn words_that_are_refused(rt: HostRuntime) -> Result<(), Fail> {
     let mut out = Vec::new(rt.alloc());
     let mut input = Sheet::new("x\n");
     let words = ["lint", "--setup", "office"];
-    let (status, err) = ask(rt.alloc(), &words, &mut input, &mut out);
+    let (status, err) = Lint.ask(rt.alloc(), &words, &mut input, &mut out);
     assert_eq!(rt; status, 2);
     assert!(rt; out.is_empty());
     assert!(rt; !err.is_empty());
@@ -61,7 +61,7 @@ fn standard_input_is_left_as_it_is(rt: HostRuntime) -> Result<(), Fail> {
     let mut out = Vec::new(rt.alloc());
     let mut input = Sheet::new("x\n");
     let words = ["lint", "--setup", "office", "good"];
-    let (status, _err) = ask(rt.alloc(), &words, &mut input, &mut out);
+    let (status, _err) = Lint.ask(rt.alloc(), &words, &mut input, &mut out);
     assert_eq!(rt; status, 0);
     assert_eq!(rt; input.left(), 2);
     Ok(())
@@ -73,9 +73,8 @@ fn an_answer_that_cannot_be_written(rt: HostRuntime) -> Result<(), Fail> {
     let mut room = [0; 9];
     let mut out = room.as_mut_slice();
     let mut err = Vec::new(rt.alloc());
-    let status = lint(
+    let status = Lint.run(
         rt.alloc(),
-        &Shelf,
         &["lint", "--setup", "office", "faulty"],
         &mut Sheet::new(""),
         &mut out,

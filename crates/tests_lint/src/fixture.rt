@@ -1,8 +1,9 @@
 //! An office and sessions over it, as files at hand.
 use acl_lint::lint;
-use acl_service::{ErrorOutput, OpenFiles};
+use acl_service::ErrorOutput;
 use std::alloc::Global;
-use std::io::{self, Read};
+use std::io::{Read, Write};
+use tests_files::{Command, Shelf};
 
 const OFFICE: &str =
     "domain = \"example.org\"\numask = \"022\"\nroot = { owner = \"root\", group = \"root\", mode = \"755\", style = \"posix\" }\nuser = [ { name = \"root\", uid = 0, groups = [\"root\"] }, { name = \"alice\", uid = 1000, groups = [\"staff\"] }, { name = \"bob\", uid = 1001, groups = [\"staff\", \"ops\"] } ]\ngroup = [ { name = \"root\", gid = 0 }, { name = \"staff\", gid = 50 }, { name = \"ops\", gid = 60 } ]\n";
@@ -30,7 +31,7 @@ const MANY: &str =
 const LONG: &str =
     "#xxxxxxxxxxxxxxxxxxxxxxxxxxxxxxxxxxxxxxxxxxxxxxxxxxxxxxxxxxxxxxxxxxxxxxxxxxxxxxxxxxxxxxxxxxxxxxxxxxxxxxxxxxxxxxxxxxxxxxxxxxxxxxxxxxxxxxxxxxxxxxxxxxxxxxxxxxxxxxxxxxxxxxxxxxxxxxxxxxxxxxxxxxxxxxxxxxxxxxxxxxxxxxxxxxxxxxxxxxxxxxxxxxxxxxxxxxxxxxxxxxxxxxxxxxxxxxxxxxxxxxxxxxxxxxxxxxxxxxxxxxxxxxxxxxxxxxxxxxxxxxxxxxxxxxxxxxxxxxxxxxxxxxxxxxxxxxxxxxxxxxxxxxxxxxxxxxxxxxxxxxxxxxxxxxxxxxxxxxxxxxxxxxxxxxxxxxxxxxxxxxxxxxxxxxxxxxxxxxxxxxxxxxxxxxxxxxxxxxxxxxxxxxxxxxxxxxxxxxxxxxxxxxxxxxxxxxxxxxxxxxxxxxxxxxxxxxxxxxxxxxxxxxxxxxxxxxxxxxxxxxxxxxxxxxxxxxxxxxxxxxxxxxxxxxxxxxxxxxxxxxxxxxxxxxxxxxxxxxxxxxxxxxxxxxxxxxxxxxxxxxxxxxxxxxxxxxxxxxxxxxxxxxxxxxxxxxxxxxxxxxxxxxxxxxxxxxxxxxxxxxxxxxxxxxxxxxxxxxxxxxxxxxxxxxxxxxxxxxxxxxxxxxxxxxxxxxxxxxxxxxxxxxxxxxxxxxxxxxxxxxxxxxxxxxxxxxxxxxxxxxxxxxxxxxxxxxxxxxxxxxxxxxxxxxxxxxxxxxxxxxxxxxxxxxxxxxxxxxxxxxxxxxxxxxxxxxxxxxxxxxxxxxxxxxxxxxxxxxxxxxxxxxxxxxxxxxxxxxxxxxxxxxxxxxxxxxxxxxxxxxxxxxxxxxxxxxxxxxxxxxxxxxxxxxxxxxxxxxxxxxxxxxxxxxxxxxxxxxxxxxxxxxxxxxxxxxxxxxxxxxxxxxxxxxxxxxxxxxxxxxxxxxxxxxxxxxxxxxxxxxx\n#xxxxxxxxxxxxxxxxxxxxxxxxxxxxxxxxxxxxxxxxxxxxxxxxxxxxxxxxxxxxxxxxxxxxxxxxxxxxxxxxxxxxxxxxxxxxxxxxxxxxxxxxxxxxxxxxxxxxxxxxxxxxxxxxxxxxxxxxxxxxxxxxxxxxxxxxxxxxxxxxxxxxxxxxxxxxxxxxxxxxxxxxxxxxxxxxxxxxxxxxxxxxxxxxxxxxxxxxxxxxxxxxxxxxxxxxxxxxxxxxxxxxxxxxxxxxxxxxxxxxxxxxxxxxxxxxxxxxxxxxxxxxxxxxxxxxxxxxxxxxxxxxxxxxxxxxxxxxxxxxxxxxxxxxxxxxxxxxxxxxxxxxxxxxxxxxxxxxxxxxxxxxxxxxxxxxxxxxxxxxxxxxxxxxxxxxxxxxxxxxxxxxxxxxxxxxxxxxxxxxxxxxxxxxxxxxxxxxxxxxxxxxxxxxxxxxxxxxxxxxxxxxxxxxxxxxxxxxxxxxxxxxxxxxxxxxxxxxxxxxxxxxxxxxxxxxxxxxxxxxxxxxxxxxxxxxxxxxxxxxxxxxxxxxxxxxxxxxxxxxxxxxxxxxxxxxxxxxxxxxxxxxxxxxxxxxxxxxxxxxxxxxxxxxxxxxxxxxxxxxxxxxxxxxxxxxxxxxxxxxxxxxxxxxxxxxxxxxxxxxxxxxxxxxxxxxxxxxxxxxxxxxxxxxxxxxxxxxxxxxxxxxxxxxxxxxxxxxxxxxxxxxxxxxxxxxxxxxxxxxxxxxxxxxxxxxxxxxxxxxxxxxxxxxxxxxxxxxxxxxxxxxxxxxxxxxxxxxxxxxxxxxxxxxxxxxxxxxxxxxxxxxxxxxxxxxxxxxxxxxxxxxxxxxxxxxxxxxxxxxxxxxxxxxxxxxxxxxxxxxxxxxxxxxxxxxxxxxxxxxxxxxxxxxxxxxxxxxxxxxxxxxxxxxxxxxxxxxxxxxxxxxxxxxxxxxxxxxxxxxxxxxxxxxxxxxxxxxxxxxxxxxxxxxxxxxxxxxxxxxxxxxxxxxxxxxxxxxxxxxxxxx\nget /\n";
 
-const FILES: [(&str, &str); 30] = [
+const FILES: &[(&str, &str)] = &[
     ("office", OFFICE),
     ("good", GOOD),
     ("faulty", FAULTY),
@@ -117,64 +118,19 @@ const FILES: [(&str, &str); 30] = [
     ),
 ];
 
-/// Bytes at hand.
-#[derive(Drop)]
-pub struct Sheet {
-    left: &'static [u8],
-}
-
-impl Sheet {
-    pub fn new(text: &'static str) -> Sheet {
-        Sheet {
-            left: text.as_bytes(),
-        }
-    }
-
-    /// How many bytes were not read.
-    pub fn left(&self) -> usize {
-        self.left.len()
-    }
-}
-
-impl Read for Sheet {
-    fn read(&mut self, buffer: &mut [u8]) -> io::Result<usize> {
-        self.left.read(buffer)
-    }
-}
-
-/// The files of these names.
+/// `lint`, over the files.
 #[derive(Clone, Copy)]
-pub struct Shelf;
+pub struct Lint;
 
-impl OpenFiles for Shelf {
-    ghost use Rattle.std.specs.Prelude.{None};
-
-    type File = Sheet;
-
-    ghost bytes_of = { λ _ _. None };
-
-    fn open(&self, name: &str) -> io::Result<Sheet> {
-        for (file, text) in FILES {
-            if file == name {
-                return Ok(Sheet::new(text));
-            }
-        }
-        Err(io::Error::from(io::ErrorKind::NotFound))
+impl Command for Lint {
+    fn run<I: Read, W: Write, E: Write + Drop>(
+        &self,
+        alloc: Global,
+        words: &[&str],
+        input: &mut I,
+        out: &mut W,
+        err: &mut ErrorOutput<E>,
+    ) -> u8 {
+        lint(alloc, &Shelf::new(FILES), words, input, out, err)
     }
-}
-
-/// `lint` of these words, over the files, with this standard input and this output. Its status, and
-/// what standard error has.
-pub fn ask(alloc: Global, words: &[&str], input: &mut Sheet, out: &mut Vec<u8>) -> (u8, Vec<u8>) {
-    let mut err = Vec::new(alloc);
-    let mut told = ErrorOutput::new(&mut err);
-    let status = lint(alloc, &Shelf, words, input, out, &mut told);
-    (status, err)
-}
-
-/// Whether the words end so: with this status, and with these texts on the output and for faults.
-pub fn ends(alloc: Global, words: &[&str], status: u8, text: &str, fault: &str) -> bool {
-    let mut out = Vec::new(alloc);
-    let (ended, err) = ask(alloc, words, &mut Sheet::new(""), &mut out);
-    ended == status && out.as_slice() == text.as_bytes() && err.as_slice() == fault.as_bytes()
 }

@@ -1,5 +1,6 @@
 //! What is told of setups that are refused.
-use crate::fixture::ends;
+use crate::fixture::Lint;
+use tests_files::Command;
 
 /// The setup, and what is told of it.
 const REFUSED: [(&str, &str); 22] = [
@@ -41,6 +42,6 @@ const REFUSED: [(&str, &str); 22] = [
 fn setups_that_are_refused(rt: HostRuntime) {
     for (setup, text) in REFUSED {
         let words = ["lint", "--setup", setup, "faulty"];
-        assert!(rt; ends(rt.alloc(), &words, 0, text, ""), "{setup}");
+        assert!(rt; Lint.ends(rt.alloc(), &words, 0, text, ""), "{setup}");
     }
 }

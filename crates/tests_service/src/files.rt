@@ -7,6 +7,7 @@ use std::io::{self, Read};
 use std::sync::Wait;
 use std::thread::Threads;
 use std::time::Clock;
+use tests_files::Sheet;
 
 const SETUP: &str =
     "domain = \"a\"\numask = \"022\"\nroot = { owner = \"al\", group = \"staff\", mode = \"755\", style = \"posix\" }\nuser = [ { name = \"al\", uid = 7, groups = [\"staff\"] } ]\ngroup = [ { name = \"staff\", gid = 50 } ]\n";
@@ -22,18 +23,6 @@ const INPUT: u32 = 9;
 /// Appends a digit.
 fn note(done: &Cell<u32>, digit: u32) {
     done.set(done.get().wrapping_mul(10).wrapping_add(digit));
-}
-
-/// Bytes at hand.
-#[derive(Drop)]
-struct Sheet {
-    left: &'static [u8],
-}
-
-impl Read for Sheet {
-    fn read(&mut self, buffer: &mut [u8]) -> io::Result<usize> {
-        self.left.read(buffer)
-    }
 }
 
 /// The files, which note each that is asked for.
@@ -54,9 +43,7 @@ impl<'a> OpenFiles for Shelf<'a> {
         for (file, text) in FILES {
             if file == name {
                 note(self.done, digit);
-                return Ok(Sheet {
-                    left: text.as_bytes(),
-                });
+                return Ok(Sheet::new(text));
             }
             digit = digit.wrapping_add(1);
         }

@@ -10,16 +10,17 @@ use crate::setup::SETUP;
 use crate::texts::{are_short, has_output, serve_texts, serve_texts_in_rounds};
 use acl_names::Directory;
 use acl_service::{
-    ErrorOutput, OneFault, OpenFiles, OpenGate, Report, ServeFault, SetupError, read_setup, run,
-    run_one, run_texts,
+    ErrorOutput, OneFault, OpenGate, Report, ServeFault, SetupError, read_setup, run, run_one,
+    run_texts,
 };
 use std::alloc::Global;
-use std::io::{self, Read};
+use std::io;
 use std::sync::Wait;
 use std::test::Fail;
 use std::thread::Threads;
 use std::time::Clock;
 use tests_common::{Refusals, directory};
+use tests_files::Shelf;
 
 /// How a command ended.
 #[derive(Clone, Copy, Debug, PartialEq, Eq)]
@@ -271,35 +272,8 @@ fn run_texts_under_a_refused_growth(rt: HostRuntime) -> Result<(), Fail> {
     Ok(())
 }
 
-/// A file in memory: what is left of it.
-#[derive(Drop)]
-struct Sheet {
-    left: &'static [u8],
-}
-
-impl Read for Sheet {
-    fn read(&mut self, buffer: &mut [u8]) -> io::Result<usize> {
-        self.left.read(buffer)
-    }
-}
-
-/// Two files in memory: the examples' setup, and a session under any other name.
-struct Shelf;
-
-impl OpenFiles for Shelf {
-    ghost use Rattle.std.specs.Prelude.{None};
-
-    type File = Sheet;
-
-    ghost bytes_of = { λ _ _. None };
-
-    fn open(&self, name: &str) -> io::Result<Sheet> {
-        let text = if name == "setup" { SETUP } else { "get /\nx\n" };
-        Ok(Sheet {
-            left: text.as_bytes(),
-        })
-    }
-}
+/// The examples' setup, and a session.
+const FILES: &[(&str, &str)] = &[("setup", SETUP), ("session", "get /\nx\n")];
 
 /// The same session in a file, where both writers have room enough without any memory of their own.
 fn run_files<R: Threads + Wait + Clock + Sync>(rt: &R, alloc: Global) -> Ending {
@@ -311,7 +285,7 @@ fn run_files<R: Threads + Wait + Clock + Sync>(rt: &R, alloc: Global) -> Ending 
     let status = run(
         rt,
         alloc,
-        &Shelf,
+        &Shelf::new(FILES),
         words.as_slice(),
         &mut io::empty(),
         &mut out,

@@ -1,8 +1,8 @@
 //! What queries of trees are refused for, and what they lack.
-use crate::fixture::{Sheet, Shelf, ask, ends};
+use crate::fixture::Query;
 use acl_service::ErrorOutput;
-use acl_tree_queries::who;
 use std::test::Fail;
+use tests_files::{Command, Sheet};
 
 /// The words, the status, and what standard error has.
 const FAULTS: [(&[&str], u8, &str); 7] = [
@@ -42,7 +42,7 @@ const FAULTS: [(&[&str], u8, &str); 7] = [
 #[test]
 fn faults_of_files_and_fields(rt: HostRuntime) {
     for (words, status, fault) in FAULTS {
-        assert!(rt; ends(rt.alloc(), words, status, "", fault), "{fault}");
+        assert!(rt; Query.ends(rt.alloc(), words, status, "", fault), "{fault}");
     }
 }
 
@@ -52,7 +52,7 @@ fn words_that_are_refused(rt: HostRuntime) -> Result<(), Fail> {
     let mut out = Vec::new(rt.alloc());
     let mut input = Sheet::new("x\n");
     let words = ["impact", "--setup", "office"];
-    let (status, err) = ask(rt.alloc(), &words, &mut input, &mut out);
+    let (status, err) = Query.ask(rt.alloc(), &words, &mut input, &mut out);
     assert_eq!(rt; status, 2);
     assert!(rt; out.is_empty());
     assert!(rt; !err.is_empty());
@@ -66,9 +66,8 @@ fn an_answer_that_cannot_be_written(rt: HostRuntime) -> Result<(), Fail> {
     let mut room = [0; 9];
     let mut out = room.as_mut_slice();
     let mut err = Vec::new(rt.alloc());
-    let status = who(
+    let status = Query.run(
         rt.alloc(),
-        &Shelf,
         &["who", "--setup", "office"],
         &mut Sheet::new(""),
         &mut out,

@@ -1,8 +1,9 @@
 //! The office of the examples and its sessions, as files at hand.
-use acl_service::{ErrorOutput, OpenFiles};
+use acl_service::ErrorOutput;
 use acl_tree_queries::{dump, impact, who};
 use std::alloc::Global;
-use std::io::{self, Read};
+use std::io::{Read, Write};
+use tests_files::{Command, Shelf};
 
 pub const OFFICE: &str =
     "domain = \"example.org\"\numask = \"022\"\nroot = { owner = \"root\", group = \"root\", mode = \"755\", style = \"posix\" }\nuser = [ { name = \"root\", uid = 0, groups = [\"root\"] }, { name = \"alice\", uid = 1000, groups = [\"staff\"] }, { name = \"bob\", uid = 1001, groups = [\"staff\", \"ops\"] }, { name = \"carol\", uid = 1002, groups = [\"guest\"] } ]\ngroup = [ { name = \"root\", gid = 0 }, { name = \"staff\", gid = 50 }, { name = \"ops\", gid = 60 }, { name = \"guest\", gid = 70 } ]\n";
@@ -62,7 +63,7 @@ pub const NEWER: &str =
 pub const SINCE_OLDER: &str =
     "fault bad-header 8 -\nfault unknown-name 19 srv/share/lost\ndiffer bob 1001 50,60 w - srv/share/plan\nnew srv/share/new\nfault bad-header 17 -\ndiffer alice 1000 50 - rw srv/share/a dir\nfault repeated-path 35 srv/share/plan\nfault invalid-acl 42 srv/share/next\nnew srv/share/next\ngone srv/share/old\ngone srv/share/a\\012b\n";
 
-const FILES: [(&str, &str); 15] = [
+const FILES: &[(&str, &str)] = &[
     ("office", OFFICE),
     ("alice", ALICE),
     ("before", BEFORE),
@@ -80,68 +81,24 @@ const FILES: [(&str, &str); 15] = [
     ("newer", NEWER),
 ];
 
-/// Bytes at hand.
-#[derive(Drop)]
-pub struct Sheet {
-    left: &'static [u8],
-}
-
-impl Sheet {
-    pub fn new(text: &'static str) -> Sheet {
-        Sheet {
-            left: text.as_bytes(),
-        }
-    }
-
-    /// How many bytes were not read.
-    pub fn left(&self) -> usize {
-        self.left.len()
-    }
-}
-
-impl Read for Sheet {
-    fn read(&mut self, buffer: &mut [u8]) -> io::Result<usize> {
-        self.left.read(buffer)
-    }
-}
-
-/// The files of these names.
+/// `impact`, `dump` or `who`, whichever is the first of the words, over the files.
 #[derive(Clone, Copy)]
-pub struct Shelf;
+pub struct Query;
 
-impl OpenFiles for Shelf {
-    ghost use Rattle.std.specs.Prelude.{None};
-
-    type File = Sheet;
-
-    ghost bytes_of = { λ _ _. None };
-
-    fn open(&self, name: &str) -> io::Result<Sheet> {
-        for (file, text) in FILES {
-            if file == name {
-                return Ok(Sheet::new(text));
-            }
+impl Command for Query {
+    fn run<I: Read, W: Write, E: Write + Drop>(
+        &self,
+        alloc: Global,
+        words: &[&str],
+        input: &mut I,
+        out: &mut W,
+        err: &mut ErrorOutput<E>,
+    ) -> u8 {
+        let files = Shelf::new(FILES);
+        match words.first() {
+            Some(first) if *first == "impact" => impact(alloc, &files, words, input, out, err),
+            Some(first) if *first == "dump" => dump(alloc, &files, words, input, out, err),
+            _ => who(alloc, &files, words, input, out, err),
         }
-        Err(io::Error::from(io::ErrorKind::NotFound))
     }
-}
-
-/// The command of these words, over the files, with this standard input and this output. Its
-/// status, and what standard error has.
-pub fn ask(alloc: Global, words: &[&str], input: &mut Sheet, out: &mut Vec<u8>) -> (u8, Vec<u8>) {
-    let mut err = Vec::new(alloc);
-    let mut told = ErrorOutput::new(&mut err);
-    let status = match words.first() {
-        Some(first) if *first == "impact" => impact(alloc, &Shelf, words, input, out, &mut told),
-        Some(first) if *first == "dump" => dump(alloc, &Shelf, words, input, out, &mut told),
-        _ => who(alloc, &Shelf, words, input, out, &mut told),
-    };
-    (status, err)
-}
-
-/// Whether the words end so: with this status, and with these texts on the output and for faults.
-pub fn ends(alloc: Global, words: &[&str], status: u8, text: &str, fault: &str) -> bool {
-    let mut out = Vec::new(alloc);
-    let (ended, err) = ask(alloc, words, &mut Sheet::new(""), &mut out);
-    ended == status && out.as_slice() == text.as_bytes() && err.as_slice() == fault.as_bytes()
 }

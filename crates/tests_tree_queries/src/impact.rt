@@ -1,5 +1,6 @@
 //! Tests of `impact`.
-use crate::fixture::{Sheet, ask, ends};
+use crate::fixture::Query;
+use tests_files::{Command, Sheet};
 
 /// Bob gains what he was given, the group loses what it lost, and of the message of the day, whose
 /// style changed, everybody is decided about alike.
@@ -10,7 +11,7 @@ fn who_gains_and_who_loses(rt: HostRuntime) {
     ];
     let text =
         "differ bob 1001 50,60 - rx /plans\ndiffer bob 1001 50,60 r - /plans/budget\nnew /plans/next\n";
-    assert!(rt; ends(rt.alloc(), &words, 0, text, ""));
+    assert!(rt; Query.ends(rt.alloc(), &words, 0, text, ""));
 }
 
 /// None of the setup's users is concerned, but those are who are in a group that none of them is
@@ -19,7 +20,7 @@ fn who_gains_and_who_loses(rt: HostRuntime) {
 fn somebody_who_is_no_user(rt: HostRuntime) {
     let words = ["impact", "--setup", "office", "strangers"];
     let mut out = Vec::new(rt.alloc());
-    let (status, err) = ask(rt.alloc(), &words, &mut Sheet::new(""), &mut out);
+    let (status, err) = Query.ask(rt.alloc(), &words, &mut Sheet::new(""), &mut out);
     assert_eq!(rt; status, 0);
     assert!(rt; err.is_empty());
     assert!(rt; out.as_slice().starts_with(b"differ - "));
@@ -29,19 +30,19 @@ fn somebody_who_is_no_user(rt: HostRuntime) {
 #[test]
 fn all_is_new(rt: HostRuntime) {
     let words = ["impact", "--setup", "office", "alice"];
-    assert!(rt; ends(rt.alloc(), &words, 0, "new /plans\nnew /plans/budget\n", ""));
+    assert!(rt; Query.ends(rt.alloc(), &words, 0, "new /plans\nnew /plans/budget\n", ""));
 }
 
 /// A session that changes nothing for anybody has no line.
 #[test]
 fn nobody_gains_or_loses(rt: HostRuntime) {
     let words = ["impact", "--setup", "office", "empty"];
-    assert!(rt; ends(rt.alloc(), &words, 0, "", ""));
+    assert!(rt; Query.ends(rt.alloc(), &words, 0, "", ""));
 }
 
 /// Of the users whom a change concerns, the first by name is told.
 #[test]
 fn the_first_user_by_name(rt: HostRuntime) {
     let words = ["impact", "--setup", "office", "closed"];
-    assert!(rt; ends(rt.alloc(), &words, 0, "differ alice 1000 50 rx - /\n", ""));
+    assert!(rt; Query.ends(rt.alloc(), &words, 0, "differ alice 1000 50 rx - /\n", ""));
 }

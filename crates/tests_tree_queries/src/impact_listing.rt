@@ -1,16 +1,16 @@
 //! Tests of `impact` of a listing that becomes another.
-use crate::fixture::{NEWER, OFFICE, OLDER, SINCE_OLDER, Sheet, Shelf, ask, ends};
-use acl_service::{ErrorOutput, OpenFiles};
+use crate::fixture::{NEWER, OFFICE, OLDER, Query, SINCE_OLDER};
+use acl_service::ErrorOutput;
 use acl_tree_queries::impact;
 use std::alloc::Global;
-use std::io::{self, Read};
+use tests_files::{Broken, Command, Sheet, Shelf};
 
 /// Faults of what was there, in its order; then what is there, in its order; and at last what is
 /// gone, in the order of what was.
 #[test]
 fn what_is_told_and_in_which_order(rt: HostRuntime) {
     let words = ["impact", "--setup", "office", "--listing", "older", "newer"];
-    assert!(rt; ends(rt.alloc(), &words, 0, SINCE_OLDER, ""));
+    assert!(rt; Query.ends(rt.alloc(), &words, 0, SINCE_OLDER, ""));
 }
 
 /// Whether it is told what became of the older listing, one of the two being this text on standard
@@ -18,7 +18,7 @@ fn what_is_told_and_in_which_order(rt: HostRuntime) {
 fn tells_of_input(alloc: Global, words: &[&str], text: &'static str) -> bool {
     let mut out = Vec::new(alloc);
     let mut input = Sheet::new(text);
-    let (status, err) = ask(alloc, words, &mut input, &mut out);
+    let (status, err) = Query.ask(alloc, words, &mut input, &mut out);
     status == 0 && out.as_slice() == SINCE_OLDER.as_bytes() && err.is_empty() && input.left() == 0
 }
 
@@ -30,36 +30,21 @@ fn either_listing_from_standard_input(rt: HostRuntime) {
     assert!(rt; tells_of_input(rt.alloc(), &after, NEWER));
 }
 
-/// The office, and two listings.
+/// What was there, and what is there.
 #[derive(Clone, Copy)]
 struct Pair {
     before: &'static str,
     after: &'static str,
 }
 
-impl OpenFiles for Pair {
-    ghost use Rattle.std.specs.Prelude.{None};
-
-    type File = Sheet;
-
-    ghost bytes_of = { λ _ _. None };
-
-    fn open(&self, name: &str) -> io::Result<Sheet> {
-        if name == "office" {
-            return Ok(Sheet::new(OFFICE));
-        }
-        if name == "before" {
-            return Ok(Sheet::new(self.before));
-        }
-        if name == "after" {
-            return Ok(Sheet::new(self.after));
-        }
-        Err(io::Error::from(io::ErrorKind::NotFound))
-    }
-}
-
 /// What is told of the pair; none if that is told with another status or beside a fault.
 fn told_of(alloc: Global, pair: &Pair) -> Option<Vec<u8>> {
+    let files = [
+        ("office", OFFICE),
+        ("before", pair.before),
+        ("after", pair.after),
+    ];
+    let files = Shelf::new(&files);
     let words = [
         "impact",
         "--setup",
@@ -71,7 +56,7 @@ fn told_of(alloc: Global, pair: &Pair) -> Option<Vec<u8>> {
     let mut out = Vec::new(alloc);
     let mut err = Vec::new(alloc);
     let told = &mut ErrorOutput::new(&mut err);
-    let status = impact(alloc, pair, &words, &mut Sheet::new(""), &mut out, told);
+    let status = impact(alloc, &files, &words, &mut Sheet::new(""), &mut out, told);
     if status == 0 && err.is_empty() {
         Some(out)
     } else {
@@ -274,7 +259,7 @@ const FAULTS: [(&[&str], u8, &str); 5] = [
 #[test]
 fn faults_of_files(rt: HostRuntime) {
     for (words, status, fault) in FAULTS {
-        assert!(rt; ends(rt.alloc(), words, status, "", fault), "{fault}");
+        assert!(rt; Query.ends(rt.alloc(), words, status, "", fault), "{fault}");
     }
 }
 
@@ -308,7 +293,7 @@ const REFUSED: [&[&str]; 4] = [
 fn is_refused(alloc: Global, words: &[&str]) -> bool {
     let mut out = Vec::new(alloc);
     let mut input = Sheet::new("# file: a\n");
-    let (status, err) = ask(alloc, words, &mut input, &mut out);
+    let (status, err) = Query.ask(alloc, words, &mut input, &mut out);
     status == 2 && out.is_empty() && !err.is_empty() && input.left() == 10
 }
 
@@ -323,22 +308,7 @@ fn words_that_are_refused(rt: HostRuntime) {
 #[test]
 fn a_session_of_that_name(rt: HostRuntime) {
     let words = ["impact", "--setup", "office", "--", "--listing"];
-    assert!(rt; ends(rt.alloc(), &words, 1, "", "aclctl: cannot read --listing\n"));
-}
-
-/// Gives its bytes, and then fails.
-#[derive(Drop)]
-struct Broken<'a> {
-    bytes: &'a [u8],
-}
-
-impl Read for Broken<'_> {
-    fn read(&mut self, buffer: &mut [u8]) -> io::Result<usize> {
-        if self.bytes.is_empty() {
-            return Err(io::Error::from(io::ErrorKind::BrokenPipe));
-        }
-        self.bytes.read(buffer)
-    }
+    assert!(rt; Query.ends(rt.alloc(), &words, 1, "", "aclctl: cannot read --listing\n"));
 }
 
 /// Three times a long path between these.
@@ -358,7 +328,7 @@ fn front_of(alloc: Global, words: &[&str], bytes: &[u8], answer: &[u8]) -> Optio
     let mut out = Vec::new(alloc);
     let mut err = Vec::new(alloc);
     let told = &mut ErrorOutput::new(&mut err);
-    let status = impact(alloc, &Shelf, words, &mut Broken { bytes }, &mut out, told);
+    let status = Query.run(alloc, words, &mut Broken::new(bytes), &mut out, told);
     let is_told = err.as_slice() == b"aclctl: cannot read -\n".as_slice();
     if status == 3 && is_told && answer.starts_with(&out) {
         Some(out.len())

@@ -1,6 +1,7 @@
 //! Tests of `who`.
-use crate::fixture::{Sheet, ask, ends};
+use crate::fixture::Query;
 use std::test::Fail;
+use tests_files::{Command, Sheet};
 
 /// A line for each path and each user, by the bytes of the paths and of the names.
 #[test]
@@ -8,7 +9,7 @@ fn the_letters_of_each_user(rt: HostRuntime) {
     let words = ["who", "--setup", "office", "alice"];
     let text =
         "r-x alice /\nr-x bob /\nr-x carol /\nrwx root /\nrwx alice /plans\nrwx bob /plans\n--- carol /plans\n--- root /plans\nrw- alice /plans/budget\nrw- bob /plans/budget\n--- carol /plans/budget\n--- root /plans/budget\n";
-    assert!(rt; ends(rt.alloc(), &words, 0, text, ""));
+    assert!(rt; Query.ends(rt.alloc(), &words, 0, text, ""));
 }
 
 /// Without a session the tree is the setup's.
@@ -16,14 +17,14 @@ fn the_letters_of_each_user(rt: HostRuntime) {
 fn a_setup_alone(rt: HostRuntime) {
     let words = ["who", "--setup", "office"];
     let text = "r-x alice /\nr-x bob /\nr-x carol /\nrwx root /\n";
-    assert!(rt; ends(rt.alloc(), &words, 0, text, ""));
+    assert!(rt; Query.ends(rt.alloc(), &words, 0, text, ""));
 }
 
 #[test]
 fn those_who_may_write(rt: HostRuntime) {
     let words = ["who", "--setup", "office", "--perms", "w", "alice"];
     let text = "root /\nalice /plans\nbob /plans\nalice /plans/budget\nbob /plans/budget\n";
-    assert!(rt; ends(rt.alloc(), &words, 0, text, ""));
+    assert!(rt; Query.ends(rt.alloc(), &words, 0, text, ""));
 }
 
 /// Bob reads by one group and writes by another, and is denied both at once.
@@ -32,9 +33,9 @@ fn letters_are_asked_one_by_one_and_permissions_as_a_whole(rt: HostRuntime) {
     let letters = ["who", "--setup", "office", "groups"];
     let text =
         "r-x alice /\nr-x bob /\nr-x carol /\nrwx root /\nrw- alice /log\nrw- bob /log\n--- carol /log\n--- root /log\n";
-    assert!(rt; ends(rt.alloc(), &letters, 0, text, ""));
+    assert!(rt; Query.ends(rt.alloc(), &letters, 0, text, ""));
     let whole = ["who", "--setup", "office", "--perms", "rw", "groups"];
-    assert!(rt; ends(rt.alloc(), &whole, 0, "root /\nalice /log\n", ""));
+    assert!(rt; Query.ends(rt.alloc(), &whole, 0, "root /\nalice /log\n", ""));
 }
 
 /// A session `-` is what standard input has.
@@ -43,7 +44,7 @@ fn a_session_from_standard_input(rt: HostRuntime) -> Result<(), Fail> {
     let mut out = Vec::new(rt.alloc());
     let mut input = Sheet::new("chmod / 700\n");
     let words = ["who", "--setup", "office", "--perms", "r", "-"];
-    let (status, err) = ask(rt.alloc(), &words, &mut input, &mut out);
+    let (status, err) = Query.ask(rt.alloc(), &words, &mut input, &mut out);
     assert_eq!(rt; status, 0);
     assert!(rt; out.as_slice() == b"root /\n".as_slice());
     assert!(rt; err.is_empty());
@@ -57,7 +58,7 @@ fn standard_input_is_left_as_it_is(rt: HostRuntime) -> Result<(), Fail> {
     let mut out = Vec::new(rt.alloc());
     let mut input = Sheet::new("chmod / 700\n");
     let words = ["who", "--setup", "office", "alice"];
-    let (status, _err) = ask(rt.alloc(), &words, &mut input, &mut out);
+    let (status, _err) = Query.ask(rt.alloc(), &words, &mut input, &mut out);
     assert_eq!(rt; status, 0);
     assert_eq!(rt; input.left(), 12);
     Ok(())

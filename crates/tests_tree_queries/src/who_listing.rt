@@ -1,6 +1,7 @@
 //! Tests of `who` of a listing.
-use crate::fixture::{Sheet, ask, ends};
+use crate::fixture::Query;
 use std::test::Fail;
+use tests_files::{Command, Sheet};
 
 /// A line for each file and each user, in the listing's order, and in their places the blocks that
 /// don't read.
@@ -9,7 +10,7 @@ fn the_letters_of_each_user_with_each_file(rt: HostRuntime) {
     let words = ["who", "--setup", "office", "--listing", "listing"];
     let text =
         "rw- alice srv/share/plan\nrw- bob srv/share/plan\n--- carol srv/share/plan\n--- root srv/share/plan\nfault unknown-name 10 srv/share/lost\nfault bad-acl 18 srv/share/bent\nfault bad-header 25 -\n--x alice srv/share/a dir\nrwx bob srv/share/a dir\n--x carol srv/share/a dir\n--x root srv/share/a dir\n";
-    assert!(rt; ends(rt.alloc(), &words, 0, text, ""));
+    assert!(rt; Query.ends(rt.alloc(), &words, 0, text, ""));
 }
 
 #[test]
@@ -24,7 +25,7 @@ fn those_who_may_write(rt: HostRuntime) {
     ];
     let text =
         "alice srv/share/plan\nbob srv/share/plan\nfault unknown-name 10 srv/share/lost\nfault bad-acl 18 srv/share/bent\nfault bad-header 25 -\nbob srv/share/a dir\n";
-    assert!(rt; ends(rt.alloc(), &words, 0, text, ""));
+    assert!(rt; Query.ends(rt.alloc(), &words, 0, text, ""));
 }
 
 /// A listing `-` is what standard input has.
@@ -35,7 +36,7 @@ fn a_listing_from_standard_input(rt: HostRuntime) -> Result<(), Fail> {
         "# file: a\n# owner: 1002\n# group: 70\nuser::r--\ngroup::---\nother::-w-",
     );
     let words = ["who", "--setup", "office", "--listing", "-"];
-    let (status, err) = ask(rt.alloc(), &words, &mut input, &mut out);
+    let (status, err) = Query.ask(rt.alloc(), &words, &mut input, &mut out);
     assert_eq!(rt; status, 0);
     let text = "-w- alice a\n-w- bob a\nr-- carol a\n-w- root a\n";
     assert!(rt; out.as_slice() == text.as_bytes());
@@ -48,7 +49,7 @@ fn a_listing_from_standard_input(rt: HostRuntime) -> Result<(), Fail> {
 #[test]
 fn an_empty_listing(rt: HostRuntime) {
     let words = ["who", "--setup", "office", "--listing", "empty"];
-    assert!(rt; ends(rt.alloc(), &words, 0, "", ""));
+    assert!(rt; Query.ends(rt.alloc(), &words, 0, "", ""));
 }
 
 /// What is refused before the listing is read.
@@ -86,7 +87,7 @@ const FAULTS: [(&[&str], u8, &str); 4] = [
 #[test]
 fn faults_of_files_and_fields(rt: HostRuntime) {
     for (words, status, fault) in FAULTS {
-        assert!(rt; ends(rt.alloc(), words, status, "", fault), "{fault}");
+        assert!(rt; Query.ends(rt.alloc(), words, status, "", fault), "{fault}");
     }
 }
 
@@ -96,7 +97,7 @@ fn a_listing_and_a_session(rt: HostRuntime) -> Result<(), Fail> {
     let mut out = Vec::new(rt.alloc());
     let mut input = Sheet::new("# file: a\n");
     let words = ["who", "--setup", "office", "--listing", "-", "alice"];
-    let (status, err) = ask(rt.alloc(), &words, &mut input, &mut out);
+    let (status, err) = Query.ask(rt.alloc(), &words, &mut input, &mut out);
     assert_eq!(rt; status, 2);
     assert!(rt; out.is_empty());
     assert!(rt; !err.is_empty());
@@ -108,5 +109,5 @@ fn a_listing_and_a_session(rt: HostRuntime) -> Result<(), Fail> {
 #[test]
 fn a_session_of_that_name(rt: HostRuntime) {
     let words = ["who", "--setup", "office", "--", "--listing"];
-    assert!(rt; ends(rt.alloc(), &words, 1, "", "aclctl: cannot read --listing\n"));
+    assert!(rt; Query.ends(rt.alloc(), &words, 1, "", "aclctl: cannot read --listing\n"));
 }
