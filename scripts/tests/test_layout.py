@@ -56,6 +56,11 @@ class Faults(unittest.TestCase):
         for call in ("let _ = end.close();", "let _three = two()?;", "let _ = self"):
             self.assertEqual(self.numbers("one.rt", ".rt", head, "    three();", call), [])
 
+    def test_names_of_std_and_of_the_kit_come_first(self):
+        std, kit, ours = (f"use Rattle.{it}.specs.One.{{one}}" for it in ("std", "clap", "acl_tree"))
+        self.assertEqual(self.numbers("One.antt", ".antt", "-- One.", std, std, kit, ours, "", std), [])
+        self.assertEqual(self.numbers("One.antt", ".antt", "-- One.", std, ours, kit, std), [4, 5])
+
     def test_a_ghost_name_is_used(self):
         head, use = "//! One.", "ghost use Some.place.{two, \u25cc\u2261\u25cc, lines};"
         self.assertEqual(self.numbers("one.rt", ".rt", head, use, "ensures { two \u2261 lines }"), [])

@@ -2,8 +2,8 @@
 use Rattle.std.specs.Prelude.{ℕ, ◌+◌, List, [], Option, Some, None, bytes_eq, codes}
 use Rattle.std.specs.Prelude.{if◌then◌else◌}
 use Rattle.std.specs.List.{list_any}
-use Rattle.acl_names.specs.Directory.{KnownUser}
 use Rattle.toml.specs.Data.{Data, Items, Members, as_array, as_table, get_member, item, no_items}
+use Rattle.acl_names.specs.Directory.{KnownUser}
 use Rattle.acl_bridge.specs.Style.{style_of}
 use Rattle.acl_bridge.specs.declared.style.Style.{Style}
 use Rattle.acl_posix.specs.Mode.{Classes}

@@ -4,6 +4,7 @@ use Rattle.std.specs.Prelude.{◌≡◌, ◌≢◌, ◌++◌, ◌+◌, ℕ, All,
 use Rattle.std.specs.Prelude.{Err, IsSome, IsSomeAnd, bytes_eq, codes, if◌then◌else◌, length}
 use Rattle.std.specs.Prelude.{map, true}
 use Rattle.std.specs.List.{flat_map}
+use Rattle.toml.specs.Data.{Members}
 use Rattle.acl_names.specs.Directory.{Known}
 use Rattle.acl_names.specs.Directory.{fault_of as parts_fault}
 use Rattle.acl_names.specs.declared.directory.fault.SetupFault.{SetupFault}
@@ -26,7 +27,6 @@ use Rattle.acl_tree.specs.declared.faults.LineFault.{LineFault}
 use Rattle.acl_tree.specs.declared.reply.Reply.{Reply}
 use Rattle.acl_tree.specs.declared.reply.Reply.TheVariants.{Fault}
 use Rattle.acl_tree.specs.declared.request.Request.TheVariants.{Bad}
-use Rattle.toml.specs.Data.{Members}
 use Rattle.acl_lint.specs.FieldKeys.{key_of_fields}
 use Rattle.acl_lint.specs.LintText.{Found, found_in, place_text}
 use Rattle.acl_lint.specs.PartsKeys.{key_of_parts}

@@ -35,10 +35,10 @@ pub enum Fault4 {
 }
 
 impl Ace {
+    ghost use Rattle.std.specs.Prelude.{true, ◌^◌};
     ghost use Rattle.acl_names.specs.Bits.{without, ◌∪◌};
     ghost use Rattle.acl_nfs4.specs.Ace.{IsAce, is_inheritable};
     ghost use Rattle.acl_nfs4.specs.Flags.{inherit_only, inheritance_flags};
-    ghost use Rattle.std.specs.Prelude.{true, ◌^◌};
 
     /// What an entry that decides keeps of its mask beside a mode with this group.
     #[tactic(auto, unfolding(crate::specs::ModeChange::kept_mask))]

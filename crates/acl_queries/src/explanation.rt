@@ -1,11 +1,11 @@
 //! Why an answer is as it is: which entries decide about somebody.
 ghost use Rattle.std.specs.Prelude.{◌≡◌};
+ghost use Rattle.std.specs.List.{list_any};
 ghost use Rattle.acl_nfs4.specs.Mask.{mask_bits};
 ghost use Rattle.acl_nfs4.specs.Who.{matches};
 ghost use Rattle.acl_posix.specs.Access.{effective_perms, is_for_group_of};
 ghost use Rattle.acl_posix.specs.Entry.{same_tag};
 ghost use Rattle.acl_posix.specs.Perms.{bits_of};
-ghost use Rattle.std.specs.List.{list_any};
 ghost use Rattle.acl_queries.specs.Explanation.{class_of, counts, first_speaker, is_limited};
 ghost use Rattle.acl_queries.specs.Explanation.{is_of_class, lacks, speaks_of};
 

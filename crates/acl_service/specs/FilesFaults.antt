@@ -1,8 +1,8 @@
 -- The lines and the exit statuses of files that give no texts.
 use Rattle.std.specs.Prelude.{◌≡◌, ◌<◌, ◌⊎◌, ⊤, ℕ, List, ◌∷◌, ◌++◌, Option, Some, codes, length}
 use Rattle.std.specs.Prelude.{Contains}
-use Rattle.acl_broker.specs.declared.limits.TheConstants.{SESSIONS}
 use Rattle.clap.specs.Words.{Row, Text, matches_of}
+use Rattle.acl_broker.specs.declared.limits.TheConstants.{SESSIONS}
 use Rattle.acl_queries.specs.CommandLine.{Takes}
 use Rattle.acl_queries.specs.ErrorOutput.{SaysFault, line_of_words}
 use Rattle.acl_queries.specs.Faults.{SaysUsage}

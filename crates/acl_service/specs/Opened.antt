@@ -1,12 +1,12 @@
 -- What a setup opens: whom the directory knows, and the tree.
 use Rattle.std.specs.Prelude.{◌≡◌, ⊤, ℕ, List, Option, Some, None, Result, Ok, Err, IsOkAnd}
+use Rattle.toml.specs.Data.{Members}
 use Rattle.acl_names.specs.Directory.{AnswersAs, Known, fault_of, gid_of, uid_of}
 use Rattle.acl_names.specs.Steps.{◌>>=◌, or_fault}
 use Rattle.acl_names.specs.declared.directory.fault.SetupFault.{SetupFault}
 use Rattle.acl_names.specs.declared.directory.fault.SetupFault.TheVariants as parts
 use Rattle.acl_tree.specs.Commands.{root_alone}
 use Rattle.acl_tree.specs.Tree.{NodesUnderUmask}
-use Rattle.toml.specs.Data.{Members}
 use Rattle.acl_service.specs.Setup.{Setup, setup_in}
 use Rattle.acl_service.specs.SetupTable.{IsToml, ReadsAs}
 use Rattle.acl_service.specs.declared.setup.fault.SetupError.{SetupError}

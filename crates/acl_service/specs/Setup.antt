@@ -1,11 +1,11 @@
 -- What a setup says, as a function of its table.
 use Rattle.std.specs.Prelude.{ℕ, List, Option, Some, codes}
+use Rattle.toml.specs.Data.{Data, Members, as_table}
 use Rattle.acl_names.specs.Directory.{Known, KnownGroup, KnownUser}
 use Rattle.acl_bridge.specs.Style.{style_of}
 use Rattle.acl_bridge.specs.declared.style.Style.{Style}
 use Rattle.acl_posix.specs.Mode.{Classes}
 use Rattle.acl_posix.specs.ModeText.{mode_of_octal}
-use Rattle.toml.specs.Data.{Data, Members, as_table}
 use Rattle.acl_service.specs.SetupTable.{◌>>=◌, id_at, items_at, table_at, text_at, texts_at}
 
 -- the root directory

@@ -1,10 +1,10 @@
 -- The values of a table, by their types.
 use Rattle.std.specs.Prelude.{◌≡◌, ⊤, ℕ, ℤ, pos, negsuc, List, [], ◌∷◌, Option, Some, None, Result}
 use Rattle.std.specs.Prelude.{MatchResult, IsUtf8, if◌then◌else◌, nat_le, option_and_then}
-use Rattle.acl_names.specs.declared.limits.TheConstants.{MAX_ID}
 use Rattle.toml.specs.Data.{Data, Items, Members, as_array, as_integer, as_str, as_table}
 use Rattle.toml.specs.Data.{get_member, item, no_items}
 use Rattle.toml.specs.Parse.{parse_document}
+use Rattle.acl_names.specs.declared.limits.TheConstants.{MAX_ID}
 use Rattle.acl_service.specs.declared.setup.fault.SetupError.{SetupError}
 use Rattle.acl_service.specs.declared.setup.fault.SetupError.TheVariants.{NotToml, BadField, Parts}
 use Rattle.acl_service.specs.declared.setup.fault.SetupError.TheVariants.{Memory}

@@ -1,7 +1,7 @@
 -- What is said of words that ask of a listing, and have no answer, or not all of it.
 use Rattle.std.specs.Prelude.{◌≡◌, ◌<◌, ⊤, ℕ, List, [], ◌∷◌, Option, Result, Contains}
-use Rattle.clap.specs.Words.{App, Row, Text, fault_of, matches_of}
 use Rattle.std.specs.Borrow.{Bor}
+use Rattle.clap.specs.Words.{App, Row, Text, fault_of, matches_of}
 use Rattle.acl_listings.specs.declared.window.ReadFault.{ReadFault}
 use Rattle.acl_listings.specs.declared.window.ReadFault.TheVariants as read
 use Rattle.acl_queries.specs.Faults.{IsRefusedFor}

@@ -1,7 +1,7 @@
 //! Ids, as fields write them: in decimal, for the directory has no names.
 ghost use Rattle.std.specs.Prelude.{◌≡◌, ◌≤◌, Some, Ok, IfErr, IfOk};
-ghost use Rattle.acl_names.specs.declared.limits.TheConstants.{MAX_ID};
 ghost use Rattle.clap.specs.Words.{found_of, rows_of};
+ghost use Rattle.acl_names.specs.declared.limits.TheConstants.{MAX_ID};
 ghost use Rattle.acl_queries.specs.Asked.{gids_in, gids_of, id_in, id_of};
 ghost use Rattle.acl_queries.specs.Faults.{Explains};
 

@@ -1,10 +1,10 @@
 //! What `impact` tells of the listing before by itself: its faults, and what is gone.
 ghost use Rattle.std.specs.Prelude.{◌≡◌, ◌++◌, OnOk};
+ghost use Rattle.std.specs.Prelude.{false};
 ghost use Rattle.acl_listings.specs.Block.{file_of};
 ghost use Rattle.acl_tree_queries.specs.ImpactListing.{fault_in, gone_text, gone_unless};
 ghost use Rattle.acl_tree_queries.specs.Kept.{block_of};
 ghost use Rattle.acl_tree_queries.specs.Readings.{reading_of, unless_repeated};
-ghost use Rattle.std.specs.Prelude.{false};
 
 use super::kept::{KeptBlock, KeptListing};
 use super::listed::KeptText;
