@@ -6,7 +6,8 @@ use acl_broker::{
 use std::alloc::Global;
 use std::test::Fail;
 
-/// A call of a broker and what it comes to, or what the broker has then.
+/// A call of a broker and what it comes to, or what the broker has then. After `Submit(0, 7, None)`
+/// and `Take(0, Ok(0))` item 7 of session 0 is the first of the journal, and `Journal(1)` holds.
 #[derive(Clone, Copy)]
 pub(super) enum Act {
     /// A session submits the item, which is accepted, or comes back with this refusal.

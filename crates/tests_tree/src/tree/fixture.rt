@@ -38,7 +38,7 @@ pub fn mode(bits: u16) -> Option<Mode> {
 
 /// What a reply tells, but for lists.
 #[derive(Clone, Copy, Debug, PartialEq, Eq)]
-pub enum Told {
+pub enum Outcome {
     Done,
     Shown,
     Granted,
@@ -48,7 +48,9 @@ pub enum Told {
     Fault(LineFault),
 }
 
-/// A command, with its names and lists as texts spell them.
+/// A command, with its names and lists as texts spell them:
+/// `Create(Kind::File, "/a", ALICE, 0o640)` is the line `create file /a alice 640`,
+/// and `Check("/a", BOB, "r")` the line `check /a bob r`.
 #[derive(Clone, Copy)]
 pub enum Command<'a> {
     Get(&'a str),
@@ -65,7 +67,7 @@ pub enum Command<'a> {
 /// A step of an example: a command with what it tells, or what the tree has then.
 #[derive(Clone, Copy)]
 pub enum Step<'a> {
-    Tells(Command<'a>, Told),
+    Tells(Command<'a>, Outcome),
     /// So many nodes.
     Has(usize),
     /// A node with this access list, and no default list.
@@ -111,7 +113,7 @@ impl World {
 
     fn does(&mut self, commands: &[Command<'_>]) -> bool {
         for command in commands {
-            if self.command(*command) != Some(Told::Done) {
+            if self.command(*command) != Some(Outcome::Done) {
                 return false;
             }
         }
@@ -122,15 +124,15 @@ impl World {
         self.tree.apply(self.alloc, request, &self.names).ok()
     }
 
-    pub fn told(&mut self, request: &Request) -> Option<Told> {
+    pub fn outcome(&mut self, request: &Request) -> Option<Outcome> {
         let reply = self.apply(request)?;
-        Some(told_by(&reply))
+        Some(outcome_of(&reply))
     }
 
     /// What the command tells.
-    pub fn command(&mut self, command: Command<'_>) -> Option<Told> {
+    pub fn command(&mut self, command: Command<'_>) -> Option<Outcome> {
         let request = request(self.alloc, command)?;
-        self.told(&request)
+        self.outcome(&request)
     }
 
     /// Whether the step goes as it says.
@@ -254,16 +256,16 @@ pub fn leave_all(world: Option<World>, steps: &[Step<'_>]) -> Option<bool> {
     Some(world.first_wrong(steps).is_none() && world.has_nodes(&before))
 }
 
-fn told_by(reply: &Reply) -> Told {
+fn outcome_of(reply: &Reply) -> Outcome {
     match reply {
-        Reply::Done => Told::Done,
-        Reply::Node(_) => Told::Shown,
-        Reply::Granted => Told::Granted,
-        Reply::Denied => Told::Denied,
-        Reply::Translated(_) => Told::Translated,
-        Reply::TranslatedBoth { .. } => Told::Translated,
-        Reply::Refused(fault) => Told::Refused(*fault),
-        Reply::Fault(fault) => Told::Fault(*fault),
+        Reply::Done => Outcome::Done,
+        Reply::Node(_) => Outcome::Shown,
+        Reply::Granted => Outcome::Granted,
+        Reply::Denied => Outcome::Denied,
+        Reply::Translated(_) => Outcome::Translated,
+        Reply::TranslatedBoth { .. } => Outcome::Translated,
+        Reply::Refused(fault) => Outcome::Refused(*fault),
+        Reply::Fault(fault) => Outcome::Fault(*fault),
     }
 }
 

@@ -1,6 +1,6 @@
 //! The longest lists and the fullest tree.
 use crate::tree::fixture::{
-    A, ALICE, Command, Step, Told, World, leave_all, mode, uid, wrong_step,
+    A, ALICE, Command, Outcome, Step, World, leave_all, mode, uid, wrong_step,
 };
 use acl_nfs4::{Ace, AceType, Acl4, Flags, Kind, Mask, Who};
 use acl_tree::{Boxed, MAX_NODES, Path, Request, Style, TreeFault};
@@ -30,7 +30,7 @@ fn create(alloc: Global, number: u32) -> Option<Request> {
 /// Whether the path of the number is created.
 fn creates(alloc: Global, world: &mut World, number: u32) -> bool {
     match create(alloc, number) {
-        Some(request) => world.told(&request) == Some(Told::Done),
+        Some(request) => world.outcome(&request) == Some(Outcome::Done),
         None => false,
     }
 }
@@ -61,8 +61,8 @@ fn full_tree(rt: HostRuntime) {
     let old = Command::Create(Kind::File, "/0000", ALICE, 0o644);
     let steps = [
         Step::Has(MAX_NODES),
-        Step::Tells(new, Told::Refused(TreeFault::Full)),
-        Step::Tells(old, Told::Refused(TreeFault::Exists)),
+        Step::Tells(new, Outcome::Refused(TreeFault::Full)),
+        Step::Tells(old, Outcome::Refused(TreeFault::Exists)),
     ];
     assert_eq!(rt; wrong_step(full(rt.alloc()), &steps), None);
 }
@@ -92,7 +92,7 @@ fn set_longest(alloc: Global) -> Option<Request> {
 /// Whether the file /a gets the longest list.
 fn sets_longest(alloc: Global, world: &mut World) -> bool {
     match set_longest(alloc) {
-        Some(request) => world.told(&request) == Some(Told::Done),
+        Some(request) => world.outcome(&request) == Some(Outcome::Done),
         None => false,
     }
 }
@@ -113,9 +113,9 @@ fn the_longest_list_stays_and_decides(rt: HostRuntime) {
     let steps = [
         Step::Tells(
             Command::Chmod("/a", 0o644),
-            Told::Refused(TreeFault::TooMany),
+            Outcome::Refused(TreeFault::TooMany),
         ),
-        Step::Tells(Command::Check4("/a", 0, "t"), Told::Granted),
+        Step::Tells(Command::Check4("/a", 0, "t"), Outcome::Granted),
     ];
     assert_eq!(rt; leave_all(with_longest(rt.alloc()), &steps), Some(true));
 }

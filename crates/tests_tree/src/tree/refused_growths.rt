@@ -5,7 +5,7 @@
 //! `rt try --test --fail-alloc N` refuses the growth N of a test. Each test here passes whichever
 //! growth that is, and prints how many refusals it was told of: one up to the last growth that it
 //! asks for, and none from then on.
-use crate::tree::fixture::{A, ALICE, BOB, CAROL, CHILD, Command, DIR, Step, Told, World, uid};
+use crate::tree::fixture::{A, ALICE, BOB, CAROL, CHILD, Command, DIR, Outcome, Step, World, uid};
 use acl_nfs4::{Kind, read_letters};
 use acl_posix::read_perms;
 use acl_tree::{Path, Request, Style};
@@ -34,7 +34,7 @@ const D_NFS4: &[Command<'static>] = &[
 
 /// What the command comes to, at the second attempt if the first is refused; none if a refused
 /// command changed a node or the number of nodes.
-fn again(world: &mut World, refusals: &mut Refusals, command: Command<'_>) -> Option<Told> {
+fn again(world: &mut World, refusals: &mut Refusals, command: Command<'_>) -> Option<Outcome> {
     let before = refusals.again(|| world.nodes())?;
     if let Some(told) = world.command(command) {
         return Some(told);
@@ -60,7 +60,7 @@ fn goes_so(
     world: &mut World,
     refusals: &mut Refusals,
     command: Command<'_>,
-    wanted: Told,
+    wanted: Outcome,
     then: &[Step<'_>],
 ) -> bool {
     if again(world, refusals, command) != Some(wanted) {
@@ -80,7 +80,7 @@ fn refusals_of(
     alloc: Global,
     first: &[Command<'_>],
     command: Command<'_>,
-    wanted: Told,
+    wanted: Outcome,
     then: &[Step<'_>],
 ) -> Option<u32> {
     let mut refusals = Refusals::new();
@@ -132,7 +132,7 @@ fn set_access_under_a_refused_growth(rt: HostRuntime) -> Result<(), Fail> {
         rt.alloc(),
         A,
         command,
-        Told::Done,
+        Outcome::Done,
         &[Step::HasAccess("/a", LONG)],
     );
     println!(rt; "refusals: {}", refusals.ok_or("another end")?)?;
@@ -142,7 +142,7 @@ fn set_access_under_a_refused_growth(rt: HostRuntime) -> Result<(), Fail> {
 #[test]
 fn set_default_under_a_refused_growth(rt: HostRuntime) -> Result<(), Fail> {
     let command = Command::SetDefault(DIR, LONG);
-    let refusals = refusals_of(rt.alloc(), D, command, Told::Done, &[]);
+    let refusals = refusals_of(rt.alloc(), D, command, Outcome::Done, &[]);
     println!(rt; "refusals: {}", refusals.ok_or("another end")?)?;
     Ok(())
 }
@@ -154,7 +154,7 @@ fn set_nfs4_under_a_refused_growth(rt: HostRuntime) -> Result<(), Fail> {
         rt.alloc(),
         D,
         command,
-        Told::Done,
+        Outcome::Done,
         &[Step::HasAces(DIR, LONG4)],
     );
     println!(rt; "refusals: {}", refusals.ok_or("another end")?)?;
@@ -164,7 +164,7 @@ fn set_nfs4_under_a_refused_growth(rt: HostRuntime) -> Result<(), Fail> {
 #[test]
 fn chmod_under_a_refused_growth(rt: HostRuntime) -> Result<(), Fail> {
     let command = Command::Chmod(DIR, 0o640);
-    let refusals = refusals_of(rt.alloc(), D_NFS4, command, Told::Done, &[]);
+    let refusals = refusals_of(rt.alloc(), D_NFS4, command, Outcome::Done, &[]);
     println!(rt; "refusals: {}", refusals.ok_or("another end")?)?;
     Ok(())
 }
@@ -172,7 +172,7 @@ fn chmod_under_a_refused_growth(rt: HostRuntime) -> Result<(), Fail> {
 #[test]
 fn create_under_a_refused_growth(rt: HostRuntime) -> Result<(), Fail> {
     let command = Command::Create(Kind::Dir, DIR, ALICE, 0o755);
-    let refusals = refusals_of(rt.alloc(), A, command, Told::Done, &[Step::Has(3)]);
+    let refusals = refusals_of(rt.alloc(), A, command, Outcome::Done, &[Step::Has(3)]);
     println!(rt; "refusals: {}", refusals.ok_or("another end")?)?;
     Ok(())
 }
@@ -180,7 +180,7 @@ fn create_under_a_refused_growth(rt: HostRuntime) -> Result<(), Fail> {
 #[test]
 fn create_below_a_default_list_under_a_refused_growth(rt: HostRuntime) -> Result<(), Fail> {
     let command = Command::Create(Kind::Dir, CHILD, CAROL, 0o640);
-    let refusals = refusals_of(rt.alloc(), D, command, Told::Done, &[Step::Has(3)]);
+    let refusals = refusals_of(rt.alloc(), D, command, Outcome::Done, &[Step::Has(3)]);
     println!(rt; "refusals: {}", refusals.ok_or("another end")?)?;
     Ok(())
 }
@@ -188,7 +188,7 @@ fn create_below_a_default_list_under_a_refused_growth(rt: HostRuntime) -> Result
 #[test]
 fn create_below_an_nfsv4_list_under_a_refused_growth(rt: HostRuntime) -> Result<(), Fail> {
     let command = Command::Create(Kind::Dir, CHILD, CAROL, 0o640);
-    let refusals = refusals_of(rt.alloc(), D_NFS4, command, Told::Done, &[Step::Has(3)]);
+    let refusals = refusals_of(rt.alloc(), D_NFS4, command, Outcome::Done, &[Step::Has(3)]);
     println!(rt; "refusals: {}", refusals.ok_or("another end")?)?;
     Ok(())
 }
@@ -196,7 +196,7 @@ fn create_below_an_nfsv4_list_under_a_refused_growth(rt: HostRuntime) -> Result<
 #[test]
 fn get_under_a_refused_growth(rt: HostRuntime) -> Result<(), Fail> {
     let command = Command::Get(DIR);
-    let refusals = refusals_of(rt.alloc(), D, command, Told::Shown, &[]);
+    let refusals = refusals_of(rt.alloc(), D, command, Outcome::Shown, &[]);
     println!(rt; "refusals: {}", refusals.ok_or("another end")?)?;
     Ok(())
 }
@@ -204,7 +204,7 @@ fn get_under_a_refused_growth(rt: HostRuntime) -> Result<(), Fail> {
 #[test]
 fn check_under_a_refused_growth(rt: HostRuntime) -> Result<(), Fail> {
     let command = Command::Check(DIR, BOB, "r");
-    let refusals = refusals_of(rt.alloc(), D, command, Told::Granted, &[]);
+    let refusals = refusals_of(rt.alloc(), D, command, Outcome::Granted, &[]);
     println!(rt; "refusals: {}", refusals.ok_or("another end")?)?;
     Ok(())
 }
@@ -212,7 +212,7 @@ fn check_under_a_refused_growth(rt: HostRuntime) -> Result<(), Fail> {
 #[test]
 fn check4_under_a_refused_growth(rt: HostRuntime) -> Result<(), Fail> {
     let command = Command::Check4(DIR, BOB, "r");
-    let refusals = refusals_of(rt.alloc(), D_NFS4, command, Told::Denied, &[]);
+    let refusals = refusals_of(rt.alloc(), D_NFS4, command, Outcome::Denied, &[]);
     println!(rt; "refusals: {}", refusals.ok_or("another end")?)?;
     Ok(())
 }
@@ -220,7 +220,7 @@ fn check4_under_a_refused_growth(rt: HostRuntime) -> Result<(), Fail> {
 #[test]
 fn translate_under_a_refused_growth(rt: HostRuntime) -> Result<(), Fail> {
     let command = Command::Translate(DIR);
-    let refusals = refusals_of(rt.alloc(), D, command, Told::Translated, &[]);
+    let refusals = refusals_of(rt.alloc(), D, command, Outcome::Translated, &[]);
     println!(rt; "refusals: {}", refusals.ok_or("another end")?)?;
     Ok(())
 }
@@ -231,24 +231,24 @@ fn dir_path(alloc: Global, refusals: &mut Refusals) -> Option<Path> {
 }
 
 /// What a check of bob's reading comes to, at the first attempt.
-fn checked(alloc: Global, world: &mut World, refusals: &mut Refusals) -> Option<Told> {
+fn checked(alloc: Global, world: &mut World, refusals: &mut Refusals) -> Option<Outcome> {
     let bob = uid(BOB)?;
     let perms = read_perms(b"r")?;
     let path = dir_path(alloc, refusals)?;
-    world.told(&Request::Check(path, bob, perms))
+    world.outcome(&Request::Check(path, bob, perms))
 }
 
 /// The same of the NFSv4 list.
-fn checked4(alloc: Global, world: &mut World, refusals: &mut Refusals) -> Option<Told> {
+fn checked4(alloc: Global, world: &mut World, refusals: &mut Refusals) -> Option<Outcome> {
     let bob = uid(BOB)?;
     let mask = read_letters(b"r")?;
     let path = dir_path(alloc, refusals)?;
-    world.told(&Request::Check4(path, bob, mask))
+    world.outcome(&Request::Check4(path, bob, mask))
 }
 
 /// What the second check comes to if the first comes to anything, and how many growths were
 /// refused.
-fn both_checked(alloc: Global) -> Option<(Told, Refusals)> {
+fn both_checked(alloc: Global) -> Option<(Outcome, Refusals)> {
     let mut refusals = Refusals::new();
     let mut world = refusals.again(|| World::after(alloc, D_NFS4))?;
     checked(alloc, &mut world, &mut refusals)?;
@@ -259,7 +259,7 @@ fn both_checked(alloc: Global) -> Option<(Told, Refusals)> {
 #[test]
 fn checks_take_no_memory(rt: HostRuntime) -> Result<(), Fail> {
     let (told, refusals) = both_checked(rt.alloc()).ok_or("no check")?;
-    assert_eq!(rt; told, Told::Denied);
+    assert_eq!(rt; told, Outcome::Denied);
     println!(rt; "refusals: {}", refusals.told())?;
     Ok(())
 }
