@@ -1,6 +1,7 @@
 //! Answers, and how they are printed.
 
-ghost use Rattle.std.specs.Prelude.{◌≡◌, ◌++◌, length, take, OnOk, OnErr};
+ghost use Rattle.std.specs.Prelude.{◌≡◌, ◌++◌, OnOk, OnErr};
+ghost use Rattle.acl_names.specs.Printing.{Prints};
 ghost use Rattle.acl_tree.specs.Nodes.{view_of};
 ghost use Rattle.acl_tree.specs.declared.reply.Reply.TheVariants.{Node as ReplyNode};
 ghost use Rattle.acl_lang.specs.Printed.{answer_text};
@@ -60,16 +61,15 @@ pub fn render_node(
 }
 
 /// Appends the number of a line, and what is shown of a node.
+#[tactic(auto, using(acl_names::proofs::Prefixes::printing_steps))]
 fn push_shown_answer(
     line: u32,
     shown: &Shown<'_>,
     directory: &Directory,
     out: &mut Vec<u8>,
 ) -> Result<(), AllocError>
-    ensures text { OnOk result (out.new.items
-        ≡ out.old.items ++ answer_text directory.now
-        (record { line = line; reply = ReplyNode shown.now })) }
-    ensures kept { take (length out.old.items) out.new.items ≡ out.old.items }
+    ensures { Prints (answer_text directory.now
+        (record { line = line; reply = ReplyNode shown.now })) result out.old out.new }
 {
     out.reserve(room_for_shown(shown, directory))?;
     push_decimal(line, out)?;
@@ -77,10 +77,9 @@ fn push_shown_answer(
     push_view(shown, directory, out)
 }
 
+#[tactic(auto, using(acl_names::proofs::Prefixes::printing_steps))]
 fn push_answer(answer: &Answer, directory: &Directory, out: &mut Vec<u8>) -> Result<(), AllocError>
-    ensures text { OnOk result (out.new.items
-        ≡ out.old.items ++ answer_text directory.now answer.now) }
-    ensures kept { take (length out.old.items) out.new.items ≡ out.old.items }
+    ensures { Prints (answer_text directory.now answer.now) result out.old out.new }
 {
     out.reserve(room_for(&answer.reply, directory))?;
     push_decimal(answer.line, out)?;

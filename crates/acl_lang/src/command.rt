@@ -1,8 +1,8 @@
 //! Requests as lines, which are read as these requests again.
 
-ghost use Rattle.std.specs.Prelude.{◌≡◌, ◌≤◌, ◌++◌, ◌∷◌, [], length, take, codes, decimal, OnOk};
-ghost use Rattle.std.specs.Prelude.{OnErr};
+ghost use Rattle.std.specs.Prelude.{◌≡◌, ◌≤◌, ◌++◌, ◌∷◌, [], codes, decimal, OnOk, OnErr};
 ghost use Rattle.acl_names.specs.Bytes.{space};
+ghost use Rattle.acl_names.specs.Printing.{Prints};
 ghost use Rattle.acl_names.specs.declared.limits.TheConstants.{MAX_ID};
 ghost use Rattle.acl_nfs4.specs.Acl.{AreAces};
 ghost use Rattle.acl_posix.specs.Canonical.{IsAcl};
@@ -13,7 +13,7 @@ ghost use Rattle.acl_tree.specs.declared.request.Request.TheVariants.{Create, Se
 ghost use Rattle.acl_tree.specs.declared.request.Request.TheVariants.{SetDefault, SetNfs4};
 ghost use Rattle.acl_lang.specs.CommandText.{aces_field, command_text, default_field, HasLine};
 ghost use Rattle.acl_lang.specs.CommandText.{IsDefault, IsPrintable};
-ghost use Rattle.acl_lang.specs.Printed.{kind_text, mode_text};
+ghost use Rattle.acl_lang.specs.Printed.{mode_text};
 ghost use Rattle.acl_lang.specs.ReadAgain.{NameIds, NameIdsOfAces};
 ghost use Rattle.acl_lang.specs.Shapes.{IsPath};
 
@@ -45,8 +45,7 @@ pub fn push_command(request: &Request, out: &mut Vec<u8>) -> Result<(), AllocErr
 }
 
 fn push_request(request: &Request, out: &mut Vec<u8>) -> Result<(), AllocError>
-    ensures text { OnOk result (out.new.items ≡ out.old.items ++ command_text request.now) }
-    ensures kept { take (length out.old.items) out.new.items ≡ out.old.items }
+    ensures printed { Prints (command_text request.now) result out.old out.new }
     ensures printable { OnOk result (HasLine request.now → IsPrintable request.now) }
 {
     match request {
@@ -65,10 +64,8 @@ fn push_request(request: &Request, out: &mut Vec<u8>) -> Result<(), AllocError>
 
 /// Appends the command's word, a space and the path.
 fn push_path(command: &[u8], path: &Path, out: &mut Vec<u8>) -> Result<(), AllocError>
-    ensures text { OnOk result (out.new.items
-        ≡ out.old.items ++ (command.now ++ space ∷ path.now)) }
+    ensures printed { Prints (command.now ++ space ∷ path.now) result out.old out.new }
     ensures path { IsPath path.now }
-    ensures kept { take (length out.old.items) out.new.items ≡ out.old.items }
 {
     let path = path.as_bytes();
     out.extend_from_slice(command)?;
@@ -78,9 +75,8 @@ fn push_path(command: &[u8], path: &Path, out: &mut Vec<u8>) -> Result<(), Alloc
 
 /// Appends a space and the user.
 fn push_user(user: Uid, out: &mut Vec<u8>) -> Result<(), AllocError>
-    ensures text { OnOk result (out.new.items ≡ out.old.items ++ space ∷ decimal user) }
+    ensures printed { Prints (space ∷ decimal user) result out.old out.new }
     ensures in_range { user ≤ MAX_ID }
-    ensures kept { take (length out.old.items) out.new.items ≡ out.old.items }
 {
     let number = user.value();
     out.extend_from_slice(b" ")?;
@@ -89,9 +85,8 @@ fn push_user(user: Uid, out: &mut Vec<u8>) -> Result<(), AllocError>
 
 /// Appends a space and the mode.
 fn push_mode(mode: Mode, out: &mut Vec<u8>) -> Result<(), AllocError>
-    ensures text { OnOk result (out.new.items ≡ out.old.items ++ space ∷ mode_text mode) }
+    ensures printed { Prints (space ∷ mode_text mode) result out.old out.new }
     ensures classes { AreClasses mode }
-    ensures kept { take (length out.old.items) out.new.items ≡ out.old.items }
 {
     let digits = mode_text(mode);
     out.extend_from_slice(b" ")?;
@@ -100,9 +95,7 @@ fn push_mode(mode: Mode, out: &mut Vec<u8>) -> Result<(), AllocError>
 
 /// `chmod P OOO`
 fn push_chmod(path: &Path, mode: Mode, out: &mut Vec<u8>) -> Result<(), AllocError>
-    ensures text { OnOk result (out.new.items
-        ≡ out.old.items ++ command_text (Chmod path.now mode)) }
-    ensures kept { take (length out.old.items) out.new.items ≡ out.old.items }
+    ensures printed { Prints (command_text (Chmod path.now mode)) result out.old out.new }
     ensures printable { OnOk result (IsPath path.now × AreClasses mode) }
 {
     push_path(b"chmod", path, out)?;
@@ -110,6 +103,7 @@ fn push_chmod(path: &Path, mode: Mode, out: &mut Vec<u8>) -> Result<(), AllocErr
 }
 
 /// `create file P USER OOO`, `create dir P USER OOO`
+#[tactic(auto, using(acl_names::proofs::Prefixes::printing_steps))]
 fn push_create(
     kind: Kind,
     path: &Path,
@@ -117,9 +111,8 @@ fn push_create(
     mode: Mode,
     out: &mut Vec<u8>,
 ) -> Result<(), AllocError>
-    ensures text { OnOk result (out.new.items
-        ≡ out.old.items ++ command_text (Create kind path.now user mode)) }
-    ensures kept { take (length out.old.items) out.new.items ≡ out.old.items }
+    ensures printed { Prints (command_text (Create kind path.now user mode))
+        result out.old out.new }
     ensures printable { OnOk result (IsPath path.now × (user ≤ MAX_ID) × AreClasses mode) }
 {
     out.extend_from_slice(b"create ")?;
@@ -130,11 +123,10 @@ fn push_create(
 
 /// `COMMAND P USER`
 fn push_asked(command: &[u8], path: &Path, user: Uid, out: &mut Vec<u8>) -> Result<(), AllocError>
-    ensures text { OnOk result (out.new.items
-        ≡ out.old.items ++ (command.now ++ space ∷ (path.now ++ space ∷ decimal user))) }
+    ensures printed { Prints (command.now ++ space ∷ (path.now ++ space ∷ decimal user))
+        result out.old out.new }
     ensures path { IsPath path.now }
     ensures in_range { OnOk result (user ≤ MAX_ID) }
-    ensures kept { take (length out.old.items) out.new.items ≡ out.old.items }
 {
     push_path(command, path, out)?;
     push_user(user, out)
@@ -142,9 +134,7 @@ fn push_asked(command: &[u8], path: &Path, user: Uid, out: &mut Vec<u8>) -> Resu
 
 /// `check P USER PERMS`
 fn push_check(path: &Path, user: Uid, perms: Perms, out: &mut Vec<u8>) -> Result<(), AllocError>
-    ensures text { OnOk result (out.new.items
-        ≡ out.old.items ++ command_text (Check path.now user perms)) }
-    ensures kept { take (length out.old.items) out.new.items ≡ out.old.items }
+    ensures printed { Prints (command_text (Check path.now user perms)) result out.old out.new }
     ensures printable { OnOk result (IsPath path.now × (user ≤ MAX_ID)) }
 {
     push_asked(b"check", path, user, out)?;
@@ -153,10 +143,9 @@ fn push_check(path: &Path, user: Uid, perms: Perms, out: &mut Vec<u8>) -> Result
 }
 
 /// `check4 P USER LETTERS`
+#[tactic(auto, using(acl_names::proofs::Prefixes::printing_steps))]
 fn push_check4(path: &Path, user: Uid, mask: Mask, out: &mut Vec<u8>) -> Result<(), AllocError>
-    ensures text { OnOk result (out.new.items
-        ≡ out.old.items ++ command_text (Check4 path.now user mask)) }
-    ensures kept { take (length out.old.items) out.new.items ≡ out.old.items }
+    ensures printed { Prints (command_text (Check4 path.now user mask)) result out.old out.new }
     ensures printable { OnOk result (IsPath path.now × (user ≤ MAX_ID)) }
 {
     push_asked(b"check4", path, user, out)?;
@@ -166,11 +155,9 @@ fn push_check4(path: &Path, user: Uid, mask: Mask, out: &mut Vec<u8>) -> Result<
 
 /// Appends `set P KIND` and a space.
 fn push_set(path: &Path, kind: &[u8], out: &mut Vec<u8>) -> Result<(), AllocError>
-    ensures text { OnOk result (out.new.items
-        ≡ out.old.items
-        ++ (codes "set" ++ space ∷ (path.now ++ space ∷ (kind.now ++ space ∷ [])))) }
+    ensures printed { Prints (codes "set" ++ space ∷ (path.now ++ space ∷ (kind.now ++ space ∷ [])))
+        result out.old out.new }
     ensures path { IsPath path.now }
-    ensures kept { take (length out.old.items) out.new.items ≡ out.old.items }
 {
     push_path(b"set", path, out)?;
     out.extend_from_slice(b" ")?;
@@ -180,9 +167,7 @@ fn push_set(path: &Path, kind: &[u8], out: &mut Vec<u8>) -> Result<(), AllocErro
 
 /// `set P access TEXT`
 fn push_set_access(path: &Path, acl: &Acl, out: &mut Vec<u8>) -> Result<(), AllocError>
-    ensures text { OnOk result (out.new.items
-        ≡ out.old.items ++ command_text (SetAccess path.now acl.now)) }
-    ensures kept { take (length out.old.items) out.new.items ≡ out.old.items }
+    ensures printed { Prints (command_text (SetAccess path.now acl.now)) result out.old out.new }
     ensures printable { OnOk result (IsPath path.now × IsAcl acl.now × NameIds acl.now) }
 {
     push_set(path, b"access", out)?;
@@ -195,9 +180,8 @@ fn push_set_default(
     default: &Option<Boxed<Acl>>,
     out: &mut Vec<u8>,
 ) -> Result<(), AllocError>
-    ensures text { OnOk result (out.new.items
-        ≡ out.old.items ++ command_text (SetDefault path.now default.now)) }
-    ensures kept { take (length out.old.items) out.new.items ≡ out.old.items }
+    ensures printed { Prints (command_text (SetDefault path.now default.now))
+        result out.old out.new }
     ensures printable { OnOk result (IsPath path.now × IsDefault default.now) }
 {
     push_set(path, b"default", out)?;
@@ -206,9 +190,7 @@ fn push_set_default(
 
 /// `set P nfs4 TEXT`
 fn push_set_nfs4(path: &Path, acl: &Acl4, out: &mut Vec<u8>) -> Result<(), AllocError>
-    ensures text { OnOk result (out.new.items
-        ≡ out.old.items ++ command_text (SetNfs4 path.now acl.now)) }
-    ensures kept { take (length out.old.items) out.new.items ≡ out.old.items }
+    ensures printed { Prints (command_text (SetNfs4 path.now acl.now)) result out.old out.new }
     ensures printable { OnOk result (IsPath path.now × AreAces acl.now × NameIdsOfAces acl.now) }
 {
     push_set(path, b"nfs4", out)?;
@@ -216,8 +198,7 @@ fn push_set_nfs4(path: &Path, acl: &Acl4, out: &mut Vec<u8>) -> Result<(), Alloc
 }
 
 fn push_acl(acl: &Acl, out: &mut Vec<u8>) -> Result<(), AllocError>
-    ensures text { OnOk result (out.new.items ≡ out.old.items ++ short_text acl.now) }
-    ensures kept { take (length out.old.items) out.new.items ≡ out.old.items }
+    ensures printed { Prints (short_text acl.now) result out.old out.new }
     ensures acl { IsAcl acl.now }
     ensures ids { OnOk result (NameIds acl.now) }
 {
@@ -227,8 +208,7 @@ fn push_acl(acl: &Acl, out: &mut Vec<u8>) -> Result<(), AllocError>
 }
 
 fn push_default(default: &Option<Boxed<Acl>>, out: &mut Vec<u8>) -> Result<(), AllocError>
-    ensures text { OnOk result (out.new.items ≡ out.old.items ++ default_field default.now) }
-    ensures kept { take (length out.old.items) out.new.items ≡ out.old.items }
+    ensures printed { Prints (default_field default.now) result out.old out.new }
     ensures lists { OnOk result (IsDefault default.now) }
 {
     match default {
@@ -239,8 +219,7 @@ fn push_default(default: &Option<Boxed<Acl>>, out: &mut Vec<u8>) -> Result<(), A
 
 /// Appends the entries; of a list with none a comment, since a line has to say something.
 fn push_aces(acl: &Acl4, out: &mut Vec<u8>) -> Result<(), AllocError>
-    ensures text { OnOk result (out.new.items ≡ out.old.items ++ aces_field acl.now) }
-    ensures kept { take (length out.old.items) out.new.items ≡ out.old.items }
+    ensures printed { Prints (aces_field acl.now) result out.old out.new }
     ensures aces { AreAces acl.now }
     ensures ids { OnOk result (NameIdsOfAces acl.now) }
 {

@@ -1,7 +1,8 @@
 //! Printing replies.
 
-ghost use Rattle.std.specs.Prelude.{◌≡◌, ◌++◌, ◌∷◌, [], length, take, codes, OnOk};
+ghost use Rattle.std.specs.Prelude.{◌≡◌, ◌++◌, ◌∷◌, [], codes};
 ghost use Rattle.acl_names.specs.Bytes.{space};
+ghost use Rattle.acl_names.specs.Printing.{Prints};
 ghost use Rattle.acl_lang.specs.Printed.{acl_text, below_text, error_text, head_text, kind_text};
 ghost use Rattle.acl_lang.specs.Printed.{mode_text, owners_text, reply_text, style_text, view_text};
 
@@ -19,8 +20,7 @@ pub(crate) fn push_reply(
     directory: &Directory,
     out: &mut Vec<u8>,
 ) -> Result<(), AllocError>
-    ensures text { OnOk result (out.new.items ≡ out.old.items ++ reply_text directory.now reply.now) }
-    ensures kept { take (length out.old.items) out.new.items ≡ out.old.items }
+    ensures { Prints (reply_text directory.now reply.now) result out.old out.new }
 {
     match reply {
         Reply::Done => out.extend_from_slice(b"ok\n"),
@@ -43,8 +43,7 @@ pub(crate) fn push_reply(
 
 /// Appends `error CODE WORD`.
 fn push_error(code: u8, word: &[u8], out: &mut Vec<u8>) -> Result<(), AllocError>
-    ensures text { OnOk result (out.new.items ≡ out.old.items ++ error_text code word.now) }
-    ensures kept { take (length out.old.items) out.new.items ≡ out.old.items }
+    ensures { Prints (error_text code word.now) result out.old out.new }
 {
     out.extend_from_slice(b"error ")?;
     push_decimal(u32::from(code), out)?;
@@ -58,8 +57,7 @@ pub(crate) fn push_view(
     directory: &Directory,
     out: &mut Vec<u8>,
 ) -> Result<(), AllocError>
-    ensures text { OnOk result (out.new.items ≡ out.old.items ++ view_text directory.now shown.now) }
-    ensures kept { take (length out.old.items) out.new.items ≡ out.old.items }
+    ensures { Prints (view_text directory.now shown.now) result out.old out.new }
 {
     push_head(shown, directory, out)?;
     out.extend_from_slice(b"\n")?;
@@ -68,8 +66,7 @@ pub(crate) fn push_view(
 
 /// Appends `get PATH KIND OWNER GROUP MODE STYLE`.
 fn push_head(shown: &Shown<'_>, directory: &Directory, out: &mut Vec<u8>) -> Result<(), AllocError>
-    ensures text { OnOk result (out.new.items ≡ out.old.items ++ head_text directory.now shown.now) }
-    ensures kept { take (length out.old.items) out.new.items ≡ out.old.items }
+    ensures { Prints (head_text directory.now shown.now) result out.old out.new }
 {
     push_what(shown, out)?;
     push_owners(shown.owner, shown.group, directory, out)?;
@@ -78,10 +75,8 @@ fn push_head(shown: &Shown<'_>, directory: &Directory, out: &mut Vec<u8>) -> Res
 
 /// Appends `get PATH KIND` and a blank.
 fn push_what(shown: &Shown<'_>, out: &mut Vec<u8>) -> Result<(), AllocError>
-    ensures text { OnOk result (out.new.items
-        ≡ out.old.items ++ (codes "get " ++ (shown.now.path
-        ++ space ∷ (kind_text shown.now.kind ++ space ∷ [])))) }
-    ensures kept { take (length out.old.items) out.new.items ≡ out.old.items }
+    ensures { Prints (codes "get " ++ (shown.now.path
+        ++ space ∷ (kind_text shown.now.kind ++ space ∷ []))) result out.old out.new }
 {
     out.extend_from_slice(b"get ")?;
     out.extend_from_slice(shown.path.as_bytes())?;
@@ -92,9 +87,8 @@ fn push_what(shown: &Shown<'_>, out: &mut Vec<u8>) -> Result<(), AllocError>
 
 /// Appends a blank and `MODE STYLE`.
 fn push_how(shown: &Shown<'_>, out: &mut Vec<u8>) -> Result<(), AllocError>
-    ensures text { OnOk result (out.new.items
-        ≡ out.old.items ++ (space ∷ mode_text shown.now.mode ++ space ∷ style_text shown.now.acl)) }
-    ensures kept { take (length out.old.items) out.new.items ≡ out.old.items }
+    ensures { Prints (space ∷ mode_text shown.now.mode ++ space ∷ style_text shown.now.acl)
+        result out.old out.new }
 {
     out.extend_from_slice(b" ")?;
     out.extend_from_slice(&mode_text(shown.mode))?;
@@ -103,15 +97,14 @@ fn push_how(shown: &Shown<'_>, out: &mut Vec<u8>) -> Result<(), AllocError>
 }
 
 /// Appends `OWNER GROUP`.
+#[tactic(auto, using(acl_names::proofs::Prefixes::printing_steps))]
 fn push_owners(
     owner: Uid,
     group: Gid,
     directory: &Directory,
     out: &mut Vec<u8>,
 ) -> Result<(), AllocError>
-    ensures text { OnOk result (out.new.items
-        ≡ out.old.items ++ owners_text directory.now owner group) }
-    ensures kept { take (length out.old.items) out.new.items ≡ out.old.items }
+    ensures { Prints (owners_text directory.now owner group) result out.old out.new }
 {
     push_id(directory.user_name(owner), owner.value(), out)?;
     out.extend_from_slice(b" ")?;
@@ -147,9 +140,9 @@ fn style_text(acl: &NodeAcl) -> &'static [u8]
     }
 }
 
+#[tactic(auto, using(acl_names::proofs::Prefixes::printing_steps))]
 fn push_acl(acl: &NodeAcl, directory: &Directory, out: &mut Vec<u8>) -> Result<(), AllocError>
-    ensures text { OnOk result (out.new.items ≡ out.old.items ++ acl_text directory.now acl.now) }
-    ensures kept { take (length out.old.items) out.new.items ≡ out.old.items }
+    ensures { Prints (acl_text directory.now acl.now) result out.old out.new }
 {
     match acl {
         NodeAcl::Posix { access, default } => {
@@ -165,9 +158,7 @@ fn push_default(
     directory: &Directory,
     out: &mut Vec<u8>,
 ) -> Result<(), AllocError>
-    ensures text { OnOk result (out.new.items
-        ≡ out.old.items ++ below_text directory.now default.now) }
-    ensures kept { take (length out.old.items) out.new.items ≡ out.old.items }
+    ensures { Prints (below_text directory.now default.now) result out.old out.new }
 {
     match default {
         Some(acl) => acl.print_default(directory, out),

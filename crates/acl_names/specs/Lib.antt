@@ -14,3 +14,4 @@ pub mod Steps
 pub mod ReadList
 pub mod Digits
 pub mod Plain
+pub mod Printing

@@ -1,24 +1,17 @@
--- The parts of printed entries, as they are put after one another, and how long they are.
-use Rattle.std.proofs.Common.{◌≡◌, ◌≤◌, ◌+◌, ◌*◌, ℕ, List, [], ◌∷◌, ◌++◌, length, length-append, append_assoc, flat_map, refl, ap, ◌∙◌, arith}
-use Rattle.acl_names.specs.Bytes.{colon, comma, newline}
+-- How long printed entries are.
+use Rattle.std.proofs.Common.{◌≡◌, ◌≤◌, ◌+◌, ◌*◌, ℕ, List, [], ◌∷◌, ◌++◌, length, length-append, refl, arith}
+use Rattle.acl_names.specs.Bytes.{colon, newline}
 use Rattle.acl_names.specs.Directory.{Known}
 use Rattle.acl_names.specs.Letters.{letters_text}
-use Rattle.acl_names.proofs.PlainJoined.{joined-cons}
 use Rattle.acl_nfs4.specs.Ace.{Nfsace4}
 use Rattle.acl_nfs4.specs.Letters.{flag_table, mask_table}
-use Rattle.acl_nfs4.specs.PrintedText.{ace_text, aces_text, fields_text, front_text, line_text, short_ace, short_text, type_text, who_text}
+use Rattle.acl_nfs4.specs.PrintedText.{ace_text, aces_text, fields_text, front_text, line_text, type_text, who_text}
 use Rattle.acl_nfs4.specs.declared.ace.AceType.{AceType}
 use Rattle.acl_nfs4.specs.declared.ace.AceType.TheVariants.{Allow, Deny, Audit, Alarm}
 use Rattle.acl_nfs4.specs.declared.printing.TheConstants.{SHORTEST_LINE}
 
--- what stands behind what there was is the entry
-pub ace_regrouped : (out kind flags who mask : List ℕ)
-    → (((out ++ (kind ++ colon ∷ (flags ++ colon ∷ []))) ++ who) ++ colon ∷ []) ++ mask
-    ≡ out ++ (kind ++ colon ∷ (flags ++ colon ∷ (who ++ colon ∷ mask)))
-ace_regrouped out kind flags who mask = simp append_assoc
-
 -- an entry is as long as its front, its who, a colon and its letters
-pub fields_length : (who : List ℕ) (ace : Nfsace4) → length (fields_text who ace) ≡ length (front_text ace) + length who + 1 + length (letters_text mask_table ace.mask)
+fields_length : (who : List ℕ) (ace : Nfsace4) → length (fields_text who ace) ≡ length (front_text ace) + length who + 1 + length (letters_text mask_table ace.mask)
 fields_length who ace =
     let kind = type_text ace.kind in
     let flags = letters_text flag_table ace.flags in
@@ -59,9 +52,3 @@ lines_length known (ace ∷ aces) =
     let here = line_length known ace in
     let more = lines_length known aces in
     omega (arith, here, more, length-append (line_text known ace) (aces_text known aces))
-
--- the entries on one line are as long as the first, and the others with a comma before each
-pub short_length : (first : Nfsace4) (rest : List Nfsace4) → length (short_text (first ∷ rest)) ≡ length (short_ace first) + length (flat_map (λ (ace : Nfsace4). comma ∷ short_ace ace) rest)
-short_length first rest =
-    ap (λ (text : List ℕ). length text) (joined-cons comma short_ace first rest)
-    ∙ length-append (short_ace first) (flat_map (λ (ace : Nfsace4). comma ∷ short_ace ace) rest)

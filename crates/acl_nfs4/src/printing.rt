@@ -1,8 +1,9 @@
 //! Printing lists of entries.
 
-ghost use Rattle.std.specs.Prelude.{◌≡◌, ◌≤◌, ◌<◌, ◌+◌, ◌*◌, ◌++◌, length, take, option_map};
-ghost use Rattle.std.specs.Prelude.{vec_len, vec_capacity, OnOk, OnErr};
+ghost use Rattle.std.specs.Prelude.{◌≡◌, ◌≤◌, ◌<◌, ◌+◌, ◌*◌, ◌++◌, length, option_map, vec_len};
+ghost use Rattle.std.specs.Prelude.{vec_capacity, OnOk, OnErr};
 ghost use Rattle.acl_names.specs.ListText.{Spells};
+ghost use Rattle.acl_names.specs.Printing.{PrintsInRoom};
 ghost use Rattle.acl_nfs4.specs.AceText.{piece_value};
 ghost use Rattle.acl_nfs4.specs.PrintedText.{ace_text, aces_text, front_text, HaveIds, line_text};
 ghost use Rattle.acl_nfs4.specs.PrintedText.{named_text, type_text, who_text};
@@ -63,11 +64,8 @@ fn ask_for_lines(count: usize, out: &mut Vec<u8>) -> Result<(), AllocError>
 }
 
 fn push_lines(aces: &[Ace], directory: &Directory, out: &mut Vec<u8>) -> Result<(), AllocError>
-    ensures text { OnOk result (out.new.items ≡ out.old.items ++ aces_text directory.now aces.now) }
+    ensures printed { PrintsInRoom (aces_text directory.now aces.now) result out.old out.new }
     ensures have_ids { OnOk result (HaveIds aces.now) }
-    ensures kept { take (length out.old.items) out.new.items ≡ out.old.items }
-    ensures room { OnErr result (vec_capacity out.old
-        < vec_len out.old + length (aces_text directory.now aces.now)) }
 {
     for ace in aces {
         push_line(ace, directory, out)?;
@@ -76,12 +74,8 @@ fn push_lines(aces: &[Ace], directory: &Directory, out: &mut Vec<u8>) -> Result<
 }
 
 fn push_line(ace: &Ace, directory: &Directory, out: &mut Vec<u8>) -> Result<(), AllocError>
-    ensures text { OnOk result (out.new.items ≡ out.old.items ++ line_text directory.now ace.now) }
+    ensures printed { PrintsInRoom (line_text directory.now ace.now) result out.old out.new }
     ensures has_id { OnOk result (HasId ace.now.who) }
-    ensures kept { take (length out.old.items) out.new.items ≡ out.old.items }
-    ensures room { OnErr result (vec_capacity out.old
-        < vec_len out.old + length (line_text directory.now ace.now)) }
-    ensures capacity { vec_capacity out.old ≤ vec_capacity out.new }
 {
     push_ace(ace, directory, out)?;
     out.push(b'\n')?;
@@ -91,12 +85,8 @@ fn push_line(ace: &Ace, directory: &Directory, out: &mut Vec<u8>) -> Result<(), 
 /// Appends the entry as `print_aces` does, without a newline: `type:flags:who:letters`. If memory
 /// runs out, what was there stays; that happens only if `out` has no room for the text.
 pub fn push_ace(ace: &Ace, directory: &Directory, out: &mut Vec<u8>) -> Result<(), AllocError>
-    ensures text { OnOk result (out.new.items ≡ out.old.items ++ ace_text directory.now ace.now) }
+    ensures printed { PrintsInRoom (ace_text directory.now ace.now) result out.old out.new }
     ensures has_id { OnOk result (HasId ace.now.who) }
-    ensures kept { take (length out.old.items) out.new.items ≡ out.old.items }
-    ensures room { OnErr result (vec_capacity out.old
-        < vec_len out.old + length (ace_text directory.now ace.now)) }
-    ensures capacity { vec_capacity out.old ≤ vec_capacity out.new }
 {
     push_front(ace, out)?;
     push_who(&ace.who(), directory, out)?;
@@ -105,12 +95,9 @@ pub fn push_ace(ace: &Ace, directory: &Directory, out: &mut Vec<u8>) -> Result<(
 }
 
 /// Appends `type:flags:`.
+#[tactic(auto, using(acl_names::proofs::Prefixes::printing_steps))]
 pub(crate) fn push_front(ace: &Ace, out: &mut Vec<u8>) -> Result<(), AllocError>
-    ensures text { OnOk result (out.new.items ≡ out.old.items ++ front_text ace.now) }
-    ensures kept { take (length out.old.items) out.new.items ≡ out.old.items }
-    ensures room { OnErr result (vec_capacity out.old
-        < vec_len out.old + length (front_text ace.now)) }
-    ensures capacity { vec_capacity out.old ≤ vec_capacity out.new }
+    ensures { PrintsInRoom (front_text ace.now) result out.old out.new }
 {
     out.extend_from_slice(type_text(ace.kind()))?;
     out.push(b':')?;
@@ -131,12 +118,8 @@ fn type_text(kind: AceType) -> &'static [u8]
 }
 
 fn push_who(who: &Who, directory: &Directory, out: &mut Vec<u8>) -> Result<(), AllocError>
-    ensures text { OnOk result (out.new.items ≡ out.old.items ++ who_text directory.now who.now) }
+    ensures printed { PrintsInRoom (who_text directory.now who.now) result out.old out.new }
     ensures has_id { HasId who.now }
-    ensures kept { take (length out.old.items) out.new.items ≡ out.old.items }
-    ensures room { OnErr result (vec_capacity out.old
-        < vec_len out.old + length (who_text directory.now who.now)) }
-    ensures capacity { vec_capacity out.old ≤ vec_capacity out.new }
 {
     match *who {
         Who::Owner => out.extend_from_slice(b"OWNER@"),
@@ -164,13 +147,8 @@ fn push_named(
     id: u32,
     out: &mut Vec<u8>,
 ) -> Result<(), AllocError>
-    ensures text { OnOk result (out.new.items
-        ≡ out.old.items ++ named_text (option_map (λ name. name.now) name.entry) domain.now id) }
-    ensures kept { take (length out.old.items) out.new.items ≡ out.old.items }
-    ensures room { OnErr result (vec_capacity out.old
-        < vec_len out.old + length (named_text (option_map (λ name. name.now) name.entry) domain.now
-        id)) }
-    ensures capacity { vec_capacity out.old ≤ vec_capacity out.new }
+    ensures { PrintsInRoom (named_text (option_map (λ name. name.now) name.entry) domain.now id)
+        result out.old out.new }
 {
     match name {
         Some(name) => {

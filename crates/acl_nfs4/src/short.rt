@@ -1,10 +1,11 @@
 //! Printing lists of entries: the short form.
 
-ghost use Rattle.std.specs.Prelude.{◌≡◌, ◌≤◌, ◌<◌, ◌+◌, ◌++◌, ◌∷◌, length, take, flat_map, vec_len};
+ghost use Rattle.std.specs.Prelude.{◌≡◌, ◌<◌, ◌+◌, ◌++◌, ◌∷◌, length, flat_map, vec_len};
 ghost use Rattle.std.specs.Prelude.{vec_capacity, OnOk, OnErr};
 ghost use Rattle.acl_names.specs.Bytes.{comma};
 ghost use Rattle.acl_names.specs.Directory.{Known};
 ghost use Rattle.acl_names.specs.ListText.{Spells};
+ghost use Rattle.acl_names.specs.Printing.{PrintsInRoom};
 ghost use Rattle.acl_nfs4.specs.AceText.{piece_value};
 ghost use Rattle.acl_nfs4.specs.PrintedText.{short_ace, short_text, short_who, HaveIds};
 ghost use Rattle.acl_nfs4.specs.Who.{HasId};
@@ -42,11 +43,8 @@ impl Acl4 {
 
 /// Appends the entries with commas between them.
 fn push_short_aces(aces: &[Ace], out: &mut Vec<u8>) -> Result<(), AllocError>
-    ensures text { OnOk result (out.new.items ≡ out.old.items ++ short_text aces.now) }
+    ensures printed { PrintsInRoom (short_text aces.now) result out.old out.new }
     ensures have_ids { OnOk result (HaveIds aces.now) }
-    ensures kept { take (length out.old.items) out.new.items ≡ out.old.items }
-    ensures room { OnErr result (vec_capacity out.old
-        < vec_len out.old + length (short_text aces.now)) }
 {
     match aces.split_first() {
         Some((first, rest)) => {
@@ -59,12 +57,9 @@ fn push_short_aces(aces: &[Ace], out: &mut Vec<u8>) -> Result<(), AllocError>
 
 /// Appends the entries with a comma before each.
 fn push_further_aces(aces: &[Ace], out: &mut Vec<u8>) -> Result<(), AllocError>
-    ensures text { OnOk result (out.new.items
-        ≡ out.old.items ++ flat_map (λ ace. comma ∷ short_ace ace) aces.now) }
+    ensures printed { PrintsInRoom (flat_map (λ ace. comma ∷ short_ace ace) aces.now) result out.old
+        out.new }
     ensures have_ids { OnOk result (HaveIds aces.now) }
-    ensures kept { take (length out.old.items) out.new.items ≡ out.old.items }
-    ensures room { OnErr result (vec_capacity out.old
-        < vec_len out.old + length (flat_map (λ ace. comma ∷ short_ace ace) aces.now)) }
 {
     for ace in aces {
         push_further_ace(ace, out)?;
@@ -74,24 +69,16 @@ fn push_further_aces(aces: &[Ace], out: &mut Vec<u8>) -> Result<(), AllocError>
 
 /// Appends a comma and the entry.
 fn push_further_ace(ace: &Ace, out: &mut Vec<u8>) -> Result<(), AllocError>
-    ensures text { OnOk result (out.new.items ≡ out.old.items ++ comma ∷ short_ace ace.now) }
+    ensures printed { PrintsInRoom (comma ∷ short_ace ace.now) result out.old out.new }
     ensures has_id { OnOk result (HasId ace.now.who) }
-    ensures kept { take (length out.old.items) out.new.items ≡ out.old.items }
-    ensures room { OnErr result (vec_capacity out.old
-        < vec_len out.old + length (comma ∷ short_ace ace.now)) }
-    ensures capacity { vec_capacity out.old ≤ vec_capacity out.new }
 {
     out.push(b',')?;
     push_short_ace(ace, out)
 }
 
 fn push_short_ace(ace: &Ace, out: &mut Vec<u8>) -> Result<(), AllocError>
-    ensures text { OnOk result (out.new.items ≡ out.old.items ++ short_ace ace.now) }
+    ensures printed { PrintsInRoom (short_ace ace.now) result out.old out.new }
     ensures has_id { OnOk result (HasId ace.now.who) }
-    ensures kept { take (length out.old.items) out.new.items ≡ out.old.items }
-    ensures room { OnErr result (vec_capacity out.old
-        < vec_len out.old + length (short_ace ace.now)) }
-    ensures capacity { vec_capacity out.old ≤ vec_capacity out.new }
 {
     push_front(ace, out)?;
     push_short_who(&ace.who(), out)?;
@@ -100,12 +87,8 @@ fn push_short_ace(ace: &Ace, out: &mut Vec<u8>) -> Result<(), AllocError>
 }
 
 fn push_short_who(who: &Who, out: &mut Vec<u8>) -> Result<(), AllocError>
-    ensures text { OnOk result (out.new.items ≡ out.old.items ++ short_who who.now) }
+    ensures printed { PrintsInRoom (short_who who.now) result out.old out.new }
     ensures has_id { HasId who.now }
-    ensures kept { take (length out.old.items) out.new.items ≡ out.old.items }
-    ensures room { OnErr result (vec_capacity out.old
-        < vec_len out.old + length (short_who who.now)) }
-    ensures capacity { vec_capacity out.old ≤ vec_capacity out.new }
 {
     match *who {
         Who::Owner => out.extend_from_slice(b"OWNER@"),

@@ -1,8 +1,8 @@
 //! Printing ids: by the directory's names, or in decimal.
 
-ghost use Rattle.std.specs.Prelude.{◌≡◌, ◌≤◌, ◌<◌, ◌+◌, ◌++◌, length, take};
-ghost use Rattle.std.specs.Prelude.{option_map, unwrap_or, decimal, vec_len, vec_capacity, OnOk};
-ghost use Rattle.std.specs.Prelude.{OnErr, IfSome};
+ghost use Rattle.std.specs.Prelude.{◌≡◌, ◌≤◌, ◌+◌, ◌++◌, length, option_map, unwrap_or};
+ghost use Rattle.std.specs.Prelude.{decimal, vec_len, vec_capacity, IfSome};
+ghost use Rattle.acl_names.specs.Printing.{PrintsInRoom};
 ghost use Rattle.acl_names.specs.declared.limits.TheConstants.{MAX_ID, MAX_NAME_LEN};
 
 use crate::{Directory, Gid, Uid, push_decimal, put_bytes, put_decimal};
@@ -11,13 +11,8 @@ use std::alloc::AllocError;
 /// Appends the name, or the decimal of an id that has none. If memory runs out, what `out` held
 /// still stands in front; that happens only if `out` has no room for the text.
 pub fn push_id(name: Option<&str>, id: u32, out: &mut Vec<u8>) -> Result<(), AllocError>
-    ensures text { OnOk result (out.new.items
-        ≡ out.old.items ++ unwrap_or (option_map (λ bytes. bytes.now) name.entry) (decimal id)) }
-    ensures kept { take (length out.old.items) out.new.items ≡ out.old.items }
-    ensures room { OnErr result (vec_capacity out.old
-        < vec_len out.old + length (unwrap_or (option_map (λ bytes. bytes.now) name.entry)
-        (decimal id))) }
-    ensures capacity { vec_capacity out.old ≤ vec_capacity out.new }
+    ensures { PrintsInRoom (unwrap_or (option_map (λ bytes. bytes.now) name.entry) (decimal id))
+        result out.old out.new }
 {
     match name {
         Some(name) => out.extend_from_slice(name.as_bytes()),

@@ -1,8 +1,9 @@
 //! Printing decimals.
 
-ghost use Rattle.std.specs.Prelude.{◌≡◌, ◌≤◌, ◌<◌, ◌+◌, ◌/◌, ◌%◌, ◌++◌, decimal, length};
-ghost use Rattle.std.specs.Prelude.{take, vec_len, vec_capacity, OnOk, OnErr};
+ghost use Rattle.std.specs.Prelude.{◌≡◌, ◌≤◌, ◌<◌, ◌+◌, ◌/◌, ◌%◌, ◌++◌, decimal, vec_len};
+ghost use Rattle.std.specs.Prelude.{vec_capacity};
 ghost use Rattle.acl_names.specs.Digits.{pair};
+ghost use Rattle.acl_names.specs.Printing.{PrintsInRoom};
 ghost use Rattle.acl_names.specs.declared.limits.TheConstants.{MAX_DIGITS};
 
 use itoa::Buffer;
@@ -11,10 +12,7 @@ use std::alloc::AllocError;
 /// Appends the decimal. If memory runs out, what `out` held still stands in front; that happens
 /// only if `out` has no room for the text.
 pub fn push_decimal(number: u32, out: &mut Vec<u8>) -> Result<(), AllocError>
-    ensures text { OnOk result (out.new.items ≡ out.old.items ++ decimal number) }
-    ensures kept { take (length out.old.items) out.new.items ≡ out.old.items }
-    ensures room { OnErr result (vec_capacity out.old < vec_len out.old + length (decimal number)) }
-    ensures capacity { vec_capacity out.old ≤ vec_capacity out.new }
+    ensures { PrintsInRoom (decimal number) result out.old out.new }
 {
     out.extend_from_slice(Buffer::new().format(number).as_bytes())
 }

@@ -1,10 +1,10 @@
 //! Texts that are sets of letters, by a table of letters and bits.
 
-ghost use Rattle.std.specs.Prelude.{◌≡◌, ◌≤◌, ◌<◌, ◌+◌, ◌==◌, ◌++◌, filter, take};
-ghost use Rattle.std.specs.Prelude.{length, vec_len, vec_capacity, OnOk, OnErr};
+ghost use Rattle.std.specs.Prelude.{◌≡◌, ◌==◌, filter};
 ghost use Rattle.std.specs.List.{list_any};
 ghost use Rattle.acl_names.specs.Letters.{is_letter_of, letters_of, letters_text};
 ghost use Rattle.acl_names.specs.Letters.{bits_of_rows, IsTable, HasBitsOf};
+ghost use Rattle.acl_names.specs.Printing.{PrintsInRoom};
 
 use std::alloc::AllocError;
 
@@ -64,14 +64,10 @@ fn bits_of_letter(table: &[Letter], letter: u8) -> u32
 /// letters that found room stand in `out`; that happens only if `out` has no room for all of them.
 #[tactic(auto, using(crate::proofs::LettersAgain::letters_again))]
 pub fn push_letters(table: &[Letter], bits: u32, out: &mut Vec<u8>) -> Result<(), AllocError>
-    ensures text { OnOk result (out.new.items ≡ out.old.items ++ letters_text table.now bits) }
+    ensures printed { PrintsInRoom (letters_text table.now bits) result out.old out.new }
     // What is printed is read as these bits.
     ensures read_again { IsTable table.now → HasBitsOf table.now bits
         → letters_of table.now (letters_text table.now bits) ≡ Some bits }
-    ensures kept { take (length out.old.items) out.new.items ≡ out.old.items }
-    ensures room { OnErr result (vec_capacity out.old
-        < vec_len out.old + length (letters_text table.now bits)) }
-    ensures capacity { vec_capacity out.old ≤ vec_capacity out.new }
 {
     for row in table {
         if bits & row.bit != 0 {
