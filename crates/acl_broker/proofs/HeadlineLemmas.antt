@@ -20,6 +20,7 @@ use Rattle.acl_broker.specs.declared.steps.Step.{Step}
 use Rattle.acl_broker.specs.declared.steps.Step.TheVariants.{Submit, Take, Answer, Close, Cancel}
 use Rattle.acl_broker.specs.declared.steps.StepResult.{StepResult}
 use Rattle.acl_broker.specs.declared.steps.StepResult.TheVariants.{Submitted, Taken, Answered, ClosedNow, CancelledNow}
+use Rattle.acl_broker.proofs.EachSessions.{of_session}
 use Rattle.acl_broker.proofs.StepsCases.{by_cases}
 use Rattle.acl_broker.proofs.StepsAdd.{adds}
 
@@ -217,7 +218,7 @@ module _ {State I R : Type 0} (next : State → I → State) (reply : State → 
           subst (λ journal. AllByRecursion (λ entry. entry.session < point.sessions) journal) (sym stood.journal) stood.known,
           λ session below. subst (λ journal. IsPrefix (items_from session journal)
               (point.accepted session ++ accepted_in history session)) (sym stood.journal)
-              (stood.each session fresh_lane below).merged,
+              (of_session _ _ _ stood.lanes session fresh_lane below).merged,
         );
         takes = (added.entries, stood.journal, added.taken);
         none_after_close = none_after_close point history ran.0;
@@ -225,7 +226,7 @@ module _ {State I R : Type 0} (next : State → I → State) (reply : State → 
         none_taken_after_cancel = none_taken_after_cancel point history ran.0;
         answers = λ session below. (
           (get_or new.lanes session fresh_lane).owed,
-          (stood.each session fresh_lane below).answered
+          (of_session _ _ _ stood.lanes session fresh_lane below).answered
               ∙ ap (λ journal. answers_to next reply session point.opening journal) (sym stood.journal),
         );
         state = stood.state ∙ ap (λ journal. state_after next point.opening journal) (sym stood.journal);

@@ -8,6 +8,7 @@ use Rattle.acl_broker.specs.Ends.{sent_by, polled_by, is_closed}
 use Rattle.acl_broker.specs.Takers.{TakerState}
 use Rattle.acl_broker.specs.declared.end.End.{End}
 use Rattle.acl_broker.specs.declared.taker_side.TakerSide.{TakerSide}
+use Rattle.acl_broker.proofs.EachSessions.{each_session}
 
 before_last : (n session : ℕ) → session < suc n → (n ≡ session → ⊥) → session < n
 before_last n session below differ = omega (arith, below, differ)
@@ -55,13 +56,14 @@ module _ {State I R : Type 0} (opening : State) (taker : TakerState State I R) (
     opens = refl;
     journal = refl;
     sessions = refl;
-    each = λ session end side below.
+    each_end = each_session _ _ ends count (λ session end below.
         let within : session < length ends = omega (arith, below, count) in (
           get_or-map sent_by ends session end [] within,
           get_or-map polled_by ends session end [] within,
           among_those (λ session. get_or (map is_closed ends) session false) (length taker.sides) session below ∙ get_or-map is_closed ends session end false within,
-          among_those (λ session. get_or (map (λ (side : TakerSide I R). side.cancelled) taker.sides) session
-              false) (length taker.sides) session below
-              ∙ get_or-map (λ (side : TakerSide I R). side.cancelled) taker.sides session side false below,
-        );
+        ));
+    each_side = each_session _ _ taker.sides refl (λ session side below.
+        among_those (λ session. get_or (map (λ (side : TakerSide I R). side.cancelled) taker.sides) session
+        false) (length taker.sides) session below
+        ∙ get_or-map (λ (side : TakerSide I R). side.cancelled) taker.sides session side false below);
   }

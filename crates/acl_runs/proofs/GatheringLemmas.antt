@@ -12,6 +12,7 @@ use Rattle.acl_broker.specs.Brokers.{opening_point, AreSplitOf}
 use Rattle.acl_broker.specs.Takers.{TakerState, Keeps}
 use Rattle.acl_broker.specs.declared.end.End.{End}
 use Rattle.acl_broker.specs.declared.taker_side.TakerSide.{TakerSide}
+use Rattle.acl_broker.proofs.EachSessions.{of_session, as_many}
 use Rattle.acl_runs.specs.ErrorLimit.{errors_in}
 use Rattle.acl_runs.specs.Handling.{Handling}
 use Rattle.acl_runs.specs.Taking.{made, AreLimited, StartsWith}
@@ -86,13 +87,13 @@ module _ {State I R : Type 0} (next : State → I → State) (reply : State → 
       → AreSplitOf broker.lanes ends taker.sides → taker.journal ≡ broker.journal → IsReady sessions ends taker
   ready_of service sessions broker ends taker stands count are split journal =
       record {
-        count = count ∙ stands.count;
+        count = count ∙ as_many _ _ _ stands.lanes;
         pairs = are;
         fresh = λ session end below.
             let within : session < length broker.lanes = omega (arith, below, count) in
             let side : TakerSide I R = some_item taker.sides session (omega (arith, below, are.0)) in
             let one = split session fresh_lane end side within in
-            let at = stands.each session fresh_lane (omega (arith, within, stands.count)) in
+            let at = of_session _ _ _ stands.lanes session fresh_lane (omega (arith, within, as_many _ _ _ stands.lanes)) in
             (one.open_end, one.sent ∙ at.accepted, one.polled ∙ at.polled);
         journal = journal ∙ stands.journal;
         live = λ session side below.
@@ -115,7 +116,7 @@ module _ {State I R : Type 0} (next : State → I → State) (reply : State → 
       let count : sessions ≡ length taker.sides = sym ready.count ∙ ready.pairs.0 in (
         ap length starts ∙ length-replicate sessions allowed ∙ count,
         λ session left side below.
-            let answers : made (get_or taker.sides session side) ≡ [] = (keeps.each session side below).answered ∙ ap (λ entries. answers_to next reply session opening entries) ready.journal in
+            let answers : made (get_or taker.sides session side) ≡ [] = (of_session _ _ _ keeps.sides session side below).answered ∙ ap (λ entries. answers_to next reply session opening entries) ready.journal in
             let left_is : get_or limits.left.items session left
             ≡ allowed = ap (λ items. get_or items session left) starts
             ∙ get_or-replicate sessions session allowed left (omega (arith, below, count)) in

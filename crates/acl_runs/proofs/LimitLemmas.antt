@@ -11,6 +11,7 @@ use Rattle.acl_broker.specs.Takers.{TakerState, Keeps, AppendsOne, SameExceptAt,
 use Rattle.acl_broker.specs.declared.steps.TakeRefused.{TakeRefused}
 use Rattle.acl_broker.specs.declared.steps.TakeRefused.TheVariants.{UnknownSession, Empty, Memory}
 use Rattle.acl_broker.specs.declared.taker_side.TakerSide.{TakerSide}
+use Rattle.acl_broker.proofs.EachSessions.{of_session}
 use Rattle.acl_broker.proofs.JournalEntries.{more_answers}
 use Rattle.acl_runs.specs.ErrorLimit.{errors_in, EndsAtError}
 use Rattle.acl_runs.specs.Taking.{made, IsLimited, AreLimited}
@@ -74,8 +75,8 @@ module _ {State I R : Type 0} (next : State → I → State) (reply : State → 
       let answer = reply (state_after next opening old.journal) appends.0 in
       let kept : given side' ≡ given side = given_is side side' same in
       let all : made side' ≡ made side ++ answer ∷ [] =
-      (keeps'.each session default (omega (arith, below, count))).answered ∙ ap (λ journal. answers_to next reply session opening journal) appends.1
-      ∙ more_answers next reply session opening old.journal appends.0 ∙ ap (λ answers. answers ++ answer ∷ []) (sym (keeps.each session default below).answered) in
+      (of_session _ _ _ keeps'.sides session default (omega (arith, below, count))).answered ∙ ap (λ journal. answers_to next reply session opening journal) appends.1
+      ∙ more_answers next reply session opening old.journal appends.0 ∙ ap (λ answers. answers ++ answer ∷ []) (sym (of_session _ _ _ keeps.sides session default below).answered) in
       record {
         reply = answer;
         box = append_cancel_left (given side) (outbox side') (outbox side ++ answer ∷ []) (ap (λ g. g ++ outbox side') (sym kept) ∙ all ∙ append_assoc (given side) (outbox side) (answer ∷ []));

@@ -2,10 +2,11 @@
 use Rattle.std.specs.List.{AllByRecursion, flat_map}
 use Rattle.std.specs.declared.vec.Vec.{Vec}
 use Rattle.std.specs.declared.alloc.Global.{Global}
-use Rattle.std.proofs.Common.{ap, sym, ◌∙◌, subst, arith, get_or, ◌≡◌, ℕ, zero, suc, ◌+◌, ◌<◌, ◌≤◌, List, [], ◌∷◌, ◌++◌, length, map, take, drop, None, Result, Ok, Err, IfOk}
-use Rattle.std.proofs.lemmas.List.{length-map, map-id, get_or_default, take_all}
+use Rattle.std.proofs.Common.{ap, sym, ◌∙◌, subst, arith, get_or, ◌≡◌, ℕ, zero, suc, ◌+◌, ◌<◌, ◌≤◌, List, [], ◌∷◌, ◌++◌, length, map, take, drop, refl, None, Result, Ok, Err, IfOk}
+use Rattle.std.proofs.lemmas.List.{length-map, get_or-map, map-id, get_or_default, take_all}
 use Rattle.acl_broker.specs.Journal.{items_from, state_after, answers_to}
 use Rattle.acl_broker.specs.declared.steps.JournalEntry.{JournalEntry}
+use Rattle.acl_broker.proofs.EachSessions.{each_session, of_session}
 use Rattle.acl_runs.specs.Handling.{Handling, keeping_all}
 use Rattle.acl_runs.specs.RunReport.{IsReport}
 use Rattle.acl_runs.specs.declared.report.RunReport.{RunReport}
@@ -49,8 +50,11 @@ module _ {C State I R K : Type 0} (rest : C → List I) (next : State → I → 
   began_answered : (service : State) (sessions : List C) (run : Run C State I R) → HasBegun rest service sessions run → Answered next reply handling.text service run
   began_answered service sessions run begun = record {
     state = begun.service_is ∙ ap (λ j. state_after next service j) (sym begun.journal);
-    answers = λ session progress below. (begun.fresh session progress below).0 ∙ ap (λ j. answers_to next reply session service j) (sym begun.journal);
-    outputs = λ session progress below. (begun.fresh session progress below).1 ∙ ap (λ j. flat_map handling.text (answers_to next reply session service j)) (sym begun.journal);
+    sessions = each_session _ _ run.sessions.items refl (λ session progress below.
+        let fresh = begun.fresh session progress below in (
+          fresh.0 ∙ ap (λ j. answers_to next reply session service j) (sym begun.journal),
+          fresh.1 ∙ ap (λ j. flat_map handling.text (answers_to next reply session service j)) (sym begun.journal),
+        ));
   }
 
   module _ (service : State) (sessions : List C) (most : ℕ) (old new : Run C State I R)
@@ -70,24 +74,24 @@ module _ {C State I R K : Type 0} (rest : C → List I) (next : State → I → 
         let many : length new.sessions.items ≡ length wanted = served_all.count ∙ begun.count ∙ sym (length-map sessions rest) in
         record {
           known = subst (λ j. AllByRecursion (λ entry. entry.session < length wanted) j) (sym journal_is) (known_rounds (length wanted) most wanted (omega arith));
-          served = λ session none below. ap (λ j. items_from session j) journal_is
+          served = each_session _ _ wanted refl (λ session none below. ap (λ j. items_from session j) journal_is
               ∙ items_rounds most session wanted ∙ take_all most (get_or wanted session [])
-              (few_at most wanted session few) ∙ get_or_default wanted session [] none below;
-          answered = told.answered ∙ many;
-          answers = λ session none below.
+              (few_at most wanted session few) ∙ get_or_default wanted session [] none below);
+          answers = each_session _ _ report.answers.items (ap length told.answers ∙ length-map new.sessions.items (λ progress. progress.answers) ∙ many) (λ session none below.
               let within : session < length new.sessions.items = omega (arith, below, many) in
               let progress : Progress C R = some_item new.sessions.items session within in
-              ap (λ (v : Vec R Global). v.items) (told.answers session progress none within)
-              ∙ had.answers session progress within
+              ap (λ all. (get_or all session none).items) told.answers
+              ∙ ap (λ (v : Vec R Global). v.items) (get_or-map (λ progress. progress.answers) new.sessions.items session progress none within)
+              ∙ (of_session _ _ _ had.sessions session progress within).0
               ∙ ap (λ j. answers_to next reply session service j) (sym same)
-              ∙ sym (map-id (answers_to next reply session service report.journal.items));
-          printed = told.printed ∙ many;
-          outputs = λ session none below.
+              ∙ sym (map-id (answers_to next reply session service report.journal.items)));
+          outputs = each_session _ _ report.outputs.items (ap length told.outputs ∙ length-map new.sessions.items (λ progress. progress.output) ∙ many) (λ session none below.
               let within : session < length new.sessions.items = omega (arith, below, many) in
               let progress : Progress C R = some_item new.sessions.items session within in
-              ap (λ (v : Vec ℕ Global). v.items) (told.outputs session progress none within)
-              ∙ had.outputs session progress within
-              ∙ ap (λ j. flat_map handling.text (answers_to next reply session service j)) (sym same);
+              ap (λ all. (get_or all session none).items) told.outputs
+              ∙ ap (λ (v : Vec ℕ Global). v.items) (get_or-map (λ progress. progress.output) new.sessions.items session progress none within)
+              ∙ (of_session _ _ _ had.sessions session progress within).1
+              ∙ ap (λ j. flat_map handling.text (answers_to next reply session service j)) (sym same));
           state = told.service_is ∙ had.state ∙ ap (λ j. state_after next service j) (sym same);
         }
 

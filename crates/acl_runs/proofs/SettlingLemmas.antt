@@ -16,6 +16,7 @@ use Rattle.acl_broker.specs.Takers.{TakerState, Keeps}
 use Rattle.acl_broker.specs.declared.end.End.{End}
 use Rattle.acl_broker.specs.declared.taker_side.TakerSide.{TakerSide}
 use Rattle.acl_broker.specs.declared.steps.JournalEntry.{JournalEntry}
+use Rattle.acl_broker.proofs.EachSessions.{each_session, of_session}
 use Rattle.acl_broker.proofs.TakerKeeps.{prefix_trans}
 use Rattle.acl_broker.proofs.RejoinedPoint.{rejoined_point, is_rejoined_point}
 use Rattle.acl_runs.specs.ErrorLimit.{errors_in, UsesUp, EndsAtError, IsServedUpTo}
@@ -135,7 +136,7 @@ module _ {State I R K : Type 0} (next : State → I → State) (reply : State �
       × ((get_or taker.sides session side).cancelled ≡ true → EndsAtError handling.is_error allowed (answers_to next reply session opening taker.journal)))
   limit_at opening taker None limits session side keeps limited below allowed is = absurd (none_isnt_some is)
   limit_at opening taker (Some most) limits session side keeps limited below allowed is =
-      let answers : made (get_or taker.sides session side) ≡ answers_to next reply session opening taker.journal = (keeps.each session side below).answered in
+      let answers : made (get_or taker.sides session side) ≡ answers_to next reply session opening taker.journal = (of_session _ _ _ keeps.sides session side below).answered in
       let same : most ≡ allowed = ap (λ n. some_of n 0) is in
       let one : IsLimited handling.is_error most (get_or limits.left.items session 0) (get_or taker.sides session side) = limited.1 session 0 side below in (
         λ live. let had = one.live live in omega (arith, had.0, had.1, same, ap (λ all. errors_in handling.is_error all) answers),
@@ -160,7 +161,7 @@ module _ {State I R K : Type 0} (next : State → I → State) (reply : State �
       let within : session < length taker.sides = omega (arith, below, sessions) in
       let end : End I R = some_item ends session (omega (arith, below, served.ends)) in
       let side : TakerSide I R = some_item taker.sides session within in
-      let lane = stood.each session fresh_lane within in
+      let lane = of_session _ _ _ stood.lanes session fresh_lane within in
       let is : IsServed handling limit (get_or wanted session none) (get_or ends session end)
       (get_or gathered.answers.items session answers).items
       (get_or gathered.outputs.items session output).items = served.each session none end answers output below in
@@ -190,17 +191,17 @@ module _ {State I R K : Type 0} (next : State → I → State) (reply : State �
       record {
         known = subst (λ entries. AllByRecursion (λ entry. entry.session < length wanted) entries)
             (sym journal_is) (subst (λ n. AllByRecursion (λ entry. entry.session < n) journal) sessions keeps.known);
-        served = λ session none below. subst (λ entries. IsServedUpTo handling.is_error limit
+        served = each_session _ _ wanted refl (λ session none below. subst (λ entries. IsServedUpTo handling.is_error limit
             (get_or wanted session none) (items_from session entries)
             (answers_to next reply session opening entries)) (sym journal_is)
-            (one session none (answers_at session below) (output_at session below) below).0;
-        answered = ap (λ answers. length answers.items) answers_are ∙ served.answers;
-        answers = λ session none below. ap (λ answers. (get_or answers.items session none).items) answers_are
+            (one session none (answers_at session below) (output_at session below) below).0);
+        answers = each_session _ _ report.answers.items (ap (λ answers. length answers.items) answers_are ∙ served.answers)
+            (λ session none below. ap (λ answers. (get_or answers.items session none).items) answers_are
             ∙ (one session (wanted_at session below) none (output_at session below) below).1
-            ∙ ap (λ entries. map handling.keep (answers_to next reply session opening entries)) (sym journal_is);
-        printed = ap (λ outputs. length outputs.items) outputs_are ∙ served.outputs;
-        outputs = λ session none below. ap (λ outputs. (get_or outputs.items session none).items) outputs_are
+            ∙ ap (λ entries. map handling.keep (answers_to next reply session opening entries)) (sym journal_is));
+        outputs = each_session _ _ report.outputs.items (ap (λ outputs. length outputs.items) outputs_are ∙ served.outputs)
+            (λ session none below. ap (λ outputs. (get_or outputs.items session none).items) outputs_are
             ∙ (one session (wanted_at session below) (answers_at session below) none below).2
-            ∙ ap (λ entries. flat_map handling.text (answers_to next reply session opening entries)) (sym journal_is);
+            ∙ ap (λ entries. flat_map handling.text (answers_to next reply session opening entries)) (sym journal_is));
         state = service_is ∙ keeps.state ∙ ap (λ entries. state_after next opening entries) (sym journal_is);
       }

@@ -1,13 +1,14 @@
 -- Turns and rounds.
 use Rattle.std.specs.List.{AllByRecursion, flat_map}
-use Rattle.std.proofs.Common.{ap, sym, ◌∙◌, subst, append_assoc, append-nil, arith, get_or, inl, inr, ◌≡◌}
+use Rattle.std.proofs.Common.{ap, sym, ◌∙◌, subst, append_assoc, append-nil, arith, get_or, ◌≡◌}
 use Rattle.std.proofs.Common.{◌≢◌, ℕ, zero, suc, ◌+◌, ◌<◌, Bool, true, false, List, [], ◌∷◌, ◌++◌, length}
 use Rattle.std.proofs.Common.{map, take, drop, refl, Some, None, slice_set, ◌||◌}
-use Rattle.std.proofs.lemmas.List.{get_or-map, map-set, length-set, length-map, get_or-set_same, get_or-set_other, get_or_default, get_or-append_right, get_or-drop, length-take-le, take_more}
+use Rattle.std.proofs.lemmas.List.{get_or-map, map-set, length-set, length-map, get_or_default, get_or-append_right, get_or-drop, length-take-le, take_more}
 use Rattle.std.proofs.lemmas.List.Edits.{map_over_more}
-use Rattle.std.proofs.lemmas.Bool.Decides.{eqb_tells}
 use Rattle.std.proofs.lemmas.Grind.{flat_map-append}
 use Rattle.acl_broker.specs.Journal.{state_after, answers_to}
+use Rattle.acl_broker.specs.Points.{EachSession}
+use Rattle.acl_broker.proofs.EachSessions.{of_session, each_after}
 use Rattle.acl_broker.proofs.Journals.{state_after-append}
 use Rattle.acl_broker.proofs.JournalEntries.{entry_of, more_answers, kept_answers}
 use Rattle.acl_runs.specs.Rounds.{entries_of, heads, rounds, Answered}
@@ -55,30 +56,15 @@ module _ {C State I R : Type 0} (rest : C → List I) (next : State → I → St
       → Answered next reply text opening old → Answered next reply text opening new
   answered_by opening old new session progress' below sessions state here here_text others was =
       let count : length new.sessions.items ≡ length old.sessions.items = ap length sessions ∙ length-set old.sessions.items session progress' in
+      let HasAnswers : ℕ → Progress C R → Type 0 = λ session progress. (progress.answers.items ≡ answers_to next reply session opening new.journal.items)
+      × (progress.output.items ≡ flat_map text (answers_to next reply session opening new.journal.items)) in
       record {
         state = state;
-        answers = λ other d within.
-            let inside : other < length old.sessions.items = omega (arith, within, count) in
-            let case : (get_or (slice_set old.sessions.items session progress') other d).answers.items ≡ answers_to next reply other opening new.journal.items = elim (eqb_tells other session) [
-              | inl same ↦ subst (λ at. (get_or (slice_set old.sessions.items session progress') at d).answers.items ≡ answers_to next reply at opening new.journal.items) (sym same.1)
-                  (ap (λ (s : Progress C R). s.answers.items) (get_or-set_same old.sessions.items session progress' d below) ∙ here)
-              | inr differs ↦ ap (λ (s : Progress C R). s.answers.items)
-                  (get_or-set_other old.sessions.items session other progress' d differs.1)
-                  ∙ was.answers other d inside ∙ sym (others other differs.1)
-            ] in
-            ap (λ (all : List (Progress C R)). (get_or all other d).answers.items) sessions ∙ case;
-        outputs = λ other d within.
-            let inside : other < length old.sessions.items = omega (arith, within, count) in
-            let case : (get_or (slice_set old.sessions.items session progress') other d).output.items
-            ≡ flat_map text (answers_to next reply other opening new.journal.items) = elim
-            (eqb_tells other session) [
-              | inl same ↦ subst (λ at. (get_or (slice_set old.sessions.items session progress') at d).output.items ≡ flat_map text (answers_to next reply at opening new.journal.items)) (sym same.1)
-                  (ap (λ (s : Progress C R). s.output.items) (get_or-set_same old.sessions.items session progress' d below) ∙ here_text)
-              | inr differs ↦ ap (λ (s : Progress C R). s.output.items)
-                  (get_or-set_other old.sessions.items session other progress' d differs.1)
-                  ∙ was.outputs other d inside ∙ ap (λ answers. flat_map text answers) (sym (others other differs.1))
-            ] in
-            ap (λ (all : List (Progress C R)). (get_or all other d).output.items) sessions ∙ case;
+        sessions = subst (λ n. EachSession HasAnswers n new.sessions.items) (sym count)
+            (subst (λ all. EachSession HasAnswers (length old.sessions.items) all) (sym sessions)
+            (each_after _ HasAnswers _ old.sessions.items session progress' was.sessions below
+            (λ other kept differs had. (had.0 ∙ sym (others other differs), had.1 ∙ ap (λ answers. flat_map text answers) (sym (others other differs))))
+            (here, here_text)));
       }
 
   -- the turn of a session with a request
@@ -110,10 +96,10 @@ module _ {C State I R : Type 0} (rest : C → List I) (next : State → I → St
             (answers.1 ∙ ap (λ state. next state item) was.state ∙ sym (state_after-append next opening entries (entry_of session item ∷ [])) ∙ ap (λ j. state_after next opening j) (sym journal))
             (answers.2 ∙ ap (λ front. front ++ reply old.service item ∷ [])
             (ap (λ (s : Progress C R). s.answers.items) (sym (seat_is progress))
-            ∙ was.answers session progress below) ∙ ap (λ last. before ++ last ∷ []) answer_is ∙ sym grows)
+            ∙ (of_session _ _ _ was.sessions session progress below).0) ∙ ap (λ last. before ++ last ∷ []) answer_is ∙ sym grows)
             (answers.3 ∙ ap (λ front. front ++ text (reply old.service item))
             (ap (λ (s : Progress C R). s.output.items) (sym (seat_is progress))
-            ∙ was.outputs session progress below) ∙ ap (λ last. flat_map text before ++ text last) answer_is
+            ∙ (of_session _ _ _ was.sessions session progress below).1) ∙ ap (λ last. flat_map text before ++ text last) answer_is
             ∙ ap (λ last. flat_map text before ++ last) (sym (append-nil (text answer))) ∙ sym (flat_map-append text before (answer ∷ [])) ∙ ap (λ answers. flat_map text answers) (sym grows))
             (λ other differs. ap (λ j. answers_to next reply other opening j) journal ∙ kept_answers next reply session other opening entries item differs) was;
         none = λ is. absurd (true_isnt_false is);
@@ -137,9 +123,9 @@ module _ {C State I R : Type 0} (rest : C → List I) (next : State → I → St
         journal = journal ∙ sym (append-nil old.journal.items) ∙ ap (λ list. old.journal.items ++ entries_of session (take 1 list)) (sym wants);
         answered = λ opening was. answered_by opening old new session progress' below sessions
             (answers.2 ∙ was.state ∙ ap (λ j. state_after next opening j) (sym journal))
-            (answers.3 ∙ ap (λ (s : Progress C R). s.answers.items) (sym (seat_is progress)) ∙ was.answers session progress below ∙ ap (λ j. answers_to next reply session opening j) (sym journal))
+            (answers.3 ∙ ap (λ (s : Progress C R). s.answers.items) (sym (seat_is progress)) ∙ (of_session _ _ _ was.sessions session progress below).0 ∙ ap (λ j. answers_to next reply session opening j) (sym journal))
             (answers.4 ∙ ap (λ (s : Progress C R). s.output.items) (sym (seat_is progress))
-            ∙ was.outputs session progress below ∙ ap (λ j. flat_map text
+            ∙ (of_session _ _ _ was.sessions session progress below).1 ∙ ap (λ j. flat_map text
             (answers_to next reply session opening j)) (sym journal))
             (λ other differs. ap (λ j. answers_to next reply other opening j) journal) was;
         none = λ is. wants;

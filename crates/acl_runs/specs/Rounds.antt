@@ -1,10 +1,9 @@
 -- A run in rounds: a request of each session in turn.
-use Rattle.std.specs.Prelude.{◌≡◌, ℕ, zero, suc, ◌<◌, ◌≤◌, List, [], ◌∷◌, ◌++◌, length, map, take}
-use Rattle.std.specs.Prelude.{drop, slice_index_or}
+use Rattle.std.specs.Prelude.{◌≡◌, ℕ, zero, suc, ◌≤◌, List, [], ◌∷◌, ◌++◌, length, map, take, drop}
 use Rattle.std.specs.List.{AllByRecursion, flat_map}
 use Rattle.acl_broker.specs.Journal.{state_after, answers_to}
+use Rattle.acl_broker.specs.Points.{EachSession}
 use Rattle.acl_broker.specs.declared.steps.JournalEntry.{JournalEntry}
-use Rattle.acl_runs.specs.declared.rounds.state.Progress.{Progress}
 use Rattle.acl_runs.specs.declared.rounds.state.Run.{Run}
 
 module _ {I : Type 0} where
@@ -36,9 +35,8 @@ module _ {C State I R : Type 0} (next : State → I → State) (reply : State �
   -- and their text
   pub record Answered (opening : State) (run : Run C State I R) : Type 0 where
     pub state : run.service ≡ state_after next opening run.journal.items
-    pub answers : (session : ℕ) (progress : Progress C R) → session < length run.sessions.items
-        → (slice_index_or run.sessions.items session progress).answers.items
-        ≡ answers_to next reply session opening run.journal.items
-    pub outputs : (session : ℕ) (progress : Progress C R) → session < length run.sessions.items
-        → (slice_index_or run.sessions.items session progress).output.items
-        ≡ flat_map text (answers_to next reply session opening run.journal.items)
+    pub sessions : EachSession (λ session progress.
+        (progress.answers.items ≡ answers_to next reply session opening run.journal.items)
+        × (progress.output.items
+        ≡ flat_map text (answers_to next reply session opening run.journal.items)))
+        (length run.sessions.items) run.sessions.items

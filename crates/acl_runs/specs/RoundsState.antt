@@ -1,12 +1,9 @@
 -- Private steps, which no public clause cites: what a run in rounds begins with, and what it
 -- reports.
-use Rattle.std.specs.Prelude.{◌≡◌, ℕ, ◌<◌, List, [], length, map, slice_index_or}
-use Rattle.std.specs.declared.vec.Vec.{Vec}
-use Rattle.std.specs.declared.alloc.Global.{Global}
+use Rattle.std.specs.Prelude.{◌≡◌, List, [], All, length, map}
 use Rattle.acl_broker.specs.declared.steps.JournalEntry.{JournalEntry}
 use Rattle.acl_runs.specs.declared.report.RunReport.{RunReport}
 use Rattle.acl_runs.specs.Turns.{rests}
-use Rattle.acl_runs.specs.declared.rounds.state.Progress.{Progress}
 use Rattle.acl_runs.specs.declared.rounds.state.Run.{Run}
 
 module _ {C State I R : Type 0} where
@@ -17,22 +14,13 @@ module _ {C State I R : Type 0} where
     pub rests_are : rests rest run ≡ map rest sessions
     pub service_is : run.service ≡ service
     pub journal : run.journal.items ≡ []
-    pub fresh : (session : ℕ) (progress : Progress C R) → session < length run.sessions.items
-        → ((slice_index_or run.sessions.items session progress).answers.items ≡ [])
-        × ((slice_index_or run.sessions.items session progress).output.items ≡ [])
+    pub fresh : All (λ progress. (progress.answers.items ≡ []) × (progress.output.items ≡ []))
+        run.sessions.items
 
   -- the report has what the sessions were answered
   pub record IsReported (run : Run C State I R) (report : RunReport State (JournalEntry I) R) : Type
       0 where
     pub journal : report.journal ≡ run.journal
     pub service_is : report.service ≡ run.service
-    pub answered : length report.answers.items ≡ length run.sessions.items
-    pub printed : length report.outputs.items ≡ length run.sessions.items
-    pub answers : (session : ℕ) (progress : Progress C R) (none : Vec R Global)
-        → session < length run.sessions.items
-        → slice_index_or report.answers.items session none
-        ≡ (slice_index_or run.sessions.items session progress).answers
-    pub outputs : (session : ℕ) (progress : Progress C R) (none : Vec ℕ Global)
-        → session < length run.sessions.items
-        → slice_index_or report.outputs.items session none
-        ≡ (slice_index_or run.sessions.items session progress).output
+    pub answers : report.answers.items ≡ map (λ progress. progress.answers) run.sessions.items
+    pub outputs : report.outputs.items ≡ map (λ progress. progress.output) run.sessions.items

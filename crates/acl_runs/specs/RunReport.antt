@@ -1,9 +1,8 @@
 -- What a run reports.
-use Rattle.std.specs.Prelude.{◌≡◌, ℕ, ◌<◌, List, length, map, slice_index_or, Option}
+use Rattle.std.specs.Prelude.{◌≡◌, ℕ, ◌<◌, List, length, map, Option}
 use Rattle.std.specs.List.{AllByRecursion, flat_map}
-use Rattle.std.specs.declared.vec.Vec.{Vec}
-use Rattle.std.specs.declared.alloc.Global.{Global}
 use Rattle.acl_broker.specs.Journal.{items_from, state_after, answers_to}
+use Rattle.acl_broker.specs.Points.{EachSession}
 use Rattle.acl_broker.specs.declared.steps.JournalEntry.{JournalEntry}
 use Rattle.acl_runs.specs.ErrorLimit.{IsServedUpTo}
 use Rattle.acl_runs.specs.Handling.{Handling}
@@ -17,19 +16,16 @@ module _ {State I R K : Type 0} (next : State → I → State) (reply : State �
     -- each entry is of a session,
     pub known : AllByRecursion (λ entry. entry.session < length wanted) report.journal.items
     -- the journal has the whole of what each session wanted, up to its last error that is allowed,
-    pub served : (session : ℕ) (none : List I) → session < length wanted
-        → IsServedUpTo handling.is_error limit (slice_index_or wanted session none)
+    pub served : EachSession (λ session requests. IsServedUpTo handling.is_error limit requests
         (items_from session report.journal.items)
-        (answers_to next reply session opening report.journal.items)
+        (answers_to next reply session opening report.journal.items)) (length wanted) wanted
     -- what is kept of a session's answers is of those of the journal, each at its place,
-    pub answered : length report.answers.items ≡ length wanted
-    pub answers : (session : ℕ) (none : Vec K Global) → session < length wanted
-        → (slice_index_or report.answers.items session none).items
-        ≡ map handling.keep (answers_to next reply session opening report.journal.items)
+    pub answers : EachSession (λ session kept. kept.items
+        ≡ map handling.keep (answers_to next reply session opening report.journal.items))
+        (length wanted) report.answers.items
     -- its output is their text,
-    pub printed : length report.outputs.items ≡ length wanted
-    pub outputs : (session : ℕ) (none : Vec ℕ Global) → session < length wanted
-        → (slice_index_or report.outputs.items session none).items
-        ≡ flat_map handling.text (answers_to next reply session opening report.journal.items)
+    pub outputs : EachSession (λ session output. output.items
+        ≡ flat_map handling.text (answers_to next reply session opening report.journal.items))
+        (length wanted) report.outputs.items
     -- and the state is the journal's result
     pub state : report.service ≡ state_after next opening report.journal.items

@@ -9,7 +9,6 @@ use Rattle.acl_broker.specs.Ends.{AreEndsOf, sent_by, polled_by, is_closed}
 use Rattle.acl_broker.specs.Takers.{TakerState, Keeps, view}
 use Rattle.acl_broker.specs.declared.end.End.{End}
 use Rattle.acl_broker.specs.declared.end.End.TheVariants.{Open}
-use Rattle.acl_broker.specs.declared.taker_side.TakerSide.{TakerSide}
 use Rattle.acl_broker.specs.declared.steps.JournalEntry.{JournalEntry}
 use Rattle.acl_runs.specs.Handling.{Handling}
 use Rattle.acl_runs.specs.RunReport.{IsReport}
@@ -27,10 +26,8 @@ use Rattle.acl_runs.specs.declared.stop.ServeFault.{ServeFault}
 module _ {I R : Type 0} where
   -- each of these ends is open, and nothing was submitted or polled by it
   abbrev pub AreFresh : List (End I R) → Type 0
-  AreFresh ends = (session : ℕ) (end : End I R) → session < length ends
-      → (is_closed (slice_index_or ends session end) ≡ false)
-      × (sent_by (slice_index_or ends session end) ≡ [])
-      × (polled_by (slice_index_or ends session end) ≡ [])
+  AreFresh ends = All (λ end. (is_closed end ≡ false) × (sent_by end ≡ []) × (polled_by end ≡ []))
+      ends
 
 module _ {State I R : Type 0} where
   -- what a run begins with: for each of so many sessions an open end of which nothing was submitted
@@ -41,8 +38,7 @@ module _ {State I R : Type 0} where
       pub pairs : AreEndsOf ends taker.sides
       pub fresh : AreFresh ends
       pub journal : taker.journal ≡ []
-      pub live : (session : ℕ) (side : TakerSide I R) → session < length taker.sides
-          → (slice_index_or taker.sides session side).cancelled ≡ false
+      pub live : All (λ side. side.cancelled ≡ false) taker.sides
 
 -- what a run begins with for these sessions
 pub record IsBegun {C State I R K : Type 0} (rest : C → List I) (limit : Option ℕ)

@@ -5,7 +5,9 @@ use Rattle.std.specs.declared.alloc.Global.{Global}
 use Rattle.std.proofs.Common.{ap, sym, ◌∙◌, subst, arith, get_or, ◌≡◌, ℕ, ◌<◌, List, [], ◌∷◌, length, map, refl, Option, None, if◌then◌else◌, ◌==◌, eq-eqb}
 use Rattle.std.proofs.lemmas.List.{get_or-map, length-map, map-id}
 use Rattle.acl_broker.specs.Journal.{items_from, state_after, answers_to}
+use Rattle.acl_broker.specs.Points.{EachSession}
 use Rattle.acl_broker.specs.declared.steps.JournalEntry.{JournalEntry}
+use Rattle.acl_broker.proofs.EachSessions.{each_session, of_session, as_many}
 use Rattle.acl_names.specs.Directory.{Known}
 use Rattle.acl_tree.specs.Tree.{NodesUnderUmask}
 use Rattle.acl_lang.specs.Printed.{answer_text, answers_text}
@@ -47,17 +49,19 @@ explains served limit texts run is =
     let within = λ (session : ℕ) (below : session < length texts). subst (λ n. session < n) (sym count) below in
     record {
       entries = subst (λ n. AllByRecursion (λ entry. entry.session < n) journal) count is.known;
-      served = λ session none below.
+      served = each_session _ _ texts refl (λ session none below.
           subst (λ requests. IsServedUpTo is_error limit requests (items_from session journal)
           (answers_in known served.tree journal session))
           (get_or-map (λ text. requests_of known text.items) texts session none [] below)
           (subst (λ answers. IsServedUpTo is_error limit (get_or wanted session [])
           (items_from session journal) answers) (served_answers session served journal)
-          (is.served session [] (within session below)));
-      answered = is.answered ∙ count;
-      answers = λ session none below. is.answers session none (within session below) ∙ map-id (answers_to next_served reply_served session served journal) ∙ served_answers session served journal;
-      outputs_are = is.printed ∙ count;
-      outputs = λ session none below. is.outputs session none (within session below) ∙ ap (λ answers. flat_map (answer_text known) answers) (served_answers session served journal);
+          (of_session _ _ _ is.served session [] (within session below))));
+      answers = each_session _ _ run.answers.items (as_many _ _ _ is.answers ∙ count) (λ session none below.
+          of_session _ _ _ is.answers session none (within session below)
+          ∙ map-id (answers_to next_served reply_served session served journal) ∙ served_answers session served journal);
+      outputs = each_session _ _ run.outputs.items (as_many _ _ _ is.outputs ∙ count) (λ session none below.
+          of_session _ _ _ is.outputs session none (within session below)
+          ∙ ap (λ answers. flat_map (answer_text known) answers) (served_answers session served journal));
       result = ap (λ state. state.tree) is.state ∙ served_tree served journal;
     }
 
@@ -75,17 +79,15 @@ pub explained_by : (known : Known) (tree : NodesUnderUmask) (limit : Option ℕ)
     → IsReportOf run report → ExplainsSessions known tree limit texts (report_of run) → ExplainsSessions known tree limit texts report
 explained_by known tree limit texts run report same is = record {
   entries = subst (λ entries. AllByRecursion (λ entry. entry.session < length texts) entries) (sym same.journal) is.entries;
-  served = λ session none below.
-      subst (λ entries. IsServedUpTo is_error limit (requests_of known (get_or texts session none).items) (items_from session entries) (answers_in known tree entries session)) (sym same.journal)
-      (is.served session none below);
-  answered = ap (λ (answers : Vec (Vec Answer Global) Global). length answers.items) same.answers ∙ is.answered;
-  answers = λ session none below.
-      subst (λ entries. (get_or report.answers.items session none).items ≡ answers_in known tree entries session) (sym same.journal)
-      (ap (λ (answers : Vec (Vec Answer Global) Global). (get_or answers.items session none).items) same.answers ∙ is.answers session none below);
-  outputs_are = ap (λ (outputs : Vec (Vec ℕ Global) Global). length outputs.items) same.outputs ∙ is.outputs_are;
-  outputs = λ session none below.
-      subst (λ entries. (get_or report.outputs.items session none).items ≡ answers_text known (answers_in known tree entries session)) (sym same.journal)
-      (ap (λ (outputs : Vec (Vec ℕ Global) Global). (get_or outputs.items session none).items) same.outputs ∙ is.outputs session none below);
+  served = subst (λ entries. EachSession (λ session text. IsServedUpTo is_error limit (requests_of known text.items)
+      (items_from session entries) (answers_in known tree entries session)) (length texts) texts) (sym same.journal) is.served;
+  answers =
+      subst (λ entries. EachSession (λ session answers. answers.items ≡ answers_in known tree entries session) (length texts) report.answers.items) (sym same.journal)
+      (subst (λ (answers : Vec (Vec Answer Global) Global). EachSession (λ session kept. kept.items ≡ answers_in known tree run.journal.items session) (length texts) answers.items) (sym same.answers) is.answers);
+  outputs =
+      subst (λ entries. EachSession (λ session output. output.items ≡ answers_text known (answers_in known tree entries session)) (length texts) report.outputs.items) (sym same.journal)
+      (subst (λ (outputs : Vec (Vec ℕ Global) Global). EachSession (λ session output. output.items
+      ≡ answers_text known (answers_in known tree run.journal.items session)) (length texts) outputs.items) (sym same.outputs) is.outputs);
   result = same.tree ∙ is.result ∙ ap (λ entries. tree_after_journal known tree entries) (sym same.journal);
 }
 
@@ -106,13 +108,20 @@ alone_answers known tree (entry ∷ journal) own =
     ap (λ test. if test then answer_to known tree entry.item ∷ more else more) (eq-eqb entry.session 0 (omega (arith, own.0)))
     ∙ ap (λ answers. answer_to known tree entry.item ∷ answers) (alone_answers known (tree_after_one known tree entry.item) journal own.1)
 
+-- the outputs of one session
+one_output : (text : ℕ → List ℕ) (outputs : List (Vec ℕ Global)) → EachSession (λ session output. output.items ≡ text session) 1 outputs
+    → map (λ output. output.items) outputs ≡ text 0 ∷ []
+one_output text [] each = absurd each
+one_output text (output ∷ []) each = ap (λ items. items ∷ []) each.0
+one_output text (output ∷ other ∷ outputs) each = absurd each.1
+
 -- so a run of one session comes to what the session comes to alone
 pub served_alone : (known : Known) (tree : NodesUnderUmask) (text : Vec ℕ Global) (report : Report) → ExplainsSessions known tree None (text ∷ []) report → IsServedAlone known tree text.items report
 served_alone known tree text report is =
     let journal = report.journal.items in
-    let requests : map (λ entry. entry.item) journal ≡ requests_of known text.items = alone_items journal is.entries ∙ is.served 0 text (omega arith) in
+    let requests : map (λ entry. entry.item) journal ≡ requests_of known text.items = alone_items journal is.entries ∙ is.served.0 in
     record {
-      output = λ none.
-          is.outputs 0 none (omega arith) ∙ ap (λ answers. answers_text known answers) (alone_answers known tree journal is.entries ∙ ap (λ items. answers_of known tree items) requests);
+      output = one_output (λ session. answers_text known (answers_in known tree journal session)) report.outputs.items is.outputs
+          ∙ ap (λ answers. answers_text known answers ∷ []) (alone_answers known tree journal is.entries ∙ ap (λ items. answers_of known tree items) requests);
       result = is.result ∙ ap (λ items. tree_after known tree items) requests;
     }

@@ -1,6 +1,5 @@
 -- What is reported of sessions that worked on one tree.
-use Rattle.std.specs.Prelude.{◌≡◌, ℕ, ◌<◌, Bool, true, false, List, length, map, slice_index_or}
-use Rattle.std.specs.Prelude.{Option}
+use Rattle.std.specs.Prelude.{◌≡◌, ℕ, ◌<◌, Bool, true, false, List, [], ◌∷◌, length, map, Option}
 use Rattle.std.specs.List.{AllByRecursion}
 use Rattle.std.specs.declared.vec.Vec.{Vec}
 use Rattle.std.specs.declared.alloc.Global.{Global}
@@ -14,6 +13,7 @@ use Rattle.acl_lang.specs.Texts.{requests_of}
 use Rattle.acl_lang.specs.declared.answer.Answer.{Answer}
 use Rattle.acl_lang.specs.declared.text.Numbered.{Numbered}
 use Rattle.acl_broker.specs.Journal.{items_from, answers_to}
+use Rattle.acl_broker.specs.Points.{EachSession}
 use Rattle.acl_broker.specs.declared.steps.JournalEntry.{JournalEntry}
 use Rattle.acl_runs.specs.ErrorLimit.{IsServedUpTo}
 use Rattle.acl_runs.specs.Handling.{Handling}
@@ -63,26 +63,22 @@ pub record ExplainsSessions (known : Known) (tree : NodesUnderUmask) (limit : Op
   pub entries : AllByRecursion (λ entry. entry.session < length texts) report.journal.items
   -- the journal has the whole of each text's requests, up to the session's last error that is
   -- allowed,
-  pub served : (session : ℕ) (none : Vec ℕ Global) → session < length texts
-      → IsServedUpTo is_error limit (requests_of known (slice_index_or texts session none).items)
-      (items_from session report.journal.items)
-      (answers_in known tree report.journal.items session)
+  pub served : EachSession (λ session text. IsServedUpTo is_error limit
+      (requests_of known text.items) (items_from session report.journal.items)
+      (answers_in known tree report.journal.items session)) (length texts) texts
   -- a session's answers are the journal's to it,
-  pub answered : length report.answers.items ≡ length texts
-  pub answers : (session : ℕ) (none : Vec Answer Global) → session < length texts
-      → (slice_index_or report.answers.items session none).items
-      ≡ answers_in known tree report.journal.items session
+  pub answers : EachSession (λ session answers. answers.items
+      ≡ answers_in known tree report.journal.items session) (length texts) report.answers.items
   -- its output is what is printed of them,
-  pub outputs_are : length report.outputs.items ≡ length texts
-  pub outputs : (session : ℕ) (none : Vec ℕ Global) → session < length texts
-      → (slice_index_or report.outputs.items session none).items
-      ≡ answers_text known (answers_in known tree report.journal.items session)
+  pub outputs : EachSession (λ session output. output.items
+      ≡ answers_text known (answers_in known tree report.journal.items session)) (length texts)
+      report.outputs.items
   -- and the tree is the journal's result
   pub result : report.tree ≡ tree_after_journal known tree report.journal.items
 
 -- a run of one session comes to what the session comes to alone
 pub record IsServedAlone (known : Known) (tree : NodesUnderUmask) (text : List ℕ) (report : Report)
     : Type 0 where
-  pub output : (none : Vec ℕ Global) → (slice_index_or report.outputs.items 0 none).items
-      ≡ session_text known tree text
+  pub output : map (λ output. output.items) report.outputs.items
+      ≡ session_text known tree text ∷ []
   pub result : report.tree ≡ tree_after known tree (requests_of known text)

@@ -1,35 +1,26 @@
-use Rattle.std.proofs.Common.{◌≡◌, ◌+◌, ◌<◌, get_or, length, vec_items, vec_len, sym, ap, ◌∙◌, subst, add-zero, suc, refl, rules, arith}
+use Rattle.std.proofs.Common.{◌≡◌, ◌+◌, ◌++◌, ◌∷◌, [], map, vec_items, sym, ap, ◌∙◌, append_assoc, append-nil, refl, rules, arith}
 use Rattle.std.specs.Vec.Iter.{into_iter_items}
-use Rattle.acl_runs.proofs.PlaceLemmas.{each_after_push}
+use Rattle.std.proofs.lemmas.List.{nil_from_length}
 use Rattle.acl_runs.proofs.rounds.state.report_all.Goals as goal
 
 pub loop-progress-preserved : goal.loop-progress-preserved
 loop-progress-preserved g c =
     let was = c.loop-progress.invariant in
     let step = c.in-Some.ensures.steps in
-    let done = vec_len c.loop-progress.answers in
-    let first = into_iter_items c.into_iter-progress-iterator.result in
-    let grown : vec_len c.push_reserved.new.self ≡ done + 1 = search rules in
-    let next_progress : (d : _) → c.in-Some.progress ≡ get_or first done d = λ d.
-    sym (ap (λ xs. get_or xs 0 d) step.0) ∙ was.left 0 d (omega (arith, step.1)) ∙ ap (λ n. get_or first n d) (add-zero done) in
+    let answers = vec_items c.loop-progress.answers in
+    let outputs = vec_items c.loop-progress.outputs in
+    let rest = into_iter_items c.next.new.self in
     record {
       count = search rules;
       outputs = search rules;
       room_answers = search rules;
       room_outputs = search rules;
-      left = λ k d below. sym (ap (λ xs. get_or xs (suc k) d) step.0) ∙ was.left (suc k) d (omega (arith, step.1, below)) ∙ ap (λ n. get_or first n d) (omega (arith, grown));
-      answers_are = λ k progress none below.
-          each_after_push (λ i x. x ≡ (get_or first i progress).answers)
-          (vec_items c.loop-progress.answers) c.in-Some.progress.answers
-          (vec_items c.push_reserved.new.self) done c.push_reserved.ensures.items
-          (omega (arith, c.loop-progress.answers.ok.0))
-          (λ i x low. was.answers_are i progress x low) (ap (λ s. s.answers) (next_progress progress)) k none (subst (λ n. k < n) grown below);
-      outputs_are = λ k progress none below.
-          each_after_push (λ i x. x ≡ (get_or first i progress).output)
-          (vec_items c.loop-progress.outputs) c.in-Some.progress.output
-          (vec_items c.push_reserved-in-loop-progress.new.self) done
-          c.push_reserved-in-loop-progress.ensures.items (omega (arith, c.loop-progress.outputs.ok.0, was.outputs))
-          (λ i x low. was.outputs_are i progress x low) (ap (λ s. s.output) (next_progress progress)) k none (subst (λ n. k < n) grown below);
+      answers_are = ap (λ front. front ++ map (λ progress. progress.answers) rest) c.push_reserved.ensures.items
+          ∙ append_assoc answers (c.in-Some.progress.answers ∷ []) (map (λ progress. progress.answers) rest)
+          ∙ ap (λ items. answers ++ map (λ progress. progress.answers) items) (sym step.0) ∙ was.answers_are;
+      outputs_are = ap (λ front. front ++ map (λ progress. progress.output) rest) c.push_reserved-in-loop-progress.ensures.items
+          ∙ append_assoc outputs (c.in-Some.progress.output ∷ []) (map (λ progress. progress.output) rest)
+          ∙ ap (λ items. outputs ++ map (λ progress. progress.output) items) (sym step.0) ∙ was.outputs_are;
     }
 
 pub returns : goal.returns
@@ -37,12 +28,12 @@ returns g c =
     let was = c.loop-progress.invariant in
     let began = c.into_iter-progress-iterator.ensures.into_iter_gives in
     let over = c.in-None.ensures.steps in
-    let all : vec_len c.loop-progress.answers ≡ length c.args.run.sessions.items = omega (arith, was.count, over.0, began.1, c.args.run.sessions.ok.0) in
+    let none_left : into_iter_items c.loop-progress.progress-iterator ≡ [] = nil_from_length _ (omega (arith, over.0, c.loop-progress.progress-iterator.rest.ok.0)) in
     record {
       journal = refl;
       service_is = refl;
-      answered = omega (arith, c.loop-progress.answers.ok.0, all);
-      printed = omega (arith, c.loop-progress.outputs.ok.0, was.outputs, all);
-      answers = λ k progress none below. was.answers_are k progress none (omega (arith, below, all)) ∙ ap (λ sessions. (get_or sessions k progress).answers) began.0;
-      outputs = λ k progress none below. was.outputs_are k progress none (omega (arith, below, all)) ∙ ap (λ sessions. (get_or sessions k progress).output) began.0;
+      answers = sym (append-nil _) ∙ ap (λ items. vec_items c.loop-progress.answers ++ map (λ progress. progress.answers) items) (sym none_left)
+          ∙ was.answers_are ∙ ap (λ items. map (λ progress. progress.answers) items) began.0;
+      outputs = sym (append-nil _) ∙ ap (λ items. vec_items c.loop-progress.outputs ++ map (λ progress. progress.output) items) (sym none_left)
+          ∙ was.outputs_are ∙ ap (λ items. map (λ progress. progress.output) items) began.0;
     }

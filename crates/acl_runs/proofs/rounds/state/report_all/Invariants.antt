@@ -1,4 +1,4 @@
-use Rattle.std.proofs.Common.{◌≡◌, ℕ, ◌+◌, ◌<◌, ◌≤◌, get_or, vec_items, vec_len, vec_capacity}
+use Rattle.std.proofs.Common.{◌≡◌, ◌+◌, ◌≤◌, ◌++◌, map, vec_items, vec_len, vec_capacity}
 use Rattle.std.specs.Vec.Iter.{into_iter_items, into_iter_len}
 use Rattle.acl_runs.proofs.rounds.state.report_all.Given as goal
 
@@ -10,7 +10,8 @@ invariant-loop-progress g l =
       outputs : vec_len l.outputs ≡ done;
       room_answers : into_iter_len first ≤ vec_capacity l.answers;
       room_outputs : into_iter_len first ≤ vec_capacity l.outputs;
-      left : (k : ℕ) (progress : _) → k < into_iter_len rest → get_or (into_iter_items rest) k progress ≡ get_or (into_iter_items first) (done + k) progress;
-      answers_are : (k : ℕ) (progress : _) (none : _) → k < done → get_or (vec_items l.answers) k none ≡ (get_or (into_iter_items first) k progress).answers;
-      outputs_are : (k : ℕ) (progress : _) (none : _) → k < done → get_or (vec_items l.outputs) k none ≡ (get_or (into_iter_items first) k progress).output;
+      answers_are : vec_items l.answers ++ map (λ progress. progress.answers) (into_iter_items rest)
+          ≡ map (λ progress. progress.answers) (into_iter_items first);
+      outputs_are : vec_items l.outputs ++ map (λ progress. progress.output) (into_iter_items rest)
+          ≡ map (λ progress. progress.output) (into_iter_items first);
     }
