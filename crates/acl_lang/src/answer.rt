@@ -1,7 +1,7 @@
 //! Answers, and how they are printed.
 
 ghost use Rattle.std.specs.Prelude.{◌≡◌, ◌++◌, OnOk, OnErr};
-ghost use Rattle.acl_names.specs.Printing.{Prints};
+ghost use Rattle.acl_names.specs.Pushing.{Pushes};
 ghost use Rattle.acl_tree.specs.Nodes.{view_of};
 ghost use Rattle.acl_tree.specs.declared.reply.Reply.TheVariants.{Node as ReplyNode};
 ghost use Rattle.acl_lang.specs.Printed.{answer_text};
@@ -68,7 +68,7 @@ fn push_shown_answer(
     directory: &Directory,
     out: &mut Vec<u8>,
 ) -> Result<(), AllocError>
-    ensures { Prints (answer_text directory.now
+    ensures { Pushes (answer_text directory.now
         (record { line = line; reply = ReplyNode shown.now })) result out.old out.new }
 {
     out.reserve(room_for_shown(shown, directory))?;
@@ -79,7 +79,7 @@ fn push_shown_answer(
 
 #[tactic(auto, using(acl_names::proofs::Prefixes::printing_steps))]
 fn push_answer(answer: &Answer, directory: &Directory, out: &mut Vec<u8>) -> Result<(), AllocError>
-    ensures { Prints (answer_text directory.now answer.now) result out.old out.new }
+    ensures { Pushes (answer_text directory.now answer.now) result out.old out.new }
 {
     out.reserve(room_for(&answer.reply, directory))?;
     push_decimal(answer.line, out)?;

@@ -2,7 +2,7 @@
 
 ghost use Rattle.std.specs.Prelude.{◌≡◌, ◌≤◌, ◌++◌, ◌∷◌, [], codes, decimal, OnOk, OnErr};
 ghost use Rattle.acl_names.specs.Bytes.{space};
-ghost use Rattle.acl_names.specs.Printing.{Prints};
+ghost use Rattle.acl_names.specs.Pushing.{Pushes};
 ghost use Rattle.acl_names.specs.declared.limits.TheConstants.{MAX_ID};
 ghost use Rattle.acl_nfs4.specs.Acl.{AreAces};
 ghost use Rattle.acl_posix.specs.Canonical.{IsAcl};
@@ -45,7 +45,7 @@ pub fn push_command(request: &Request, out: &mut Vec<u8>) -> Result<(), AllocErr
 }
 
 fn push_request(request: &Request, out: &mut Vec<u8>) -> Result<(), AllocError>
-    ensures printed { Prints (command_text request.now) result out.old out.new }
+    ensures printed { Pushes (command_text request.now) result out.old out.new }
     ensures printable { OnOk result (HasLine request.now → IsPrintable request.now) }
 {
     match request {
@@ -64,7 +64,7 @@ fn push_request(request: &Request, out: &mut Vec<u8>) -> Result<(), AllocError>
 
 /// Appends the command's word, a space and the path.
 fn push_path(command: &[u8], path: &Path, out: &mut Vec<u8>) -> Result<(), AllocError>
-    ensures printed { Prints (command.now ++ space ∷ path.now) result out.old out.new }
+    ensures printed { Pushes (command.now ++ space ∷ path.now) result out.old out.new }
     ensures path { IsPath path.now }
 {
     let path = path.as_bytes();
@@ -75,7 +75,7 @@ fn push_path(command: &[u8], path: &Path, out: &mut Vec<u8>) -> Result<(), Alloc
 
 /// Appends a space and the user.
 fn push_user(user: Uid, out: &mut Vec<u8>) -> Result<(), AllocError>
-    ensures printed { Prints (space ∷ decimal user) result out.old out.new }
+    ensures printed { Pushes (space ∷ decimal user) result out.old out.new }
     ensures in_range { user ≤ MAX_ID }
 {
     let number = user.value();
@@ -85,7 +85,7 @@ fn push_user(user: Uid, out: &mut Vec<u8>) -> Result<(), AllocError>
 
 /// Appends a space and the mode.
 fn push_mode(mode: Mode, out: &mut Vec<u8>) -> Result<(), AllocError>
-    ensures printed { Prints (space ∷ mode_text mode) result out.old out.new }
+    ensures printed { Pushes (space ∷ mode_text mode) result out.old out.new }
     ensures classes { AreClasses mode }
 {
     let digits = mode_text(mode);
@@ -95,7 +95,7 @@ fn push_mode(mode: Mode, out: &mut Vec<u8>) -> Result<(), AllocError>
 
 /// `chmod P OOO`
 fn push_chmod(path: &Path, mode: Mode, out: &mut Vec<u8>) -> Result<(), AllocError>
-    ensures printed { Prints (command_text (Chmod path.now mode)) result out.old out.new }
+    ensures printed { Pushes (command_text (Chmod path.now mode)) result out.old out.new }
     ensures printable { OnOk result (IsPath path.now × AreClasses mode) }
 {
     push_path(b"chmod", path, out)?;
@@ -111,7 +111,7 @@ fn push_create(
     mode: Mode,
     out: &mut Vec<u8>,
 ) -> Result<(), AllocError>
-    ensures printed { Prints (command_text (Create kind path.now user mode))
+    ensures printed { Pushes (command_text (Create kind path.now user mode))
         result out.old out.new }
     ensures printable { OnOk result (IsPath path.now × (user ≤ MAX_ID) × AreClasses mode) }
 {
@@ -123,7 +123,7 @@ fn push_create(
 
 /// `COMMAND P USER`
 fn push_asked(command: &[u8], path: &Path, user: Uid, out: &mut Vec<u8>) -> Result<(), AllocError>
-    ensures printed { Prints (command.now ++ space ∷ (path.now ++ space ∷ decimal user))
+    ensures printed { Pushes (command.now ++ space ∷ (path.now ++ space ∷ decimal user))
         result out.old out.new }
     ensures path { IsPath path.now }
     ensures in_range { OnOk result (user ≤ MAX_ID) }
@@ -134,7 +134,7 @@ fn push_asked(command: &[u8], path: &Path, user: Uid, out: &mut Vec<u8>) -> Resu
 
 /// `check P USER PERMS`
 fn push_check(path: &Path, user: Uid, perms: Perms, out: &mut Vec<u8>) -> Result<(), AllocError>
-    ensures printed { Prints (command_text (Check path.now user perms)) result out.old out.new }
+    ensures printed { Pushes (command_text (Check path.now user perms)) result out.old out.new }
     ensures printable { OnOk result (IsPath path.now × (user ≤ MAX_ID)) }
 {
     push_asked(b"check", path, user, out)?;
@@ -145,7 +145,7 @@ fn push_check(path: &Path, user: Uid, perms: Perms, out: &mut Vec<u8>) -> Result
 /// `check4 P USER LETTERS`
 #[tactic(auto, using(acl_names::proofs::Prefixes::printing_steps))]
 fn push_check4(path: &Path, user: Uid, mask: Mask, out: &mut Vec<u8>) -> Result<(), AllocError>
-    ensures printed { Prints (command_text (Check4 path.now user mask)) result out.old out.new }
+    ensures printed { Pushes (command_text (Check4 path.now user mask)) result out.old out.new }
     ensures printable { OnOk result (IsPath path.now × (user ≤ MAX_ID)) }
 {
     push_asked(b"check4", path, user, out)?;
@@ -155,7 +155,7 @@ fn push_check4(path: &Path, user: Uid, mask: Mask, out: &mut Vec<u8>) -> Result<
 
 /// Appends `set P KIND` and a space.
 fn push_set(path: &Path, kind: &[u8], out: &mut Vec<u8>) -> Result<(), AllocError>
-    ensures printed { Prints (codes "set" ++ space ∷ (path.now ++ space ∷ (kind.now ++ space ∷ [])))
+    ensures printed { Pushes (codes "set" ++ space ∷ (path.now ++ space ∷ (kind.now ++ space ∷ [])))
         result out.old out.new }
     ensures path { IsPath path.now }
 {
@@ -167,7 +167,7 @@ fn push_set(path: &Path, kind: &[u8], out: &mut Vec<u8>) -> Result<(), AllocErro
 
 /// `set P access TEXT`
 fn push_set_access(path: &Path, acl: &Acl, out: &mut Vec<u8>) -> Result<(), AllocError>
-    ensures printed { Prints (command_text (SetAccess path.now acl.now)) result out.old out.new }
+    ensures printed { Pushes (command_text (SetAccess path.now acl.now)) result out.old out.new }
     ensures printable { OnOk result (IsPath path.now × IsAcl acl.now × NameIds acl.now) }
 {
     push_set(path, b"access", out)?;
@@ -180,7 +180,7 @@ fn push_set_default(
     default: &Option<Boxed<Acl>>,
     out: &mut Vec<u8>,
 ) -> Result<(), AllocError>
-    ensures printed { Prints (command_text (SetDefault path.now default.now))
+    ensures printed { Pushes (command_text (SetDefault path.now default.now))
         result out.old out.new }
     ensures printable { OnOk result (IsPath path.now × IsDefault default.now) }
 {
@@ -190,7 +190,7 @@ fn push_set_default(
 
 /// `set P nfs4 TEXT`
 fn push_set_nfs4(path: &Path, acl: &Acl4, out: &mut Vec<u8>) -> Result<(), AllocError>
-    ensures printed { Prints (command_text (SetNfs4 path.now acl.now)) result out.old out.new }
+    ensures printed { Pushes (command_text (SetNfs4 path.now acl.now)) result out.old out.new }
     ensures printable { OnOk result (IsPath path.now × AreAces acl.now × NameIdsOfAces acl.now) }
 {
     push_set(path, b"nfs4", out)?;
@@ -198,7 +198,7 @@ fn push_set_nfs4(path: &Path, acl: &Acl4, out: &mut Vec<u8>) -> Result<(), Alloc
 }
 
 fn push_acl(acl: &Acl, out: &mut Vec<u8>) -> Result<(), AllocError>
-    ensures printed { Prints (short_text acl.now) result out.old out.new }
+    ensures printed { Pushes (short_text acl.now) result out.old out.new }
     ensures acl { IsAcl acl.now }
     ensures ids { OnOk result (NameIds acl.now) }
 {
@@ -208,7 +208,7 @@ fn push_acl(acl: &Acl, out: &mut Vec<u8>) -> Result<(), AllocError>
 }
 
 fn push_default(default: &Option<Boxed<Acl>>, out: &mut Vec<u8>) -> Result<(), AllocError>
-    ensures printed { Prints (default_field default.now) result out.old out.new }
+    ensures printed { Pushes (default_field default.now) result out.old out.new }
     ensures lists { OnOk result (IsDefault default.now) }
 {
     match default {
@@ -219,7 +219,7 @@ fn push_default(default: &Option<Boxed<Acl>>, out: &mut Vec<u8>) -> Result<(), A
 
 /// Appends the entries; of a list with none a comment, since a line has to say something.
 fn push_aces(acl: &Acl4, out: &mut Vec<u8>) -> Result<(), AllocError>
-    ensures printed { Prints (aces_field acl.now) result out.old out.new }
+    ensures printed { Pushes (aces_field acl.now) result out.old out.new }
     ensures aces { AreAces acl.now }
     ensures ids { OnOk result (NameIdsOfAces acl.now) }
 {

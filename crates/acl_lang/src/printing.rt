@@ -2,7 +2,7 @@
 
 ghost use Rattle.std.specs.Prelude.{◌≡◌, ◌++◌, ◌∷◌, [], codes};
 ghost use Rattle.acl_names.specs.Bytes.{space};
-ghost use Rattle.acl_names.specs.Printing.{Prints};
+ghost use Rattle.acl_names.specs.Pushing.{Pushes};
 ghost use Rattle.acl_lang.specs.Printed.{acl_text, below_text, error_text, head_text, kind_text};
 ghost use Rattle.acl_lang.specs.Printed.{mode_text, owners_text, reply_text, style_text, view_text};
 
@@ -20,7 +20,7 @@ pub(crate) fn push_reply(
     directory: &Directory,
     out: &mut Vec<u8>,
 ) -> Result<(), AllocError>
-    ensures { Prints (reply_text directory.now reply.now) result out.old out.new }
+    ensures { Pushes (reply_text directory.now reply.now) result out.old out.new }
 {
     match reply {
         Reply::Done => out.extend_from_slice(b"ok\n"),
@@ -43,7 +43,7 @@ pub(crate) fn push_reply(
 
 /// Appends `error CODE WORD`.
 fn push_error(code: u8, word: &[u8], out: &mut Vec<u8>) -> Result<(), AllocError>
-    ensures { Prints (error_text code word.now) result out.old out.new }
+    ensures { Pushes (error_text code word.now) result out.old out.new }
 {
     out.extend_from_slice(b"error ")?;
     push_decimal(u32::from(code), out)?;
@@ -57,7 +57,7 @@ pub(crate) fn push_view(
     directory: &Directory,
     out: &mut Vec<u8>,
 ) -> Result<(), AllocError>
-    ensures { Prints (view_text directory.now shown.now) result out.old out.new }
+    ensures { Pushes (view_text directory.now shown.now) result out.old out.new }
 {
     push_head(shown, directory, out)?;
     out.extend_from_slice(b"\n")?;
@@ -66,7 +66,7 @@ pub(crate) fn push_view(
 
 /// Appends `get PATH KIND OWNER GROUP MODE STYLE`.
 fn push_head(shown: &Shown<'_>, directory: &Directory, out: &mut Vec<u8>) -> Result<(), AllocError>
-    ensures { Prints (head_text directory.now shown.now) result out.old out.new }
+    ensures { Pushes (head_text directory.now shown.now) result out.old out.new }
 {
     push_what(shown, out)?;
     push_owners(shown.owner, shown.group, directory, out)?;
@@ -75,7 +75,7 @@ fn push_head(shown: &Shown<'_>, directory: &Directory, out: &mut Vec<u8>) -> Res
 
 /// Appends `get PATH KIND` and a blank.
 fn push_what(shown: &Shown<'_>, out: &mut Vec<u8>) -> Result<(), AllocError>
-    ensures { Prints (codes "get " ++ (shown.now.path
+    ensures { Pushes (codes "get " ++ (shown.now.path
         ++ space ∷ (kind_text shown.now.kind ++ space ∷ []))) result out.old out.new }
 {
     out.extend_from_slice(b"get ")?;
@@ -87,7 +87,7 @@ fn push_what(shown: &Shown<'_>, out: &mut Vec<u8>) -> Result<(), AllocError>
 
 /// Appends a blank and `MODE STYLE`.
 fn push_how(shown: &Shown<'_>, out: &mut Vec<u8>) -> Result<(), AllocError>
-    ensures { Prints (space ∷ mode_text shown.now.mode ++ space ∷ style_text shown.now.acl)
+    ensures { Pushes (space ∷ mode_text shown.now.mode ++ space ∷ style_text shown.now.acl)
         result out.old out.new }
 {
     out.extend_from_slice(b" ")?;
@@ -104,7 +104,7 @@ fn push_owners(
     directory: &Directory,
     out: &mut Vec<u8>,
 ) -> Result<(), AllocError>
-    ensures { Prints (owners_text directory.now owner group) result out.old out.new }
+    ensures { Pushes (owners_text directory.now owner group) result out.old out.new }
 {
     push_id(directory.user_name(owner), owner.value(), out)?;
     out.extend_from_slice(b" ")?;
@@ -142,7 +142,7 @@ fn style_text(acl: &NodeAcl) -> &'static [u8]
 
 #[tactic(auto, using(acl_names::proofs::Prefixes::printing_steps))]
 fn push_acl(acl: &NodeAcl, directory: &Directory, out: &mut Vec<u8>) -> Result<(), AllocError>
-    ensures { Prints (acl_text directory.now acl.now) result out.old out.new }
+    ensures { Pushes (acl_text directory.now acl.now) result out.old out.new }
 {
     match acl {
         NodeAcl::Posix { access, default } => {
@@ -158,7 +158,7 @@ fn push_default(
     directory: &Directory,
     out: &mut Vec<u8>,
 ) -> Result<(), AllocError>
-    ensures { Prints (below_text directory.now default.now) result out.old out.new }
+    ensures { Pushes (below_text directory.now default.now) result out.old out.new }
 {
     match default {
         Some(acl) => acl.print_default(directory, out),

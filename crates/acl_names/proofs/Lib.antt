@@ -14,7 +14,7 @@ pub mod IdTexts
 pub mod Fields
 pub mod LettersAgain
 pub mod Prefixes
-pub mod Printed
+pub mod Pushed
 pub mod AscendingSets
 pub mod StepLemmas
 pub mod ReadListLemmas

@@ -14,4 +14,4 @@ pub mod Steps
 pub mod ReadList
 pub mod Digits
 pub mod Plain
-pub mod Printing
+pub mod Pushing

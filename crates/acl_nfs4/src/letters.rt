@@ -2,7 +2,7 @@
 
 ghost use Rattle.std.specs.Prelude.{◌≡◌, option_map};
 ghost use Rattle.acl_names.specs.Letters.{letters_of, letters_text};
-ghost use Rattle.acl_names.specs.Printing.{PrintsInRoom};
+ghost use Rattle.acl_names.specs.Pushing.{PushesInRoom};
 ghost use Rattle.acl_nfs4.specs.Flags.{flag_bits};
 ghost use Rattle.acl_nfs4.specs.Letters.{flag_table, mask_table};
 ghost use Rattle.acl_nfs4.specs.Mask.{mask_bits};
@@ -129,14 +129,14 @@ pub(crate) fn read_flags(text: &[u8]) -> Option<Flags>
 /// Appends the letters of the mask's bits, in the order `rwaxdDtTnNcCoy`. If memory runs out, what
 /// was there stays; that happens only if `out` has no room for them.
 pub fn push_mask(mask: Mask, out: &mut Vec<u8>) -> Result<(), AllocError>
-    ensures { PrintsInRoom (letters_text mask_table (mask_bits mask)) result out.old out.new }
+    ensures { PushesInRoom (letters_text mask_table (mask_bits mask)) result out.old out.new }
 {
     push_letters_of(&MASK_TABLE, mask.bits(), out)
 }
 
 /// Appends the letters of the flags.
 pub(crate) fn push_flags(flags: Flags, out: &mut Vec<u8>) -> Result<(), AllocError>
-    ensures { PrintsInRoom (letters_text flag_table (flag_bits flags)) result out.old out.new }
+    ensures { PushesInRoom (letters_text flag_table (flag_bits flags)) result out.old out.new }
 {
     push_letters_of(&FLAG_TABLE, u32::from(flags.bits()), out)
 }

@@ -227,7 +227,8 @@ fn difference_of<E: AboutWho, L: Compared>(
 }
 
 /// What two lists decide differently for the asker of a pair of entries, one of each: the lists of
-/// these entries, each for a file of its own owners. It takes no memory.
+/// these entries, at most 128 each (`MAX_ACES`), each for a file of its own owners. It takes no
+/// memory.
 pub fn difference_by_pairs<E: AboutWho, L: Compared>(
     lists: &L,
     first: &[E],

@@ -3,7 +3,7 @@
 ghost use Rattle.std.specs.Prelude.{◌≡◌, ◌≤◌, ◌<◌, ◌+◌, ◌*◌, ◌++◌, length, option_map, vec_len};
 ghost use Rattle.std.specs.Prelude.{vec_capacity, OnOk, OnErr};
 ghost use Rattle.acl_names.specs.ListText.{Spells};
-ghost use Rattle.acl_names.specs.Printing.{PrintsInRoom};
+ghost use Rattle.acl_names.specs.Pushing.{PushesInRoom};
 ghost use Rattle.acl_nfs4.specs.AceText.{piece_value};
 ghost use Rattle.acl_nfs4.specs.PrintedText.{ace_text, aces_text, front_text, HaveIds, line_text};
 ghost use Rattle.acl_nfs4.specs.PrintedText.{named_text, type_text, who_text};
@@ -64,7 +64,7 @@ fn ask_for_lines(count: usize, out: &mut Vec<u8>) -> Result<(), AllocError>
 }
 
 fn push_lines(aces: &[Ace], directory: &Directory, out: &mut Vec<u8>) -> Result<(), AllocError>
-    ensures printed { PrintsInRoom (aces_text directory.now aces.now) result out.old out.new }
+    ensures printed { PushesInRoom (aces_text directory.now aces.now) result out.old out.new }
     ensures have_ids { OnOk result (HaveIds aces.now) }
 {
     for ace in aces {
@@ -74,7 +74,7 @@ fn push_lines(aces: &[Ace], directory: &Directory, out: &mut Vec<u8>) -> Result<
 }
 
 fn push_line(ace: &Ace, directory: &Directory, out: &mut Vec<u8>) -> Result<(), AllocError>
-    ensures printed { PrintsInRoom (line_text directory.now ace.now) result out.old out.new }
+    ensures printed { PushesInRoom (line_text directory.now ace.now) result out.old out.new }
     ensures has_id { OnOk result (HasId ace.now.who) }
 {
     push_ace(ace, directory, out)?;
@@ -85,7 +85,7 @@ fn push_line(ace: &Ace, directory: &Directory, out: &mut Vec<u8>) -> Result<(), 
 /// Appends the entry as `print_aces` does, without a newline: `type:flags:who:letters`. If memory
 /// runs out, what was there stays; that happens only if `out` has no room for the text.
 pub fn push_ace(ace: &Ace, directory: &Directory, out: &mut Vec<u8>) -> Result<(), AllocError>
-    ensures printed { PrintsInRoom (ace_text directory.now ace.now) result out.old out.new }
+    ensures printed { PushesInRoom (ace_text directory.now ace.now) result out.old out.new }
     ensures has_id { OnOk result (HasId ace.now.who) }
 {
     push_front(ace, out)?;
@@ -97,7 +97,7 @@ pub fn push_ace(ace: &Ace, directory: &Directory, out: &mut Vec<u8>) -> Result<(
 /// Appends `type:flags:`.
 #[tactic(auto, using(acl_names::proofs::Prefixes::printing_steps))]
 pub(crate) fn push_front(ace: &Ace, out: &mut Vec<u8>) -> Result<(), AllocError>
-    ensures { PrintsInRoom (front_text ace.now) result out.old out.new }
+    ensures { PushesInRoom (front_text ace.now) result out.old out.new }
 {
     out.extend_from_slice(type_text(ace.kind()))?;
     out.push(b':')?;
@@ -118,7 +118,7 @@ fn type_text(kind: AceType) -> &'static [u8]
 }
 
 fn push_who(who: &Who, directory: &Directory, out: &mut Vec<u8>) -> Result<(), AllocError>
-    ensures printed { PrintsInRoom (who_text directory.now who.now) result out.old out.new }
+    ensures printed { PushesInRoom (who_text directory.now who.now) result out.old out.new }
     ensures has_id { HasId who.now }
 {
     match *who {
@@ -147,7 +147,7 @@ fn push_named(
     id: u32,
     out: &mut Vec<u8>,
 ) -> Result<(), AllocError>
-    ensures { PrintsInRoom (named_text (option_map (λ name. name.now) name.entry) domain.now id)
+    ensures { PushesInRoom (named_text (option_map (λ name. name.now) name.entry) domain.now id)
         result out.old out.new }
 {
     match name {

@@ -5,7 +5,7 @@ ghost use Rattle.std.specs.Prelude.{vec_capacity, OnOk, OnErr};
 ghost use Rattle.acl_names.specs.Bytes.{comma};
 ghost use Rattle.acl_names.specs.Directory.{Known};
 ghost use Rattle.acl_names.specs.ListText.{Spells};
-ghost use Rattle.acl_names.specs.Printing.{PrintsInRoom};
+ghost use Rattle.acl_names.specs.Pushing.{PushesInRoom};
 ghost use Rattle.acl_nfs4.specs.AceText.{piece_value};
 ghost use Rattle.acl_nfs4.specs.PrintedText.{short_ace, short_text, short_who, HaveIds};
 ghost use Rattle.acl_nfs4.specs.Who.{HasId};
@@ -43,7 +43,7 @@ impl Acl4 {
 
 /// Appends the entries with commas between them.
 fn push_short_aces(aces: &[Ace], out: &mut Vec<u8>) -> Result<(), AllocError>
-    ensures printed { PrintsInRoom (short_text aces.now) result out.old out.new }
+    ensures printed { PushesInRoom (short_text aces.now) result out.old out.new }
     ensures have_ids { OnOk result (HaveIds aces.now) }
 {
     match aces.split_first() {
@@ -57,7 +57,7 @@ fn push_short_aces(aces: &[Ace], out: &mut Vec<u8>) -> Result<(), AllocError>
 
 /// Appends the entries with a comma before each.
 fn push_further_aces(aces: &[Ace], out: &mut Vec<u8>) -> Result<(), AllocError>
-    ensures printed { PrintsInRoom (flat_map (λ ace. comma ∷ short_ace ace) aces.now) result out.old
+    ensures printed { PushesInRoom (flat_map (λ ace. comma ∷ short_ace ace) aces.now) result out.old
         out.new }
     ensures have_ids { OnOk result (HaveIds aces.now) }
 {
@@ -69,7 +69,7 @@ fn push_further_aces(aces: &[Ace], out: &mut Vec<u8>) -> Result<(), AllocError>
 
 /// Appends a comma and the entry.
 fn push_further_ace(ace: &Ace, out: &mut Vec<u8>) -> Result<(), AllocError>
-    ensures printed { PrintsInRoom (comma ∷ short_ace ace.now) result out.old out.new }
+    ensures printed { PushesInRoom (comma ∷ short_ace ace.now) result out.old out.new }
     ensures has_id { OnOk result (HasId ace.now.who) }
 {
     out.push(b',')?;
@@ -77,7 +77,7 @@ fn push_further_ace(ace: &Ace, out: &mut Vec<u8>) -> Result<(), AllocError>
 }
 
 fn push_short_ace(ace: &Ace, out: &mut Vec<u8>) -> Result<(), AllocError>
-    ensures printed { PrintsInRoom (short_ace ace.now) result out.old out.new }
+    ensures printed { PushesInRoom (short_ace ace.now) result out.old out.new }
     ensures has_id { OnOk result (HasId ace.now.who) }
 {
     push_front(ace, out)?;
@@ -87,7 +87,7 @@ fn push_short_ace(ace: &Ace, out: &mut Vec<u8>) -> Result<(), AllocError>
 }
 
 fn push_short_who(who: &Who, out: &mut Vec<u8>) -> Result<(), AllocError>
-    ensures printed { PrintsInRoom (short_who who.now) result out.old out.new }
+    ensures printed { PushesInRoom (short_who who.now) result out.old out.new }
     ensures has_id { HasId who.now }
 {
     match *who {

@@ -2,7 +2,7 @@
 
 ghost use Rattle.std.specs.Prelude.{◌≡◌, ◌≤◌, ◌+◌, ◌++◌, length, option_map, unwrap_or};
 ghost use Rattle.std.specs.Prelude.{decimal, vec_len, vec_capacity, IfSome};
-ghost use Rattle.acl_names.specs.Printing.{PrintsInRoom};
+ghost use Rattle.acl_names.specs.Pushing.{PushesInRoom};
 ghost use Rattle.acl_names.specs.declared.limits.TheConstants.{MAX_ID, MAX_NAME_LEN};
 
 use crate::{Directory, Gid, Uid, push_decimal, put_bytes, put_decimal};
@@ -11,7 +11,7 @@ use std::alloc::AllocError;
 /// Appends the name, or the decimal of an id that has none. If memory runs out, what `out` held
 /// still stands in front; that happens only if `out` has no room for the text.
 pub fn push_id(name: Option<&str>, id: u32, out: &mut Vec<u8>) -> Result<(), AllocError>
-    ensures { PrintsInRoom (unwrap_or (option_map (λ bytes. bytes.now) name.entry) (decimal id))
+    ensures { PushesInRoom (unwrap_or (option_map (λ bytes. bytes.now) name.entry) (decimal id))
         result out.old out.new }
 {
     match name {

@@ -3,7 +3,7 @@
 ghost use Rattle.std.specs.Prelude.{◌≡◌, ◌≤◌, ◌<◌, ◌+◌, ◌/◌, ◌%◌, ◌++◌, decimal, vec_len};
 ghost use Rattle.std.specs.Prelude.{vec_capacity};
 ghost use Rattle.acl_names.specs.Digits.{pair};
-ghost use Rattle.acl_names.specs.Printing.{PrintsInRoom};
+ghost use Rattle.acl_names.specs.Pushing.{PushesInRoom};
 ghost use Rattle.acl_names.specs.declared.limits.TheConstants.{MAX_DIGITS};
 
 use itoa::Buffer;
@@ -12,7 +12,7 @@ use std::alloc::AllocError;
 /// Appends the decimal. If memory runs out, what `out` held still stands in front; that happens
 /// only if `out` has no room for the text.
 pub fn push_decimal(number: u32, out: &mut Vec<u8>) -> Result<(), AllocError>
-    ensures { PrintsInRoom (decimal number) result out.old out.new }
+    ensures { PushesInRoom (decimal number) result out.old out.new }
 {
     out.extend_from_slice(Buffer::new().format(number).as_bytes())
 }

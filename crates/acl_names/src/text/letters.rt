@@ -4,7 +4,7 @@ ghost use Rattle.std.specs.Prelude.{◌≡◌, ◌==◌, filter};
 ghost use Rattle.std.specs.List.{list_any};
 ghost use Rattle.acl_names.specs.Letters.{is_letter_of, letters_of, letters_text};
 ghost use Rattle.acl_names.specs.Letters.{bits_of_rows, IsTable, HasBitsOf};
-ghost use Rattle.acl_names.specs.Printing.{PrintsInRoom};
+ghost use Rattle.acl_names.specs.Pushing.{PushesInRoom};
 
 use std::alloc::AllocError;
 
@@ -64,7 +64,7 @@ fn bits_of_letter(table: &[Letter], letter: u8) -> u32
 /// letters that found room stand in `out`; that happens only if `out` has no room for all of them.
 #[tactic(auto, using(crate::proofs::LettersAgain::letters_again))]
 pub fn push_letters(table: &[Letter], bits: u32, out: &mut Vec<u8>) -> Result<(), AllocError>
-    ensures printed { PrintsInRoom (letters_text table.now bits) result out.old out.new }
+    ensures printed { PushesInRoom (letters_text table.now bits) result out.old out.new }
     // What is printed is read as these bits.
     ensures read_again { IsTable table.now → HasBitsOf table.now bits
         → letters_of table.now (letters_text table.now bits) ≡ Some bits }

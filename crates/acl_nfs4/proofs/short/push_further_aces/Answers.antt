@@ -2,7 +2,7 @@ use Rattle.std.proofs.Common.{◌∷◌, Err, Ok, ap, arith, length, length-appe
 use Rattle.std.proofs.lemmas.List.Folds.{length-flat_map-take}
 use Rattle.std.proofs.lemmas.Result.{err_from_is_err_and}
 use Rattle.acl_names.specs.Bytes.{comma}
-use Rattle.acl_names.proofs.Printed.{PrintsInRoom-as, PrintsInRoom-longer, PrintsInRoom-then}
+use Rattle.acl_names.proofs.Pushed.{PushesInRoom-as, PushesInRoom-longer, PushesInRoom-then}
 use Rattle.acl_nfs4.specs.Ace.{Nfsace4}
 use Rattle.acl_nfs4.specs.PrintedText.{short_ace}
 use Rattle.acl_nfs4.specs.Who.{HasId}
@@ -20,9 +20,9 @@ returns-in_err-push_further_ace-clause-printed c =
     let ace = c.ace-item.result in
     let whole = length-flat_map-take further aces i ace c.loop-ace-test.true in
     let here = ap (λ (ace : Nfsace4). length (further ace)) c.ace-item.is in
-    let so_far = PrintsInRoom-then (Err _) c.loop-ace.invariant.printed c.in_err-push_further_ace.ensures.printed in
+    let so_far = PushesInRoom-then (Err _) c.loop-ace.invariant.printed c.in_err-push_further_ace.ensures.printed in
     let p = err_from_is_err_and c.from_residual.result c.from_residual.ensures.1 in
-    rw p.1 (PrintsInRoom-longer (flat_map further aces) (omega (arith, whole, here, length-append (flat_map further (take i aces)) (further ace))) so_far)
+    rw p.1 (PushesInRoom-longer (flat_map further aces) (omega (arith, whole, here, length-append (flat_map further (take i aces)) (further ace))) so_far)
 
 pub loop-ace-preserved : goal.loop-ace-preserved
 loop-ace-preserved c =
@@ -32,7 +32,7 @@ loop-ace-preserved c =
     let so_far = c.loop-ace.invariant in
     record {
       printed =
-          PrintsInRoom-as (flat_map-take-next further aces i ace c.loop-ace-test.true c.ace-item.is)
-          (PrintsInRoom-then (Ok tt) so_far.printed c.in_ok-push_further_ace.ensures.printed);
+          PushesInRoom-as (flat_map-take-next further aces i ace c.loop-ace-test.true c.ace-item.is)
+          (PushesInRoom-then (Ok tt) so_far.printed c.in_ok-push_further_ace.ensures.printed);
       have_ids = All-take-next (λ (ace : Nfsace4). HasId ace.who) aces i ace c.loop-ace-test.true c.ace-item.is so_far.have_ids c.in_ok-push_further_ace.ensures.has_id;
     }

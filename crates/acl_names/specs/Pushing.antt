@@ -1,15 +1,15 @@
--- Printing: what a function does that puts a text behind what is there.
+-- What a function does that puts a text behind what is there.
 use Rattle.std.specs.Prelude.{◌≡◌, ◌≤◌, ◌<◌, ◌+◌, ◌++◌, ℕ, List, Vec, Result, length, take}
 use Rattle.std.specs.Prelude.{vec_len, vec_capacity, OnOk, OnErr}
 
 module _ {T E Z : Type 0} (bytes : List ℕ) (result : Result T E) (old new : Vec ℕ Z) where
   -- the text was put behind what was there; if memory ran out, that still stands in front
-  pub record Prints : Type 0 where
+  pub record Pushes : Type 0 where
     pub text : OnOk result (new.items ≡ old.items ++ bytes)
     pub kept : take (length old.items) new.items ≡ old.items
 
   -- the same; memory ran out only if there was no room for the text, and no room was given up
-  pub record PrintsInRoom : Type 0 where
+  pub record PushesInRoom : Type 0 where
     pub text : OnOk result (new.items ≡ old.items ++ bytes)
     pub kept : take (length old.items) new.items ≡ old.items
     pub room : OnErr result (vec_capacity old < vec_len old + length bytes)
