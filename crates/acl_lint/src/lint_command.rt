@@ -1,8 +1,7 @@
 //! The command `lint`.
 ghost use Rattle.std.specs.Prelude.{◌≡◌, ◌≤◌, ◌⊎◌, IfErr, OnErr, OnOk, map};
 ghost use Rattle.std.specs.Io.KnownBytes.{Appends, Keeps};
-ghost use Rattle.acl_queries.specs.ErrorOutput.{Reports};
-ghost use Rattle.acl_queries.specs.Meaning.{Ends, LeavesInput};
+ghost use Rattle.acl_queries.specs.Meaning.{EndsWithInput};
 ghost use Rattle.acl_queries.specs.Output.{AppendsFront};
 ghost use Rattle.acl_lint.specs.LintAnswer.{AnswersLint, lint_meaning};
 ghost use Rattle.acl_lint.specs.LintFaults.{IsLintFault, lint_status};
@@ -85,12 +84,9 @@ where
     I: Read,
     W: Write,
     E: Write + Drop,
-    ensures ended { Ends (lint_meaning (F.bytes_of files.now) (I.remaining input.old)
-        (map S.text words.now)) result (W.contents out.old) (W.contents out.new) }
-    ensures told { Reports (lint_meaning (F.bytes_of files.now) (I.remaining input.old)
-        (map S.text words.now)).Says result err.old err.new }
-    ensures input { LeavesInput (lint_meaning (F.bytes_of files.now) (I.remaining input.old)
-        (map S.text words.now)).inputs result input.old input.new }
+    ensures { EndsWithInput (lint_meaning (F.bytes_of files.now) (I.remaining input.old)
+        (map S.text words.now)) result (W.contents out.old) (W.contents out.new) err.old err.new
+        input.old input.new }
 {
     match answer::<F, S, I, W>(alloc, files, words, input, out) {
         Ok(()) => 0,

@@ -2,9 +2,9 @@
 use Rattle.std.proofs.Common.{◌≡◌, ◌≢◌, ◌∙◌, ◌≤◌, ◌⊎◌, ℕ, List, Option, ap, arith, inl, inr, refl, sym, subst, Result}
 use Rattle.std.specs.Prelude.{⊤, IfSome}
 use Rattle.std.specs.Io.KnownBytes.{Keeps}
-use Rattle.clap.specs.Words.{App, Row, Text}
-use Rattle.acl_queries.specs.ErrorOutput.{ErrorText, Reports, Tells}
-use Rattle.acl_queries.specs.Faults.{SaysQueryFault, failed_write, fault_line, status_of}
+use Rattle.clap.specs.Words.{App, Row, Text, fault_of, matches_of}
+use Rattle.acl_queries.specs.ErrorOutput.{ErrorText, Tells}
+use Rattle.acl_queries.specs.Faults.{IsRefusedFor, failed_write, fault_line, status_of}
 use Rattle.acl_queries.specs.Meaning.{Ends}
 use Rattle.acl_queries.specs.Output.{AppendsFront}
 use Rattle.acl_queries.specs.Queries.{IsAnswered, query_meaning}
@@ -43,21 +43,11 @@ module _ (old new : Option (List ℕ)) where
     cut_by (Run NoThread) silent cut = inl (silent_of (Run NoThread) silent (λ never. never))
     cut_by (Run Output) silent cut = inr (cut refl)
 
-    pub Ends-refused : (fault : QueryFault) (status : ℕ) → (fault ≢ failed_write → Keeps old new)
-        → (fault ≡ failed_write → IsAnswered line asked_in IsAnswer words (AppendsFront old new)) → status ≡ status_of fault
-        → Ends (query_meaning line asked_in IsAnswer words) status old new
-    Ends-refused fault status silent cut is_status =
-        let (some, within) = query_bounds fault in
-        let three : fault ≡ failed_write → status ≡ 3 = λ is. is_status ∙ ap status_of is in
-        Ends-fault (query_meaning line asked_in IsAnswer words) old new status (omega (arith, some, is_status)) (omega (arith, within, is_status))
-        (λ few. silent (λ is. let failed = three is in omega (arith, few, failed))) (λ lacked. cut_by fault silent cut)
-
--- a fault that is told by its line and its status
-pub Reports-fault : (IsFault : QueryFault → Type 0) (fault : QueryFault) (status : ℕ) (old new : ErrorText) → IsFault fault → status ≡ status_of fault
-    → IfSome (fault_line fault) (λ line. Tells line old new) → Reports (SaysQueryFault IsFault) status old new
-Reports-fault IsFault fault status old new is is_status told =
-    let some = (query_bounds fault).0 in
-    record {
-      silent = λ none. absurd (omega (arith, some, is_status, none));
-      told = λ some. (fault_line fault, (fault, is, is_status, refl), told);
-    }
+    pub Ends-refused : (fault : QueryFault) (status : ℕ) (err err' : ErrorText) → (fault ≢ failed_write → Keeps old new)
+        → (fault ≡ failed_write → IsAnswered line asked_in IsAnswer words (AppendsFront old new))
+        → IsRefusedFor (fault_of line words) (asked_in (matches_of line words)) fault → status ≡ status_of fault
+        → IfSome (fault_line fault) (λ line. Tells line err err') → Ends (query_meaning line asked_in IsAnswer words) status old new err err'
+    Ends-refused fault status err err' silent cut is is_status told =
+        let three : fault ≡ failed_write → status_of fault ≡ 3 = λ is. ap status_of is in
+        Ends-fault status_of fault_line query_bounds (query_meaning line asked_in IsAnswer words) fault status old new err err' is_status
+        (λ few. silent (λ is. let failed = three is in omega (arith, few, failed))) (cut_by fault silent cut) (fault, is, is_status, refl) told

@@ -1,7 +1,7 @@
 -- The exit status of a query, by its words.
 use Rattle.std.proofs.Common.{◌≡◌, ◌≢◌, ◌∙◌, [], ◌∷◌, ℕ, zero, suc, List, Option, Result, Ok, Err, arith, refl, subst, sym}
 use Rattle.clap.specs.Words.{App, Kinds, Row, Text, fault_of, matches_of}
-use Rattle.acl_queries.specs.ErrorOutput.{ErrorText, Reports}
+use Rattle.acl_queries.specs.ErrorOutput.{ErrorText}
 use Rattle.acl_queries.specs.Faults.{IsRefusedFor, SaysQueryFault, status_of}
 use Rattle.acl_queries.specs.Meaning.{Ends}
 use Rattle.acl_queries.specs.Queries.{IsAnswered, query_meaning}
@@ -39,13 +39,13 @@ module _ {A : Type 0} where
     of_said words status line_said (fault, is, is_status, line_is) ended =
         is_status ∙ of_fault (fault_of line words) (asked_in (matches_of line words)) fault is (λ three. ended (is_status ∙ three))
 
-    by_status : (words : List Text) (old new : Option (List ℕ)) (before after : ErrorText) (status : ℕ)
-        → Ends (query_meaning line asked_in IsAnswer words) status old new → Reports (query_meaning line asked_in IsAnswer words).Says status before after
+    by_status : (words : List Text) (out out' : Option (List ℕ)) (err err' : ErrorText) (status : ℕ)
+        → Ends (query_meaning line asked_in IsAnswer words) status out out' err err'
         → status ≢ 3 → status ≡ status_of_words (fault_of line words) (asked_in (matches_of line words))
-    by_status words old new before after zero ends reports ended = sym (of_answered words _ (ends.answered refl))
-    by_status words old new before after (suc n) ends reports ended =
-        let said = reports.told (λ none. absurd (omega (arith, none))) in
+    by_status words out out' err err' zero ends ended = sym (of_answered words _ (ends.answered refl))
+    by_status words out out' err err' (suc n) ends ended =
+        let said = ends.told.told (λ none. absurd (omega (arith, none))) in
         of_said words (suc n) said.0 said.1 ended
 
     pub the_status_of_its_words : HasTheStatusOfItsWords line asked_in IsAnswer
-    the_status_of_its_words words status old new before after = by_status words old new before after status
+    the_status_of_its_words words status out out' err err' = by_status words out out' err err' status

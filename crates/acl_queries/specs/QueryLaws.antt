@@ -1,7 +1,7 @@
 -- What the exit status of a query tells of its words.
 use Rattle.std.specs.Prelude.{◌≡◌, ◌≢◌, ℕ, List, [], ◌∷◌, Option, Result, Ok, Err}
 use Rattle.clap.specs.Words.{App, Kinds, Row, Text, fault_of, matches_of}
-use Rattle.acl_queries.specs.ErrorOutput.{ErrorText, Reports}
+use Rattle.acl_queries.specs.ErrorOutput.{ErrorText}
 use Rattle.acl_queries.specs.Meaning.{Ends}
 use Rattle.acl_queries.specs.Queries.{query_meaning}
 use Rattle.acl_queries.specs.declared.command.query_fault.FieldFault.{FieldFault}
@@ -16,12 +16,10 @@ abbrev pub status_of_words : {A : Type 0} → Kinds → Result A FieldFault → 
 status_of_words [] reading = status_of_reading reading
 status_of_words (kind ∷ kinds) reading = 2
 
--- a query that ended, and told what it has to say, has the status of its words, unless something
--- lacks
+-- a query that ended has the status of its words, unless something lacks
 abbrev pub HasTheStatusOfItsWords : {A : Type 0} → App → (List Row → Result A FieldFault)
     → (A → List ℕ → Type 0) → Type 0
 HasTheStatusOfItsWords line asked_in IsAnswer = (words : List Text) (status : ℕ)
-    (old new : Option (List ℕ)) (before after : ErrorText)
-    → Ends (query_meaning line asked_in IsAnswer words) status old new
-    → Reports (query_meaning line asked_in IsAnswer words).Says status before after → status ≢ 3
+    (out out' : Option (List ℕ)) (err err' : ErrorText)
+    → Ends (query_meaning line asked_in IsAnswer words) status out out' err err' → status ≢ 3
     → status ≡ status_of_words (fault_of line words) (asked_in (matches_of line words))

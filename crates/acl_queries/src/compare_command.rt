@@ -1,7 +1,6 @@
 //! The command `compare`.
 ghost use Rattle.std.specs.Prelude.{map};
 ghost use Rattle.acl_queries.specs.Differences.{compare_meaning};
-ghost use Rattle.acl_queries.specs.ErrorOutput.{Reports};
 ghost use Rattle.acl_queries.specs.Meaning.{Ends};
 
 mod command_line;
@@ -36,9 +35,8 @@ pub fn compare<S: AsStr, W: Write, E: Write + Drop>(
     out: &mut W,
     err: &mut ErrorOutput<E>,
 ) -> u8
-    ensures ended { Ends (compare_meaning (map S.text words.now)) result (W.contents out.old)
-        (W.contents out.new) }
-    ensures told { Reports (compare_meaning (map S.text words.now)).Says result err.old err.new }
+    ensures { Ends (compare_meaning (map S.text words.now)) result (W.contents out.old)
+        (W.contents out.new) err.old err.new }
 {
     ask::<Comparison, S, W, E>(alloc, words, out, err)
 }

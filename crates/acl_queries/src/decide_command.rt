@@ -1,7 +1,6 @@
 //! The command `decide`.
 ghost use Rattle.std.specs.Prelude.{map};
 ghost use Rattle.acl_queries.specs.DecideAnswer.{decide_meaning};
-ghost use Rattle.acl_queries.specs.ErrorOutput.{Reports};
 ghost use Rattle.acl_queries.specs.Meaning.{Ends};
 
 mod command_line;
@@ -30,9 +29,8 @@ pub fn decide<S: AsStr, W: Write, E: Write + Drop>(
     out: &mut W,
     err: &mut ErrorOutput<E>,
 ) -> u8
-    ensures ended { Ends (decide_meaning (map S.text words.now)) result (W.contents out.old)
-        (W.contents out.new) }
-    ensures told { Reports (decide_meaning (map S.text words.now)).Says result err.old err.new }
+    ensures { Ends (decide_meaning (map S.text words.now)) result (W.contents out.old)
+        (W.contents out.new) err.old err.new }
 {
     ask::<Question, S, W, E>(alloc, words, out, err)
 }

@@ -1,6 +1,5 @@
 //! The command `explain`.
 ghost use Rattle.std.specs.Prelude.{map};
-ghost use Rattle.acl_queries.specs.ErrorOutput.{Reports};
 ghost use Rattle.acl_queries.specs.ExplainText.{explain_meaning};
 ghost use Rattle.acl_queries.specs.Meaning.{Ends};
 
@@ -39,9 +38,8 @@ pub fn explain<S: AsStr, W: Write, E: Write + Drop>(
     out: &mut W,
     err: &mut ErrorOutput<E>,
 ) -> u8
-    ensures ended { Ends (explain_meaning (map S.text words.now)) result (W.contents out.old)
-        (W.contents out.new) }
-    ensures told { Reports (explain_meaning (map S.text words.now)).Says result err.old err.new }
+    ensures { Ends (explain_meaning (map S.text words.now)) result (W.contents out.old)
+        (W.contents out.new) err.old err.new }
 {
     ask::<Question, S, W, E>(alloc, words, out, err)
 }

@@ -20,7 +20,7 @@ ghost use Rattle.acl_queries.specs.QueryLaws.{HasTheStatusOfItsWords};
 
 /// The exit status of `decide`, `explain` and `compare` is that of their words, unless something is
 /// lacking (3): 2 if the parser of command lines refuses them, 1 if a field doesn't read, and else
-/// 0. What ended as the words mean, and told what it has to say, has no other.
+/// 0. What ended as the words mean has no other.
 pub fn statuses_are_those_of_the_words()
     ensures decide { HasTheStatusOfItsWords decide_line asked_in IsDecideText }
     ensures explain { HasTheStatusOfItsWords explain_line explained_in IsExplanation }

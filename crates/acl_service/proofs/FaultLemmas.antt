@@ -1,12 +1,11 @@
 -- What is said of runs that come to nothing.
-use Rattle.std.proofs.Common.{◌≤◌, ◌≡◌, ◌≢◌, ◌∙◌, ℕ, List, Option, ap, arith, codes, inl, refl, subst, sym}
+use Rattle.std.proofs.Common.{◌≤◌, ◌≡◌, ◌≢◌, ℕ, List, Option, ap, arith, codes, inl, refl}
 use Rattle.std.specs.Prelude.{IfSome}
 use Rattle.std.specs.Fmt.{digits}
 use Rattle.std.specs.Io.KnownBytes.{Keeps}
-use Rattle.acl_queries.specs.ErrorOutput.{ErrorText, Reports, SaysFault, Tells}
+use Rattle.acl_queries.specs.ErrorOutput.{ErrorText, Tells}
 use Rattle.acl_queries.specs.Meaning.{Ends, Meaning}
 use Rattle.acl_queries.specs.Output.{AppendsFront}
-use Rattle.acl_queries.proofs.ErrorLemmas.{Reports-line}
 use Rattle.acl_queries.proofs.MeaningLemmas.{Ends-fault}
 use Rattle.acl_service.specs.FilesFaults.{files_line, files_status}
 use Rattle.acl_service.specs.TextsFaults.{lost_output, texts_line, texts_status, too_many_sessions}
@@ -32,31 +31,18 @@ files_bounds InputTwice = (omega arith, omega arith)
 files_bounds (CannotRead name) = (omega arith, omega arith)
 files_bounds Memory = (omega arith, omega arith)
 
-module _ (status : ℕ) (meaning : Meaning) (old new : Option (List ℕ)) where
+module _ (meaning : Meaning) (status : ℕ) (out out' : Option (List ℕ)) (err err' : ErrorText) where
   -- texts that come to nothing, or to a front of what they print if a write failed
-  pub Ends-texts : (fault : TextsFault) → status ≡ texts_status fault → (fault ≢ lost_output → Keeps old new)
-      → (fault ≡ lost_output → meaning.Begins (AppendsFront old new)) → Ends meaning status old new
-  Ends-texts fault is_status silent cut =
-      let (some, within) = texts_bounds fault in
-      let lost : fault ≡ lost_output → status ≡ 3 = λ is. is_status ∙ ap texts_status is in
-      Ends-fault meaning old new status (omega (arith, some, is_status)) (omega (arith, within, is_status))
-      (λ few. silent (λ is. let three = lost is in omega (arith, few, three))) (λ lacked. kept_or_cut fault old new silent cut)
+  pub Ends-texts : (fault : TextsFault) → status ≡ texts_status fault → (fault ≢ lost_output → Keeps out out')
+      → (fault ≡ lost_output → meaning.Begins (AppendsFront out out')) → meaning.Says status (texts_line fault)
+      → IfSome (texts_line fault) (λ text. Tells text err err') → Ends meaning status out out' err err'
+  Ends-texts fault is_status silent cut says told =
+      let lost : fault ≡ lost_output → texts_status fault ≡ 3 = λ is. ap texts_status is in
+      Ends-fault texts_status texts_line texts_bounds meaning fault status out out' err err' is_status
+      (λ few. silent (λ is. let three = lost is in omega (arith, few, three))) (kept_or_cut fault out out' silent cut) says told
 
   -- files that give no texts
-  pub Ends-files : (fault : FilesFault) → status ≡ files_status fault → Keeps old new → Ends meaning status old new
-  Ends-files fault is_status kept =
-      let (some, within) = files_bounds fault in
-      Ends-fault meaning old new status (omega (arith, some, is_status)) (omega (arith, within, is_status)) (λ few. kept) (λ lacked. inl kept)
-
-module _ (status : ℕ) (old new : ErrorText) where
-  pub Reports-texts : (IsFault : TextsFault → Type 0) (fault : TextsFault) → IsFault fault → status ≡ texts_status fault
-      → IfSome (texts_line fault) (λ text. Tells text old new) → Reports (SaysFault texts_status texts_line IsFault) status old new
-  Reports-texts IsFault fault is is_status told =
-      Reports-line (SaysFault texts_status texts_line IsFault) status (texts_line fault) old new
-      (subst (λ (n : ℕ). 1 ≤ n) (sym is_status) (texts_bounds fault).0) (fault, is, is_status, refl) told
-
-  pub Reports-files : (IsFault : FilesFault → Type 0) (fault : FilesFault) → IsFault fault → status ≡ files_status fault
-      → IfSome (files_line fault) (λ text. Tells text old new) → Reports (SaysFault files_status files_line IsFault) status old new
-  Reports-files IsFault fault is is_status told =
-      Reports-line (SaysFault files_status files_line IsFault) status (files_line fault) old new
-      (subst (λ (n : ℕ). 1 ≤ n) (sym is_status) (files_bounds fault).0) (fault, is, is_status, refl) told
+  pub Ends-files : (fault : FilesFault) → status ≡ files_status fault → Keeps out out' → meaning.Says status (files_line fault)
+      → IfSome (files_line fault) (λ text. Tells text err err') → Ends meaning status out out' err err'
+  Ends-files fault is_status kept says told =
+      Ends-fault files_status files_line files_bounds meaning fault status out out' err err' is_status (λ few. kept) (inl kept) says told

@@ -4,7 +4,7 @@ use Rattle.clap.specs.Words.{Text, matches_of}
 use Rattle.clap.specs.declared.error.kind.ErrorKind.{ErrorKind}
 use Rattle.clap.specs.declared.error.kind.ErrorKind.TheVariants.{OutOfMemory}
 use Rattle.acl_queries.specs.CommandLine.{Takes}
-use Rattle.acl_queries.specs.ErrorOutput.{ErrorText, Reports}
+use Rattle.acl_queries.specs.ErrorOutput.{ErrorText}
 use Rattle.acl_queries.specs.Faults.{usage_status_by}
 use Rattle.acl_queries.specs.Meaning.{Ends}
 use Rattle.acl_queries.proofs.ErrorLemmas.{usage_bounds}
@@ -59,20 +59,20 @@ module _ (bytes_of : Text → Option (List ℕ)) (words : List Text) (line : Opt
   said_at_2 (inr (taken, inl (fault, is, status, line_is))) = inr (files_cannot_run (setup_in (matches_of run_line words)) names fault is (sym status))
   said_at_2 (inr (taken, inr (can, (bytes, told, (fault, is, status, line_is))))) = absurd (not_too_many bytes names fault can is (sym status))
 
-module _ (bytes_of : Text → Option (List ℕ)) (input : Option (List ℕ)) (words : List Text) (old new : Option (List ℕ)) (before after : ErrorText) where
-  at_most_1 : (status : ℕ) → Ends (run_meaning bytes_of input words) status old new → Reports (SaysRun bytes_of words) status before after
-      → status ≤ 1 → Takes run_line words × CanRun (sessions_in (matches_of run_line words))
-  at_most_1 zero ends reports few = let answered = ends.answered refl in (answered.taken, answered.runs.can_run)
-  at_most_1 (suc zero) ends reports few = let said = reports.told (λ none. absurd (omega (arith, none))) in said_at_1 bytes_of words said.0 said.1
-  at_most_1 (suc (suc n)) ends reports few = absurd (omega (arith, few))
+module _ (bytes_of : Text → Option (List ℕ)) (input : Option (List ℕ)) (words : List Text) (out out' : Option (List ℕ)) (err err' : ErrorText) where
+  at_most_1 : (status : ℕ) → Ends (run_meaning bytes_of input words) status out out' err err' → status ≤ 1
+      → Takes run_line words × CanRun (sessions_in (matches_of run_line words))
+  at_most_1 zero ends few = let answered = ends.answered refl in (answered.taken, answered.runs.can_run)
+  at_most_1 (suc zero) ends few = let said = ends.told.told (λ none. absurd (omega (arith, none))) in said_at_1 bytes_of words said.0 said.1
+  at_most_1 (suc (suc n)) ends few = absurd (omega (arith, few))
 
-  at_2 : (status : ℕ) → Reports (SaysRun bytes_of words) status before after → status ≡ 2
+  at_2 : (status : ℕ) → Ends (run_meaning bytes_of input words) status out out' err err' → status ≡ 2
       → (¬ Takes run_line words) ⊎ CannotRun (sessions_in (matches_of run_line words))
-  at_2 zero reports two = absurd (omega (arith, two))
-  at_2 (suc zero) reports two = absurd (omega (arith, two))
-  at_2 (suc (suc zero)) reports two = let said = reports.told (λ none. absurd (omega (arith, none))) in said_at_2 bytes_of words said.0 said.1
-  at_2 (suc (suc (suc n))) reports two = absurd (omega (arith, two))
+  at_2 zero ends two = absurd (omega (arith, two))
+  at_2 (suc zero) ends two = absurd (omega (arith, two))
+  at_2 (suc (suc zero)) ends two = let said = ends.told.told (λ none. absurd (omega (arith, none))) in said_at_2 bytes_of words said.0 said.1
+  at_2 (suc (suc (suc n))) ends two = absurd (omega (arith, two))
 
 pub statuses_tell : StatusesTellTheWords
-statuses_tell bytes_of input words status old new before after ends reports =
-    (at_most_1 bytes_of input words old new before after status ends reports, at_2 bytes_of input words old new before after status reports)
+statuses_tell bytes_of input words status out out' err err' ends =
+    (at_most_1 bytes_of input words out out' err err' status ends, at_2 bytes_of input words out out' err err' status ends)

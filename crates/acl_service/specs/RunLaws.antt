@@ -3,7 +3,7 @@ use Rattle.std.specs.Prelude.{◌≡◌, ◌<◌, ◌≤◌, ◌⊎◌, ℕ, Lis
 use Rattle.clap.specs.Words.{Text, matches_of}
 use Rattle.acl_broker.specs.declared.limits.TheConstants.{SESSIONS}
 use Rattle.acl_queries.specs.CommandLine.{Takes}
-use Rattle.acl_queries.specs.ErrorOutput.{ErrorText, Reports}
+use Rattle.acl_queries.specs.ErrorOutput.{ErrorText}
 use Rattle.acl_queries.specs.Meaning.{Ends}
 use Rattle.acl_service.specs.RunLine.{run_line}
 use Rattle.acl_service.specs.RunMeaning.{run_meaning}
@@ -13,12 +13,11 @@ use Rattle.acl_service.specs.RunWords.{CanRun, input_count, sessions_in}
 abbrev pub CannotRun : List Text → Type 0
 CannotRun names = (length names ≡ 0) ⊎ ((SESSIONS < length names) ⊎ (1 < input_count names))
 
--- if `run` ended, and told what it has to say: with outputs, and if a file or the setup is refused,
--- the words and the sessions that they name were taken; and wrong usage is that of one of them
+-- if `run` ended with outputs, or a file or the setup was refused, the words and the sessions that
+-- they name were taken; and wrong usage is that of one of them
 abbrev pub StatusesTellTheWords : Type 0
 StatusesTellTheWords = (bytes_of : Text → Option (List ℕ)) (input : Option (List ℕ))
-    (words : List Text) (status : ℕ) (old new : Option (List ℕ)) (before after : ErrorText)
-    → Ends (run_meaning bytes_of input words) status old new
-    → Reports (run_meaning bytes_of input words).Says status before after
+    (words : List Text) (status : ℕ) (out out' : Option (List ℕ)) (err err' : ErrorText)
+    → Ends (run_meaning bytes_of input words) status out out' err err'
     → (status ≤ 1 → Takes run_line words × CanRun (sessions_in (matches_of run_line words)))
     × (status ≡ 2 → (¬ Takes run_line words) ⊎ CannotRun (sessions_in (matches_of run_line words)))

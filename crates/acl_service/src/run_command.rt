@@ -3,8 +3,7 @@ ghost use Rattle.std.specs.Prelude.{◌≢◌, ◌<◌, ◌≤◌, ◌≡◌, �
 ghost use Rattle.clap.specs.Words.{found_of, rows_of};
 ghost use Rattle.acl_lang.specs.declared.limits.TheConstants.{MAX_TEXT_LEN};
 ghost use Rattle.acl_broker.specs.declared.limits.TheConstants.{SESSIONS};
-ghost use Rattle.acl_queries.specs.ErrorOutput.{Reports};
-ghost use Rattle.acl_queries.specs.Meaning.{Ends, LeavesInput};
+ghost use Rattle.acl_queries.specs.Meaning.{Ends, EndsWithInput};
 ghost use Rattle.acl_service.specs.RunMeaning.{files_meaning, run_meaning, texts_meaning};
 
 mod command_line;
@@ -59,10 +58,8 @@ pub fn run_texts<R: Threads + Wait + Clock + Sync, G: Gate, W: Write, E: Write +
     requires short { All (λ text. length text.items ≤ MAX_TEXT_LEN) texts.now }
     requires some { max_errors ≢ Some 0 }
     ensures ended { Ends (texts_meaning setup.now texts.now journal max_errors) result
-        (W.contents out.old) (W.contents out.new) }
+        (W.contents out.old) (W.contents out.new) err.old err.new }
     ensures too_many { (result ≡ 2) ↔ (SESSIONS < length texts.now) }
-    ensures told { Reports (texts_meaning setup.now texts.now journal max_errors).Says result
-        err.old err.new }
 {
     let options = Options {
         journal,
@@ -103,12 +100,9 @@ where
     I: Read,
     W: Write,
     E: Write + Drop,
-    ensures ended { Ends (run_meaning (F.bytes_of files.now) (I.remaining input.old)
-        (map S.text words.now)) result (W.contents out.old) (W.contents out.new) }
-    ensures told { Reports (run_meaning (F.bytes_of files.now) (I.remaining input.old)
-        (map S.text words.now)).Says result err.old err.new }
-    ensures input { LeavesInput (run_meaning (F.bytes_of files.now) (I.remaining input.old)
-        (map S.text words.now)).inputs result input.old input.new }
+    ensures { EndsWithInput (run_meaning (F.bytes_of files.now) (I.remaining input.old)
+        (map S.text words.now)) result (W.contents out.old) (W.contents out.new) err.old err.new
+        input.old input.new }
 {
     match parse::<RunLine, S>(alloc, words) {
         Ok(matches) => run_files(rt, alloc, files, &matches, input, out, err),
@@ -132,12 +126,9 @@ where
     I: Read,
     W: Write,
     E: Write + Drop,
-    ensures ended { Ends (files_meaning (F.bytes_of files.now) (I.remaining input.old)
-        (rows_of (found_of matches.now))) result (W.contents out.old) (W.contents out.new) }
-    ensures told { Reports (files_meaning (F.bytes_of files.now) (I.remaining input.old)
-        (rows_of (found_of matches.now))).Says result err.old err.new }
-    ensures input { LeavesInput (files_meaning (F.bytes_of files.now) (I.remaining input.old)
-        (rows_of (found_of matches.now))).inputs result input.old input.new }
+    ensures { EndsWithInput (files_meaning (F.bytes_of files.now) (I.remaining input.old)
+        (rows_of (found_of matches.now))) result (W.contents out.old) (W.contents out.new) err.old
+        err.new input.old input.new }
 {
     let Some(names) = session_fields(matches) else {
         return report(&FilesFault::SessionCount, err);

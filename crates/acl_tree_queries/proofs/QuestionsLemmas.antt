@@ -4,11 +4,10 @@ use Rattle.std.specs.Prelude.{IfSome}
 use Rattle.std.specs.Io.KnownBytes.{Keeps}
 use Rattle.clap.specs.Words.{App, Row, Text, matches_of}
 use Rattle.acl_queries.specs.CommandLine.{Takes}
-use Rattle.acl_queries.specs.ErrorOutput.{ErrorText, Reports, SaysFault, Tells}
+use Rattle.acl_queries.specs.ErrorOutput.{ErrorText, Tells}
 use Rattle.acl_queries.specs.Meaning.{Ends, Meaning}
 use Rattle.acl_queries.specs.Output.{AppendsFront}
 use Rattle.acl_queries.specs.declared.command.query_fault.FieldFault.{FieldFault}
-use Rattle.acl_queries.proofs.ErrorLemmas.{Reports-line}
 use Rattle.acl_queries.proofs.MeaningLemmas.{Ends-fault}
 use Rattle.acl_queries.proofs.QueryLemmas.{query_bounds}
 use Rattle.acl_service.proofs.FaultLemmas.{files_bounds}
@@ -47,20 +46,11 @@ question_bounds LineTooLong = (omega arith, omega arith)
 question_bounds (Unread name) = (omega arith, omega arith)
 question_bounds (Run fault) = (omega arith, omega arith)
 
-module _ (fault : QuestionFault) (status : ℕ) (is_status : status ≡ question_status fault) where
-  -- a question that has no answer, or not all of it
-  pub Ends-question : (meaning : Meaning) (old new : Option (List ℕ)) → (question_status fault ≤ 2 → Keeps old new)
-      → Keeps old new ⊎ meaning.Begins (AppendsFront old new) → Ends meaning status old new
-  Ends-question meaning old new silent cut =
-      let (some, within) = question_bounds fault in
-      Ends-fault meaning old new status (omega (arith, some, is_status)) (omega (arith, within, is_status)) (λ few. silent (omega (arith, few, is_status))) (λ three. cut)
-
-  -- what is told of a fault is what is said
-  pub Reports-question : (IsFault : QuestionFault → Type 0) (old new : ErrorText) → IsFault fault → IfSome (question_line fault) (λ text. Tells text old new)
-      → Reports (SaysFault question_status question_line IsFault) status old new
-  Reports-question IsFault old new is told =
-      Reports-line (SaysFault question_status question_line IsFault) status (question_line fault) old new
-      (subst (λ (n : ℕ). 1 ≤ n) (sym is_status) (question_bounds fault).0) (fault, is, is_status, refl) told
+-- a question that has no answer, or not all of it
+pub Ends-question : (meaning : Meaning) (fault : QuestionFault) (status : ℕ) (out out' : Option (List ℕ)) (err err' : ErrorText)
+    → status ≡ question_status fault → (question_status fault ≤ 2 → Keeps out out') → Keeps out out' ⊎ meaning.Begins (AppendsFront out out')
+    → meaning.Says status (question_line fault) → IfSome (question_line fault) (λ text. Tells text err err') → Ends meaning status out out' err err'
+Ends-question = Ends-fault question_status question_line question_bounds
 
 -- what is so of a fault of an answer is so of the fault that it becomes
 module _ {T : Type 0} (result : Result T QuestionFault) (fault : AnswerFault) (became : QuestionFault) (is : result ≡ Err became) (from : became ≡ fault_of_answer fault) where

@@ -1,7 +1,6 @@
 //! The command `dump`.
 ghost use Rattle.std.specs.Prelude.{map};
-ghost use Rattle.acl_queries.specs.ErrorOutput.{Reports};
-ghost use Rattle.acl_queries.specs.Meaning.{Ends, LeavesInput};
+ghost use Rattle.acl_queries.specs.Meaning.{EndsWithInput};
 ghost use Rattle.acl_tree_queries.specs.DumpAnswer.{dump_meaning};
 
 mod lines;
@@ -45,12 +44,9 @@ where
     I: Read,
     W: Write,
     E: Write + Drop,
-    ensures ended { Ends (dump_meaning (F.bytes_of files.now) (I.remaining input.old)
-        (map S.text words.now)) result (W.contents out.old) (W.contents out.new) }
-    ensures told { Reports (dump_meaning (F.bytes_of files.now) (I.remaining input.old)
-        (map S.text words.now)).Says result err.old err.new }
-    ensures input { LeavesInput (dump_meaning (F.bytes_of files.now) (I.remaining input.old)
-        (map S.text words.now)).inputs result input.old input.new }
+    ensures { EndsWithInput (dump_meaning (F.bytes_of files.now) (I.remaining input.old)
+        (map S.text words.now)) result (W.contents out.old) (W.contents out.new) err.old err.new
+        input.old input.new }
 {
     ask::<DumpQuestion, F, S, I, W, E>(alloc, files, words, input, out, err)
 }

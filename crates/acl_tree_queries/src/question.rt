@@ -3,8 +3,7 @@ ghost use Rattle.std.specs.Prelude.{◌≡◌, ◌≤◌, ◌⊎◌, ℕ, List, 
 ghost use Rattle.std.specs.Prelude.{map};
 ghost use Rattle.std.specs.Io.KnownBytes.{Appends, Keeps};
 ghost use Rattle.clap.specs.Words.{Row, found_of, matches_of, rows_of};
-ghost use Rattle.acl_queries.specs.ErrorOutput.{Reports};
-ghost use Rattle.acl_queries.specs.Meaning.{Ends, LeavesInput};
+ghost use Rattle.acl_queries.specs.Meaning.{EndsWithInput};
 ghost use Rattle.acl_queries.specs.Output.{AppendsFront};
 ghost use Rattle.acl_queries.specs.declared.command.query_fault.FieldFault.{FieldFault as Fault};
 ghost use Rattle.acl_tree_queries.specs.AnswerFaults.{IsAnswerFault, answer_status};
@@ -109,14 +108,9 @@ where
     I: Read,
     W: Write,
     E: Write + Drop,
-    ensures ended { Ends (tree_meaning Q.line Q.asked_in Q.IsAnswer Q.IsBegun Q.IsRefused
+    ensures { EndsWithInput (tree_meaning Q.line Q.asked_in Q.IsAnswer Q.IsBegun Q.IsRefused
         (F.bytes_of files.now) (I.remaining input.old) (map S.text words.now)) result
-        (W.contents out.old) (W.contents out.new) }
-    ensures told { Reports (tree_meaning Q.line Q.asked_in Q.IsAnswer Q.IsBegun Q.IsRefused
-        (F.bytes_of files.now) (I.remaining input.old) (map S.text words.now)).Says
-        result err.old err.new }
-    ensures input { LeavesInput (inputs_in (matches_of Q.line (map S.text words.now))) result
-        input.old input.new }
+        (W.contents out.old) (W.contents out.new) err.old err.new input.old input.new }
 {
     match answer::<Q, F, S, I, W>(alloc, files, words, input, out) {
         Ok(()) => 0,

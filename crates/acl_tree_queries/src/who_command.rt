@@ -1,7 +1,6 @@
 //! The command `who`.
 ghost use Rattle.std.specs.Prelude.{map};
-ghost use Rattle.acl_queries.specs.ErrorOutput.{Reports};
-ghost use Rattle.acl_queries.specs.Meaning.{Ends, LeavesInput};
+ghost use Rattle.acl_queries.specs.Meaning.{EndsWithInput};
 ghost use Rattle.acl_tree_queries.specs.WhoWords.{who_meaning};
 
 mod listing;
@@ -53,12 +52,9 @@ where
     I: Read,
     W: Write,
     E: Write + Drop,
-    ensures ended { Ends (who_meaning (F.bytes_of files.now) (I.remaining input.old)
-        (map S.text words.now)) result (W.contents out.old) (W.contents out.new) }
-    ensures told { Reports (who_meaning (F.bytes_of files.now) (I.remaining input.old)
-        (map S.text words.now)).Says result err.old err.new }
-    ensures input { LeavesInput (who_meaning (F.bytes_of files.now) (I.remaining input.old)
-        (map S.text words.now)).inputs result input.old input.new }
+    ensures { EndsWithInput (who_meaning (F.bytes_of files.now) (I.remaining input.old)
+        (map S.text words.now)) result (W.contents out.old) (W.contents out.new) err.old err.new
+        input.old input.new }
 {
     if asks_of_listing(words) {
         ask_of_listing(alloc, files, words, input, out, err)

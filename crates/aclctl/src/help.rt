@@ -3,7 +3,7 @@ ghost use Rattle.std.specs.Prelude.{◌≡◌};
 ghost use Rattle.acl_queries.specs.ErrorOutput.{Reports};
 ghost use Rattle.acl_queries.specs.Meaning.{Ends};
 ghost use Rattle.aclctl.specs.Fault.{status_of};
-ghost use Rattle.aclctl.specs.Program.{SaysLostOutput, SaysNoCommand, text_meaning, version_text};
+ghost use Rattle.aclctl.specs.Program.{SaysNoCommand, text_meaning, version_text};
 ghost use Rattle.aclctl.specs.declared.fault.ProgramFault.TheVariants.{NoCommand};
 ghost use Rattle.aclctl.specs.declared.help.TheConstants.{HELP};
 
@@ -45,8 +45,8 @@ const VERSION: &str = "aclctl 0.1.0\n";
 
 /// Prints a text, and returns the exit status.
 fn print<W: Write, E: Write + Drop>(text: &str, out: &mut W, err: &mut ErrorOutput<E>) -> u8
-    ensures ended { Ends (text_meaning text.now) result (W.contents out.old) (W.contents out.new) }
-    ensures told { Reports SaysLostOutput result err.old err.new }
+    ensures { Ends (text_meaning text.now) result (W.contents out.old) (W.contents out.new) err.old
+        err.new }
 {
     match write_text(text.as_bytes(), out) {
         Ok(()) => 0,
@@ -56,17 +56,16 @@ fn print<W: Write, E: Write + Drop>(text: &str, out: &mut W, err: &mut ErrorOutp
 
 /// Prints what the program's commands are.
 pub fn print_help<W: Write, E: Write + Drop>(out: &mut W, err: &mut ErrorOutput<E>) -> u8
-    ensures ended { Ends (text_meaning HELP.now) result (W.contents out.old) (W.contents out.new) }
-    ensures told { Reports SaysLostOutput result err.old err.new }
+    ensures { Ends (text_meaning HELP.now) result (W.contents out.old) (W.contents out.new) err.old
+        err.new }
 {
     print(HELP, out, err)
 }
 
 /// Prints the program's name and its version.
 pub fn print_version<W: Write, E: Write + Drop>(out: &mut W, err: &mut ErrorOutput<E>) -> u8
-    ensures ended { Ends (text_meaning version_text) result (W.contents out.old)
-        (W.contents out.new) }
-    ensures told { Reports SaysLostOutput result err.old err.new }
+    ensures { Ends (text_meaning version_text) result (W.contents out.old) (W.contents out.new)
+        err.old err.new }
 {
     print(VERSION, out, err)
 }

@@ -1,8 +1,7 @@
 //! The program: its words, and the command that the first of them names.
 ghost use Rattle.std.specs.Prelude.{◌≡◌, ◌≢◌, [], map, IfSome};
 ghost use Rattle.std.specs.String.{string_bytes};
-ghost use Rattle.acl_queries.specs.ErrorOutput.{Reports};
-ghost use Rattle.acl_queries.specs.Meaning.{Ends, LeavesInput};
+ghost use Rattle.acl_queries.specs.Meaning.{Ends, EndsWithInput};
 ghost use Rattle.aclctl.specs.Program.{meaning_from, meaning_of};
 
 use crate::help::{print_help, print_version, report_no_command};
@@ -38,12 +37,9 @@ where
     I: Read,
     W: Write,
     E: Write + Drop,
-    ensures ended { Ends (meaning_of (F.bytes_of files.now) (I.remaining input.old)
-        (map S.text words.now)) result (W.contents out.old) (W.contents out.new) }
-    ensures told { Reports (meaning_of (F.bytes_of files.now) (I.remaining input.old)
-        (map S.text words.now)).Says result err.old err.new }
-    ensures input { LeavesInput (meaning_of (F.bytes_of files.now) (I.remaining input.old)
-        (map S.text words.now)).inputs result input.old input.new }
+    ensures { EndsWithInput (meaning_of (F.bytes_of files.now) (I.remaining input.old)
+        (map S.text words.now)) result (W.contents out.old) (W.contents out.new) err.old err.new
+        input.old input.new }
 {
     match words.first() {
         Some(first) if first.as_str() == "decide" => decide(alloc, words, out, err),
@@ -83,21 +79,14 @@ where
     I: Read,
     W: Write,
     E: Write + Drop,
-    ensures given { given.items ≢ [] → Ends (meaning_of (F.bytes_of files.now)
+    ensures given { given.items ≢ [] → EndsWithInput (meaning_of (F.bytes_of files.now)
         (I.remaining reader.old) (map string_bytes given.items)) result (W.contents out.old)
-        (W.contents out.new) }
-    ensures told_given { given.items ≢ [] → Reports (meaning_of (F.bytes_of files.now)
-        (I.remaining reader.old) (map string_bytes given.items)).Says result err.old err.new }
-    ensures input { given.items ≢ [] → LeavesInput (meaning_of (F.bytes_of files.now)
-        (I.remaining reader.old) (map string_bytes given.items)).inputs result reader.old
-        reader.new }
+        (W.contents out.new) err.old err.new reader.old reader.new }
 
     // Without words: with the bytes that the reader has, if they are known.
     ensures read { given.items ≡ [] → IfSome (I.remaining reader.old) (λ bytes.
         Ends (meaning_from (F.bytes_of files.now) bytes) result (W.contents out.old)
-        (W.contents out.new)) }
-    ensures told_read { given.items ≡ [] → IfSome (I.remaining reader.old) (λ bytes.
-        Reports (meaning_from (F.bytes_of files.now) bytes).Says result err.old err.new) }
+        (W.contents out.new) err.old err.new) }
 {
     match command_words(alloc, given, reader) {
         Ok(words) => run_command(rt, alloc, files, words.as_slice(), reader, out, err),

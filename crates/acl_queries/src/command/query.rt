@@ -2,7 +2,6 @@
 ghost use Rattle.std.specs.Prelude.{◌≡◌, ◌≢◌, ℕ, List, Ok, Result, IfErr, IfOk, IsErrOf, OnOk, map};
 ghost use Rattle.std.specs.Io.KnownBytes.{Appends, Keeps};
 ghost use Rattle.clap.specs.Words.{Row, fault_of, found_of, matches_of, rows_of};
-ghost use Rattle.acl_queries.specs.ErrorOutput.{Reports};
 ghost use Rattle.acl_queries.specs.Faults.{Explains, IsRefusedFor, failed_write};
 ghost use Rattle.acl_queries.specs.Meaning.{Ends};
 ghost use Rattle.acl_queries.specs.Output.{AppendsFront};
@@ -67,10 +66,8 @@ pub(crate) fn ask<Q: Query + Drop, S: AsStr, W: Write, E: Write + Drop>(
     out: &mut W,
     err: &mut ErrorOutput<E>,
 ) -> u8
-    ensures ended { Ends (query_meaning Q.line Q.asked_in Q.IsAnswer (map S.text words.now)) result
-        (W.contents out.old) (W.contents out.new) }
-    ensures told { Reports (query_meaning Q.line Q.asked_in Q.IsAnswer (map S.text words.now)).Says
-        result err.old err.new }
+    ensures { Ends (query_meaning Q.line Q.asked_in Q.IsAnswer (map S.text words.now)) result
+        (W.contents out.old) (W.contents out.new) err.old err.new }
 {
     match answer::<Q, S, W>(alloc, words, out) {
         Ok(()) => 0,

@@ -3,8 +3,7 @@ ghost use Rattle.std.specs.Prelude.{◌≡◌, ◌≤◌, ◌⊎◌, IfErr, OnEr
 ghost use Rattle.std.specs.Io.KnownBytes.{Appends, Keeps};
 ghost use Rattle.clap.specs.Words.{matches_of};
 ghost use Rattle.acl_queries.specs.Asked.{optional_perms_in};
-ghost use Rattle.acl_queries.specs.ErrorOutput.{Reports};
-ghost use Rattle.acl_queries.specs.Meaning.{Ends, LeavesInput};
+ghost use Rattle.acl_queries.specs.Meaning.{EndsWithInput};
 ghost use Rattle.acl_queries.specs.Output.{AppendsFront};
 ghost use Rattle.acl_service.specs.RunWords.{input_count};
 ghost use Rattle.acl_tree_queries.specs.ListingFaults.{IsListingFault};
@@ -126,12 +125,9 @@ where
     I: Read,
     W: Write,
     E: Write + Drop,
-    ensures ended { Ends (who_of_listing (F.bytes_of files.now) (I.remaining input.old)
-        (map S.text words.now)) result (W.contents out.old) (W.contents out.new) }
-    ensures told { Reports (who_of_listing (F.bytes_of files.now) (I.remaining input.old)
-        (map S.text words.now)).Says result err.old err.new }
-    ensures input { LeavesInput (who_of_listing (F.bytes_of files.now) (I.remaining input.old)
-        (map S.text words.now)).inputs result input.old input.new }
+    ensures { EndsWithInput (who_of_listing (F.bytes_of files.now) (I.remaining input.old)
+        (map S.text words.now)) result (W.contents out.old) (W.contents out.new) err.old err.new
+        input.old input.new }
 {
     match answer(alloc, files, words, input, out) {
         Ok(()) => 0,

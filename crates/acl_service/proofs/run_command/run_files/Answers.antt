@@ -3,15 +3,14 @@ use Rattle.std.proofs.KnownBytes.{Keeps-refl}
 use Rattle.std.proofs.lemmas.List.{length-map}
 use Rattle.clap.specs.Words.{Row, Text, all_of, found_of, rows_of}
 use Rattle.acl_broker.specs.declared.limits.TheConstants.{SESSIONS}
-use Rattle.acl_queries.proofs.ErrorLemmas.{Reports-map}
-use Rattle.acl_queries.proofs.MeaningLemmas.{Ends-map}
+use Rattle.acl_queries.proofs.MeaningLemmas.{Ends-map, Ends-unread}
 use Rattle.acl_service.specs.FilesFaults.{IsFilesFault, SaysFiles}
 use Rattle.acl_service.specs.RunMeaning.{files_meaning, texts_meaning}
 use Rattle.acl_service.specs.RunTexts.{RunsTexts}
 use Rattle.acl_service.specs.RunWords.{CanRun, HasBytes, HaveBytes, RunsRows, input_count, sessions_in, setup_in}
 use Rattle.acl_service.specs.TextsFaults.{SaysTexts}
 use Rattle.acl_service.specs.declared.files.fault.FilesFault.TheVariants.{SessionCount}
-use Rattle.acl_service.proofs.FaultLemmas.{Ends-files, Reports-files}
+use Rattle.acl_service.proofs.FaultLemmas.{Ends-files}
 use Rattle.acl_service.proofs.FileLemmas.{shown}
 use Rattle.acl_service.proofs.run_command.run_files.Given as given
 use Rattle.acl_service.proofs.run_command.run_files.Goals as goal
@@ -59,82 +58,57 @@ runs_rows g c WentOut runs =
           (subst (λ (those : List (Vec ℕ Global)). RunsTexts c.as_slice.result.now those c.flag_field.result limit WentOut) c.as_slice-in-Ok.ensures.value runs));
     }
 
-pub returns-in_default-clause-ended : goal.returns-in_default-clause-ended
-returns-in_default-clause-ended g c =
-    Ends-files _ (files_meaning (g.F.OpenFiles.bytes_of c.args.files.now)
-    (g.I.Read.remaining c.args.input.now) (rows_of (found_of c.args.matches.now))) _ _ SessionCount
-    c.report.ensures.status (Keeps-refl _)
-
-pub returns-in_default-clause-input : goal.returns-in_default-clause-input
-returns-in_default-clause-input g c = record { untouched = λ none. refl; unread = λ two. refl }
-
-pub returns-in-Err-clause-ended : goal.returns-in-Err-clause-ended
-returns-in-Err-clause-ended g c =
-    Ends-files _ (files_meaning (g.F.OpenFiles.bytes_of c.args.files.now)
-    (g.I.Read.remaining c.args.input.now) (rows_of (found_of c.args.matches.now))) _ _ c.in-Err.fault
-    c.report-in-Err.ensures.status (Keeps-refl _)
-
-pub returns-in-Err-clause-input : goal.returns-in-Err-clause-input
-returns-in-Err-clause-input g c = record {
-  untouched = λ none.
-      c.read_texts.ensures.untouched (ap input_count (sessions_given (rows_of (found_of c.args.matches.now)) _ _ c.in-Some.is c.session_fields.ensures) ∙ none);
-  unread = λ two. c.in-Err.ensures.unread (sym c.report-in-Err.ensures.status ∙ two);
-}
-
-pub returns-in-Ok-clause-ended : goal.returns-in-Ok-clause-ended
-returns-in-Ok-clause-ended g c =
-    Ends-map (texts_meaning c.as_slice.result.now c.as_slice-in-Ok.result.now c.flag_field.result c.limit_field.result)
-    (files_meaning (g.F.OpenFiles.bytes_of c.args.files.now) (g.I.Read.remaining c.args.input.now)
-    (rows_of (found_of c.args.matches.now))) _ _ _ (runs_rows g c) (runs_rows g c) c.run_texts.ensures.ended
-
-pub returns-in-Ok-clause-input : goal.returns-in-Ok-clause-input
-returns-in-Ok-clause-input g c =
-    let names_are = sessions_given (rows_of (found_of c.args.matches.now)) _ _ c.in-Some.is c.session_fields.ensures in
-    let few : length (sessions_in (rows_of (found_of c.args.matches.now))) ≤ SESSIONS = (subst CanRun names_are c.in-Ok.ensures.taken).few in
-    let count : length c.as_slice-in-Ok.result.now ≡ length (sessions_in (rows_of (found_of c.args.matches.now))) =
-    ap length c.as_slice-in-Ok.ensures.value ∙ c.in-Ok.ensures.count ∙ sym (length-map c.in-Some.names.now (λ name. name.now)) ∙ ap length names_are in
-    record {
-      untouched = λ none. c.read_texts.ensures.untouched (ap input_count names_are ∙ none);
-      unread = λ two. absurd (omega (arith, few, count, c.run_texts.ensures.too_many.0 two));
-    }
-
-pub returns-in_default-clause-told : goal.returns-in_default-clause-told
-returns-in_default-clause-told g c =
+pub returns-in_default : goal.returns-in_default
+returns-in_default g c =
     let rows = rows_of (found_of c.args.matches.now) in
+    let meaning = files_meaning (g.F.OpenFiles.bytes_of c.args.files.now) (g.I.Read.remaining c.args.input.now) rows in
     let none : c.session_fields.result ≡ None = search rules in
     let empty = inl (ap length (no_sessions rows c.session_fields.result none c.session_fields.ensures)) in
-    Reports-map _ (SaysFiles (g.F.OpenFiles.bytes_of c.args.files.now) rows) _ _ _ (λ line says. inl says)
-    (Reports-files _ _ _ (IsFilesFault (setup_in rows) (sessions_in rows)) SessionCount empty c.report.ensures.status c.report.ensures.told)
+    let status = c.report.ensures.status in
+    Ends-unread meaning _ _ _ _ _ _
+    (Ends-files meaning _ _ _ _ _ SessionCount status (Keeps-refl _) (inl (SessionCount, empty, status, refl)) c.report.ensures.told)
 
-pub returns-in-Err-clause-told : goal.returns-in-Err-clause-told
-returns-in-Err-clause-told g c =
+pub returns-in-Err : goal.returns-in-Err
+returns-in-Err g c =
     let rows = rows_of (found_of c.args.matches.now) in
+    let meaning = files_meaning (g.F.OpenFiles.bytes_of c.args.files.now) (g.I.Read.remaining c.args.input.now) rows in
     let names_are = sessions_given rows _ _ c.in-Some.is c.session_fields.ensures in
     let fault = c.in-Err.fault in
+    let status = c.report-in-Err.ensures.status in
     let refused =
     subst (λ (setup : Text). IsFilesFault setup (sessions_in rows) fault) c.setup_field.ensures
     (subst (λ (names : List Text). IsFilesFault c.setup_field.result.now names fault) names_are c.in-Err.ensures.refused) in
-    Reports-map _ (SaysFiles (g.F.OpenFiles.bytes_of c.args.files.now) rows) _ _ _ (λ line says. inl says)
-    (Reports-files _ _ _ (IsFilesFault (setup_in rows) (sessions_in rows)) fault refused c.report-in-Err.ensures.status c.report-in-Err.ensures.told)
+    record {
+      ended = Ends-files meaning _ _ _ _ _ fault status (Keeps-refl _) (inl (fault, refused, status, refl)) c.report-in-Err.ensures.told;
+      untouched = λ none. c.read_texts.ensures.untouched (ap input_count names_are ∙ none);
+      unread = λ two. c.in-Err.ensures.unread (sym status ∙ two);
+    }
 
-pub returns-in-Ok-clause-told : goal.returns-in-Ok-clause-told
-returns-in-Ok-clause-told g c =
+pub returns-in-Ok : goal.returns-in-Ok
+returns-in-Ok g c =
     let rows = rows_of (found_of c.args.matches.now) in
     let bytes_of = g.F.OpenFiles.bytes_of c.args.files.now in
     let names_are = sessions_given rows _ _ c.in-Some.is c.session_fields.ensures in
     let told = c.in-Ok.ensures in
-    let may_run = subst CanRun names_are told.taken in
+    let can_run = subst CanRun names_are told.taken in
+    let few : length (sessions_in rows) ≤ SESSIONS = can_run.few in
     let setup_is = subst (λ (name : Text). HasBytes (bytes_of name) c.in-Ok.texts.setup.items) c.setup_field.ensures told.setup in
     let count : length c.as_slice-in-Ok.result.now ≡ length (sessions_in rows) =
     ap length c.as_slice-in-Ok.ensures.value ∙ told.count ∙ sym (length-map c.in-Some.names.now (λ name. name.now)) ∙ ap length names_are in
-    Reports-map _ (SaysFiles bytes_of rows) _ _ _
-    (λ line says. inr (
-      may_run,
+    let says : (line : Option (List ℕ)) → SaysTexts c.as_slice.result.now (length c.as_slice-in-Ok.result.now) c.run_texts.result line → SaysFiles bytes_of rows c.run_texts.result line =
+    λ line says. inr (
+      can_run,
       (
         c.in-Ok.texts.setup.items,
         setup_is,
         subst (λ (n : ℕ). SaysTexts c.in-Ok.texts.setup.items n c.run_texts.result line) count
             (subst (λ (bytes : List ℕ). SaysTexts bytes (length c.as_slice-in-Ok.result.now) c.run_texts.result line) c.as_slice.ensures.value says),
       ),
-    ))
-    c.run_texts.ensures.told
+    ) in
+    record {
+      ended =
+          Ends-map (texts_meaning c.as_slice.result.now c.as_slice-in-Ok.result.now c.flag_field.result c.limit_field.result)
+          (files_meaning bytes_of (g.I.Read.remaining c.args.input.now) rows) _ _ _ _ _ (runs_rows g c) (runs_rows g c) says c.run_texts.ensures.ended;
+      untouched = λ none. c.read_texts.ensures.untouched (ap input_count names_are ∙ none);
+      unread = λ two. absurd (omega (arith, few, count, c.run_texts.ensures.too_many.0 two));
+    }

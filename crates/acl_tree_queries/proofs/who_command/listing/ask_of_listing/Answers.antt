@@ -1,33 +1,26 @@
-use Rattle.std.proofs.Common.{◌∙◌, arith, map, sym}
-use Rattle.acl_queries.specs.Asked.{optional_perms_in}
-use Rattle.acl_tree_queries.specs.ListingFaults.{IsListingFault}
-use Rattle.acl_tree_queries.specs.Listings.{one_listing_in}
-use Rattle.acl_tree_queries.specs.WhoListing.{who_of_listing}
-use Rattle.acl_tree_queries.specs.WhoListingLine.{who_listing_line}
+use Rattle.std.proofs.Common.{◌∙◌, arith, map, refl, sym}
 use Rattle.acl_queries.proofs.MeaningLemmas.{Ends-answered}
-use Rattle.acl_tree_queries.proofs.QuestionsLemmas.{Ends-question, Reports-question}
+use Rattle.acl_tree_queries.specs.WhoListing.{who_of_listing}
+use Rattle.acl_tree_queries.proofs.QuestionsLemmas.{Ends-question}
 use Rattle.acl_tree_queries.proofs.who_command.listing.ask_of_listing.Goals as goal
 
-pub returns-in-Ok-clause-ended : goal.returns-in-Ok-clause-ended
-returns-in-Ok-clause-ended g c =
-    Ends-answered (who_of_listing (g.F.OpenFiles.bytes_of c.args.files.now) (g.I.Read.remaining c.args.input.now) (map g.S.AsStr.text c.args.words.now)) _ _
-    c.in-Ok.ensures.answered
+pub returns-in-Ok : goal.returns-in-Ok
+returns-in-Ok g c = record {
+  ended =
+      Ends-answered (who_of_listing (g.F.OpenFiles.bytes_of c.args.files.now) (g.I.Read.remaining c.args.input.now) (map g.S.AsStr.text c.args.words.now)) _ _ _
+      c.in-Ok.ensures.answered;
+  untouched = c.answer.ensures.untouched;
+  unread = λ two. absurd (omega (arith, two));
+}
 
-pub returns-in-Ok-clause-input : goal.returns-in-Ok-clause-input
-returns-in-Ok-clause-input g c = record { untouched = c.answer.ensures.untouched; unread = λ two. absurd (omega (arith, two)) }
-
-pub returns-in-Err-clause-ended : goal.returns-in-Err-clause-ended
-returns-in-Err-clause-ended g c =
-    Ends-question c.in-Err.fault _ c.report.ensures.status
-    (who_of_listing (g.F.OpenFiles.bytes_of c.args.files.now) (g.I.Read.remaining c.args.input.now) (map g.S.AsStr.text c.args.words.now)) _ _
-    c.in-Err.ensures.silent c.in-Err.ensures.cut
-
-pub returns-in-Err-clause-told : goal.returns-in-Err-clause-told
-returns-in-Err-clause-told g c =
-    Reports-question c.in-Err.fault _ c.report.ensures.status
-    (IsListingFault one_listing_in who_listing_line optional_perms_in (g.F.OpenFiles.bytes_of c.args.files.now) (map g.S.AsStr.text c.args.words.now))
-    _ _ c.in-Err.ensures.refused c.report.ensures.told
-
-pub returns-in-Err-clause-input : goal.returns-in-Err-clause-input
-returns-in-Err-clause-input g c =
-    record { untouched = c.answer.ensures.untouched; unread = λ two. c.in-Err.ensures.unread (sym c.report.ensures.status ∙ two) }
+pub returns-in-Err : goal.returns-in-Err
+returns-in-Err g c =
+    let fault = c.in-Err.fault in
+    let status = c.report.ensures.status in
+    record {
+      ended =
+          Ends-question (who_of_listing (g.F.OpenFiles.bytes_of c.args.files.now) (g.I.Read.remaining c.args.input.now) (map g.S.AsStr.text c.args.words.now))
+          fault _ _ _ _ _ status c.in-Err.ensures.silent c.in-Err.ensures.cut (fault, c.in-Err.ensures.refused, status, refl) c.report.ensures.told;
+      untouched = c.answer.ensures.untouched;
+      unread = λ two. c.in-Err.ensures.unread (sym status ∙ two);
+    }
