@@ -16,9 +16,10 @@ pub record Meaning : Type 1 where
   pub inputs : ℕ
 
 -- a command of this meaning ended with this exit status, and its output and standard error became
--- so: at 0 the answer went out, at 1 and 2 nothing did, and at 3 nothing or a front of what is begun
-pub record Ends (meaning : Meaning) (status : ℕ) (out out' : Option (List ℕ)) (err err' : ErrorText)
-    : Type 0 where
+-- so: at 0 the answer went out, at 1 and 2 nothing, and at 3 nothing or a front of what is begun;
+-- and what is said was told, which is nothing at 0
+pub record Ends (meaning : Meaning) (status : ℕ) (out out' : Option (List ℕ))
+    (err err' : ErrorText) : Type 0 where
   pub within : status ≤ 3
   pub answered : status ≡ 0 → meaning.Answers (Appends out out')
   pub silent : 1 ≤ status → status ≤ 2 → Keeps out out'
