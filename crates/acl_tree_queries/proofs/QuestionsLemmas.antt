@@ -1,11 +1,11 @@
 -- What words come to that ask of trees, and what is said of them.
-use Rattle.std.proofs.Common.{◌≡◌, ◌≢◌, ◌∙◌, ◌≤◌, ◌⊎◌, IfErr, IsOk, ap, ℕ, List, Option, Result, Ok, Err, OnErr, arith, inr, refl, subst, sym}
+use Rattle.std.proofs.Common.{◌≡◌, ◌≢◌, ◌∙◌, ◌≤◌, ◌⊎◌, Bool, IfErr, IsOk, ap, ℕ, List, Option, Result, Ok, Err, OnErr, arith, inr, refl, subst, sym}
 use Rattle.std.specs.Prelude.{IfSome}
 use Rattle.std.specs.Io.KnownBytes.{Keeps}
 use Rattle.clap.specs.Words.{App, Row, Text, matches_of}
 use Rattle.acl_queries.specs.CommandLine.{Takes}
 use Rattle.acl_queries.specs.ErrorOutput.{ErrorText, Tells}
-use Rattle.acl_queries.specs.Meaning.{Ends, Meaning}
+use Rattle.acl_queries.specs.Meaning.{Ends, EndsWithInput, Meaning, meaning_if}
 use Rattle.acl_queries.specs.Output.{AppendsFront}
 use Rattle.acl_queries.specs.declared.command.query_fault.FieldFault.{FieldFault}
 use Rattle.acl_queries.proofs.MeaningLemmas.{Ends-fault}
@@ -51,6 +51,13 @@ pub Ends-question : (meaning : Meaning) (fault : QuestionFault) (status : ℕ) (
     → status ≡ question_status fault → (question_status fault ≤ 2 → Keeps out out') → Keeps out out' ⊎ meaning.Begins (AppendsFront out out')
     → meaning.Says status (question_line fault) → IfSome (question_line fault) (λ text. Tells text err err') → Ends meaning status out out' err err'
 Ends-question = Ends-fault question_status question_line question_bounds
+
+-- words that ask of a listing, or don't, ended as that means
+pub Ends-if : {I : Type 0} (listing tree : Meaning) {status : ℕ} {out out' : Option (List ℕ)} {err err' : ErrorText} {input input' : I} (asks is : Bool) → asks ≡ is
+    → EndsWithInput (meaning_if is listing tree) status out out' err err' input input'
+    → EndsWithInput (meaning_if asks listing tree) status out out' err err' input input'
+Ends-if listing tree {status} {out} {out'} {err} {err'} {input} {input'} asks is same =
+    subst (λ (asked : Bool). EndsWithInput (meaning_if asked listing tree) status out out' err err' input input') (sym same)
 
 -- what is so of a fault of an answer is so of the fault that it becomes
 module _ {T : Type 0} (result : Result T QuestionFault) (fault : AnswerFault) (became : QuestionFault) (is : result ≡ Err became) (from : became ≡ fault_of_answer fault) where

@@ -1,8 +1,8 @@
-use Rattle.std.proofs.Common.{rules, ◌≡◌, Bool, false, map, subst, sym, true}
-use Rattle.acl_queries.specs.Meaning.{EndsWithInput, meaning_if}
+use Rattle.std.proofs.Common.{rules, ◌≡◌, false, map, true}
 use Rattle.acl_tree_queries.specs.WhoAnswer.{who_of_tree}
 use Rattle.acl_tree_queries.specs.WhoListing.{who_of_listing}
 use Rattle.acl_tree_queries.specs.Listings.{asks_of_listing}
+use Rattle.acl_tree_queries.proofs.QuestionsLemmas.{Ends-if}
 use Rattle.acl_tree_queries.proofs.who_command.who.Goals as goal
 
 pub returns-then-asks_of_listing : goal.returns-then-asks_of_listing
@@ -11,10 +11,7 @@ returns-then-asks_of_listing g c =
     let input = g.I.Read.remaining c.args.input.now in
     let words = map g.S.AsStr.text c.args.words.now in
     let asks : asks_of_listing words ≡ true = search rules in
-    subst (λ (listed : Bool). EndsWithInput (meaning_if listed (who_of_listing files input words)
-    (who_of_tree files input words)) c.ask_of_listing.result (g.W.Write.contents c.args.out.now)
-    (g.W.Write.contents c.ask_of_listing.new.out) c.args.err.now c.ask_of_listing.new.err c.args.input.now c.ask_of_listing.new.input)
-    (sym asks) c.ask_of_listing.ensures
+    Ends-if (who_of_listing files input words) (who_of_tree files input words) _ true asks c.ask_of_listing.ensures
 
 pub returns-else-asks_of_listing : goal.returns-else-asks_of_listing
 returns-else-asks_of_listing g c =
@@ -22,7 +19,4 @@ returns-else-asks_of_listing g c =
     let input = g.I.Read.remaining c.args.input.now in
     let words = map g.S.AsStr.text c.args.words.now in
     let asks : asks_of_listing words ≡ false = search rules in
-    subst (λ (listed : Bool). EndsWithInput (meaning_if listed (who_of_listing files input words)
-    (who_of_tree files input words)) c.ask.result (g.W.Write.contents c.args.out.now)
-    (g.W.Write.contents c.ask.new.out) c.args.err.now c.ask.new.err c.args.input.now c.ask.new.input)
-    (sym asks) c.ask.ensures
+    Ends-if (who_of_listing files input words) (who_of_tree files input words) _ false asks c.ask.ensures
