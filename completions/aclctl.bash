@@ -7,7 +7,7 @@ _aclctl_options() {
         explain) echo --owner --group --uid --gids --perms --help ;;
         compare) echo --owner --group --help ;;
         run) echo --setup --journal --max-errors --help ;;
-        who) echo --setup --perms --listing --help ;;
+        who) echo --setup --perms --reach --listing --help ;;
         impact) echo --setup --before --listing --help ;;
         dump) echo --setup --help ;;
         lint) echo --setup --help ;;

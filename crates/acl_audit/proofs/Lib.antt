@@ -9,3 +9,4 @@ pub mod SavedLemmas
 pub mod GroupsLemmas
 pub mod ParentLemmas
 pub mod DumpLemmas
+pub mod ReachLemmas

@@ -3,5 +3,7 @@ pub mod Changes
 pub mod Steps
 pub mod Impact
 pub mod Who
+pub mod Reach
+pub mod Answers
 pub mod Saved
 pub mod Dump

@@ -8,6 +8,7 @@ mod dump;
 mod impact;
 mod laws;
 mod letters;
+mod reach;
 mod same;
 mod saved;
 mod who;
@@ -17,5 +18,9 @@ pub use dump::{close, push_creation, push_lists};
 pub use impact::{Impact, impact_at, impact_of, impact_on, requesters_of};
 pub use laws::{dump_laws, impact_laws, letter_laws, saved_laws};
 pub use letters::effective;
+pub use reach::{
+    both, letters_of_each, places_of_those_who_may, push_letters_of_each, push_those_at, reaches,
+    way_in, which_may,
+};
 pub use saved::push_saved;
-pub use who::{push_letters, push_those_who_may};
+pub use who::{push_letters, push_letters_on, push_those_on, push_those_who_may};

@@ -1,13 +1,15 @@
 //! Who may do what, line by line.
-ghost use Rattle.std.specs.Prelude.{◌≡◌, ◌++◌, OnOk};
+ghost use Rattle.std.specs.Prelude.{◌≡◌, ◌++◌, OnOk, if◌then◌else◌, map};
 ghost use Rattle.acl_names.specs.Directory.{requester_of};
 ghost use Rattle.acl_posix.specs.Perms.{bits_of};
 ghost use Rattle.acl_tree.specs.Nodes.{may};
 ghost use Rattle.acl_audit.specs.Letters.{effective};
+ghost use Rattle.acl_audit.specs.Reach.{node_lines_on, node_lines_on_of_those_who_may, reaches};
 ghost use Rattle.acl_audit.specs.Who.{letters_line, may_line, node_lines};
 ghost use Rattle.acl_audit.specs.Who.{node_lines_of_those_who_may};
 
 use crate::letters::effective;
+use crate::reach::reaches;
 use acl_names::{Directory, Requester, Uid, User};
 use acl_posix::{Perms, push_perms};
 use acl_tree::Node;
@@ -15,7 +17,7 @@ use bitflags::Flags;
 use std::alloc::{AllocError, Global};
 
 /// Appends the line that says which letters a user has.
-fn push_letters_line(
+pub(crate) fn push_letters_line(
     path: &[u8],
     name: &str,
     perms: Perms,
@@ -34,7 +36,7 @@ fn push_letters_line(
 }
 
 /// Appends the line that says that a user may.
-fn push_may_line(path: &[u8], name: &str, out: &mut Vec<u8>) -> Result<(), AllocError>
+pub(crate) fn push_may_line(path: &[u8], name: &str, out: &mut Vec<u8>) -> Result<(), AllocError>
     ensures { OnOk result (out.new.items ≡ out.old.items ++ may_line path.now name.now) }
 {
     out.extend_from_slice(name.as_bytes())?;
@@ -100,6 +102,78 @@ pub fn push_those_who_may(
 {
     for user in users {
         if user_may(alloc, directory, node, user.uid, perms) {
+            push_may_line(path, user.name.as_str(), out)?;
+        }
+    }
+    Ok(())
+}
+
+/// Whether the user with the uid reaches what lies behind the way.
+fn user_reaches(alloc: Global, directory: &Directory, way: &[&Node], uid: Uid) -> bool
+    ensures { result ≡ reaches (map (λ folder. folder.now) way.now)
+        (requester_of directory.now uid) }
+{
+    match directory.requester_of(uid) {
+        Some(requester) => reaches(way, requester),
+        None => reaches(way, &Requester::new(uid, Vec::new(alloc))),
+    }
+}
+
+/// What the node grants the user with the uid, letter by letter, if that user reaches what lies
+/// behind the way.
+fn letters_on(alloc: Global, directory: &Directory, way: &[&Node], node: &Node, uid: Uid) -> Perms
+    ensures { let who = requester_of directory.now uid in
+        bits_of result ≡ (if reaches (map (λ folder. folder.now) way.now) who
+        then effective node.now who else 0) }
+{
+    if user_reaches(alloc, directory, way, uid) {
+        letters_of(alloc, directory, node, uid)
+    } else {
+        Perms::empty()
+    }
+}
+
+/// Appends a line for each of the users, in their order: the letters that a check of the node
+/// grants, or none if a folder on the way to it may not be searched, the name, and the path.
+pub fn push_letters_on(
+    alloc: Global,
+    directory: &Directory,
+    users: &[User],
+    way: &[&Node],
+    path: &[u8],
+    node: &Node,
+    out: &mut Vec<u8>,
+) -> Result<(), AllocError>
+    ensures { OnOk result (out.new.items ≡ out.old.items ++ node_lines_on directory.now users.now
+        (map (λ folder. folder.now) way.now) path.now node.now) }
+{
+    for user in users {
+        let perms = letters_on(alloc, directory, way, node, user.uid);
+        push_letters_line(path, user.name.as_str(), perms, out)?;
+    }
+    Ok(())
+}
+
+/// Appends a line for each of the users, in their order, whom the node grants the permissions, and
+/// whom each folder on the way to it lets search: the name and the path.
+pub fn push_those_on(
+    alloc: Global,
+    directory: &Directory,
+    users: &[User],
+    way: &[&Node],
+    path: &[u8],
+    node: &Node,
+    perms: Perms,
+    out: &mut Vec<u8>,
+) -> Result<(), AllocError>
+    ensures { OnOk result (out.new.items ≡ out.old.items ++ node_lines_on_of_those_who_may
+        directory.now users.now (map (λ folder. folder.now) way.now) path.now node.now
+        (bits_of perms)) }
+{
+    for user in users {
+        if user_may(alloc, directory, node, user.uid, perms)
+            && user_reaches(alloc, directory, way, user.uid)
+        {
             push_may_line(path, user.name.as_str(), out)?;
         }
     }

@@ -8,3 +8,5 @@ pub mod LineLemmas
 pub mod HandedLemmas
 pub mod PathLemmas
 pub mod PrintedLemmas
+pub mod AlikeLemmas
+pub mod WayLemmas

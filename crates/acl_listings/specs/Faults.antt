@@ -7,7 +7,7 @@ use Rattle.acl_listings.specs.declared.fault.BlockFault.{BlockFault}
 use Rattle.acl_listings.specs.declared.fault.BlockFault.TheVariants.{TooLong, BadHeader}
 use Rattle.acl_listings.specs.declared.fault.BlockFault.TheVariants.{RepeatedPath}
 use Rattle.acl_listings.specs.declared.fault.BlockFault.TheVariants.{UnknownOwner, UnknownGroup}
-use Rattle.acl_listings.specs.declared.fault.BlockFault.TheVariants.{Acl}
+use Rattle.acl_listings.specs.declared.fault.BlockFault.TheVariants.{Acl, UnknownWay}
 use Rattle.acl_listings.specs.declared.fault.FileFault.{FileFault}
 use Rattle.acl_listings.specs.declared.fault.FileFault.TheVariants.{Block, Memory}
 
@@ -18,6 +18,7 @@ fault_word RepeatedPath = codes "repeated-path"
 fault_word UnknownOwner = codes "unknown-name"
 fault_word UnknownGroup = codes "unknown-name"
 fault_word (Acl fault) = posix.fault_word fault
+fault_word UnknownWay = codes "unknown-way"
 
 -- a call's fault is what is wrong with what it reads; out of memory says nothing of that
 abbrev pub IsFaultOf : {A : Type 0} → Result A BlockFault → FileFault → Type 0

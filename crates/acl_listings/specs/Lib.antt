@@ -11,3 +11,4 @@ pub mod Source
 pub mod Cursor
 pub mod Steps
 pub mod Printed
+pub mod Way

@@ -22,6 +22,8 @@ pub enum BlockFault {
     UnknownGroup,
     /// Its other lines spell no access list.
     Acl(AclFault),
+    /// It reads, but a folder above it doesn't, or isn't there.
+    UnknownWay,
 }
 
 impl BlockFault {
@@ -38,6 +40,7 @@ impl BlockFault {
             BlockFault::UnknownOwner => "unknown-name",
             BlockFault::UnknownGroup => "unknown-name",
             BlockFault::Acl(fault) => fault.word(),
+            BlockFault::UnknownWay => "unknown-way",
         }
     }
 }

@@ -3,6 +3,7 @@
 ghost use Rattle.std.specs.Prelude.{◌≡◌, Ok, IfErr, IfOk, option_map};
 ghost use Rattle.acl_listings.specs.Block.{file_of, path_of};
 ghost use Rattle.acl_listings.specs.Faults.{IsFaultOf};
+ghost use Rattle.acl_listings.specs.Lines.{after_line};
 ghost use Rattle.acl_listings.specs.Views.{view_file};
 
 use crate::access::read_access;
@@ -60,4 +61,13 @@ pub fn path_of(text: &[u8]) -> Option<&[u8]>
         return None;
     }
     read_path(line)
+}
+
+/// The lines of a block behind its first. Of two blocks that are no longer than a block may be, and
+/// whose first lines are files', these lines alone say what differs but for the path.
+pub fn lines_behind(text: &[u8]) -> &[u8]
+    ensures { result.now ≡ after_line text.now }
+{
+    let (_, behind) = split_line(text);
+    behind
 }

@@ -12,11 +12,13 @@ mod laws;
 mod limits;
 mod source;
 mod steps;
+mod way;
 mod window;
 
 pub use blocks::Blocks;
 pub use fault::{BlockFault, FileFault};
-pub use file::{File, path_of, read_file};
+pub use file::{File, lines_behind, path_of, read_file};
 pub use laws::{handed_blocks_tell_the_same, printed_files_are_read_again};
 pub use limits::{MAX_BLOCK, limits_in_numbers};
+pub use way::{Place, place_below};
 pub use window::ReadFault;

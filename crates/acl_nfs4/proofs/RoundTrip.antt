@@ -143,7 +143,7 @@ flags_for-same who flags stands = same_bits _ _ (λ k.
     by_who (User uid) e k = alone k (lacks-one flags 6 e)
     by_who (NamedGroup gid) e k = there k (eqb-true (flags ∩ 64) 64 (contains-one flags 6 ∙ e))
 
-ace_of-same : (ace : Nfsace4) → IsAce ace → ace_of ace.kind ace.flags ace.who ace.mask ≡ ace
+pub ace_of-same : (ace : Nfsace4) → IsAce ace → ace_of ace.kind ace.flags ace.who ace.mask ≡ ace
 ace_of-same ace is = λ i. record {
   kind = ace.kind;
   flags = (ap (flags_for ace.who) is.known_flags ∙ flags_for-same ace.who ace.flags is.group_flag) i;

@@ -170,7 +170,7 @@ impl Ace {
     }
 
     /// Whether the entry has an effect neither where it stands nor below.
-    pub(crate) fn is_idle(&self) -> bool
+    pub fn is_idle(&self) -> bool
         ensures { result ≡ is_idle self.now }
     {
         let flags = self.flags;

@@ -21,7 +21,7 @@ use Rattle.acl_tree.specs.declared.node.Node.{Node}
 use Rattle.acl_listings.specs.Block.{FileValue, file_of, path_of}
 use Rattle.acl_listings.specs.Listing.{Block}
 use Rattle.acl_listings.specs.declared.fault.BlockFault.{BlockFault}
-use Rattle.acl_listings.specs.declared.fault.BlockFault.TheVariants.{TooLong, BadHeader, RepeatedPath, UnknownOwner, UnknownGroup, Acl}
+use Rattle.acl_listings.specs.declared.fault.BlockFault.TheVariants.{TooLong, BadHeader, RepeatedPath, UnknownOwner, UnknownGroup, Acl, UnknownWay}
 use Rattle.acl_listings.proofs.PathLemmas.{path_of-file}
 use Rattle.acl_queries.specs.Output.{AppendsFront}
 use Rattle.acl_tree_queries.specs.ChangeSteps.{AreMet, TellsFaultOf, TellsFile, TellsFound, TellsGoneOf, TellsNext, TellsOfKnown, is_marked, read_placed}
@@ -50,6 +50,7 @@ said_once true (Err RepeatedPath) file is = cc
 said_once true (Err UnknownOwner) file is = cc
 said_once true (Err UnknownGroup) file is = cc
 said_once true (Err (Acl fault)) file is = cc
+said_once true (Err UnknownWay) file is = cc
 
 module _ (known : Known) (before : List Block) where
   -- where a block stands that says something of a file is the first place of its path

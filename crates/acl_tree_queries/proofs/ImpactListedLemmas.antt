@@ -27,7 +27,7 @@ use Rattle.acl_tree_queries.specs.declared.question.fault.QuestionFault.TheVaria
 reading-handed : (known : Known) (block : Block) → reading_of known (as_handed_out block) ≡ reading_of known block
 reading-handed known block = λ i. record { line = block.line; path = path-handed block.text i; file = file-handed known block.text i }
 
-readings-handed : (known : Known) (blocks : List Block) → each (reading_of known) (each as_handed_out blocks) ≡ each (reading_of known) blocks
+pub readings-handed : (known : Known) (blocks : List Block) → each (reading_of known) (each as_handed_out blocks) ≡ each (reading_of known) blocks
 readings-handed known [] = refl
 readings-handed known (block ∷ blocks) =
     ap (λ first. first ∷ each (reading_of known) (each as_handed_out blocks)) (reading-handed known block)

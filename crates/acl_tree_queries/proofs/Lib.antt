@@ -1,6 +1,10 @@
 pub mod BlocksLemmas
 pub mod DumpLemmas
 pub mod DumpRunLemmas
+pub mod WaysLemmas
+pub mod AnswersLemmas
+pub mod ReachSteps
+pub mod WayLawLemmas
 pub mod ListedLemmas
 pub mod ImpactListedLemmas
 pub mod ListingFaultLemmas

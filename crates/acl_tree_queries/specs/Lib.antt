@@ -9,11 +9,15 @@ pub mod Readings
 pub mod ListingText
 pub mod ListingFaults
 pub mod QuestionMeaning
+pub mod WhoAsked
+pub mod Ways
 pub mod WhoLine
 pub mod WhoAnswer
 pub mod WhoListingLine
 pub mod WhoListing
 pub mod WhoWords
+pub mod WhoSteps
+pub mod WayLaws
 pub mod ImpactLine
 pub mod ImpactText
 pub mod ImpactAnswer

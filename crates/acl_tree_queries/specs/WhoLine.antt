@@ -2,13 +2,13 @@
 use Rattle.std.specs.Prelude.{◌≡◌, [], ◌∷◌, codes, fold, refl, true}
 use Rattle.clap.specs.Words.{App, is_simple, is_simple_and_free, new_app, with_rule}
 use Rattle.clap.proofs.OnLiterals.{clap_on_literals}
-use Rattle.acl_queries.specs.CommandLine.{optional_option, optional_word, required_option}
+use Rattle.acl_queries.specs.CommandLine.{flag, optional_option, optional_word, required_option}
 
--- `who --setup FILE [--perms P] [SESSION]`
+-- `who --setup FILE [--perms P] [--reach] [SESSION]`
 unfoldable pub who_line : App
 who_line = fold with_rule (new_app (codes "who"))
     (required_option (codes "setup") ∷ optional_option (codes "perms")
-    ∷ optional_word (codes "session") ∷ [])
+    ∷ flag (codes "reach") ∷ optional_word (codes "session") ∷ [])
 
 -- its parser is known
 pub who_line-simple : is_simple who_line ≡ true

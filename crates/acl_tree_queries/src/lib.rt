@@ -17,5 +17,5 @@ mod who_command;
 
 pub use dump_command::dump;
 pub use impact_command::impact;
-pub use laws::dump_laws;
+pub use laws::{dump_laws, way_laws};
 pub use who_command::who;

@@ -49,6 +49,10 @@ const LONG: &str =
 const LISTING: &str =
     "# file: srv/share/plan\n# owner: alice\n# group: staff\nuser::rw-\nuser:bob:rwx\t#effective:rw-\ngroup::r--\nmask::rw-\nother::---\n\n# file: srv/share/lost\n# owner: alice\n# group: gone\nuser::rw-\ngroup::---\nother::---\n\n\n# file: srv/share/bent\n# owner: 1000\n# group: 50\nuser::rwz\ngroup::---\nother::---\n\n# owner: alice\n# group: staff\n\n# file: srv/share/a dir\n# owner: 1001\n# group: 60\n# flags: -s-\nuser::rwx\ngroup::r-x\nother::--x\ndefault:user::rwx\ndefault:group::rwx\ndefault:other::rwx\n";
 
+/// Folders and files, as `getfacl -R srv other` lists them, but for one folder.
+const WAYS: &str =
+    "# file: srv\n# owner: alice\n# group: staff\nuser::rwx\ngroup::r-x\nother::---\n\n# file: srv/in\n# owner: alice\n# group: ops\nuser::rwx\ngroup::---\nother::r--\n\n# file: srv/in/file\n# owner: bob\n# group: staff\nuser::rw-\ngroup::r--\nother::r--\n\n# file: srv//./next\n# owner: root\n# group: root\nuser::rw-\ngroup::---\nother::r--\n\n# file: srv/gone/file\n# owner: alice\n# group: staff\nuser::rw-\ngroup::r--\nother::r--\n\n# file: other\n# owner: nobody\n# group: staff\nuser::rwx\ngroup::r-x\nother::---\n\n# file: other/file\n# owner: alice\n# group: staff\nuser::rw-\ngroup::---\nother::r--\n";
+
 /// A listing of files that were there: later two are gone, one has another owner and one another
 /// list. A header doesn't read, and a group is one that the office lacks.
 pub const OLDER: &str =
@@ -62,6 +66,9 @@ pub const NEWER: &str =
 /// What `impact` tells of these two.
 pub const SINCE_OLDER: &str =
     "fault bad-header 8 -\nfault unknown-name 19 srv/share/lost\ndiffer bob 1001 50,60 w - srv/share/plan\nnew srv/share/new\nfault bad-header 17 -\ndiffer alice 1000 50 - rw srv/share/a dir\nfault repeated-path 35 srv/share/plan\nfault invalid-acl 42 srv/share/next\nnew srv/share/next\ngone srv/share/old\ngone srv/share/a\\012b\n";
+
+/// A file that everybody may read, in a root directory that its owner alone may search.
+const SHUT: &str = "create file /motd root 644\nchmod / 700\n";
 
 const FILES: &[(&str, &str)] = &[
     ("office", OFFICE),
@@ -77,6 +84,8 @@ const FILES: &[(&str, &str)] = &[
     ("aces", ACES),
     ("long", LONG),
     ("listing", LISTING),
+    ("ways", WAYS),
+    ("shut", SHUT),
     ("older", OLDER),
     ("newer", NEWER),
 ];

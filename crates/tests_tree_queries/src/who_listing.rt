@@ -111,3 +111,27 @@ fn a_session_of_that_name(rt: HostRuntime) {
     let words = ["who", "--setup", "office", "--", "--listing"];
     assert!(rt; Query.ends(rt.alloc(), &words, 1, "", "aclctl: cannot read --listing\n"));
 }
+
+/// A folder that two users may search, with one in it that one of them may, and what is in that;
+/// then a folder by itself that doesn't read, and what is in it.
+#[test]
+fn those_who_reach_a_file(rt: HostRuntime) {
+    let words = ["who", "--setup", "office", "--reach", "--perms", "r", "--listing", "ways"];
+    let text =
+        "alice srv\nbob srv\nalice srv/in\nalice srv/in/file\nalice srv//./next\nbob srv//./next\nfault unknown-way 29 srv/gone/file\nfault unknown-name 36 other\nfault unknown-way 43 other/file\n";
+    assert!(rt; Query.ends(rt.alloc(), &words, 0, text, ""));
+}
+
+/// After a block whose path doesn't read no way is known.
+#[test]
+fn a_way_that_is_lost(rt: HostRuntime) -> Result<(), Fail> {
+    let mut out = Vec::new(rt.alloc());
+    let mut input = Sheet::new(
+        "# owner: alice\n\n# file: a\n# owner: alice\n# group: staff\nuser::rw-\ngroup::---\nother::---\n",
+    );
+    let words = ["who", "--setup", "office", "--reach", "--listing", "-"];
+    let (status, _err) = Query.ask(rt.alloc(), &words, &mut input, &mut out);
+    assert_eq!(rt; status, 0);
+    assert!(rt; out.as_slice() == b"fault bad-header 1 -\nfault unknown-way 3 a\n".as_slice());
+    Ok(())
+}

@@ -1,22 +1,33 @@
 //! `who` of a listing.
-ghost use Rattle.std.specs.Prelude.{◌≡◌, ◌≤◌, ◌⊎◌, IfErr, OnErr, OnOk, map};
+ghost use Rattle.std.specs.Prelude.{◌≡◌, ◌≤◌, ◌⊎◌, ℕ, IfErr, IfOk, List, OnErr, OnOk, bytes_eq};
+ghost use Rattle.std.specs.Prelude.{codes, false, map};
 ghost use Rattle.std.specs.Io.KnownBytes.{Appends, Keeps};
 ghost use Rattle.clap.specs.Words.{matches_of};
-ghost use Rattle.acl_queries.specs.Asked.{optional_perms_in};
+ghost use Rattle.acl_listings.specs.Cursor.{blocks_to_come};
+ghost use Rattle.acl_listings.specs.Listing.{Block as BlockValue};
 ghost use Rattle.acl_queries.specs.Meaning.{EndsWithInput};
 ghost use Rattle.acl_queries.specs.Output.{AppendsFront};
-ghost use Rattle.acl_service.specs.RunWords.{input_count};
-ghost use Rattle.acl_tree_queries.specs.ListingFaults.{IsListingFault};
+ghost use Rattle.acl_service.specs.RunWords.{bytes_of_session, input_count};
+ghost use Rattle.acl_tree_queries.specs.ListingFaults.{IsListingFault, IsNamedFault};
+ghost use Rattle.acl_tree_queries.specs.ListingText.{AreAll, AreFirst};
 ghost use Rattle.acl_tree_queries.specs.Listings.{one_listing_in};
+ghost use Rattle.acl_tree_queries.specs.Nodes.{TellsOfEach};
 ghost use Rattle.acl_tree_queries.specs.QuestionFaults.{question_status};
-ghost use Rattle.acl_tree_queries.specs.WhoListing.{who_of_listing};
+ghost use Rattle.acl_tree_queries.specs.WhoAsked.{who_asked_in};
+ghost use Rattle.acl_tree_queries.specs.WhoListing.{TellsSeen, who_of_listing};
 ghost use Rattle.acl_tree_queries.specs.WhoListingLine.{who_listing_line};
+ghost use Rattle.acl_tree_queries.specs.WhoSteps.{IsEveryone};
 
-use super::text::WhoText;
+use super::answers::{Answers, Users};
+use super::listed::ListedText;
+use super::question::{REACH, WhoQuestion};
+use super::reach::ReachText;
 use crate::listing::{listing_field, read_directory, write_listing};
-use crate::question::QuestionFault;
-use acl_queries::options::{optional_perms_option, required_option, setup_option};
-use acl_queries::{CommandLine, ErrorOutput, optional_perms_field, parse, report};
+use crate::question::{Question, QuestionFault};
+use acl_audit::requesters_of;
+use acl_names::{Directory, Requester};
+use acl_queries::options::{flag, optional_perms_option, required_option, setup_option};
+use acl_queries::{CommandLine, ErrorOutput, parse, report};
 use acl_service::{OpenFiles, setup_field};
 use clap::Command;
 use std::alloc::{AllocError, Global};
@@ -28,8 +39,9 @@ const ANSWERS: &str = "A line for each file and each user: LETTERS NAME PATH, wh
 that is denied by itself.
 With --perms P only NAME PATH, of those who are granted all of P at once. A block that doesn't \
 read is told in
-its place: fault WORD LINE PATH. Directories above a file are not searched, and root has no right \
-of its own.
+its place: fault WORD LINE PATH. Directories above a file are searched only with --reach: those \
+that stand before
+it in the listing. Root has no right of its own.
 Exit status: 0 with an answer; 1 if a field or a file doesn't read; 2 if the words are wrong, and \
 with this help; 3 if
 memory runs out, the listing fails while it is read, or the answer can't be written.";
@@ -55,6 +67,7 @@ impl CommandLine for WhoListingLine {
             .after_help(ANSWERS)
             .arg(setup_option(alloc))?
             .arg(optional_perms_option(alloc))?
+            .arg(flag(alloc, "reach", REACH))?
             .arg(required_option(
                 alloc,
                 "listing",
@@ -62,6 +75,59 @@ impl CommandLine for WhoListingLine {
                 "What getfacl -R printed, or - for standard input",
             ))
     }
+}
+
+/// Of each of the requesters that it is set.
+fn everyone(alloc: Global, requesters: &[Requester]) -> Result<Vec<bool>, AllocError>
+    ensures { IfOk result (λ marks. IsEveryone requesters.now marks.items) }
+{
+    let mut marks = Vec::with_capacity(alloc, requesters.len())?;
+    for _requester in requesters {
+        marks.push(true)?;
+    }
+    Ok(marks)
+}
+
+/// Writes what is told of each block of the listing of this name.
+fn write_who<'a, F: OpenFiles, I: Read, W: Write>(
+    alloc: Global,
+    files: &F,
+    name: &'a str,
+    input: &mut I,
+    directory: &Directory,
+    question: &WhoQuestion,
+    out: &mut W,
+) -> Result<(), QuestionFault<'a>>
+    ensures written { OnOk result ((seen : List BlockValue) × (text : List ℕ)
+        × AreAll (blocks_to_come 1
+        (bytes_of_session (F.bytes_of files.now) (I.remaining input.old) name.entry.now)) seen
+        × TellsSeen TellsOfEach directory.now question.now seen text
+        × Appends (W.contents out.old) (W.contents out.new) text) }
+    ensures cut { OnErr result ((seen : List BlockValue) × (text : List ℕ)
+        × AreFirst (blocks_to_come 1
+        (bytes_of_session (F.bytes_of files.now) (I.remaining input.old) name.entry.now)) seen
+        × TellsSeen TellsOfEach directory.now question.now seen text
+        × AppendsFront (W.contents out.old) (W.contents out.new) text) }
+    ensures silent { IfErr result (λ fault. question_status fault ≤ 2
+        → Keeps (W.contents out.old) (W.contents out.new)) }
+    ensures untouched { bytes_eq name.entry.now (codes "-") ≡ false → input.new ≡ input.old }
+    ensures refused { IfErr result (IsNamedFault name.entry.now) }
+{
+    let requesters = requesters_of(alloc, directory)?;
+    let users = Users {
+        directory,
+        requesters: requesters.as_slice(),
+        perms: question.perms,
+        reach: question.reach,
+    };
+    let answers = Answers::new(alloc, users)?;
+    let everyone = everyone(alloc, requesters.as_slice())?;
+    if question.reach {
+        let mut teller = ReachText::new(alloc, answers, everyone);
+        return write_listing(alloc, files, name, input, &mut teller, out);
+    }
+    let mut teller = ListedText::new(answers, everyone);
+    write_listing(alloc, files, name, input, &mut teller, out)
 }
 
 /// Writes the answer to what the words ask.
@@ -90,24 +156,14 @@ where
         (one_listing_in (matches_of who_listing_line (map S.text words.entry.now))) ≡ 0
         → input.new ≡ input.old }
     ensures unread { IfErr result (λ fault. question_status fault ≡ 2 → input.new ≡ input.old) }
-    ensures refused { IfErr result (IsListingFault one_listing_in who_listing_line optional_perms_in
+    ensures refused { IfErr result (IsListingFault one_listing_in who_listing_line who_asked_in
         (F.bytes_of files.now) (map S.text words.entry.now)) }
 {
     let matches = parse::<WhoListingLine, S>(alloc, words)?;
-    let perms = optional_perms_field(&matches)?;
+    let question = WhoQuestion::read(&matches)?;
     let directory = read_directory(alloc, files, setup_field(&matches))?;
-    let mut teller = WhoText {
-        directory: &directory,
-        perms,
-    };
-    write_listing(
-        alloc,
-        files,
-        listing_field(&matches),
-        input,
-        &mut teller,
-        out,
-    )
+    let name = listing_field(&matches);
+    write_who(alloc, files, name, input, &directory, &question, out)
 }
 
 /// Answers what the words ask of a listing, or tells what is wrong, and returns the exit status.

@@ -1,11 +1,12 @@
 //! What the words of `who` ask.
 
-use super::text::WhoText;
+use super::text::{ReachText, WhoText};
 use crate::nodes::write_nodes;
 use crate::question::{AnswerFault, Question};
 use crate::trees::Trees;
 use acl_posix::Perms;
-use acl_queries::options::{optional_perms_option, optional_word, setup_option};
+use acl_queries::fields::flag_field;
+use acl_queries::options::{flag, optional_perms_option, optional_word, setup_option};
 use acl_queries::{CommandLine, FieldFault, optional_perms_field};
 use clap::{ArgMatches, Command};
 use std::alloc::{AllocError, Global};
@@ -16,8 +17,8 @@ use std::marker::Model;
 const ANSWERS: &str = "A line for each file and each user: LETTERS NAME PATH, where - is a letter \
 that is denied by itself.
 With --perms P only NAME PATH, of those who are granted all of P at once. Directories above a file \
-are not
-searched, and root has no right of its own.
+are searched
+only with --reach, and root has no right of its own.
 With --listing LISTING in the place of SESSION it tells the same of real files, as getfacl -R \
 lists them:
 aclctl who --listing - --help tells more.
@@ -25,19 +26,29 @@ Exit status: 0 with an answer; 1 if a field or a file doesn't read; 2 if the wor
 with this help; 3 if
 memory runs out or the answer can't be written.";
 
+/// What `--reach` is for.
+pub(super) const REACH: &str =
+    "Grants something only if the user may also search each folder above";
+
 /// Which letters each user has; or, with permissions, who is granted these at once.
 #[derive(Drop)]
 pub(super) struct WhoQuestion {
-    perms: Option<Perms>,
+    pub perms: Option<Perms>,
+    /// Whether only those have them who may search each folder above.
+    pub reach: bool,
 }
 
 impl Model for WhoQuestion {
-    ghost use Rattle.std.specs.Prelude.{ℕ, Option, option_map};
+    ghost use Rattle.std.specs.Prelude.{option_map};
     ghost use Rattle.acl_posix.specs.Perms.{bits_of};
+    ghost use Rattle.acl_tree_queries.specs.WhoAsked.{WhoAsked};
 
-    ghost Value = { Option ℕ };
+    ghost Value = { WhoAsked };
 
-    ghost view = { λ question. option_map bits_of question.perms };
+    ghost view = { λ question. record {
+      perms = option_map bits_of question.perms;
+      reach = question.reach;
+    } };
 }
 
 impl CommandLine for WhoQuestion {
@@ -56,6 +67,7 @@ impl CommandLine for WhoQuestion {
             .after_help(ANSWERS)
             .arg(setup_option(alloc))?
             .arg(optional_perms_option(alloc))?
+            .arg(flag(alloc, "reach", REACH))?
             .arg(optional_word(
                 alloc,
                 "session",
@@ -67,10 +79,10 @@ impl CommandLine for WhoQuestion {
 
 impl Question for WhoQuestion {
     ghost use Rattle.acl_tree_queries.specs.QuestionFaults.{IsNeverRefused};
-    ghost use Rattle.acl_queries.specs.Asked.{optional_perms_in};
     ghost use Rattle.acl_tree_queries.specs.WhoAnswer.{IsWho, IsWhoBegun};
+    ghost use Rattle.acl_tree_queries.specs.WhoAsked.{who_asked_in};
 
-    ghost asked_in = { optional_perms_in };
+    ghost asked_in = { who_asked_in };
 
     ghost IsAnswer = { IsWho };
 
@@ -81,6 +93,7 @@ impl Question for WhoQuestion {
     fn read(matches: &ArgMatches<'_>) -> Result<WhoQuestion, FieldFault> {
         Ok(WhoQuestion {
             perms: optional_perms_field(matches)?,
+            reach: flag_field(matches, "reach"),
         })
     }
 
@@ -90,10 +103,17 @@ impl Question for WhoQuestion {
         trees: &Trees,
         out: &mut W,
     ) -> Result<(), AnswerFault> {
-        let teller = WhoText {
+        let told = WhoText {
             directory: &trees.directory,
             perms: self.perms,
         };
-        Ok(write_nodes(alloc, &teller, &trees.after, out)?)
+        if self.reach {
+            let teller = ReachText {
+                told,
+                tree: &trees.after,
+            };
+            return Ok(write_nodes(alloc, &teller, &trees.after, out)?);
+        }
+        Ok(write_nodes(alloc, &told, &trees.after, out)?)
     }
 }

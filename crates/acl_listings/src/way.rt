@@ -1,0 +1,74 @@
+//! Which folders stand above a file, by their paths.
+
+ghost use Rattle.std.specs.Prelude.{◌≡◌, ◌∷◌, [], MatchOption};
+ghost use Rattle.acl_listings.specs.Way.{is_absolute, leads, place_below, steps_among};
+
+use acl_names::Parts;
+
+/// What stands between the steps of a path.
+const SLASH: u8 = b'/';
+
+/// Where a path leads, seen from the folder of another.
+#[derive(Clone, Copy, Debug, PartialEq, Eq)]
+pub enum Place {
+    /// Not into the folder.
+    Elsewhere,
+    /// To the folder.
+    Same,
+    /// To what lies in the folder.
+    Inside,
+    /// To what lies further below it.
+    Deeper,
+}
+
+/// Whether a part of a path leads somewhere.
+fn leads(part: &[u8]) -> bool
+    ensures { result ≡ leads part.now }
+{
+    !part.is_empty() && part != b".".as_slice()
+}
+
+/// Takes the next step among the parts of a path that are still to come.
+fn next_step<'a>(parts: &mut Parts<'a>) -> Option<&'a [u8]>
+    ensures { MatchOption result (steps_among parts.old ≡ [])
+        (λ step. steps_among parts.old ≡ step.now ∷ steps_among parts.new) }
+{
+    while let Some(part) = parts.next() {
+        if leads(part) {
+            return Some(part);
+        }
+    }
+    None
+}
+
+/// Whether a path begins at the root.
+fn is_absolute(path: &[u8]) -> bool
+    ensures { result ≡ is_absolute path.now }
+{
+    path.starts_with(b"/")
+}
+
+/// Where a path leads, seen from the folder of another. Slashes in a row are one, and a step `.`
+/// leads nowhere.
+pub fn place_below(above: &[u8], path: &[u8]) -> Place
+    ensures { result ≡ place_below above.now path.now }
+{
+    if is_absolute(above) != is_absolute(path) {
+        return Place::Elsewhere;
+    }
+    let mut folder = Parts::new(SLASH, above);
+    let mut steps = Parts::new(SLASH, path);
+    while let Some(first) = next_step(&mut folder) {
+        match next_step(&mut steps) {
+            Some(step) if step == first => {}
+            _ => return Place::Elsewhere,
+        }
+    }
+    if next_step(&mut steps).is_none() {
+        return Place::Same;
+    }
+    match next_step(&mut steps) {
+        Some(_) => Place::Deeper,
+        None => Place::Inside,
+    }
+}
