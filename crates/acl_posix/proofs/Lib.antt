@@ -11,6 +11,7 @@ pub mod FoundLemmas
 pub mod FaultLemmas
 pub mod KindLemmas
 pub mod ModeLemmas
+pub mod LinuxLemmas
 pub mod RoundTrip
 pub mod ShortRoundTrip
 pub mod ShapeLemmas

@@ -8,6 +8,8 @@ pub mod InOrder
 pub mod Access
 pub mod Kinds
 pub mod Mode
+pub mod Linux
+pub mod LinuxLaws
 pub mod ModeText
 pub mod PermsText
 pub mod EntryText

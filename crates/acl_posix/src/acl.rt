@@ -6,6 +6,7 @@ ghost use Rattle.std.specs.List.{Contains};
 ghost use Rattle.std.specs.List.Sorted.{IsPermutation};
 
 mod access;
+mod linux;
 mod modes;
 
 use crate::limits::INLINE_ENTRIES;

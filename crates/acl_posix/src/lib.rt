@@ -23,7 +23,7 @@ pub use acl_text::{AclFault, ReadAclFault, read_acl};
 pub use bits::{bits_if, without};
 pub use entries::{Entries, TextFault};
 pub use entry::{Entry, Tag};
-pub use laws::{faults_of_pieces, pieces_have_shapes};
+pub use laws::{faults_of_pieces, linux_laws, pieces_have_shapes};
 pub use limits::{
     INLINE_ENTRIES, MAX_DEFAULT_LINE, MAX_ENTRIES, MAX_LINE, MAX_SHORT_ENTRY, limits_in_numbers,
 };
