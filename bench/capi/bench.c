@@ -1,0 +1,66 @@
+/* Checks from the bytes of an extended attribute, beside libacl and a check written by hand, in one run and in turn. */
+#include <stdio.h>
+#include "../../include/meardwyn.h"
+#include "../allocations.h"
+#include "hand.h"
+#include "lists.h"
+#include "libacl.h"
+
+static volatile uint64_t sink;
+
+/* n entries: users in order behind the owner, so that half of those who ask are named. */
+static void plain_list(struct bytes *b, int n)
+{
+    uint32_t none = UINT32_MAX;
+    begin(b);
+    add(b, USER_OBJ, none, 6);
+    for (int i = 0; i < n - 4; i++) add(b, USER, 3000 + i, 4);
+    add(b, GROUP_OBJ, none, 4);
+    if (n > 3) add(b, MASK, none, 4);
+    add(b, OTHER, none, 0);
+}
+
+static void times(int n)
+{
+    static struct bytes b;
+    plain_list(&b, n);
+    uint32_t gids[2] = {50, 60};
+    acl_t acl = libacl_of(&b);
+    static char ext[4096];
+    ssize_t size = acl_copy_ext(ext, acl, sizeof ext);
+    if (size < 0) { puts("acl_copy_ext"); exit(1); }
+    char *text = acl_to_any_text(acl, NULL, ',', TEXT_NUMERIC_IDS);
+    int rounds = 400000 / (n + 10), uids = n + 5;
+    double ours = 1e18, hand = 1e18, valid = 1e18, copied = 1e18, texts = 1e18, kept = 1e18;
+    IN_TURNS {
+        LEAST(ours, rounds, for (int i = 0; i < rounds; i++)
+            sink += meardwyn_posix_check(b.at, b.length, 1, 2, 3000 + i % uids, gids, 2, 4));
+        LEAST(valid, rounds, for (int i = 0; i < rounds; i++)
+            sink += hand_valid(b.at, b.length) == 0 && hand_permission(b.at, b.length, 1, 2, 3000 + i % uids, gids, 2, 4));
+        LEAST(hand, rounds, for (int i = 0; i < rounds; i++)
+            sink += hand_permission(b.at, b.length, 1, 2, 3000 + i % uids, gids, 2, 4));
+        LEAST(copied, rounds, for (int i = 0; i < rounds; i++) {
+            acl_t a = acl_copy_int(ext); sink += acl_valid(a) == 0 && libacl_grants(a, 1, 2, 3000 + i % uids, gids, 2, 4); acl_free(a); });
+        LEAST(texts, rounds, for (int i = 0; i < rounds; i++) {
+            acl_t a = acl_from_text(text); sink += acl_valid(a) == 0 && libacl_grants(a, 1, 2, 3000 + i % uids, gids, 2, 4); acl_free(a); });
+        LEAST(kept, rounds, for (int i = 0; i < rounds; i++) sink += libacl_grants(acl, 1, 2, 3000 + i % uids, gids, 2, 4));
+    }
+    printf("| %d | %.1f | %.1f | %.1f | %.1f | %.1f | %.1f |\n", n, ours, valid, hand, copied, texts, kept);
+    acl_free(text), acl_free(acl);
+}
+
+int main(int count, char **words)
+{
+    if (count > 1) {
+        static struct bytes b;
+        int n = atoi(words[1]);
+        uint32_t gids[2] = {50, 60};
+        plain_list(&b, n);
+        for (int i = 0, rounds = count > 2 ? atoi(words[2]) : 3000000; i < rounds; i++) sink += meardwyn_posix_check(b.at, b.length, 1, 2, 3000 + i % (n + 5), gids, 2, 4);
+        return 0;
+    }
+    printf("| entries | ours, from bytes ns | by hand, validated ns | by hand, trusted ns | acl_copy_int, acl_valid, check ns | acl_from_text, acl_valid, check ns | check of an acl_t kept ns |\n"
+           "|---|---|---|---|---|---|---|\n");
+    times(3), times(5), times(8), times(9), times(16), times(64);
+    return 0;
+}

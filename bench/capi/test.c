@@ -1,0 +1,398 @@
+/* The C library beside libacl, beside checks by hand, and beside the kernel. The last line is "ok", or the first difference. */
+#define _GNU_SOURCE
+#include <errno.h>
+#include <fcntl.h>
+#include <grp.h>
+#include <stdio.h>
+#include <stdlib.h>
+#include <sys/stat.h>
+#include <sys/wait.h>
+#include <sys/xattr.h>
+#include <unistd.h>
+#include "../../include/meardwyn.h"
+#include "bytes.h"
+#include "lists.h"
+#include "libacl.h"
+
+static void show(const struct bytes *b)
+{
+    for (const uint8_t *p = b->at + 4; p < b->at + b->length; p += 8)
+        printf("  tag %#x perms %u id %u\n", le16(p), le16(p + 2), le32(p + 4));
+}
+
+#define SAME(what, b, ours, theirs)                                                          \
+    do {                                                                                     \
+        long one = (ours), other = (theirs);                                                 \
+        if (one != other) {                                                                  \
+            printf("%s: ours %ld, theirs %ld, of\n", what, one, other), show(b);             \
+            exit(1);                                                                         \
+        }                                                                                    \
+    } while (0)
+
+/* Validity, mode and checks, beside libacl's, of lists that may be bent and out of order. */
+static void beside_libacl(int lists)
+{
+    int valid = 0, checks = 0;
+    for (int i = 0; i < lists; i++) {
+        struct bytes b;
+        int n = below(64) + 2;
+        random_list(&b, n < 5 ? 3 : n > 60 ? 60 : n);
+        if (i % 3 == 0) random_list(&b, below(2) ? 3 : 5 + below(5));
+        if (i % 2) for (int bends = below(3); bends >= 0; bends--) bend(&b);
+        if (below(2)) shuffle(&b);
+        if ((b.length - 4) / 8 > 64) continue;
+        /* acl_set_qualifier wants an id that is one. */
+        acl_t acl = libacl_of(&b);
+        int theirs = acl_valid(acl) == 0;
+        int ours = meardwyn_posix_valid(b.at, b.length);
+        SAME("valid", &b, ours == 0, theirs);
+        if (theirs) {
+            valid++;
+            mode_t mode = 0;
+            acl_equiv_mode(acl, &mode);
+            SAME("mode", &b, meardwyn_posix_mode(b.at, b.length), mode);
+            for (int j = 0; j < 20; j++) {
+                uint32_t gids[4];
+                int count = below(5), want = below(8), top = 3 * n + 2;
+                for (int k = 0; k < count; k++) gids[k] = below(top);
+                uint32_t owner = below(top), group = below(top), uid = below(top);
+                SAME("check", &b, meardwyn_posix_check(b.at, b.length, owner, group, uid, gids, count, want),
+                     libacl_grants(acl, owner, group, uid, gids, count, want));
+                checks++;
+            }
+        }
+        acl_free(acl);
+    }
+    printf("%d lists: %d valid for both and with one mode, and %d checks alike\n", lists, valid, checks);
+}
+
+/* ---- the kernel */
+
+static char folder[64];
+
+static char *at(const char *name)
+{
+    static char path[4][128];
+    static int turn;
+    char *to = path[turn++ % 4];
+    snprintf(to, sizeof path[0], "%s/%s", folder, name);
+    return to;
+}
+
+static size_t read_attribute(const char *path, const char *name, struct bytes *b)
+{
+    ssize_t got = getxattr(path, name, b->at, sizeof b->at);
+    b->length = got < 0 ? 0 : got;
+    return b->length;
+}
+
+/* 1 if there are so many bytes and these. */
+static int same_bytes(const struct bytes *a, const uint8_t *bytes, size_t length)
+{
+    return a->length == length && !memcmp(a->at, bytes, length);
+}
+
+static uint32_t mode_at(const char *path)
+{
+    struct stat told;
+    if (stat(path, &told)) { perror(path); exit(1); }
+    return told.st_mode & 0777;
+}
+
+/* What the kernel says each of some users may do with the file: a bit for each answer. */
+static unsigned kernel_answers(const char *path, uint32_t uid, const gid_t *gids, int count)
+{
+    int ends[2];
+    unsigned answers = 0;
+    if (pipe(ends)) exit(1);
+    pid_t child = fork();
+    if (!child) {
+        /* The first group is the process's own. */
+        if (setgroups(count, gids) || setresgid(gids[0], gids[0], gids[0]) || setresuid(uid, uid, uid)) _exit(1);
+        for (int want = 1; want < 8; want++)
+            if (!faccessat(AT_FDCWD, path, want, AT_EACCESS)) answers |= 1u << want;
+        if (write(ends[1], &answers, sizeof answers) != sizeof answers) _exit(1);
+        _exit(0);
+    }
+    close(ends[1]);
+    if (read(ends[0], &answers, sizeof answers) != sizeof answers) { puts("no answer"); exit(1); }
+    close(ends[0]);
+    waitpid(child, NULL, 0);
+    return answers;
+}
+
+/* On real files: what the kernel keeps, shows as the mode, makes of chmod and of creation, and decides. */
+static void beside_the_kernel(int lists)
+{
+    if (geteuid()) { puts("not root: nothing is asked of the kernel"); return; }
+    const char *base = getenv("TMPDIR") ? getenv("TMPDIR") : "/tmp";
+    snprintf(folder, sizeof folder, "%s/meardwyn-XXXXXX", base);
+    if (!mkdtemp(folder)) { perror(folder); exit(1); }
+    chmod(folder, 0755);
+    int asked = 0, kept = 0, refused = 0, strict = 0;
+    umask(0);
+    for (int i = 0; i < lists; i++) {
+        struct bytes b, told;
+        uint8_t out[MOST];
+        size_t needed = 0;
+        char *file = at("file");
+        close(open(file, O_CREAT | O_WRONLY, 0600));
+        random_list(&b, below(3) ? 5 + below(6) : 3);
+        if (i % 4 == 0) bend(&b);
+        int valid = meardwyn_posix_valid(b.at, b.length) == 0;
+        int set = setxattr(file, "system.posix_acl_access", b.at, b.length, 0);
+        if (set && errno == EOPNOTSUPP) { printf("%s has no lists: nothing is asked of the kernel\n", base); unlink(file), rmdir(folder); return; }
+        if (set == 0 && !valid) strict++;       /* the kernel lets a user or a group stand twice, and an empty list away */
+        if (valid) {
+            /* It refuses entries out of order by kind, and keeps ids in the order in which they came. */
+            if (meardwyn_posix_canonical(b.at, b.length, out, sizeof out, &needed)) { puts("canonical"); exit(1); }
+            if (setxattr(file, "system.posix_acl_access", out, needed, 0)) { printf("the kernel refuses, in order,\n"), show(&b); exit(1); }
+            if (set) refused++;
+        }
+        if (valid) {
+            kept++;
+            SAME("mode", &b, meardwyn_posix_mode(b.at, b.length), mode_at(file));
+            int minimal = needed == 4 + 8 * 3;
+            if (!minimal) {
+                read_attribute(file, "system.posix_acl_access", &told);
+                SAME("bytes", &b, same_bytes(&told, out, needed), 1);
+            }
+            /* decisions, but for an empty mask, which the kernel doesn't look at */
+            uint32_t mask = 7;
+            for (const uint8_t *p = b.at + 4; p < b.at + b.length; p += 8) if (le16(p) == MASK) mask = le16(p + 2);
+            if (mask && i % 3 == 0) {
+                uint32_t owner = 1 + below(8), group = 1 + below(8), uid = 1 + below(16);
+                gid_t gids[3] = {1 + below(12), 1 + below(12), 1 + below(12)};
+                if (chown(file, owner, group)) exit(1);
+                unsigned answers = kernel_answers(file, uid, gids, 3);
+                for (int want = 1; want < 8; want++, asked++)
+                    SAME("kernel's check", &b, meardwyn_posix_check(b.at, b.length, owner, group, uid, gids, 3, want), answers >> want & 1);
+            }
+            /* chmod */
+            uint32_t mode = below(512);
+            if (chmod(file, mode)) exit(1);
+            if (meardwyn_posix_chmod(b.at, b.length, mode, out, sizeof out, &needed)) { puts("chmod"); exit(1); }
+            SAME("mode after chmod", &b, mode_at(file), mode);
+            if (!minimal) {
+                read_attribute(file, "system.posix_acl_access", &told);
+                SAME("bytes after chmod", &b, same_bytes(&told, out, needed), 1);
+            }
+            /* creation under a default list */
+            char *below_it = at("folder");
+            mkdir(below_it, 0700);
+            meardwyn_posix_canonical(b.at, b.length, out, sizeof out, &needed);
+            if (setxattr(below_it, "system.posix_acl_default", out, needed, 0)) { perror("default"); exit(1); }
+            char made[160];
+            snprintf(made, sizeof made, "%s/made", below_it);
+            close(open(made, O_CREAT | O_WRONLY, mode));
+            if (meardwyn_posix_create(b.at, b.length, mode, out, sizeof out, &needed)) { puts("create"); exit(1); }
+            SAME("mode of a new file", &b, meardwyn_posix_mode(out, needed), mode_at(made));
+            if (!minimal) {
+                read_attribute(made, "system.posix_acl_access", &told);
+                SAME("bytes of a new file", &b, same_bytes(&told, out, needed), 1);
+            }
+            unlink(made), rmdir(below_it);
+        }
+        unlink(file);
+    }
+    rmdir(folder);
+    printf("the kernel: %d lists kept alike, with their mode, chmod and creation, %d after they were put in order; %d that it takes and draft 17 does not; %d checks alike\n",
+           kept, refused, strict, asked);
+}
+
+/* ---- NFSv4 lists, beside RFC 8881, section 6.2.1, written down by hand */
+
+enum { MOST_ACES = 130 };
+
+static size_t random_aces(struct meardwyn_ace *aces, size_t n)
+{
+    for (size_t i = 0; i < n; i++) {
+        struct meardwyn_ace *ace = aces + i;
+        ace->type = below(10) ? below(2) : below(4);
+        ace->flag = below(4) ? 0 : below(0x80);
+        if ((ace->flag & 0xb) == 8) ace->flag &= ~8u;
+        ace->special = below(4), ace->id = ace->special ? 0 : below(8);
+        if (ace->special) ace->flag &= ~0x40u;
+        ace->access_mask = 0;
+        for (int bits = below(6); bits >= 0; bits--) ace->access_mask |= 1u << (below(2) ? below(3) : below(2) ? 5 : below(9));
+    }
+    return n;
+}
+
+static int applies(const struct meardwyn_ace *ace, uint32_t owner, uint32_t group, uint32_t uid, const uint32_t *gids, int count)
+{
+    switch (ace->special) {
+    case 1: return uid == owner;
+    case 2: break;
+    case 3: return 1;
+    default: if (!(ace->flag & 0x40)) return uid == ace->id; group = ace->id;
+    }
+    for (int i = 0; i < count; i++) if (gids[i] == group) return 1;
+    return 0;
+}
+
+static uint32_t allowed_by_hand(const struct meardwyn_ace *aces, size_t n, uint32_t owner, uint32_t group, uint32_t uid, const uint32_t *gids,
+                                int count, uint32_t request)
+{
+    uint32_t allowed = 0, open = request;
+    for (size_t i = 0; i < n; i++) {
+        if (aces[i].type > 1 || aces[i].flag & 8 || !applies(aces + i, owner, group, uid, gids, count)) continue;
+        if (aces[i].type == 0) allowed |= open & aces[i].access_mask;
+        open &= ~aces[i].access_mask;
+    }
+    return allowed;
+}
+
+static void must(int holds, const char *what)
+{
+    if (!holds) { printf("%s\n", what); exit(1); }
+}
+
+static size_t xdr_of(const struct meardwyn_ace *aces, size_t n, uint8_t *to)
+{
+    uint8_t *at = to;
+#define PUT(number) do { uint32_t it = (number); *at++ = it >> 24, *at++ = it >> 16, *at++ = it >> 8, *at++ = it; } while (0)
+    PUT(n);
+    for (size_t i = 0; i < n; i++) {
+        char who[16];
+        if (aces[i].special) strcpy(who, aces[i].special == 1 ? "OWNER@" : aces[i].special == 2 ? "GROUP@" : "EVERYONE@");
+        else sprintf(who, "%u", aces[i].id);
+        size_t len = strlen(who);
+        PUT(aces[i].type); PUT(aces[i].flag); PUT(aces[i].access_mask); PUT(len);
+        memcpy(at, who, len), at += len;
+        while ((at - to) % 4) *at++ = 0;
+    }
+    return at - to;
+}
+
+static void nfs4(int lists)
+{
+    static struct meardwyn_ace aces[MOST_ACES], other[MOST_ACES], again[MOST_ACES];
+    static uint8_t xdr[8192];
+    static char text[16384];
+    int checks = 0, alike = 0, told = 0;
+    for (int i = 0; i < lists; i++) {
+        size_t needed = 0, n = random_aces(aces, i % 10 ? below(17) : below(129)), m;
+        must(meardwyn_nfs4_valid(aces, n) == 0, "a random list is none");
+        for (int j = 0; j < 20; j++, checks++) {
+            uint32_t gids[4], owner = below(8), group = below(8), uid = below(8), request = below(0x200), allowed = 0;
+            int count = below(5);
+            for (int k = 0; k < count; k++) gids[k] = below(8);
+            must(meardwyn_nfs4_allowed(aces, n, owner, group, uid, gids, count, request, &allowed) == 0, "allowed");
+            must(allowed == allowed_by_hand(aces, n, owner, group, uid, gids, count, request), "allowed is another");
+            must(meardwyn_nfs4_check(aces, n, owner, group, uid, gids, count, request) == (allowed == request), "the check is another");
+        }
+        /* The mode set is the mode shown; to set it again changes nothing. */
+        uint32_t mode = below(512);
+        int error = meardwyn_nfs4_chmod(aces, n, mode, other, MOST_ACES, &m);
+        must(error == 0 || (error == MEARDWYN_TOO_MANY && n > 20), "chmod");
+        if (!error) {
+            must(meardwyn_nfs4_mode(other, m) == (int)mode, "the mode isn't shown");
+            must(meardwyn_nfs4_chmod(other, m, mode, again, MOST_ACES, &needed) == 0 && needed == m && !memcmp(again, other, m * sizeof *again),
+                 "chmod twice");
+        }
+        /* XDR and texts give the same entries. */
+        size_t len = xdr_of(aces, n, xdr);
+        must(meardwyn_nfs4_from_xdr(xdr, len, again, MOST_ACES, &needed) == 0 && needed == n && !memcmp(again, aces, n * sizeof *aces), "XDR");
+        must(meardwyn_nfs4_from_xdr(xdr, len - 1, again, MOST_ACES, &needed) == MEARDWYN_BAD_SIZE, "XDR that is cut");
+        must(meardwyn_nfs4_to_text(aces, n, text, sizeof text, &needed) == 0, "text");
+        if (n) must(meardwyn_nfs4_from_text(text, needed, again, MOST_ACES, &needed) == 0 && needed == n && !memcmp(again, aces, n * sizeof *aces),
+                    "text again");
+        /* A witness is one. */
+        struct meardwyn_difference d;
+        if (n) {
+            memcpy(other, aces, n * sizeof *aces);
+            other[below(n)].access_mask ^= 1u << below(3);
+            int differs = meardwyn_nfs4_compare(aces, n, 1, 2, other, n, 1, 2, 0x1f01ff, &d);
+            must(differs == 0 || differs == 1, "compare");
+            if (differs) {
+                uint32_t gids[2] = {d.who.gid, d.who.other_gid};
+                uint32_t before = allowed_by_hand(aces, n, 1, 2, d.who.uid, gids, 2, 0x1f01ff);
+                uint32_t after = allowed_by_hand(other, n, 1, 2, d.who.uid, gids, 2, 0x1f01ff);
+                must((before & ~after) == d.lost && (after & ~before) == d.gained && before != after, "the witness is none");
+                told++;
+            } else alike++;
+        }
+    }
+    printf("%d NFSv4 lists: %d checks alike, modes shown, XDR and texts again; of changed lists %d with a witness, %d alike\n", lists, checks, told,
+           alike);
+}
+
+/* A POSIX list and its translation decide each permission alike; a witness of a comparison is one. */
+static void between(int lists)
+{
+    static struct meardwyn_ace aces[MOST_ACES];
+    static uint32_t bits[3] = {0x1, 0x6, 0x20}, perms[3] = {4, 2, 1};
+    int checks = 0, told = 0;
+    for (int i = 0; i < lists; i++) {
+        struct bytes b, c;
+        size_t n = 0, needed = 0;
+        char text[4096];
+        uint8_t out[MOST];
+        random_list(&b, i % 10 ? 5 + below(6) : 5 + below(60));
+        must(meardwyn_posix_to_nfs4(b.at, b.length, aces, MOST_ACES, &n) == 0, "translation");
+        for (int j = 0; j < 20; j++) {
+            uint32_t gids[3] = {below(12), below(12), below(12)}, owner = below(12), group = below(12), uid = below(12);
+            for (int k = 0; k < 3; k++, checks++)
+                SAME("translated", &b, meardwyn_posix_check(b.at, b.length, owner, group, uid, gids, 3, perms[k]),
+                     meardwyn_nfs4_check(aces, n, owner, group, uid, gids, 3, bits[k]));
+        }
+        must(meardwyn_posix_to_text(b.at, b.length, text, sizeof text, &needed) == 0, "text");
+        must(meardwyn_posix_from_text(text, needed, out, sizeof out, &needed) == 0 && same_bytes(&b, out, needed), "text again");
+        /* libacl reads the text as the same list. */
+        c = b;
+        c.at[4 + 8 * below((b.length - 4) / 8) + 2] ^= 1 << below(3);
+        struct meardwyn_asker who;
+        uint32_t request = 1 + below(7);
+        int differs = meardwyn_posix_compare(b.at, b.length, 1, 2, c.at, c.length, 1, 2, request, &who);
+        must(differs >= 0 && differs <= 2, "compare");
+        if (differs) {
+            uint32_t gids[2] = {who.gid, who.other_gid};
+            SAME("before", &b, meardwyn_posix_check(b.at, b.length, 1, 2, who.uid, gids, 2, request), differs == 1);
+            SAME("after", &c, meardwyn_posix_check(c.at, c.length, 1, 2, who.uid, gids, 2, request), differs == 2);
+            told++;
+        }
+    }
+    printf("%d translations: %d checks alike; texts again; %d witnesses\n", lists, checks, told);
+}
+
+/* Edges: buffers that are too small stay as they were, and arguments out of range are told first. */
+static void edges(void)
+{
+    struct bytes b;
+    uint8_t out[MOST];
+    size_t needed = 7;
+    uint32_t gids[1] = {5};
+    char name[32];
+    random_list(&b, 8);
+    memset(out, 0xaa, sizeof out);
+    must(meardwyn_posix_canonical(b.at, b.length, out, b.length - 1, &needed) == MEARDWYN_NO_ROOM && needed == b.length, "no room");
+    for (size_t i = 0; i < sizeof out; i++) must(out[i] == 0xaa, "the buffer is changed");
+    must(meardwyn_posix_canonical(b.at, b.length, out, b.length, &needed) == 0 && out[b.length] == 0xaa, "room for all");
+    needed = 7;
+    must(meardwyn_posix_chmod(b.at, b.length, 01000, out, sizeof out, &needed) == MEARDWYN_BAD_ARGUMENT && needed == 7, "a mode above 0777");
+    must(meardwyn_posix_check(b.at, 3, UINT32_MAX, 1, 1, gids, 1, 4) == MEARDWYN_BAD_ARGUMENT, "no owner");
+    must(meardwyn_posix_check(b.at, 3, 1, 1, 1, gids, 1, 4) == MEARDWYN_BAD_SIZE, "three bytes");
+    must(meardwyn_posix_check(b.at, b.length - 1, 1, 1, 1, gids, 1, 4) == MEARDWYN_BAD_SIZE, "a byte less");
+    must(meardwyn_posix_check(b.at, 4, 1, 1, 1, gids, 1, 4) == MEARDWYN_MISSING, "no entry");
+    must(meardwyn_posix_check(b.at, b.length, 1, 1, 1, gids, 0, 8) == MEARDWYN_BAD_ARGUMENT, "a request above 7");
+    b.at[0] = 1;
+    must(meardwyn_posix_check(b.at, b.length, 1, 1, 1, gids, 0, 4) == MEARDWYN_BAD_VERSION, "version 1");
+    b.at[0] = 2, b.at[4] = 3;
+    must(meardwyn_posix_valid(b.at, b.length) == MEARDWYN_BAD_TAG, "tag 3");
+    must(meardwyn_posix_of_mode(0640, out, sizeof out, &needed) == 0 && needed == 28 && meardwyn_posix_mode(out, needed) == 0640, "of a mode");
+    must(meardwyn_error_name(MEARDWYN_NO_MASK, name, sizeof name, &needed) == 0 && needed == 7 && !memcmp(name, "no-mask", 7), "a name");
+    must(meardwyn_version() == 0x10000, "the version");
+    puts("edges");
+}
+
+int main(void)
+{
+    edges();
+    nfs4(4000);
+    between(4000);
+    beside_libacl(20000);
+    beside_the_kernel(1500);
+    puts("ok");
+    return 0;
+}

@@ -1,0 +1,72 @@
+-- What calls tell and put for an answer of a definition.
+use Rattle.std.specs.Prelude.{◌≡◌, ◌⊎◌, ℕ, ℤ, pos, Bool, true, false, List, length, Result, Ok, Err}
+use Rattle.std.specs.Prelude.{nat_le, if◌then◌else◌}
+use Rattle.acl_nfs4.specs.Ace.{Nfsace4}
+use Rattle.acl_names.specs.Requester.{Identity}
+use Rattle.acl_posix.specs.Mode.{Classes, number_of}
+use Rattle.acl_wire.specs.Nfs4.{IsAllowed, asked}
+use Rattle.acl_wire.specs.Writing.{PutsInFront}
+use Rattle.acl_wire.specs.declared.fault.Nfs4Fault.{Nfs4Fault}
+use Rattle.acl_wire.specs.declared.raw_ace.RawAce.{RawAce}
+use Rattle.acl_c.specs.Status.{nfs4_number, no_room, out_of_memory}
+
+-- 1 for granted
+abbrev pub granted_number : Bool → ℤ
+granted_number true = pos 1
+granted_number false = pos 0
+
+-- the number of the mode of a list
+abbrev pub mode_number : {A : Type 0} → (List A → Classes) → List A → ℤ
+mode_number mode_of list = pos (number_of (mode_of list))
+
+-- 0 for any list
+abbrev pub zero_number : {A : Type 0} → List A → ℤ
+zero_number list = pos 0
+
+-- the number of an answer
+abbrev pub number_of_answer : {Y F : Type 0} → (F → ℤ) → (Y → ℤ) → Result Y F → ℤ
+number_of_answer fault_number value_number (Ok answer) = value_number answer
+number_of_answer fault_number value_number (Err fault) = fault_number fault
+
+-- a call tells the number of an answer, or that memory ran out
+abbrev pub Tells : {Y F : Type 0} → (F → ℤ) → (Y → ℤ) → Result Y F → ℤ → Type 0
+Tells fault_number value_number answer told =
+    (told ≡ number_of_answer fault_number value_number answer) ⊎ (told ≡ out_of_memory)
+
+-- A call puts these items in front of its caller's buffer, and tells 0, or that there is no room;
+-- how many there are it tells either way.
+pub record Puts {A : Type 0} (items : List A) (told : ℤ) (old new : List A) (count : ℕ) : Type 0
+  where
+    pub put : PutsInFront items count old new
+    pub said : told ≡ (if nat_le (length items) (length old) then pos 0 else no_room)
+
+-- nothing is put
+pub record PutsNothing {A : Type 0} (old new : List A) (old_count new_count : ℕ) : Type 0 where
+  pub buffer : new ≡ old
+  pub count : new_count ≡ old_count
+
+-- a call puts the items of an answer, or tells why there is none, or that memory ran out
+abbrev pub PutsAnswer : {Y F A : Type 0} → (F → ℤ) → (Y → List A) → Result Y F → ℤ → List A → List A
+    → ℕ → ℕ → Type 0
+PutsAnswer {Y} {F} fault_number items_of answer told old new old_count new_count =
+    ((value : Y) × (answer ≡ Ok value) × Puts (items_of value) told old new new_count)
+    ⊎ (((fault : F) × (answer ≡ Err fault) × (told ≡ fault_number fault)
+    × PutsNothing old new old_count new_count)
+    ⊎ ((told ≡ out_of_memory) × PutsNothing old new old_count new_count))
+
+-- a call tells 1 if it holds of the value of an answer, and 0 if not
+abbrev pub TellsWhether : {Y F : Type 0} → (F → ℤ) → Result Y F → (Y → Type 0) → ℤ → Type 0
+TellsWhether {Y} {F} fault_number answer Holds told =
+    ((value : Y) × (answer ≡ Ok value) × (told ≡ pos 1) × Holds value)
+    ⊎ (((value : Y) × (answer ≡ Ok value) × (told ≡ pos 0) × (¬ Holds value))
+    ⊎ (((fault : F) × (answer ≡ Err fault) × (told ≡ fault_number fault))
+    ⊎ (told ≡ out_of_memory)))
+
+-- a call tells 0 and what a list allows of a request, or why not, and then leaves that as it was
+abbrev pub TellsAllowed : List RawAce → ℕ → ℕ → Identity → ℕ → ℤ → ℕ → ℕ → Type 0
+TellsAllowed raws owner group requester request told old new =
+    ((aces : List Nfsace4) × (asked raws owner group requester.uid ≡ Ok aces) × (told ≡ pos 0)
+    × IsAllowed aces owner group requester request new)
+    ⊎ (((fault : Nfs4Fault) × (asked raws owner group requester.uid ≡ Err fault)
+    × (told ≡ nfs4_number fault) × (new ≡ old))
+    ⊎ ((told ≡ out_of_memory) × (new ≡ old)))

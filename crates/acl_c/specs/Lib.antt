@@ -1,0 +1,5 @@
+pub mod Status
+pub mod Answers
+pub mod Texts
+pub mod Names
+pub mod Compared

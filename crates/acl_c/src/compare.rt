@@ -1,0 +1,78 @@
+//! Lists compared for everybody.
+
+ghost use Rattle.acl_c.specs.Compared.{TellsDifference, TellsUnlike};
+
+use crate::status::{nfs4_error_number, posix_error_number};
+use acl_wire::{RawAce, RawAsker, RawDifference, raws_difference, xattr_difference};
+use std::alloc::Global;
+
+/// Whether two POSIX lists grant a request to the same requesters: 0, or 1 if somebody loses it by
+/// the second list, or 2 if somebody gains it.
+#[unsafe(no_mangle)]
+pub extern "C" fn meardwyn_posix_compare(
+    alloc: Global,
+    first: &[u8],
+    owner: u32,
+    group: u32,
+    second: &[u8],
+    other_owner: u32,
+    other_group: u32,
+    request: u32,
+    who: &mut RawAsker,
+) -> i32
+    ensures { TellsUnlike first.now owner group second.now other_owner other_group request result
+        who.old who.new }
+{
+    match xattr_difference(
+        alloc,
+        first,
+        owner,
+        group,
+        second,
+        other_owner,
+        other_group,
+        request,
+    ) {
+        Ok(None) => 0,
+        Ok(Some(unlike)) => {
+            *who = unlike.asker;
+            if unlike.before { 1 } else { 2 }
+        }
+        Err(error) => posix_error_number(error),
+    }
+}
+
+/// Whether two NFSv4 lists decide these bits alike for everybody: 0, or 1 if not.
+#[unsafe(no_mangle)]
+pub extern "C" fn meardwyn_nfs4_compare(
+    alloc: Global,
+    first: &[RawAce],
+    owner: u32,
+    group: u32,
+    second: &[RawAce],
+    other_owner: u32,
+    other_group: u32,
+    bits: u32,
+    difference: &mut RawDifference,
+) -> i32
+    ensures { TellsDifference first.now owner group second.now other_owner other_group bits result
+        difference.old difference.new }
+{
+    match raws_difference(
+        alloc,
+        first,
+        owner,
+        group,
+        second,
+        other_owner,
+        other_group,
+        bits,
+    ) {
+        Ok(None) => 0,
+        Ok(Some(found)) => {
+            *difference = found;
+            1
+        }
+        Err(error) => nfs4_error_number(error),
+    }
+}

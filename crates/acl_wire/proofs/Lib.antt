@@ -1,0 +1,10 @@
+pub mod GivesLemmas
+pub mod EntriesLoop
+pub mod WritingLemmas
+pub mod AcesLoop
+pub mod NumberLemmas
+pub mod XattrAgain
+pub mod RawAgain
+pub mod GrantLemmas
+pub mod NobodyLemmas
+pub mod XdrLoop

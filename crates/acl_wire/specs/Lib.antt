@@ -1,0 +1,12 @@
+pub mod Numbers
+pub mod Writing
+pub mod Xattr
+pub mod XattrReading
+pub mod Posix
+pub mod RawAces
+pub mod RawAcesWriting
+pub mod Nfs4
+pub mod WireLaws
+pub mod Text
+pub mod Compare
+pub mod Xdr

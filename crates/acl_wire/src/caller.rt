@@ -1,0 +1,27 @@
+//! Whoever asks, with the groups where the caller keeps them.
+
+ghost use Rattle.acl_names.specs.Requester.{is_in_group};
+
+use acl_names::{Gid, Subject, Uid};
+
+/// A user, and the numbers of the groups that the user is in, which are borrowed.
+#[derive(Clone, Copy)]
+pub struct Caller<'a> {
+    /// The user who asks.
+    pub uid: Uid,
+    /// The groups. A number that is no gid is nobody's group.
+    pub gids: &'a [u32],
+}
+
+impl<'a> Subject for Caller<'a> {
+    ghost identity = { λ caller. record { uid = caller.uid; gids = caller.gids.now } };
+
+    fn uid(&self) -> Uid {
+        self.uid
+    }
+
+    fn is_in_group(&self, gid: Gid) -> bool {
+        let gid = gid.value();
+        self.gids.iter().any(|own| *own == gid)
+    }
+}

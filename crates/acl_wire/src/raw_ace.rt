@@ -1,0 +1,140 @@
+//! NFSv4 entries as numbers.
+
+ghost use Rattle.std.specs.Prelude.{◌≡◌, ◌≢◌, ◌≤◌, ◌<◌, ◌++◌, ◌∷◌, [], length, IfErr, OnOk};
+ghost use Rattle.acl_names.specs.Bits.{has};
+ghost use Rattle.acl_nfs4.specs.Flags.{identifier_group};
+ghost use Rattle.acl_nfs4.specs.declared.limits.TheConstants.{INLINE_ACES, MAX_ACES};
+ghost use Rattle.acl_wire.specs.RawAces.{Answers, ace_of_raw, aces_of, effective, kind_of, list_of};
+ghost use Rattle.acl_wire.specs.RawAces.{who_of};
+
+use crate::{Nfs4Error, Nfs4Fault};
+use acl_names::{Gid, Uid};
+use acl_nfs4::{Ace, AceFault, AceType, Acl4, Flags, MAX_ACES, Mask, Who};
+use bitflags::Flags as FlagSet;
+use std::alloc::Global;
+
+/// An entry as numbers (RFC 8881, section 6.2.1).
+#[repr(C)]
+#[derive(Clone, Copy, Debug, PartialEq, Eq)]
+pub struct RawAce {
+    /// 0 allows, 1 denies, 2 audits, 3 sounds an alarm.
+    pub kind: u32,
+    /// The flags, of which 0x40 says that `id` is a group.
+    pub flags: u32,
+    /// The access mask.
+    pub mask: u32,
+    /// 1 is `OWNER@`, 2 `GROUP@`, 3 `EVERYONE@`, and 0 whom `id` names.
+    pub special: u32,
+    /// The user or the group, if `special` is 0.
+    pub id: u32,
+}
+
+/// The bits of flags that have a name.
+const ALL_FLAGS: u32 = 0x7F;
+
+/// The bits of masks that have a name.
+const ALL_MASKS: u32 = 0x1F_01FF;
+
+fn kind_of(number: u32) -> Result<AceType, Nfs4Fault>
+    ensures { result ≡ kind_of number }
+{
+    match number {
+        0 => Ok(AceType::Allow),
+        1 => Ok(AceType::Deny),
+        2 => Ok(AceType::Audit),
+        3 => Ok(AceType::Alarm),
+        _ => Err(Nfs4Fault::Type),
+    }
+}
+
+/// Whether the flags say that the who is a group.
+#[tactic(auto, unfolding(acl_names::specs::Bits::has))]
+fn is_group(flags: u32) -> bool
+    ensures { result ≡ has flags identifier_group }
+{
+    flags / 0x40 % 2 == 1
+}
+
+fn who_of(special: u32, is_group: bool, id: u32) -> Result<Who, Nfs4Fault>
+    ensures { result ≡ who_of special is_group id }
+{
+    match special {
+        0 => {
+            if is_group {
+                match Gid::new(id) {
+                    Some(gid) => Ok(Who::NamedGroup(gid)),
+                    None => Err(Nfs4Fault::Id),
+                }
+            } else {
+                match Uid::new(id) {
+                    Some(uid) => Ok(Who::User(uid)),
+                    None => Err(Nfs4Fault::Id),
+                }
+            }
+        }
+        1 => Ok(Who::Owner),
+        2 => Ok(Who::Group),
+        3 => Ok(Who::Everyone),
+        _ => Err(Nfs4Fault::Who),
+    }
+}
+
+/// The entry of these numbers.
+#[tactic(auto, unfolding(crate::specs::RawAces::ace_of_raw))]
+pub(crate) fn ace_of_raw(raw: &RawAce) -> Result<Ace, Nfs4Fault>
+    ensures { result ≡ ace_of_raw raw.now }
+{
+    let kind = kind_of(raw.kind)?;
+    if raw.flags > ALL_FLAGS {
+        return Err(Nfs4Fault::Flags);
+    }
+    if raw.mask & ALL_MASKS != raw.mask {
+        return Err(Nfs4Fault::Mask);
+    }
+    let flags = Flags::from_bits_retain(raw.flags as u8);
+    let who = who_of(raw.special, is_group(raw.flags), raw.id)?;
+    Ok(Ace::new(kind, flags, who, Mask::from_bits_retain(raw.mask)))
+}
+
+/// Puts the entry after the others, if it has an effect somewhere.
+pub(crate) fn push(aces: &mut Acl4, ace: Ace) -> Result<(), Nfs4Error>
+    requires { length aces.old < MAX_ACES }
+    ensures value { Answers (λ _. ace) result (effective ace) }
+    ensures ok { OnOk result (aces.new ≡ aces.old ++ ace ∷ []) }
+    ensures short { length aces.old < INLINE_ACES
+        → IfErr result (λ error. error ≢ Nfs4Error.Memory) }
+{
+    match aces.push(ace) {
+        Ok(()) => Ok(()),
+        Err(AceFault::InheritOnly) => Err(Nfs4Error::Fault(Nfs4Fault::InheritOnly)),
+        Err(_) => Err(Nfs4Error::Memory),
+    }
+}
+
+/// The list of entries that are not too many.
+fn aces_of(alloc: Global, raws: &[RawAce]) -> Result<Acl4, Nfs4Error>
+    requires { length raws.now ≤ MAX_ACES }
+    ensures value { Answers (λ aces. aces) result (aces_of raws.now) }
+    ensures short { length raws.now ≤ INLINE_ACES
+        → IfErr result (λ error. error ≢ Nfs4Error.Memory) }
+{
+    let mut aces = Acl4::with_capacity(alloc, raws.len())?;
+    for raw in raws {
+        let ace = ace_of_raw(raw)?;
+        push(&mut aces, ace)?;
+    }
+    Ok(aces)
+}
+
+/// The NFSv4 list of these entries, in their order. An entry is refused for what its numbers say,
+/// in the order of `Nfs4Fault`. Memory runs out for more than `INLINE_ACES` entries alone.
+pub fn read_raw_aces(alloc: Global, raws: &[RawAce]) -> Result<Acl4, Nfs4Error>
+    ensures value { Answers (λ aces. aces) result (list_of raws.now) }
+    ensures short { length raws.now ≤ INLINE_ACES
+        → IfErr result (λ error. error ≢ Nfs4Error.Memory) }
+{
+    if raws.len() > MAX_ACES {
+        return Err(Nfs4Error::Fault(Nfs4Fault::TooMany));
+    }
+    aces_of(alloc, raws)
+}

@@ -1,0 +1,132 @@
+//! Reading POSIX lists from the bytes of an extended attribute.
+
+ghost use Rattle.std.specs.Prelude.{◌≡◌, ◌≢◌, ◌≤◌, ◌+◌, ◌*◌, ◌/◌, length, IfErr, IfOk};
+ghost use Rattle.acl_posix.specs.declared.limits.TheConstants.{INLINE_ENTRIES};
+ghost use Rattle.acl_wire.specs.Numbers.{Reads};
+ghost use Rattle.acl_wire.specs.XattrReading.{Gives, body_of, entries_at, entries_of, fields_at};
+ghost use Rattle.acl_wire.specs.XattrReading.{entry_of, tag_of};
+
+use crate::numbers::u32_at;
+use crate::{PosixError, PosixFault};
+use acl_names::{Gid, Uid};
+use acl_posix::{Entries, Entry, MAX_ENTRIES, Perms, Tag};
+use bitflags::Flags;
+use std::alloc::Global;
+
+/// The version of the form.
+pub(crate) const VERSION: u32 = 2;
+
+/// The tag of this number, with this id if it names someone.
+fn tag_of(number: u16, id: u32) -> Result<Tag, PosixFault>
+    ensures { result ≡ tag_of number id }
+{
+    match number {
+        0x01 => Ok(Tag::UserObj),
+        0x02 => match Uid::new(id) {
+            Some(uid) => Ok(Tag::User(uid)),
+            None => Err(PosixFault::Id),
+        },
+        0x04 => Ok(Tag::GroupObj),
+        0x08 => match Gid::new(id) {
+            Some(gid) => Ok(Tag::Group(gid)),
+            None => Err(PosixFault::Id),
+        },
+        0x10 => Ok(Tag::Mask),
+        0x20 => Ok(Tag::Other),
+        _ => Err(PosixFault::Tag),
+    }
+}
+
+/// What an entry's bytes are.
+#[derive(Clone, Copy)]
+pub(crate) struct Fields {
+    tag: u16,
+    perms: u16,
+    id: u32,
+}
+
+/// The entry of these fields.
+#[tactic(auto, unfolding(crate::specs::XattrReading::entry_of))]
+fn entry_of(fields: Fields) -> Result<Entry, PosixFault>
+    ensures { result ≡ entry_of fields }
+{
+    let tag = tag_of(fields.tag, fields.id)?;
+    if fields.perms >= 8 {
+        return Err(PosixFault::Perms);
+    }
+    Ok(Entry {
+        tag,
+        perms: Perms::from_bits_retain(fields.perms as u8),
+    })
+}
+
+/// The fields that the bytes begin with, and what stands behind them. One test of the length serves
+/// all three.
+#[tactic(auto, unfolding(crate::specs::XattrReading::fields_at))]
+fn fields_at(bytes: &[u8]) -> Result<(Fields, &[u8]), PosixFault>
+    ensures { Reads (λ x. (x.0, x.1.now)) result (fields_at bytes.now) }
+{
+    if bytes.len() < 8 {
+        return Err(PosixFault::Size);
+    }
+    let (front, rest) = bytes.split_at(8);
+    let fields = Fields {
+        tag: u16::from_le_bytes([front[0], front[1]]),
+        perms: u16::from_le_bytes([front[2], front[3]]),
+        id: u32::from_le_bytes([front[4], front[5], front[6], front[7]]),
+    };
+    Ok((fields, rest))
+}
+
+/// So many entries.
+fn entries_at(alloc: Global, count: usize, bytes: &[u8]) -> Result<Entries, PosixError>
+    ensures value { Gives (λ entries. entries) result (entries_at count bytes.now) }
+    ensures count { IfOk result (λ entries. length entries ≡ count) }
+    ensures short { count ≤ INLINE_ENTRIES → IfErr result (λ error. error ≢ PosixError.Memory) }
+{
+    let mut entries = Entries::with_capacity(alloc, count)?;
+    let mut rest = bytes;
+    for _ in 0..count {
+        let (fields, behind) = fields_at(rest)?;
+        let entry = entry_of(fields)?;
+        entries.push(entry)?;
+        rest = behind;
+    }
+    Ok(entries)
+}
+
+/// The entries behind the version.
+fn body_of(alloc: Global, bytes: &[u8]) -> Result<Entries, PosixError>
+    ensures value { Gives (λ entries. entries) result (body_of bytes.now) }
+    ensures count { IfOk result (λ entries. length bytes.now ≡ 8 * length entries) }
+    ensures short { length bytes.now / 8 ≤ INLINE_ENTRIES
+        → IfErr result (λ error. error ≢ PosixError.Memory) }
+{
+    if bytes.len() % 8 != 0 {
+        return Err(PosixError::Fault(PosixFault::Size));
+    }
+    let count = bytes.len() / 8;
+    if count > MAX_ENTRIES {
+        return Err(PosixError::Fault(PosixFault::TooMany));
+    }
+    entries_at(alloc, count, bytes)
+}
+
+/// The entries of a POSIX list in the binary form of the extended attributes
+/// `system.posix_acl_access` and `system.posix_acl_default`, in their order there; the id of an
+/// entry that names nobody plays no part. They needn't be a valid list. Of several faults the first
+/// is told, as `PosixFault` has them, entry by entry from the third on. Memory runs out for more
+/// than `INLINE_ENTRIES` entries alone.
+#[tactic(auto, unfolding(crate::specs::XattrReading::entries_of))]
+pub fn read_xattr(alloc: Global, bytes: &[u8]) -> Result<Entries, PosixError>
+    ensures value { Gives (λ entries. entries) result (entries_of bytes.now) }
+    ensures count { IfOk result (λ entries. length bytes.now ≡ 4 + 8 * length entries) }
+    ensures short { length bytes.now ≤ 4 + 8 * INLINE_ENTRIES
+        → IfErr result (λ error. error ≢ PosixError.Memory) }
+{
+    let (number, rest) = u32_at(bytes)?;
+    if number != VERSION {
+        return Err(PosixError::Fault(PosixFault::Version));
+    }
+    body_of(alloc, rest)
+}
