@@ -1,0 +1,6 @@
+pub mod SortLemmas
+pub mod QuotingLemmas
+pub mod MembershipLemmas
+pub mod RangeLemmas
+pub mod FirstLemmas
+pub mod ResultLemmas

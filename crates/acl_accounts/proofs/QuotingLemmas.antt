@@ -1,0 +1,121 @@
+-- What is printed of a name is read as the name.
+use Rattle.std.proofs.Common.{◌≡◌, ◌∙◌, ◌⊎◌, ℕ, ◌==◌, ◌||◌, ◌&&◌, Bool, true, false, cond, List, [], ◌∷◌, ◌++◌, refl}
+use Rattle.std.proofs.Common.{sym, subst, ap, inl, inr, option_map}
+use Rattle.std.specs.Char.{is_ascii_digit}
+use Rattle.std.specs.List.{list_all, list_any}
+use Rattle.std.proofs.lemmas.Bool.{cases_Bool, true≢false}
+use Rattle.std.proofs.lemmas.Bool.Decides.{Decides-eqb}
+use Rattle.acl_names.specs.Bytes.{newline, tab, space, comma, colon}
+use Rattle.acl_names.specs.Ids.{Number, decimal_value}
+use Rattle.acl_accounts.specs.Names.{backslash, carriage_return, octal, is_quoted, quoted, quoted_byte, unquoted, splits, named, written_account}
+
+or_false : (a b : Bool) → (a || b) ≡ false → (a ≡ false) × (b ≡ false)
+or_false true b e = absurd (true≢false e)
+or_false false b e = (refl, e)
+
+or_true : (a b : Bool) → (a || b) ≡ true → (a ≡ true) ⊎ (b ≡ true)
+or_true true b e = inl refl
+or_true false b e = inr e
+
+and_true : (a b : Bool) → (a && b) ≡ true → (a ≡ true) × (b ≡ true)
+and_true true b e = (refl, e)
+and_true false b e = absurd (true≢false (sym e))
+
+-- what holds of the seven bytes holds of each byte that is written by its digits
+of_each : (P : ℕ → Type 0) → P space → P tab → P newline → P carriage_return → P colon → P comma → P backslash
+    → (byte : ℕ) → is_quoted byte ≡ true → P byte
+of_each P of_space of_tab of_newline of_return of_colon of_comma of_backslash byte is =
+    elim (or_true _ (byte == backslash) is) [
+      | inr e ↦ at backslash of_backslash e
+      | inl is ↦ elim (or_true _ (byte == comma) is) [
+        | inr e ↦ at comma of_comma e
+        | inl is ↦ elim (or_true _ (byte == colon) is) [
+          | inr e ↦ at colon of_colon e
+          | inl is ↦ elim (or_true _ (byte == carriage_return) is) [
+            | inr e ↦ at carriage_return of_return e
+            | inl is ↦ elim (or_true _ (byte == newline) is) [
+              | inr e ↦ at newline of_newline e
+              | inl is ↦ elim (or_true (byte == space) (byte == tab) is) [
+                | inr e ↦ at tab of_tab e
+                | inl e ↦ at space of_space e
+              ]
+            ]
+          ]
+        ]
+      ]
+    ]
+  where
+    at : (k : ℕ) → P k → (byte == k) ≡ true → P byte
+    at k of_it e = subst P (sym ((Decides-eqb byte k).0 e)) of_it
+
+-- a byte other than `\` is itself
+plain_byte : (byte : ℕ) → (byte == backslash) ≡ false → (rest : List ℕ) → unquoted (byte ∷ rest) ≡ byte ∷ unquoted rest
+plain_byte byte is [] = refl
+plain_byte byte is (a ∷ []) = refl
+plain_byte byte is (a ∷ b ∷ []) = refl
+plain_byte byte is (a ∷ b ∷ c ∷ more) = rw is refl
+
+byte_again : (byte : ℕ) (rest : List ℕ) → unquoted (quoted_byte byte ++ rest) ≡ byte ∷ unquoted rest
+byte_again byte rest =
+    elim (cases_Bool (is_quoted byte)) [
+      | inl is ↦
+          ap (λ b. unquoted (cond b (octal byte) (byte ∷ []) ++ rest)) is
+          ∙ of_each (λ k. unquoted (octal k ++ rest) ≡ k ∷ unquoted rest) refl refl refl refl refl refl refl byte is
+      | inr plain ↦ ap (λ b. unquoted (cond b (octal byte) (byte ∷ []) ++ rest)) plain ∙ plain_byte byte (or_false _ (byte == backslash) plain).1 rest
+    ]
+
+pub unquoted_again : (name : List ℕ) → unquoted (quoted name) ≡ name
+unquoted_again [] = refl
+unquoted_again (byte ∷ name) = byte_again byte (quoted name) ∙ ap (λ rest. byte ∷ rest) (unquoted_again name)
+
+-- what is printed is all digits if the name is
+digits_again : (name : List ℕ) → list_all is_ascii_digit (quoted name) ≡ list_all is_ascii_digit name
+digits_again [] = refl
+digits_again (byte ∷ name) =
+    elim (cases_Bool (is_quoted byte)) [
+      | inl is ↦
+          ap (λ b. list_all is_ascii_digit (cond b (octal byte) (byte ∷ []) ++ quoted name)) is
+          ∙ of_each (λ k. false ≡ (is_ascii_digit k && list_all is_ascii_digit name)) refl refl refl refl refl refl refl byte is
+      | inr plain ↦
+          ap (λ b. list_all is_ascii_digit (cond b (octal byte) (byte ∷ []) ++ quoted name)) plain
+          ∙ ap (λ b. is_ascii_digit byte && b) (digits_again name)
+    ]
+
+-- and then it is the name
+digits_stay : (name : List ℕ) → list_all is_ascii_digit name ≡ true → quoted name ≡ name
+digits_stay [] is = refl
+digits_stay (byte ∷ name) is =
+    elim (cases_Bool (is_quoted byte)) [
+      | inl quoted_one ↦
+          let other = of_each (λ k. is_ascii_digit k ≡ false) refl refl refl refl refl refl refl byte quoted_one in
+          absurd (true≢false (sym (and_true _ _ is).0 ∙ other))
+      | inr plain ↦ ap (λ b. cond b (octal byte) (byte ∷ []) ++ quoted name) plain ∙ ap (λ rest. byte ∷ rest) (digits_stay name (and_true _ _ is).1)
+    ]
+
+-- what is printed reads as the name, unless it is all digits
+pub written_again : (name : List ℕ) → written_account (quoted name) ≡ cond (list_all is_ascii_digit name) (option_map Number (decimal_value name)) (named name)
+written_again name =
+    elim (cases_Bool (list_all is_ascii_digit name)) [
+      | inl digits ↦
+          let same = digits_stay name digits in
+          ap written_account same ∙ ap (λ b. cond b (option_map Number (decimal_value name)) (named (unquoted name))) digits
+          ∙ sym (ap (λ b. cond b (option_map Number (decimal_value name)) (named name)) digits)
+      | inr other ↦
+          ap (λ b. cond b (option_map Number (decimal_value (quoted name))) (named (unquoted (quoted name)))) (digits_again name ∙ other)
+          ∙ ap named (unquoted_again name)
+          ∙ sym (ap (λ b. cond b (option_map Number (decimal_value name)) (named name)) other)
+    ]
+
+-- nothing that is printed splits a line
+pub nothing_splits : (name : List ℕ) → list_any splits (quoted name) ≡ false
+nothing_splits [] = refl
+nothing_splits (byte ∷ name) =
+    let rest : list_any splits (quoted name) ≡ false = nothing_splits name in
+    elim (cases_Bool (is_quoted byte)) [
+      | inl is ↦
+          ap (λ b. list_any splits (cond b (octal byte) (byte ∷ []) ++ quoted name)) is
+          ∙ of_each (λ k. list_any splits (octal k ++ quoted name) ≡ false) rest rest rest rest rest rest rest byte is
+      | inr plain ↦
+          ap (λ b. list_any splits (cond b (octal byte) (byte ∷ []) ++ quoted name)) plain
+          ∙ ap (λ b. b || list_any splits (quoted name)) (or_false _ (byte == backslash) plain).0 ∙ rest
+    ]

@@ -1,0 +1,84 @@
+-- The accounts that rows make.
+use Rattle.std.proofs.Common.{◌≡◌, ◌∙◌, ℕ, ◌<◌, Bool, true, false, cond, Ordering, Option, Some, None, List, [], ◌∷◌, length, map, filter}
+use Rattle.std.proofs.Common.{get_or, refl, sym, ap, arith, bytes_eq, option_map}
+use Rattle.std.specs.declared.cmp.Ordering.TheVariants.{Less}
+use Rattle.std.specs.List.{find}
+use Rattle.std.proofs.Math.ListN.{get_or-map}
+use Rattle.std.proofs.lemmas.List.{length-map}
+use Rattle.acl_names.specs.Ascending.{IsAscending}
+use Rattle.acl_names.specs.Directory.{first_of}
+use Rattle.acl_names.proofs.AscendingLemmas.{get_or-within}
+use Rattle.acl_accounts.specs.Accounts.{KnownAccount, KnownAccountGroup, Membership, each_once, account_with, account_of, group_of, memberships_of}
+use Rattle.acl_accounts.specs.Firsts.{AreFirsts}
+use Rattle.acl_accounts.specs.Rows as text
+use Rattle.acl_accounts.specs.Views.{view_group, view_user}
+use Rattle.acl_accounts.specs.declared.rows.GroupRow.{GroupRow}
+use Rattle.acl_accounts.specs.declared.rows.UserRow.{UserRow}
+use Rattle.acl_accounts.proofs.SortLemmas.{find-filter}
+
+element : {X : Type 0} (xs : List X) (k : ℕ) → k < length xs → X
+element [] k inside = absurd (omega arith)
+element (x ∷ xs) k inside = x
+
+pub ascends-map : {X Y K : Type 0} (R : K → K → Ordering) (key : Y → K) (f : X → Y) (xs : List X) → IsAscending R (λ x. key (f x)) xs → IsAscending R key (map f xs)
+ascends-map {X} {Y} R key f xs ascends = λ i j d before inside.
+    let within : j < length xs = omega (arith, inside, length-map xs f) in
+    go i j d (element xs j within) before inside within
+  where
+    go : (i j : ℕ) (d : Y) (e : X) → i < j → j < length (map f xs) → j < length xs → R (key (get_or (map f xs) i d)) (key (get_or (map f xs) j d)) ≡ Less
+    go i j d e before inside within =
+        let at_i : get_or (map f xs) i d ≡ f (get_or xs i e) = get_or-within (map f xs) i d (f e) (omega arith) ∙ get_or-map f xs i e in
+        let at_j : get_or (map f xs) j d ≡ f (get_or xs j e) = get_or-within (map f xs) j d (f e) inside ∙ get_or-map f xs j e in
+        rw (at_i, at_j) (ascends i j e before within)
+
+pub find-map : {X Y : Type 0} (f : X → Y) (p : Y → Bool) (xs : List X) → find p (map f xs) ≡ option_map f (find (λ x. p (f x)) xs)
+find-map f p [] = refl
+find-map {X} {Y} f p (x ∷ xs) = go (p (f x)) (find-map f p xs)
+  where
+    go : (b : Bool) → find p (map f xs) ≡ option_map f (find (λ y. p (f y)) xs) → cond b (Some (f x)) (find p (map f xs)) ≡ option_map f (cond b (Some x) (find (λ y. p (f y)) xs))
+    go true rest = refl
+    go false rest = rest
+
+find_stays : {X : Type 0} (p : X → Bool) (old new : List X) → filter p new ≡ filter p old → find p new ≡ find p old
+find_stays p old new kept = find-filter p new ∙ ap first_of kept ∙ sym (find-filter p old)
+
+map_agree : {X Y : Type 0} (f g : X → Y) → ((x : X) → f x ≡ g x) → (o : Option X) → option_map f o ≡ option_map g o
+map_agree f g agree None = refl
+map_agree f g agree (Some x) = ap Some (agree x)
+
+map_twice : {X Y Z : Type 0} (f : X → Y) (g : Y → Z) (o : Option X) → option_map (λ x. g (f x)) o ≡ option_map g (option_map f o)
+map_twice f g None = refl
+map_twice f g (Some x) = refl
+
+-- the users, by those of their rows that stand first
+pub users_found : (rows sorted firsts : List UserRow) (groups : List text.GroupRow) (members : List Membership)
+    → ((name : List ℕ) → filter (λ (row : UserRow). bytes_eq row.name.now name) sorted ≡ filter (λ (row : UserRow). bytes_eq row.name.now name) rows)
+    → AreFirsts (λ (row : UserRow). row.name.now) sorted firsts
+    → ((name : List ℕ) → filter (λ (member : Membership). bytes_eq member.name name) members ≡ filter (λ (member : Membership). bytes_eq member.name name) (memberships_of groups))
+    → (name : List ℕ) → find (λ (user : KnownAccount). bytes_eq user.name name) (map (λ (row : UserRow). account_with members (view_user row)) firsts)
+    ≡ option_map (account_of groups) (find (λ (row : text.UserRow). bytes_eq row.name name) (map view_user rows))
+users_found rows sorted firsts groups members kept are same name =
+    let has : UserRow → Bool = λ row. bytes_eq row.name.now name in
+    let agree : (row : UserRow) → account_with members (view_user row) ≡ account_of groups (view_user row) =
+    λ row. ap (λ ms. account row (map (λ (member : Membership). member.gid) ms)) (same row.name.now) in
+    find-map (λ (row : UserRow). account_with members (view_user row)) (λ (user : KnownAccount). bytes_eq user.name name) firsts
+    ∙ ap (option_map (λ (row : UserRow). account_with members (view_user row))) (are.found name ∙ find_stays has rows sorted (kept name))
+    ∙ map_agree (λ (row : UserRow). account_with members (view_user row)) (λ (row : UserRow). account_of groups (view_user row)) agree (find has rows)
+    ∙ map_twice view_user (account_of groups) (find has rows)
+    ∙ ap (option_map (account_of groups)) (sym (find-map view_user (λ (row : text.UserRow). bytes_eq row.name name) rows))
+  where
+    account : UserRow → List ℕ → KnownAccount
+    account row gids = record { name = row.name.now; uid = row.uid; gids = each_once (row.gid ∷ gids) }
+
+-- the groups, by those of their rows that stand first
+pub groups_found : (rows sorted firsts : List GroupRow)
+    → ((name : List ℕ) → filter (λ (row : GroupRow). bytes_eq row.name.now name) sorted ≡ filter (λ (row : GroupRow). bytes_eq row.name.now name) rows)
+    → AreFirsts (λ (row : GroupRow). row.name.now) sorted firsts
+    → (name : List ℕ) → find (λ (group : KnownAccountGroup). bytes_eq group.name name) (map (λ (row : GroupRow). group_of (view_group row)) firsts)
+    ≡ option_map group_of (find (λ (row : text.GroupRow). bytes_eq row.name name) (map view_group rows))
+groups_found rows sorted firsts kept are name =
+    let has : GroupRow → Bool = λ row. bytes_eq row.name.now name in
+    find-map (λ (row : GroupRow). group_of (view_group row)) (λ (group : KnownAccountGroup). bytes_eq group.name name) firsts
+    ∙ ap (option_map (λ (row : GroupRow). group_of (view_group row))) (are.found name ∙ find_stays has rows sorted (kept name))
+    ∙ map_twice view_group group_of (find has rows)
+    ∙ ap (option_map group_of) (sym (find-map view_group (λ (row : text.GroupRow). bytes_eq row.name name) rows))

@@ -1,0 +1,5 @@
+pub mod Names
+pub mod Rows
+pub mod Accounts
+pub mod Views
+pub mod Firsts

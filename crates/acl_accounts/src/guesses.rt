@@ -1,0 +1,82 @@
+//! Guesses where the member of a name stands, by a hash of the name. A guess that is wrong costs a
+//! search and no more, so nothing is proved of hashes.
+
+ghost use Rattle.std.specs.Prelude.{◌≡◌, Some, find, IfSome};
+ghost use Rattle.std.specs.Cmp.Lexicographic.{slice_cmp};
+ghost use Rattle.std.specs.Option.{option_copied};
+ghost use Rattle.std.specs.Ordering.{nat_cmp};
+ghost use Rattle.std.specs.Str.{bytes_eq};
+ghost use Rattle.acl_names.specs.Ascending.{IsAscending};
+
+use crate::named::{Named, find_by_name};
+use std::alloc::{AllocError, Global};
+
+/// Places of the table for each member.
+const GUESSES_PER_MEMBER: usize = 8;
+
+/// An odd number near the golden ratio of 2^64, by which the bits of a hash are spread.
+const SPREAD: u64 = 0x9E37_79B9_7F4A_7C15;
+
+/// The place of some member for each hash of a name; of two members that share one, that of the
+/// later.
+pub(crate) fn guesses_of<T: Named>(alloc: Global, members: &[T]) -> Result<Vec<u32>, AllocError> {
+    let count = members.len().saturating_mul(GUESSES_PER_MEMBER);
+    let mut guesses = Vec::from_elem(alloc, 0, count)?;
+    for (place, member) in members.iter().enumerate() {
+        let at = guess_at(hash_of(member.key()), count);
+        if let Some(guess) = guesses.get_mut(at) {
+            *guess = u32::try_from(place).unwrap_or(0);
+        }
+    }
+    Ok(guesses)
+}
+
+/// The member of this name, of members in the order of their names.
+pub(crate) fn find_by_hash<'a, T: Named>(
+    members: &'a [T],
+    guesses: &[u32],
+    name: &[u8],
+) -> Option<&'a T>
+    requires { IsAscending (slice_cmp nat_cmp) T.name_of members.now }
+    ensures { option_copied result ≡ find (λ other. bytes_eq (T.name_of other) name.now) members.now }
+{
+    if let Some(member) = find_at_guess(members, guesses, name) {
+        return Some(member);
+    }
+    find_by_name(members, name)
+}
+
+/// The same if the guess for its hash is right.
+fn find_at_guess<'a, T: Named>(members: &'a [T], guesses: &[u32], name: &[u8]) -> Option<&'a T>
+    requires { IsAscending (slice_cmp nat_cmp) T.name_of members.now }
+    ensures { IfSome result (λ member. find (λ other. bytes_eq (T.name_of other) name.now)
+        members.now ≡ Some member.now) }
+{
+    let guess = guesses.get(guess_at(hash_of(name), guesses.len()))?;
+    let place = *guess as usize;
+    if place >= members.len() {
+        return None;
+    }
+    let member = &members[place];
+    if member.key() == name {
+        Some(member)
+    } else {
+        None
+    }
+}
+
+/// The hash of a name.
+fn hash_of(name: &[u8]) -> u64 {
+    let mut hash: u64 = 0;
+    for byte in name {
+        hash = hash.rotate_left(7) ^ u64::from(*byte);
+    }
+    hash
+}
+
+/// Which of so many guesses is that of a hash.
+#[inline(always)]
+fn guess_at(hash: u64, count: usize) -> usize {
+    let spread = hash.wrapping_mul(SPREAD) >> 32;
+    (spread.wrapping_mul(count as u64) >> 32) as usize
+}

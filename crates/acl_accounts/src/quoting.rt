@@ -1,0 +1,109 @@
+//! Names as getfacl writes them.
+
+ghost use Rattle.std.specs.Prelude.{◌≡◌, ◌∷◌, ◌++◌, [], MatchOption, IsTrue, IfSome, ◌<◌, length, if◌then◌else◌};
+ghost use Rattle.std.specs.Prelude.{option_map, false};
+ghost use Rattle.std.specs.Char.{is_ascii_digit};
+ghost use Rattle.std.specs.List.{list_all, list_any};
+ghost use Rattle.acl_names.specs.Ids.{Number, decimal_value};
+ghost use Rattle.acl_accounts.specs.Names.{splits, named, written_account};
+ghost use Rattle.acl_names.specs.Pushing.{Pushes};
+ghost use Rattle.acl_accounts.specs.Names.{is_octal, is_quoted, octal, octal_value, quoted};
+ghost use Rattle.acl_accounts.specs.Names.{quoted_byte, unquoted, backslash};
+
+use std::alloc::AllocError;
+
+/// Appends a name as getfacl writes it: a blank, a tab, a newline, a carriage return, `:`, `,` and
+/// `\` as `\` and three octal digits. If memory runs out, what `out` held still stands in front.
+#[tactic(auto, using(crate::proofs::QuotingLemmas::written_again, crate::proofs::QuotingLemmas::nothing_splits))]
+pub fn push_name(name: &[u8], out: &mut Vec<u8>) -> Result<(), AllocError>
+    ensures printed { Pushes (quoted name.now) result out.old out.new }
+    // What is printed is read as the name; a name that is all digits, as the id.
+    ensures read_again { written_account (quoted name.now)
+        ≡ (if list_all is_ascii_digit name.now then option_map Number (decimal_value name.now)
+        else named name.now) }
+    ensures one_word { list_any splits (quoted name.now) ≡ false }
+{
+    for byte in name {
+        push_byte(*byte, out)?;
+    }
+    Ok(())
+}
+
+fn push_byte(byte: u8, out: &mut Vec<u8>) -> Result<(), AllocError>
+    ensures { Pushes (quoted_byte byte) result out.old out.new }
+{
+    if is_quoted(byte) {
+        let text = octal(byte);
+        out.extend_from_slice(&text)
+    } else {
+        out.push(byte)?;
+        Ok(())
+    }
+}
+
+fn is_quoted(byte: u8) -> bool
+    ensures { result ≡ is_quoted byte }
+{
+    byte == b' '
+        || byte == b'\t'
+        || byte == b'\n'
+        || byte == b'\r'
+        || byte == b':'
+        || byte == b','
+        || byte == b'\\'
+}
+
+fn octal(byte: u8) -> [u8; 4]
+    ensures { result ≡ octal byte }
+{
+    [
+        b'\\',
+        b'0' + byte / 64,
+        b'0' + byte / 8 % 8,
+        b'0' + byte % 8,
+    ]
+}
+
+/// Appends what a text writes, which is undone of its octal digits. If memory runs out, what `out`
+/// held still stands in front.
+pub(crate) fn push_unquoted(text: &[u8], out: &mut Vec<u8>) -> Result<(), AllocError>
+    ensures { Pushes (unquoted text.now) result out.old out.new }
+{
+    let mut rest = text;
+    while let Some((byte, behind)) = first_unquoted(rest) {
+        out.push(byte)?;
+        rest = behind;
+    }
+    Ok(())
+}
+
+/// The first byte that a text writes, and what stands behind it.
+fn first_unquoted(text: &[u8]) -> Option<(u8, &[u8])>
+    ensures says { MatchOption result (text.now ≡ [])
+        (λ found. unquoted text.now ≡ found.0 ∷ unquoted found.1.now) }
+    ensures shorter { IfSome result (λ found. length found.1.now < length text.now) }
+{
+    if text.is_empty() {
+        return None;
+    }
+    if text.len() >= 4 && is_octal(text[0], text[1], text[2], text[3]) {
+        return Some((octal_value(text[1], text[2], text[3]), &text[4..]));
+    }
+    Some((text[0], &text[1..]))
+}
+
+fn is_octal(first: u8, a: u8, b: u8, c: u8) -> bool
+    ensures { result ≡ is_octal first a b c }
+{
+    first == b'\\'
+        && (b'0'..=b'3').contains(&a)
+        && (b'0'..=b'7').contains(&b)
+        && (b'0'..=b'7').contains(&c)
+}
+
+fn octal_value(a: u8, b: u8, c: u8) -> u8
+    requires { IsTrue (is_octal backslash a b c) }
+    ensures { result ≡ octal_value a b c }
+{
+    (a - b'0') * 64 + (b - b'0') * 8 + (c - b'0')
+}

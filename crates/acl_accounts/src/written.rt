@@ -1,0 +1,74 @@
+//! Accounts as they are written: by an id, or by a name.
+
+ghost use Rattle.std.specs.Prelude.{◌≡◌, ◌==◌, ◌||◌, IfOk, option_map};
+ghost use Rattle.std.specs.List.{list_all, list_any};
+ghost use Rattle.std.specs.Char.{is_ascii_digit};
+ghost use Rattle.acl_accounts.specs.Names.{is_account_name, named, written_account};
+ghost use Rattle.acl_names.specs.Bytes.{colon, newline};
+ghost use Rattle.acl_accounts.specs.Views.{view_written};
+
+use crate::limits::MAX_ACCOUNT_NAME;
+use crate::quoting::push_unquoted;
+use acl_names::read_decimal;
+use std::alloc::AllocError;
+
+/// A user or a group as it is written, whether or not there is one.
+#[derive(Clone, Copy, Debug)]
+pub enum WrittenAccount<'a> {
+    /// An id in decimal.
+    Number(u32),
+    /// The bytes of a name.
+    Name(&'a [u8]),
+}
+
+impl<'a> WrittenAccount<'a> {
+    /// What a text writes: all digits an id, if it is one, and anything else a name, in which `\`
+    /// and three octal digits are a byte. `None` if the id is out of range, or the name has no byte,
+    /// more than `MAX_ACCOUNT_NAME`, or a `:` or a newline. A name that has no `\` takes no memory;
+    /// another is written into `room`, in place of what stood there.
+    pub fn read(
+        text: &'a [u8],
+        room: &'a mut Vec<u8>,
+    ) -> Result<Option<WrittenAccount<'a>>, AllocError>
+        ensures { IfOk result (λ read. option_map view_written read ≡ written_account text.now) }
+    {
+        if are_digits(text) {
+            return match read_decimal(text) {
+                Some(number) => Ok(Some(WrittenAccount::Number(number))),
+                None => Ok(None),
+            };
+        }
+        room.clear();
+        push_unquoted(text, room)?;
+        Ok(read_name(room.as_slice()))
+    }
+}
+
+fn are_digits(text: &[u8]) -> bool
+    ensures { result ≡ list_all is_ascii_digit text.now }
+{
+    text.iter().all(|byte| byte.is_ascii_digit())
+}
+
+fn read_name(name: &[u8]) -> Option<WrittenAccount<'_>>
+    ensures { option_map view_written result ≡ named name.now }
+{
+    if is_account_name(name) {
+        Some(WrittenAccount::Name(name))
+    } else {
+        None
+    }
+}
+
+/// Whether a text is a name: 1 to `MAX_ACCOUNT_NAME` bytes, none of them `:` or a newline.
+pub fn is_account_name(text: &[u8]) -> bool
+    ensures { result ≡ is_account_name text.now }
+{
+    !text.is_empty() && text.len() <= MAX_ACCOUNT_NAME && !has_separator(text)
+}
+
+fn has_separator(text: &[u8]) -> bool
+    ensures { result ≡ list_any (λ byte. (byte == colon) || (byte == newline)) text.now }
+{
+    text.iter().any(|byte| *byte == b':' || *byte == b'\n')
+}

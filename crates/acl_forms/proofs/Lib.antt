@@ -1,0 +1,5 @@
+pub mod MarkLemmas
+pub mod FormReads
+pub mod MarksAgain
+pub mod FormAgain
+pub mod FormShapeLemmas

@@ -1,0 +1,98 @@
+-- How entries are written in the freebsd form: `tag:perms:flags:type`.
+use Rattle.std.specs.Prelude.{ℕ, List, [], ◌∷◌, Bool, ◌||◌, Option, Some, None, Result}
+use Rattle.std.specs.Prelude.{codes, option_map, if◌then◌else◌, bytes_eq}
+use Rattle.acl_names.specs.Bytes.{colon}
+use Rattle.acl_names.specs.Directory.{Known, uid_of, gid_of}
+use Rattle.acl_names.specs.Ids.{Written, written_id, id_of_written}
+use Rattle.acl_names.specs.Pieces.{trimmed_parts}
+use Rattle.acl_names.specs.Steps.{◌>>=◌, or_fault}
+use Rattle.acl_nfs4.specs.Ace.{Nfsace4, ace_of}
+use Rattle.acl_nfs4.specs.AceText.{refuse_idle}
+use Rattle.acl_nfs4.specs.declared.ace.AceType.{AceType}
+use Rattle.acl_nfs4.specs.declared.ace.AceType.TheVariants.{Allow, Deny, Audit, Alarm}
+use Rattle.acl_nfs4.specs.declared.reading.PieceFault.{PieceFault}
+use Rattle.acl_nfs4.specs.declared.reading.PieceFault.TheVariants.{Syntax, UnknownName}
+use Rattle.acl_nfs4.specs.declared.who.Who.{Who}
+use Rattle.acl_nfs4.specs.declared.who.Who.TheVariants as who
+use Rattle.acl_forms.specs.Marks.{marks_of, mark_table, perm_table}
+
+-- the fields of a piece; a special tag has no name, and flags that are left out are none
+pub record FormFields : Type 0 where
+  pub tag : List ℕ
+  pub name : Option (List ℕ)
+  pub perms : List ℕ
+  pub flags : List ℕ
+  pub kind : List ℕ
+
+-- a tag that a name follows
+abbrev pub is_named_tag : List ℕ → Bool
+is_named_tag tag = bytes_eq tag (codes "user") || bytes_eq tag (codes "group")
+
+-- with a name or with flags, as the tag asks for a name or doesn't
+abbrev pub four_fields : Bool → List ℕ → List ℕ → List ℕ → List ℕ → FormFields
+four_fields named tag second perms kind = if named
+    then record { tag = tag; name = Some second; perms = perms; flags = []; kind = kind }
+    else record { tag = tag; name = None; perms = second; flags = perms; kind = kind }
+
+abbrev pub as_fields : List (List ℕ) → Option FormFields
+as_fields (tag ∷ perms ∷ kind ∷ []) =
+    Some (record { tag = tag; name = None; perms = perms; flags = []; kind = kind })
+as_fields (tag ∷ second ∷ perms ∷ kind ∷ []) =
+    Some (four_fields (is_named_tag tag) tag second perms kind)
+as_fields (tag ∷ name ∷ perms ∷ flags ∷ kind ∷ []) =
+    Some (record { tag = tag; name = Some name; perms = perms; flags = flags; kind = kind })
+as_fields _ = None
+
+-- three to five, which colons separate, each trimmed
+abbrev pub fields_of : List ℕ → Option FormFields
+fields_of piece = as_fields (trimmed_parts colon piece)
+
+abbrev pub type_of : List ℕ → Option AceType
+type_of text =
+    if bytes_eq text (codes "allow") then Some Allow
+    else (if bytes_eq text (codes "deny") then Some Deny
+    else (if bytes_eq text (codes "audit") then Some Audit
+    else (if bytes_eq text (codes "alarm") then Some Alarm else None)))
+
+-- whom a tag and its name write, whether or not anyone has it
+pub data WrittenTag : Type 0 where
+  Owner : WrittenTag
+  Group : WrittenTag
+  Everyone : WrittenTag
+  User : Written → WrittenTag
+  NamedGroup : Written → WrittenTag
+
+abbrev pub special_of : List ℕ → Option WrittenTag
+special_of tag =
+    if bytes_eq tag (codes "owner@") then Some Owner
+    else (if bytes_eq tag (codes "group@") then Some Group
+    else (if bytes_eq tag (codes "everyone@") then Some Everyone else None))
+
+abbrev pub named_of : List ℕ → Option Written → Option WrittenTag
+named_of tag written =
+    if bytes_eq tag (codes "user") then option_map (λ id. User id) written
+    else (if bytes_eq tag (codes "group") then option_map (λ id. NamedGroup id) written else None)
+
+abbrev pub written_tag : List ℕ → Option (List ℕ) → Option WrittenTag
+written_tag tag None = special_of tag
+written_tag tag (Some name) = named_of tag (written_id name)
+
+-- the one who is written
+abbrev pub who_of_tag : Known → WrittenTag → Option Who
+who_of_tag known Owner = Some who.Owner
+who_of_tag known Group = Some who.Group
+who_of_tag known Everyone = Some who.Everyone
+who_of_tag known (User id) = option_map (λ uid. who.User uid) (id_of_written (uid_of known) id)
+who_of_tag known (NamedGroup id) =
+    option_map (λ gid. who.NamedGroup gid) (id_of_written (gid_of known) id)
+
+-- what a piece of a text says: an entry, or what is wrong with it
+unfoldable pub entry_value : Known → List ℕ → Result Nfsace4 PieceFault
+entry_value known piece = do
+  fields ← or_fault Syntax (fields_of piece)
+  written ← or_fault Syntax (written_tag fields.tag fields.name)
+  mask ← or_fault Syntax (marks_of perm_table fields.perms)
+  flags ← or_fault Syntax (marks_of mark_table fields.flags)
+  kind ← or_fault Syntax (type_of fields.kind)
+  who ← or_fault UnknownName (who_of_tag known written)
+  refuse_idle (ace_of kind flags who mask)

@@ -1,0 +1,7 @@
+pub mod Marks
+pub mod FormText
+pub mod FormShapes
+pub mod FormViews
+pub mod EntriesFault
+pub mod Forms
+pub mod PrintedForm

@@ -1,0 +1,16 @@
+//! The forms in which tools print NFSv4 access control lists: which form a text has, and the form of
+//! FreeBSD and libarchive, `tag:perms:flags:type`.
+#![tactic(auto)]
+
+mod fields;
+mod form;
+mod laws;
+mod marks;
+mod printing;
+mod reading;
+mod tags;
+
+pub use form::{Form, form_of};
+pub use laws::entries_have_shapes;
+pub use printing::{Places, print_entries, push_entry};
+pub use reading::{EntryReader, read_entries, read_entry};

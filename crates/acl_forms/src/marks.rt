@@ -1,0 +1,236 @@
+//! Texts of letters among hyphens, each in any place and any number of times, and how they are
+//! printed.
+
+ghost use Rattle.std.specs.Prelude.{◌≡◌, ◌==◌, option_map};
+ghost use Rattle.std.specs.List.{list_all, list_any};
+ghost use Rattle.acl_names.specs.Letters.{bits_of_rows, is_letter_of, letters_text, occurs};
+ghost use Rattle.acl_names.specs.Letters.{rows_in};
+ghost use Rattle.acl_names.specs.Pushing.{PushesInRoom};
+ghost use Rattle.acl_nfs4.specs.Flags.{flag_bits};
+ghost use Rattle.acl_nfs4.specs.Mask.{mask_bits};
+ghost use Rattle.acl_forms.specs.Marks.{is_mark_of, mark_table, marks_of, perm_table};
+ghost use Rattle.acl_forms.specs.PrintedForm.{marks_of_flags, marks_text, place_of, places_text};
+
+use crate::Places;
+use acl_names::{Letter, push_letters};
+use acl_nfs4::{Flags, Mask};
+use bitflags::Flags as FlagSet;
+use std::alloc::AllocError;
+
+/// The bits of a mask, in the order in which libarchive prints them.
+const PERM_TABLE: [Letter; 14] = [
+    Letter {
+        letter: b'r',
+        bit: 0x1,
+    },
+    Letter {
+        letter: b'w',
+        bit: 0x2,
+    },
+    Letter {
+        letter: b'x',
+        bit: 0x20,
+    },
+    Letter {
+        letter: b'p',
+        bit: 0x4,
+    },
+    Letter {
+        letter: b'd',
+        bit: 0x10000,
+    },
+    Letter {
+        letter: b'D',
+        bit: 0x40,
+    },
+    Letter {
+        letter: b'a',
+        bit: 0x80,
+    },
+    Letter {
+        letter: b'A',
+        bit: 0x100,
+    },
+    Letter {
+        letter: b'R',
+        bit: 0x8,
+    },
+    Letter {
+        letter: b'W',
+        bit: 0x10,
+    },
+    Letter {
+        letter: b'c',
+        bit: 0x20000,
+    },
+    Letter {
+        letter: b'C',
+        bit: 0x40000,
+    },
+    Letter {
+        letter: b'o',
+        bit: 0x80000,
+    },
+    Letter {
+        letter: b's',
+        bit: 0x100000,
+    },
+];
+
+/// The flags, in the order in which they are printed; the last is read and kept nowhere.
+const MARK_TABLE: [Letter; 7] = [
+    Letter {
+        letter: b'f',
+        bit: 0x1,
+    },
+    Letter {
+        letter: b'd',
+        bit: 0x2,
+    },
+    Letter {
+        letter: b'i',
+        bit: 0x8,
+    },
+    Letter {
+        letter: b'n',
+        bit: 0x4,
+    },
+    Letter {
+        letter: b'S',
+        bit: 0x10,
+    },
+    Letter {
+        letter: b'F',
+        bit: 0x20,
+    },
+    Letter {
+        letter: b'I',
+        bit: 0x80,
+    },
+];
+
+/// The mask whose letters stand in the text.
+pub(crate) fn read_perms(text: &[u8]) -> Option<Mask>
+    ensures { option_map mask_bits result ≡ marks_of perm_table text.now }
+{
+    match read_marks(&PERM_TABLE, text) {
+        Some(bits) => Some(Mask::from_bits_retain(bits)),
+        None => None,
+    }
+}
+
+/// The flags whose letters stand in the text.
+pub(crate) fn read_flags(text: &[u8]) -> Option<Flags>
+    ensures { option_map flag_bits result ≡ marks_of mark_table text.now }
+{
+    match read_marks(&MARK_TABLE, text) {
+        Some(bits) => Some(Flags::from_bits_retain(bits as u8)),
+        None => None,
+    }
+}
+
+/// The bits whose letters stand in the text, which has nothing but letters and hyphens.
+#[tactic(auto, unfolding(crate::specs::Marks::marks_of))]
+fn read_marks(table: &[Letter], text: &[u8]) -> Option<u32>
+    ensures { result ≡ marks_of table.now text.now }
+{
+    if are_marks(table, text) {
+        Some(bits_in(table, text))
+    } else {
+        None
+    }
+}
+
+fn are_marks(table: &[Letter], text: &[u8]) -> bool
+    ensures { result ≡ list_all (is_mark_of table.now) text.now }
+{
+    text.iter().all(|byte| is_mark_of(table, *byte))
+}
+
+fn is_mark_of(table: &[Letter], byte: u8) -> bool
+    ensures { result ≡ is_mark_of table.now byte }
+{
+    byte == b'-' || is_letter_of(table, byte)
+}
+
+fn is_letter_of(table: &[Letter], byte: u8) -> bool
+    ensures { result ≡ is_letter_of table.now byte }
+{
+    table.iter().any(|row| row.letter == byte)
+}
+
+/// The bits of the rows whose letters stand in the text.
+fn bits_in(table: &[Letter], text: &[u8]) -> u32
+    ensures { result ≡ bits_of_rows (rows_in table.now text.now) }
+{
+    let mut bits = 0;
+    for row in table {
+        if occurs(row.letter, text) {
+            bits |= row.bit;
+        }
+    }
+    bits
+}
+
+fn occurs(letter: u8, text: &[u8]) -> bool
+    ensures { result ≡ occurs letter text.now }
+{
+    stands_in(letter, text)
+}
+
+fn stands_in(letter: u8, text: &[u8]) -> bool
+    ensures { result ≡ list_any (λ x. x == letter) text.now }
+{
+    text.iter().any(|byte| *byte == letter)
+}
+
+/// Appends the mask's letters.
+pub(crate) fn push_perms(places: Places, mask: Mask, out: &mut Vec<u8>) -> Result<(), AllocError>
+    ensures { PushesInRoom (marks_text places perm_table (mask_bits mask)) result out.old out.new }
+{
+    push_marks(places, &PERM_TABLE, mask.bits(), out)
+}
+
+/// Appends the letters of the flags, but for that of a group.
+pub(crate) fn push_flags(places: Places, flags: Flags, out: &mut Vec<u8>) -> Result<(), AllocError>
+    ensures { PushesInRoom (marks_text places mark_table (marks_of_flags (flag_bits flags))) result
+        out.old out.new }
+{
+    push_marks(places, &MARK_TABLE, u32::from(flags.bits() & 0x3F), out)
+}
+
+/// Appends the letters of the bits that are set, alone or in a place for each.
+fn push_marks(
+    places: Places,
+    table: &[Letter],
+    bits: u32,
+    out: &mut Vec<u8>,
+) -> Result<(), AllocError>
+    ensures { PushesInRoom (marks_text places table.now bits) result out.old out.new }
+{
+    match places {
+        Places::Compact => push_letters(table, bits, out),
+        Places::Full => push_places(table, bits, out),
+    }
+}
+
+/// Appends a place for each row of the table.
+fn push_places(table: &[Letter], bits: u32, out: &mut Vec<u8>) -> Result<(), AllocError>
+    ensures { PushesInRoom (places_text table.now bits) result out.old out.new }
+{
+    for row in table {
+        out.push(mark_of(row, bits))?;
+    }
+    Ok(())
+}
+
+/// The row's letter if its bit is set, else a hyphen.
+fn mark_of(row: &Letter, bits: u32) -> u8
+    ensures { result ≡ place_of bits row.now }
+{
+    if bits & row.bit == 0 {
+        b'-'
+    } else {
+        row.letter
+    }
+}
