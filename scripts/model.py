@@ -45,6 +45,14 @@ def posix_grants(entries, owner, group, uid, gids, asked):
     return asked <= set(of("o", "")[0])
 
 
+def linux_list(entries):
+    """The list that Linux looks at for a file: its own, or, if its mask is empty, that of its mode, in which the mask stands for the
+    group."""
+    if not any(tag == "m" and not set(perms) & set("rwx") for tag, _, perms in entries):
+        return entries
+    return [("g", "", "") if tag == "g" else (tag, "", perms) for tag, name, perms in entries if name == "" and tag != "m"]
+
+
 def with_group_split(entries, group, rng):
     """The same list, the permissions of the file's group in two entries: each alone is granted alike, and a request of both isn't."""
     entries = [it for it in entries if it[:2] != ("g", group)]

@@ -69,6 +69,40 @@ def path_of(text):
     return first[8:] if first.startswith(b"# file: ") and 8 < len(first) <= MAX_BLOCK else None
 
 
+def steps_of(path):
+    """Where a path begins, and its steps: empty parts and "." are none."""
+    return path.startswith(b"/"), [it for it in path.split(b"/") if it not in (b"", b".")]
+
+
+def is_above(folder, path):
+    """Whether the path goes through the folder."""
+    (start, steps), (of, more) = steps_of(folder), steps_of(path)
+    return start == of and len(steps) < len(more) and more[:len(steps)] == steps
+
+
+def is_folder_of(folder, path):
+    """Whether the folder is the nearest above the path."""
+    return is_above(folder, path) and len(steps_of(folder)[1]) + 1 == len(steps_of(path)[1])
+
+
+class Ways:
+    """The folders above each block of a listing in turn, the nearest first: (path, what was read of it)."""
+
+    def __init__(self):
+        self.folders = []
+
+    def to(self, path, read):
+        """What was read of each folder above the path; None if that isn't known. The block itself comes onto the way then. Above a
+        path that isn't told may be anything, and it may be above anything."""
+        self.folders = [it for it in self.folders if None in (path, it[0]) or is_above(it[0], path)]
+        steps = [path, *(it[0] for it in self.folders)]
+        pairs = zip(steps, steps[1:])
+        is_known = all(None not in it and is_folder_of(it[1], it[0]) for it in pairs) and all(it[1] for it in self.folders)
+        way = [it[1] for it in self.folders] if is_known else None
+        self.folders.insert(0, (path, read))
+        return way
+
+
 def header_of(lines):
     """The path, the owner's and the group's texts of a block's first three lines."""
     for line, head in zip(lines, (b"# file: ", b"# owner: ", b"# group: ")):

@@ -1,5 +1,6 @@
 -- What is told of the blocks of a listing.
 use Rattle.std.specs.Prelude.{◌≡◌, ℕ, List, ◌++◌, IfSome, Option, None, codes, decimal, unwrap_or}
+use Rattle.acl_posix.specs.Linux.{linux_list}
 use Rattle.acl_nfs4.specs.declared.inheritance.Kind.TheVariants.{File}
 use Rattle.acl_tree.specs.declared.node.Node.{Node}
 use Rattle.acl_tree.specs.declared.node_acl.NodeAcl.TheVariants.{Posix}
@@ -10,13 +11,13 @@ use Rattle.acl_listings.specs.declared.fault.BlockFault.{BlockFault}
 use Rattle.acl_tree_queries.specs.Nodes.{TellsOfEach, TellsOfFirst}
 use Rattle.acl_tree_queries.specs.Placed.{in_places}
 
--- a listed file as a node: default lists decide no access
+-- a listed file as a node, with the list that Linux looks at: default lists decide no access
 abbrev pub node_of : FileValue → Node
 node_of file = record {
   kind = File;
   owner = file.owner;
   group = file.group;
-  acl = Posix file.access None;
+  acl = Posix (linux_list file.access) None;
 }
 
 -- `fault WORD LINE PATH`, where PATH is - if the first line doesn't read

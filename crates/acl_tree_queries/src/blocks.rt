@@ -153,19 +153,20 @@ pub(crate) fn write_blocks<T: BlockText, R: Read + Drop, W: Write>(
     write_each(alloc, teller, &mut blocks, out)
 }
 
-/// A listed file as a node.
-pub(crate) fn node_of(file: File<'_>) -> Node
-    ensures { result ≡ node_of (view_file file.entry) }
+/// A listed file as a node, with the list that Linux looks at. It takes no memory.
+pub(crate) fn node_of(alloc: Global, file: File<'_>) -> Result<Node, AllocError>
+    ensures value { IfOk result (λ node. node ≡ node_of (view_file file.entry)) }
+    ensures succeeds { IsOk result }
 {
-    Node {
+    Ok(Node {
         kind: Kind::File,
         owner: file.owner,
         group: file.group,
         acl: NodeAcl::Posix {
-            access: file.access,
+            access: file.access.for_linux(alloc)?,
             default: None,
         },
-    }
+    })
 }
 
 /// The file of which a block speaks, if it isn't refused for a path that a block before it has.

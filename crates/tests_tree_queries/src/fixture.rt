@@ -53,6 +53,10 @@ const LISTING: &str =
 const WAYS: &str =
     "# file: srv\n# owner: alice\n# group: staff\nuser::rwx\ngroup::r-x\nother::---\n\n# file: srv/in\n# owner: alice\n# group: ops\nuser::rwx\ngroup::---\nother::r--\n\n# file: srv/in/file\n# owner: bob\n# group: staff\nuser::rw-\ngroup::r--\nother::r--\n\n# file: srv//./next\n# owner: root\n# group: root\nuser::rw-\ngroup::---\nother::r--\n\n# file: srv/gone/file\n# owner: alice\n# group: staff\nuser::rw-\ngroup::r--\nother::r--\n\n# file: other\n# owner: nobody\n# group: staff\nuser::rwx\ngroup::r-x\nother::---\n\n# file: other/file\n# owner: alice\n# group: staff\nuser::rw-\ngroup::---\nother::r--\n";
 
+/// Who may read them of those who reach them.
+pub const WHO_REACHES: &str =
+    "alice srv\nbob srv\nalice srv/in\nalice srv/in/file\nalice srv//./next\nbob srv//./next\nfault unknown-way 29 srv/gone/file\nfault unknown-name 36 other\nfault unknown-way 43 other/file\n";
+
 /// A listing of files that were there: later two are gone, one has another owner and one another
 /// list. A header doesn't read, and a group is one that the office lacks.
 pub const OLDER: &str =

@@ -4,7 +4,7 @@
 //! `rt try --test --fail-alloc N` refuses the growth N of a test. Each test here passes whichever
 //! growth that is, and prints how many refusals it was told of: one up to the last growth that it
 //! asks for, and none from then on.
-use crate::fixture::{ALICE_AGAIN, Query, SINCE_OLDER};
+use crate::fixture::{ALICE_AGAIN, Query, SINCE_OLDER, WHO_REACHES};
 use std::test::Fail;
 use tests_files::Command;
 
@@ -55,6 +55,24 @@ fn who_of_a_listing_under_a_refused_growth(rt: HostRuntime) -> Result<(), Fail> 
     let answer =
         b"alice srv/share/plan\nbob srv/share/plan\nfault unknown-name 10 srv/share/lost\nfault bad-acl 18 srv/share/bent\nfault bad-header 25 -\nbob srv/share/a dir\n";
     let told = Query.refusals(rt.alloc(), &words, answer.as_slice());
+    assert!(rt; told.is_some());
+    println!(rt; "refusals: {}", told.unwrap_or(0))?;
+    Ok(())
+}
+
+#[test]
+fn who_by_reach_under_a_refused_growth(rt: HostRuntime) -> Result<(), Fail> {
+    let words = [
+        "who",
+        "--setup",
+        "office",
+        "--reach",
+        "--perms",
+        "r",
+        "--listing",
+        "ways",
+    ];
+    let told = Query.refusals(rt.alloc(), &words, WHO_REACHES.as_bytes());
     assert!(rt; told.is_some());
     println!(rt; "refusals: {}", told.unwrap_or(0))?;
     Ok(())

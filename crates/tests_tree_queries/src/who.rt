@@ -67,7 +67,9 @@ fn standard_input_is_left_as_it_is(rt: HostRuntime) -> Result<(), Fail> {
 /// Who may not search the root reaches nothing in it.
 #[test]
 fn those_who_reach_a_node(rt: HostRuntime) {
-    let words = ["who", "--setup", "office", "--reach", "--perms", "r", "shut"];
+    let words = [
+        "who", "--setup", "office", "--reach", "--perms", "r", "shut",
+    ];
     let text = "root /\nroot /motd\n";
     assert!(rt; Query.ends(rt.alloc(), &words, 0, text, ""));
 }

@@ -1,5 +1,5 @@
 //! Tests of `who` of a listing.
-use crate::fixture::Query;
+use crate::fixture::{Query, WHO_REACHES};
 use std::test::Fail;
 use tests_files::{Command, Sheet};
 
@@ -42,6 +42,21 @@ fn a_listing_from_standard_input(rt: HostRuntime) -> Result<(), Fail> {
     assert!(rt; out.as_slice() == text.as_bytes());
     assert!(rt; err.is_empty());
     assert_eq!(rt; input.left(), 0);
+    Ok(())
+}
+
+/// Linux passes over a list whose mask is empty: whom it names is decided by the mode.
+#[test]
+fn a_list_with_an_empty_mask(rt: HostRuntime) -> Result<(), Fail> {
+    let mut out = Vec::new(rt.alloc());
+    let mut input = Sheet::new(
+        "# file: a\n# owner: alice\n# group: staff\nuser::rw-\nuser:carol:rwx\ngroup::r-x\nmask::---\nother::r--\n",
+    );
+    let words = ["who", "--setup", "office", "--listing", "-"];
+    let (status, _err) = Query.ask(rt.alloc(), &words, &mut input, &mut out);
+    assert_eq!(rt; status, 0);
+    let text = "rw- alice a\n--- bob a\nr-- carol a\nr-- root a\n";
+    assert!(rt; out.as_slice() == text.as_bytes());
     Ok(())
 }
 
@@ -116,10 +131,17 @@ fn a_session_of_that_name(rt: HostRuntime) {
 /// then a folder by itself that doesn't read, and what is in it.
 #[test]
 fn those_who_reach_a_file(rt: HostRuntime) {
-    let words = ["who", "--setup", "office", "--reach", "--perms", "r", "--listing", "ways"];
-    let text =
-        "alice srv\nbob srv\nalice srv/in\nalice srv/in/file\nalice srv//./next\nbob srv//./next\nfault unknown-way 29 srv/gone/file\nfault unknown-name 36 other\nfault unknown-way 43 other/file\n";
-    assert!(rt; Query.ends(rt.alloc(), &words, 0, text, ""));
+    let words = [
+        "who",
+        "--setup",
+        "office",
+        "--reach",
+        "--perms",
+        "r",
+        "--listing",
+        "ways",
+    ];
+    assert!(rt; Query.ends(rt.alloc(), &words, 0, WHO_REACHES, ""));
 }
 
 /// After a block whose path doesn't read no way is known.

@@ -57,8 +57,9 @@ impl<'t> ChangeText<'t> {
         }
         match read_file(alloc, before.text.as_slice(), self.findings.directory) {
             Ok(old) => {
-                self.findings
-                    .push_impact(alloc, &node_of(old), &node_of(file), path, out)
+                let old = node_of(alloc, old)?;
+                let new = node_of(alloc, file)?;
+                self.findings.push_impact(alloc, &old, &new, path, out)
             }
             Err(FileFault::Block(_)) => Ok(()),
             Err(FileFault::Memory) => Err(AllocError),

@@ -118,7 +118,7 @@ impl<'t> Users<'t> {
         ensures refused { IfErr result (IsFaultOf (file_of self.now.directory.now text.now)) }
     {
         let file = read_file(alloc, text, self.directory)?;
-        let node = node_of(file);
+        let node = node_of(alloc, file)?;
         let granted = self.granted(alloc, &node)?;
         let search = self.search(alloc, &node)?;
         let lines = Vec::from_slice(alloc, lines_behind(text))?;

@@ -36,6 +36,7 @@ pub(super) fn leave(folders: &mut Vec<Folder>, path: &[u8])
         if is_above(folder.path.as_slice(), path) {
             return;
         }
+        // What is left is of no use any more.
         let _ = folders.pop();
     }
 }
