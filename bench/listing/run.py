@@ -1,12 +1,12 @@
 #!/usr/bin/env python3
-"""Times `who` of a listing of a million files and `impact` of two, by one user, by the built program, and tells the most memory
-that each took.
+"""Times `who` of a listing of a million files, for one user and for a thousand, and `impact` of two, by the built program, and tells
+the most memory that each took.
 
     bench/listing/run.py [TIMES [FILES]]
 
-A listing is as `getfacl -R` prints it, some 100 bytes a file: files of folders that share a list of their own, as on a share,
-and, as another listing, each file with another list. For `impact` every thousandth file of the first has another owner and list in
-a later one. Before a time is taken the answer is looked at: how many lines it has. Each work is done TIMES times in turn (5, unless
+A listing is as `getfacl -R` prints it, some 120 bytes a file: files of folders that share one of some hundred lists, as on a share,
+each folder in front of its files, and, as another listing, each file with a list that no other has. For `impact` every thousandth
+file of the first has another owner and list in a later one. Before a time is taken the answer is looked at: how many lines it has. Each work is done TIMES times in turn (5, unless
 told), the listings read from files, and the least and the middle milliseconds and the most MiB are printed, the start of the program
 among them.
 """
@@ -22,27 +22,38 @@ PROGRAM = f"{TOP}/crates/aclctl/out/aclctl"
 FILES_OF_FOLDER = 50
 # Of how many files one is changed.
 FILES_OF_CHANGE = 1000
-SETUP = """\
+HEAD = """\
 domain = "example.org"
 umask = "022"
-root = { owner = "ann", group = "staff", mode = "755", style = "posix" }
-user = [ { name = "ann", uid = 1000, groups = ["staff", "ops"] } ]
-group = [ { name = "staff", gid = 50 }, { name = "ops", gid = 60 } ]
+root = { owner = "u1000", group = "g50", mode = "755", style = "posix" }
 """
+# How many users there are at the most, and how many groups, of which each user is in two.
+USERS, GROUPS = 1000, 64
+# A folder that everybody may search.
+OPEN = "# owner: 0\n# group: 50\nuser::rwx\ngroup::r-x\nother::r-x\n\n"
 
 
-def block(place, variant):
-    """The block of a file, as `getfacl -Rn` prints it: of some 120 bytes."""
+def setup_of(users):
+    """Who there is, and a root that no question here asks about."""
+    groups = "".join(f'[[group]]\nname = "g{50 + it}"\ngid = {50 + it}\n' for it in range(GROUPS))
+    member = lambda it: f'"g{50 + it % GROUPS}", "g{50 + (it * 7 + 10) % GROUPS}"'
+    return HEAD + groups + "".join(f'[[user]]\nname = "u{1000 + it}"\nuid = {1000 + it}\ngroups = [{member(it)}]\n' for it in range(users))
+
+
+def block(place, variant, id):
+    """The block of a file, as `getfacl -Rn` prints it: of some 120 bytes. It names the user of this id."""
     perms = ("rwx", "rw-", "r--", "r-x", "---")
     head = f"# file: srv/share/{place // FILES_OF_FOLDER}/report-{place}.txt\n# owner: {1000 + variant % 7}\n# group: 50\n"
-    return f"{head}user::rw-\ngroup::{perms[variant % 5]}\ngroup:60:{perms[variant // 5 % 5]}\nmask::rwx\nother::---\n\n"
+    return f"{head}user::rw-\nuser:{id}:r--\ngroup::{perms[variant % 5]}\ngroup:60:{perms[variant // 5 % 5]}\nmask::rwx\nother::---\n\n"
 
 
-def write_listing(path, files, variant_of):
+def write_listing(path, files, variant_of, id_of=lambda place: 5000):
     with open(path, "w") as file:
-        for start in range(0, files, 10_000):
-            places = range(start, min(files, start + 10_000))
-            file.write("".join(block(place, variant_of(place)) for place in places))
+        file.write(f"# file: srv\n{OPEN}# file: srv/share\n{OPEN}")
+        for start in range(0, files, FILES_OF_FOLDER):
+            file.write(f"# file: srv/share/{start // FILES_OF_FOLDER}\n{OPEN}")
+            places = range(start, min(files, start + FILES_OF_FOLDER))
+            file.write("".join(block(place, variant_of(place), id_of(place)) for place in places))
 
 
 def milliseconds(words):
@@ -74,20 +85,27 @@ def main():
     times = int((sys.argv[1:] + ["5"])[0])
     files = int((sys.argv[2:] + ["1000000"])[0])
     with tempfile.TemporaryDirectory() as folder:
-        setup, shared, each, later = (f"{folder}/{it}" for it in ("setup.toml", "shared", "each", "later"))
-        with open(setup, "w") as file:
-            file.write(SETUP)
+        one, many, shared, each, later = (f"{folder}/{it}" for it in ("one.toml", "many.toml", "shared", "each", "later"))
+        for name, users in ((one, 1), (many, USERS)):
+            with open(name, "w") as file:
+                file.write(setup_of(users))
         folder_of = lambda place: place // FILES_OF_FOLDER
         write_listing(shared, files, folder_of)
-        write_listing(each, files, lambda place: place)
+        write_listing(each, files, lambda place: place, lambda place: 5000 + place)
         # Another variant has another owner: so the one before, in no groups, may no longer read or write.
         write_listing(later, files, lambda place: folder_of(place) + (place % FILES_OF_CHANGE == 0))
         changed = len(range(0, files, FILES_OF_CHANGE))
+        listed = files + 2 + len(range(0, files, FILES_OF_FOLDER))
+        who = lambda setup, *options: ("who", "--setup", setup, *options, "--listing")
         works = {
-            "`who`: files of a folder with one list, letters": (files, "who", "--setup", setup, "--listing", shared),
-            "the same, `--perms w`": (None, "who", "--setup", setup, "--perms", "w", "--listing", shared),
-            "`who`: each file with another list than the one before": (files, "who", "--setup", setup, "--listing", each),
-            f"`impact` of two listings, {changed} files changed": (changed, "impact", "--setup", setup, "--listing", shared, later),
+            "one user: files of a folder with one list, letters": (listed, *who(one), shared),
+            "the same, `--perms w`": (None, *who(one, "--perms", "w"), shared),
+            "the same, `--reach --perms w`": (None, *who(one, "--reach", "--perms", "w"), shared),
+            "one user: each file with a list of its own, letters": (listed, *who(one), each),
+            f"{USERS} users: files of a folder with one list, `--perms w`": (None, *who(many, "--perms", "w"), shared),
+            "the same, `--reach --perms w`": (None, *who(many, "--reach", "--perms", "w"), shared),
+            f"{USERS} users: each file with a list of its own, `--perms w`": (None, *who(many, "--perms", "w"), each),
+            f"`impact` of two listings, {changed} files changed, one user": (changed, "impact", "--setup", one, "--listing", shared, later),
         }
         for name, (lines, *words) in works.items():
             if lines is not None and lines_of(words) != lines:
@@ -97,7 +115,7 @@ def main():
             for name, (_, *words) in works.items():
                 taken[name].append(milliseconds(words))
         size = os.path.getsize(shared) / 1e6
-        print(f"{files} files, {size:.0f} MB a listing, one user; milliseconds, least and middle of {times}; the most MiB")
+        print(f"{files} files, {size:.0f} MB a listing; milliseconds, least and middle of {times}; the most MiB")
         for name, its in taken.items():
             most = most_memory(works[name][1:])
             print(f"| {name} | {min(its):.1f} | {statistics.median(its):.1f} | {most:.1f} |")
