@@ -109,9 +109,7 @@ meaning_of files input words = command_meaning files input (command_in words) wo
 pub record AreMeant (files : Files) (bytes : List ℕ) (Such : Meaning → Type 0) : Type 0 where
   pub words : List (List ℕ)
   pub are_words : AreWordsOf bytes words
-  pub rest : Option (List ℕ)
-  pub at_end : IsAtEnd rest
-  pub such : Such (meaning_of files rest words)
+  pub such : Such (meaning_of files (Some []) words)
 
 -- with these bytes on standard input, what their words mean; or they are refused, for a fault of
 -- the bytes or of reading them

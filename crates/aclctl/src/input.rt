@@ -1,6 +1,5 @@
 //! The words of the program: those that it is given, or else those of standard input.
-ghost use Rattle.std.specs.Prelude.{◌≡◌, ◌≢◌, [], map, IfErr, IfOk, IfSome, IsOkAnd, OnOk};
-ghost use Rattle.std.specs.Io.KnownBytes.{IsAtEnd};
+ghost use Rattle.std.specs.Prelude.{◌≡◌, ◌≢◌, [], map, IfErr, IfOk, IfSome, IsOkAnd, Some};
 ghost use Rattle.std.specs.String.{string_bytes};
 ghost use Rattle.aclctl.specs.Input.{AreWordsOf, IsInputFault};
 
@@ -23,8 +22,8 @@ pub fn command_words<R: Read>(
 
     // Of a reader that tells its bytes.
     ensures read { given.items ≡ [] → IfOk result (λ words. IfSome (R.remaining reader.old)
-        (λ bytes. AreWordsOf bytes (map string_bytes words.items))) }
-    ensures ended { given.items ≡ [] → OnOk result (IsAtEnd (R.remaining reader.new)) }
+        (λ bytes. AreWordsOf bytes (map string_bytes words.items)
+        × (R.remaining reader.new ≡ Some []))) }
     ensures refused { IfErr result (λ fault. IfSome (R.remaining reader.old) (IsInputFault fault)) }
 {
     if !given.is_empty() {

@@ -1,6 +1,7 @@
 //! What queries of trees are refused for, and what they lack.
 use crate::fixture::Query;
 use acl_service::ErrorOutput;
+use std::alloc::Global;
 use std::test::Fail;
 use tests_files::{Command, Sheet};
 
@@ -77,4 +78,31 @@ fn an_answer_that_cannot_be_written(rt: HostRuntime) -> Result<(), Fail> {
     assert!(rt; room == *b"r-x alice");
     assert!(rt; err.as_slice() == b"aclctl: run: output\n".as_slice());
     Ok(())
+}
+
+/// Words whose setup, or whose first file, can't be read, and that name standard input.
+const VAIN: [&[&str]; 7] = [
+    &["who", "--setup", "absent", "-"],
+    &["dump", "--setup", "absent", "-"],
+    &["impact", "--setup", "absent", "-"],
+    &["impact", "--setup", "office", "--before", "absent", "-"],
+    &["who", "--setup", "absent", "--listing", "-"],
+    &["impact", "--setup", "absent", "--listing", "-", "listing"],
+    &["impact", "--setup", "office", "--listing", "absent", "-"],
+];
+
+/// Whether the words are refused, and nothing of standard input was read.
+fn reads_nothing(alloc: Global, words: &[&str]) -> bool {
+    let mut out = Vec::new(alloc);
+    let mut input = Sheet::new("get /\n");
+    let (status, _err) = Query.ask(alloc, words, &mut input, &mut out);
+    status == 1 && input.left() == 6
+}
+
+/// Nobody types a session in vain.
+#[test]
+fn nothing_is_read_after_what_cannot_be(rt: HostRuntime) {
+    for words in VAIN {
+        assert!(rt; reads_nothing(rt.alloc(), words));
+    }
 }

@@ -1,4 +1,4 @@
-use Rattle.std.proofs.Common.{◌≤◌, ◌∙◌, ap, arith, map, inl, inr, refl, subst, List, ℕ, Option, String, Global, string_bytes}
+use Rattle.std.proofs.Common.{◌≤◌, ◌∙◌, ap, arith, map, inl, inr, refl, subst, Some, [], List, ℕ, Option, String, Global, string_bytes}
 use Rattle.std.proofs.KnownBytes.{Keeps-refl}
 use Rattle.std.proofs.lemmas.Option.{IfSome_then}
 use Rattle.acl_queries.specs.Meaning.{Ends, EndsWithInput}
@@ -32,16 +32,18 @@ returns-in-Ok-clause-read g c none =
     let files = g.F.OpenFiles.bytes_of c.args.files.now in
     let rest = g.I.Read.remaining c.command_words.new.reader in
     let words = map string_bytes c.in-Ok.words.items in
-    let at_end = c.in-Ok.ensures.ended none in
     let EndsAt = λ (words : List (String Global)).
     Ends (meaning_of files rest (map string_bytes words)) c.run_command.result (g.W.Write.contents c.args.out.now) (g.W.Write.contents c.run_command.new.out)
     c.args.err.now c.run_command.new.err in
     let ends : EndsAt c.in-Ok.words.items = subst EndsAt c.as_slice.ensures.value c.run_command.ensures.ended in
-    IfSome_then _ (c.in-Ok.ensures.read none) (λ bytes are_words.
-    Ends-map (meaning_of files rest words) (meaning_from files bytes) _ _ _ _ _
-    (λ WentOut answers. record { words = words; are_words = are_words; rest = rest; at_end = at_end; such = answers })
-    (λ WentOut begins. record { words = words; are_words = are_words; rest = rest; at_end = at_end; such = begins })
-    (λ line says. inl (record { words = words; are_words = are_words; rest = rest; at_end = at_end; such = says })) ends)
+    IfSome_then _ (c.in-Ok.ensures.read none) (λ bytes is.
+    let left : Ends (meaning_of files (Some []) words) c.run_command.result (g.W.Write.contents c.args.out.now) (g.W.Write.contents c.run_command.new.out)
+    c.args.err.now c.run_command.new.err = subst (λ (known : Option (List ℕ)). Ends (meaning_of files known words) c.run_command.result (g.W.Write.contents c.args.out.now)
+    (g.W.Write.contents c.run_command.new.out) c.args.err.now c.run_command.new.err) is.1 ends in
+    Ends-map (meaning_of files (Some []) words) (meaning_from files bytes) _ _ _ _ _
+    (λ WentOut answers. record { words = words; are_words = is.0; such = answers })
+    (λ WentOut begins. record { words = words; are_words = is.0; such = begins })
+    (λ line says. inl (record { words = words; are_words = is.0; such = says })) left)
 
 pub returns-in-Err-clause-read : goal.returns-in-Err-clause-read
 returns-in-Err-clause-read g c none =
