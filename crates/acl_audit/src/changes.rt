@@ -291,7 +291,8 @@ fn owners_of(node: &Node) -> Owners
 
 /// Whether anybody at all loses or gains anything if a file becomes another, each with its own
 /// owner, group and lists: none exactly if every requester, of whatever uid and groups, is decided
-/// about as before; else someone in at most two groups who is not, and what is lost and gained. It
+/// about as before; else someone in at most two groups who is not, and what is lost and gained. If
+/// the style of the list changed, single permissions are compared, and no request of several. It
 /// fails only if memory runs out.
 pub fn change_for_anybody(
     alloc: Global,

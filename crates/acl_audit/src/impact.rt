@@ -73,8 +73,10 @@ fn of_somebody(found: Option<Difference>) -> Option<Impact>
 }
 
 /// What it means for access that a file became another, each with its own owner, group and lists;
-/// none exactly where every requester, of whatever uid and groups, is decided about alike. Files
-/// that are the same are told so at once. It fails only if memory runs out.
+/// none exactly where every requester, of whatever uid and groups, is decided about alike. If the
+/// style of the list changed, that is said of `r`, `w`, `a` and `x` each by itself, and not of a
+/// request of several: such may be granted to a member of two groups by one of the lists alone.
+/// Files that are the same are told so at once. It fails only if memory runs out.
 pub fn impact_of(
     alloc: Global,
     before: &Node,

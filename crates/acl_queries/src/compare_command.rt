@@ -23,8 +23,9 @@ use std::io::Write;
 /// first and then written at once. What is wrong with the words goes to `err`, and so does help; a
 /// fault while writing there changes nothing.
 ///
-/// Between NFSv4 lists all bits of a mask are compared, and if a POSIX list stands on either side
-/// those of a file mode, each by itself. Between POSIX lists the permissions are compared, first
+/// Between NFSv4 lists all bits of a mask are compared, and between a POSIX list and an NFSv4 list
+/// those of a file mode, each by itself: so `alike` says of such two nothing of requests of several
+/// permissions, which one of them may grant as a whole and the other not. Between POSIX lists the permissions are compared, first
 /// each by itself and then the requests of several.
 ///
 /// It returns the exit status: 0 with the answer, 1 if a field doesn't read, 2 if the parser of

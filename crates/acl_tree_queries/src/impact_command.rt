@@ -36,7 +36,8 @@ use std::io::{Read, Write};
 /// NAME UID GIDS LOST GAINED PATH`. NAME is the first of the setup's users, in the order of their
 /// names, whom it concerns; else it is `-`, and UID and GIDS are somebody in at most two groups.
 /// LOST and GAINED are letters, and `-` is none. A path where everybody is decided about alike, of
-/// whatever uid and groups, has no line. Of listings, `fault WORD LINE PATH` tells of each block
+/// whatever uid and groups, has no line; if the style of its list changed, that is said of `r`,
+/// `w`, `a` and `x` each by itself. Of listings, `fault WORD LINE PATH` tells of each block
 /// that doesn't read, those of BEFORE first and those of AFTER in their places, and `gone PATH` at
 /// the end of each path that AFTER lacks, in the order of BEFORE. It is written in pieces of some
 /// 64 KiB. BEFORE is kept in memory, and AFTER is not. What is wrong goes to `err`, and so does
