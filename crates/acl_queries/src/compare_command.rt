@@ -25,8 +25,8 @@ use std::io::Write;
 ///
 /// Between NFSv4 lists all bits of a mask are compared, and between a POSIX list and an NFSv4 list
 /// those of a file mode, each by itself: so `alike` says of such two nothing of requests of several
-/// permissions, which one of them may grant as a whole and the other not. Between POSIX lists the permissions are compared, first
-/// each by itself and then the requests of several.
+/// permissions, which one of them may grant as a whole and the other not. Between POSIX lists the
+/// permissions are compared, first each by itself and then the requests of several.
 ///
 /// It returns the exit status: 0 with the answer, 1 if a field doesn't read, 2 if the parser of
 /// command lines refuses the words, and 3 if memory runs out or the answer can't be written.
