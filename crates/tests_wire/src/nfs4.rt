@@ -49,7 +49,7 @@ fn is_read(alloc: Global) -> Option<bool> {
     if count > 4 {
         return None;
     }
-    Some(out[..count] == RAWS)
+    Some(&out[..count] == RAWS.as_slice())
 }
 
 /// Whether the entries are those of the text.

@@ -29,7 +29,7 @@ fn is_written(alloc: Global, text: &str, bytes: &[u8]) -> Option<bool> {
     if count > 64 {
         return None;
     }
-    Some(out[..count] == *bytes)
+    Some(&out[..count] == bytes)
 }
 
 #[test]
