@@ -13,9 +13,9 @@
  *
  * gids are all groups of the user, the primary one too, in any order. uid 0 has no special right here.
  *
- * Memory: a call takes none as long as no POSIX list has more than 8 entries (68 bytes) and no NFSv4 list, neither one that goes in
- * nor the one that comes out, more than 16; calls on texts always do. Else it calls malloc, frees all of it before it returns, and
- * answers MEARDWYN_NO_MEMORY if it gets none.
+ * Memory: checks of POSIX lists take none. Any other call takes none as long as no POSIX list has more than 8 entries (68 bytes) and
+ * no NFSv4 list, neither one that goes in nor the one that comes out, more than 16; calls on texts always do. Else it calls malloc,
+ * frees all of it before it returns, and answers MEARDWYN_NO_MEMORY if it gets none.
  */
 #ifndef MEARDWYN_H
 #define MEARDWYN_H
@@ -67,9 +67,15 @@ enum { MEARDWYN_READ = 4, MEARDWYN_WRITE = 2, MEARDWYN_EXECUTE = 1 };
  * system.posix_acl_default: what getxattr(2) hands out.
  */
 
-/* 1 if the list grants a user who is in these groups all of the request, for a file of this owner and this group; 0 if not. */
+/* 1 if the list grants a user who is in these groups all of the request, for a file of this owner and this group; 0 if not. It takes
+   no memory, and neither does the next. */
 int32_t meardwyn_posix_check(const uint8_t *xattr, size_t xattr_len, uint32_t owner, uint32_t group, uint32_t uid,
                              const uint32_t *gids, size_t gids_len, uint32_t request);
+
+/* The same as Linux decides it, which passes over a list whose mask has no permission and goes by the file's mode: whom the list names
+   is then decided by the mode like anybody else, where draft 17 denies. */
+int32_t meardwyn_posix_check_linux(const uint8_t *xattr, size_t xattr_len, uint32_t owner, uint32_t group, uint32_t uid,
+                                   const uint32_t *gids, size_t gids_len, uint32_t request);
 
 /* 0 if the bytes are a list, in whatever order. */
 int32_t meardwyn_posix_valid(const uint8_t *xattr, size_t xattr_len);

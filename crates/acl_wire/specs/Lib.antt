@@ -3,6 +3,7 @@ pub mod Writing
 pub mod Xattr
 pub mod XattrReading
 pub mod Posix
+pub mod Check
 pub mod RawAces
 pub mod RawAcesWriting
 pub mod Nfs4

@@ -3,6 +3,7 @@
 #![tactic(auto)]
 
 mod caller;
+mod check;
 mod compare;
 mod fault;
 mod laws;
@@ -17,13 +18,14 @@ mod xattr_writing;
 mod xdr;
 
 pub use caller::Caller;
+pub use check::{Rules, xattr_grants};
 pub use compare::{RawAsker, RawDifference, RawUnlike, raws_difference, xattr_difference};
 pub use fault::{Nfs4Error, Nfs4Fault, PosixError, PosixFault};
 pub use laws::wire_laws;
 pub use nfs4::{raws_allow, raws_grant, raws_inherited, raws_with_mode};
 pub use posix::{
-    acl_of_mode, acl_of_xattr, xattr_at_creation, xattr_grants, xattr_translated,
-    xattr_translated_default, xattr_with_mode,
+    acl_of_mode, acl_of_xattr, xattr_at_creation, xattr_translated, xattr_translated_default,
+    xattr_with_mode,
 };
 pub use raw_ace::{RawAce, read_raw_aces};
 pub use raw_writing::write_raw_aces;

@@ -2,8 +2,8 @@
 //! entry a tag and permissions of two bytes each and an id of four, all with the lowest byte first.
 //! The numbers of the tags are those of linux/posix_acl.h.
 use acl_wire::{
-    PosixError, PosixFault, acl_of_text, acl_of_xattr, acl4_of_text, write_xattr, xattr_grants,
-    xattr_text, xattr_translated,
+    PosixError, PosixFault, Rules, acl_of_text, acl_of_xattr, acl4_of_text, write_xattr,
+    xattr_grants, xattr_text, xattr_translated,
 };
 use std::alloc::Global;
 
@@ -50,9 +50,27 @@ fn who_may_do_what(rt: HostRuntime) {
         (1001, 0, true),
     ];
     for (uid, request, wanted) in ROWS {
-        let granted = xattr_grants(rt.alloc(), &BYTES, 0, 0, uid, &[100], request);
+        let granted = xattr_grants(Rules::Draft, &BYTES, 0, 0, uid, &[100], request);
         assert_eq!(rt; granted, Ok(wanted), "{uid} {request}");
     }
+}
+
+/// The mask is empty, and the others may read.
+fn with_empty_mask() -> [u8; 44] {
+    let mut bytes = BYTES;
+    bytes[30] = 0;
+    bytes[38] = 4;
+    bytes
+}
+
+/// Under an empty mask the draft denies the user whom an entry names, and Linux asks the mode.
+#[test]
+fn an_empty_mask(rt: HostRuntime) {
+    let bytes = with_empty_mask();
+    let draft = xattr_grants(Rules::Draft, &bytes, 0, 0, 1000, &[100], 4);
+    let linux = xattr_grants(Rules::Linux, &bytes, 0, 0, 1000, &[100], 4);
+    assert_eq!(rt; draft, Ok(false));
+    assert_eq!(rt; linux, Ok(true));
 }
 
 /// Whether the list of the bytes is translated into the NFSv4 list of the text.
