@@ -51,6 +51,7 @@ enum meardwyn_error {
     MEARDWYN_SYNTAX = -18,       /* a piece of a text has no shape of an entry */
     MEARDWYN_UNKNOWN_NAME = -19, /* a text or XDR has a name: map it to an id first */
     MEARDWYN_INVALID_LIST = -20, /* the entries of a text are no POSIX list: one, or the mask, is missing, or one stands twice */
+    MEARDWYN_UNKEPT_BITS = -21,  /* a call that puts a list would lose ACE4_INHERITED_ACE, or a bit of retention, of an entry */
 };
 
 /* The version of the calls, 0x10000: as long as the upper half is 1, what is here stays. */
@@ -122,6 +123,9 @@ int32_t meardwyn_posix_compare(const uint8_t *first, size_t first_len, uint32_t 
 
 /*
  * NFSv4 lists, RFC 8881, as arrays of entries, of which the first decides first.
+ *
+ * ACE4_INHERITED_ACE, ACE4_WRITE_RETENTION and ACE4_WRITE_RETENTION_HOLD decide nothing that is asked here. Calls that only decide
+ * (check, allowed, valid, mode, compare) pass over them; a call that puts a list or a text can't keep them, and refuses the list.
  */
 struct meardwyn_ace {
     uint32_t type;        /* 0 ALLOW, 1 DENY, 2 AUDIT, 3 ALARM */

@@ -27,7 +27,7 @@ pub use posix::{
     acl_of_mode, acl_of_xattr, xattr_at_creation, xattr_translated, xattr_translated_default,
     xattr_with_mode,
 };
-pub use raw_ace::{RawAce, read_raw_aces};
+pub use raw_ace::{Purpose, RawAce, read_raw_aces};
 pub use raw_writing::write_raw_aces;
 pub use text::{acl_of_text, acl4_of_text, raws_text, write_bytes, xattr_text};
 pub use xattr_reading::read_xattr;

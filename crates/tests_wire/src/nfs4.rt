@@ -2,8 +2,8 @@
 //! entry its type, its flags, its mask and its who, numbers of four bytes with the highest first; a
 //! string has its length before it, and zeros up to a whole group of four bytes behind it.
 use acl_wire::{
-    Nfs4Error, Nfs4Fault, RawAce, acl4_of_xdr, raws_allow, raws_grant, raws_text, read_raw_aces,
-    write_raw_aces,
+    Nfs4Error, Nfs4Fault, Purpose, RawAce, acl4_of_xdr, raws_allow, raws_grant, raws_text,
+    read_raw_aces, write_raw_aces,
 };
 use std::alloc::Global;
 
@@ -107,8 +107,8 @@ fn bytes_that_are_no_list(rt: HostRuntime) {
     }
 }
 
-fn fault_of(alloc: Global, raw: RawAce) -> Option<Nfs4Error> {
-    read_raw_aces(alloc, &[raw]).err()
+fn fault_of(alloc: Global, purpose: Purpose, raw: RawAce) -> Option<Nfs4Error> {
+    read_raw_aces(alloc, purpose, &[raw]).err()
 }
 
 #[test]
@@ -131,6 +131,30 @@ fn numbers_that_are_no_entry(rt: HostRuntime) {
         (marked, Nfs4Fault::Flags),
     ];
     for (raw, wanted) in rows {
-        assert_eq!(rt; fault_of(rt.alloc(), raw), Some(Nfs4Error::Fault(wanted)));
+        let fault = fault_of(rt.alloc(), Purpose::Decide, raw);
+        assert_eq!(rt; fault, Some(Nfs4Error::Fault(wanted)));
+    }
+}
+
+/// ACE4_INHERITED_ACE, ACE4_WRITE_RETENTION and ACE4_WRITE_RETENTION_HOLD decide nothing, and a
+/// list that is written would lose them.
+#[test]
+fn bits_that_decide_nothing(rt: HostRuntime) {
+    const ROWS: [(u32, u32); 3] = [(0x80, 1), (0, 0x201), (0x80, 0x600)];
+    for (flags, mask) in ROWS {
+        let raw = RawAce {
+            flags,
+            mask,
+            special: 3,
+            ..NOTHING
+        };
+        let allowed = raws_allow(rt.alloc(), &[raw], 7, 1, 8, &[50], mask);
+        let fault = fault_of(rt.alloc(), Purpose::Write, raw);
+        assert_eq!(rt; allowed, Ok(mask & 1), "{flags} {mask}");
+        assert_eq!(rt;
+            fault,
+            Some(Nfs4Error::Fault(Nfs4Fault::Unkept)),
+            "{flags} {mask}"
+        );
     }
 }
