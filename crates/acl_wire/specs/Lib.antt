@@ -8,6 +8,7 @@ pub mod RawAces
 pub mod RawAcesWriting
 pub mod Nfs4
 pub mod WireLaws
+pub mod Written
 pub mod Text
 pub mod Compare
 pub mod Xdr
