@@ -5,6 +5,7 @@ pub mod AcesLoop
 pub mod NumberLemmas
 pub mod XattrAgain
 pub mod RawAgain
+pub mod XdrAgain
 pub mod StepsBack
 pub mod XattrWritten
 pub mod RawsWritten

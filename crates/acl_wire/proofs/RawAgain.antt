@@ -37,7 +37,7 @@ who_again Everyone has = refl
 who_again (User uid) has = rw (le-leb uid MAX_ID has) refl
 who_again (NamedGroup gid) has = rw (le-leb gid MAX_ID has) refl
 
-raw_again : (ace : Nfsace4) → IsAce ace → HasId ace.who → ace_of_raw (raw_of ace) ≡ Ok ace
+pub raw_again : (ace : Nfsace4) → IsAce ace → HasId ace.who → ace_of_raw (raw_of ace) ≡ Ok ace
 unfolding ace_of_raw
 raw_again ace is has_id =
     let small : leb ace.flags all_flags ≡ true = le-leb _ _ (subst (λ (n : ℕ). n ≤ all_flags) is.known_flags (and_le_r ace.flags all_flags)) in

@@ -12,3 +12,4 @@ pub mod Written
 pub mod Text
 pub mod Compare
 pub mod Xdr
+pub mod XdrWriting

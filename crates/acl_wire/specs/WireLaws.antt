@@ -10,6 +10,8 @@ use Rattle.acl_wire.specs.Posix.{acl_of}
 use Rattle.acl_wire.specs.RawAces.{list_of}
 use Rattle.acl_wire.specs.RawAcesWriting.{raws_of}
 use Rattle.acl_wire.specs.Xattr.{xattr_of}
+use Rattle.acl_wire.specs.Xdr.{xdr_list_of}
+use Rattle.acl_wire.specs.XdrWriting.{xdr_of}
 use Rattle.acl_wire.specs.declared.raw_ace.Purpose.{Purpose}
 
 -- the bytes of a POSIX list are read as that list
@@ -21,3 +23,8 @@ XattrsAreReadAgain = (acl : List EntryValue) → IsAcl acl → posix.HaveIds acl
 abbrev pub RawsAreReadAgain : Type 0
 RawsAreReadAgain = (purpose : Purpose) (aces : List Nfsace4) → AreAces aces → nfs4.HaveIds aces
     → list_of purpose (raws_of aces) ≡ Ok aces
+
+-- a list in XDR is read as that list
+abbrev pub XdrIsReadAgain : Type 0
+XdrIsReadAgain = (aces : List Nfsace4) → AreAces aces → nfs4.HaveIds aces
+    → xdr_list_of (xdr_of aces) ≡ Ok aces

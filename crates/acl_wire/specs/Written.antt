@@ -55,4 +55,5 @@ tidied_raw raw = if raw.special == 0 then raw else record {
 -- and the list that is read, written again, is these numbers
 abbrev pub RawsWereWritten : Type 0
 RawsWereWritten = (purpose : Purpose) (raws : List RawAce) (aces : List Nfsace4)
-    → list_of purpose raws ≡ Ok aces → raws_of aces ≡ map (λ raw. tidied_raw (seen purpose raw)) raws
+    → list_of purpose raws ≡ Ok aces
+    → raws_of aces ≡ map (λ raw. tidied_raw (seen purpose raw)) raws

@@ -16,6 +16,7 @@ mod text;
 mod xattr_reading;
 mod xattr_writing;
 mod xdr;
+mod xdr_writing;
 
 pub use caller::Caller;
 pub use check::{Rules, xattr_grants};
@@ -33,3 +34,4 @@ pub use text::{acl_of_text, acl4_of_text, raws_text, write_bytes, xattr_text};
 pub use xattr_reading::read_xattr;
 pub use xattr_writing::{XATTR_ENTRY_LEN, XATTR_HEADER_LEN, write_xattr};
 pub use xdr::acl4_of_xdr;
+pub use xdr_writing::raws_xdr;
