@@ -14,7 +14,7 @@
  * gids are all groups of the user, the primary one too, in any order. uid 0 has no special right here.
  *
  * Memory: checks of POSIX lists take none. Any other call takes none as long as no POSIX list has more than 8 entries (68 bytes) and
- * no NFSv4 list, neither one that goes in nor the one that comes out, more than 16; calls on texts always do. Else it calls malloc,
+ * no NFSv4 list, neither one that goes in nor the one that comes out, more than 16; calls on texts always do, and meardwyn_nfs4_to_xdr. Else it calls malloc,
  * frees all of it before it returns, and answers MEARDWYN_NO_MEMORY if it gets none.
  */
 #ifndef MEARDWYN_H
@@ -162,6 +162,9 @@ int32_t meardwyn_nfs4_inherit(const struct meardwyn_ace *aces, size_t aces_len, 
 /* The list of the bytes of system.nfs4_acl: a count, and type, flag, mask and who of each, where who is OWNER@, GROUP@, EVERYONE@ or an
    id in decimal. */
 int32_t meardwyn_nfs4_from_xdr(const uint8_t *xdr, size_t xdr_len, struct meardwyn_ace *out, size_t out_len, size_t *needed);
+
+/* Such bytes of a list: they are read as that list again. It takes memory. */
+int32_t meardwyn_nfs4_to_xdr(const struct meardwyn_ace *aces, size_t aces_len, uint8_t *out, size_t out_len, size_t *needed);
 
 /* The list of a text as this project writes it, "A::OWNER@:rwx,A:g:50:r", with ids in decimal, and such a text of a list. These take
    memory. */

@@ -270,7 +270,7 @@ static size_t xdr_of(const struct meardwyn_ace *aces, size_t n, uint8_t *to)
 static void nfs4(int lists)
 {
     static struct meardwyn_ace aces[MOST_ACES], other[MOST_ACES], again[MOST_ACES];
-    static uint8_t xdr[8192];
+    static uint8_t xdr[8192], written[8192];
     static char text[16384];
     int checks = 0, alike = 0, told = 0;
     for (int i = 0; i < lists; i++) {
@@ -296,6 +296,7 @@ static void nfs4(int lists)
         /* XDR and texts give the same entries. */
         size_t len = xdr_of(aces, n, xdr);
         must(meardwyn_nfs4_from_xdr(xdr, len, again, MOST_ACES, &needed) == 0 && needed == n && !memcmp(again, aces, n * sizeof *aces), "XDR");
+        must(meardwyn_nfs4_to_xdr(aces, n, written, sizeof written, &needed) == 0 && needed == len && !memcmp(written, xdr, len), "XDR that is written");
         must(meardwyn_nfs4_from_xdr(xdr, len - 1, again, MOST_ACES, &needed) == MEARDWYN_BAD_SIZE, "XDR that is cut");
         must(meardwyn_nfs4_to_text(aces, n, text, sizeof text, &needed) == 0, "text");
         if (n) must(meardwyn_nfs4_from_text(text, needed, again, MOST_ACES, &needed) == 0 && needed == n && !memcmp(again, aces, n * sizeof *aces),

@@ -1,6 +1,6 @@
 -- A list in XDR is read as that list.
-use Rattle.std.proofs.Common.{◌≡◌, ◌∙◌, ℕ, suc, ◌+◌, ◌-◌, ◌*◌, ◌/◌, ◌^◌, ◌<◌, ◌≤◌, ◌==◌, Bool, true, false, ltb, leb, List, [], ◌∷◌, ◌++◌, length, replicate, decimal, codes, take, drop, All, Option, Some, None, Result, Ok, refl, sym, ap, subst, arith, append_assoc, option_map, inl, inr}
-use Rattle.std.specs.Int.{w32, from_be_bytes, to_be_bytes}
+use Rattle.std.proofs.Common.{◌≡◌, ◌∙◌, ℕ, ◌-◌, ◌^◌, ◌<◌, ◌≤◌, true, false, ltb, leb, List, [], ◌∷◌, ◌++◌, length, replicate, decimal, codes, take, drop, All, Option, Some, None, Ok, refl, sym, ap, subst, arith, append_assoc, inl, inr}
+use Rattle.std.specs.Int.{w32, to_be_bytes}
 use Rattle.std.specs.List.{flat_map, AllByRecursion}
 use Rattle.std.specs.Str.{bytes_eq}
 use Rattle.std.proofs.lemmas.Bool.{cases_Bool, le-leb, le-ltb}
@@ -13,24 +13,19 @@ use Rattle.std.proofs.lemmas.Slice.Eq.{bytes_eq-Decides}
 use Rattle.acl_names.proofs.IdTexts.{written_decimal}
 use Rattle.acl_names.specs.Ids.{Number, decimal_value, has_name_shape, number_or_name}
 use Rattle.acl_names.specs.declared.limits.TheConstants.{MAX_ID}
-use Rattle.acl_names.specs.Steps.{or_fault}
-use Rattle.acl_nfs4.specs.Ace.{IsAce, Nfsace4, is_idle}
-use Rattle.acl_nfs4.specs.Acl.{AreAces}
+use Rattle.acl_nfs4.specs.Ace.{Nfsace4}
 use Rattle.acl_nfs4.specs.Flags.{all_flags}
 use Rattle.acl_nfs4.specs.Mask.{all_masks}
-use Rattle.acl_nfs4.specs.PrintedText.{HaveIds}
 use Rattle.acl_nfs4.specs.Who.{HasId, id_of}
 use Rattle.acl_nfs4.specs.declared.limits.TheConstants.{MAX_ACES}
 use Rattle.acl_nfs4.specs.declared.ace.AceType.{AceType}
 use Rattle.acl_nfs4.specs.declared.ace.AceType.TheVariants.{Allow, Deny, Audit, Alarm}
 use Rattle.acl_nfs4.specs.declared.who.Who.{Who}
 use Rattle.acl_nfs4.specs.declared.who.Who.TheVariants.{Owner, Group, Everyone, User, NamedGroup}
-use Rattle.acl_wire.specs.RawAces.{ace_of_raw}
 use Rattle.acl_wire.specs.RawAcesWriting.{kind_number, raw_of, special_number}
 use Rattle.acl_wire.specs.WireLaws.{XdrIsReadAgain}
-use Rattle.acl_wire.specs.Xdr.{aces_at, all_of, number_at, padded, raw_at, text_at, who_in, xdr_list_of}
-use Rattle.acl_wire.specs.XdrWriting.{ace_bytes, filled, text_bytes, who_text, xdr_of}
-use Rattle.acl_wire.specs.declared.fault.Nfs4Fault.TheVariants as faults
+use Rattle.acl_wire.specs.Xdr.{aces_at, number_at, padded, raw_at, text_at, who_in, xdr_list_of}
+use Rattle.acl_wire.specs.XdrWriting.{ace_bytes, filled, text_bytes, who_text}
 use Rattle.acl_wire.proofs.RawAgain.{IsAgain, raw_again}
 
 number_again : (n : ℕ) (rest : List ℕ) → n < 2 ^ 32 → number_at (to_be_bytes w32 n ++ rest) ≡ Ok (n, rest)

@@ -3,7 +3,7 @@
 //! string has its length before it, and zeros up to a whole group of four bytes behind it.
 use acl_wire::{
     Nfs4Error, Nfs4Fault, Purpose, RawAce, acl4_of_xdr, raws_allow, raws_grant, raws_text,
-    read_raw_aces, write_raw_aces,
+    raws_xdr, read_raw_aces, write_raw_aces,
 };
 use std::alloc::Global;
 
@@ -52,6 +52,12 @@ fn is_read(alloc: Global) -> Option<bool> {
     Some(&out[..count] == RAWS.as_slice())
 }
 
+/// Whether the entries are written as the bytes.
+fn is_written(alloc: Global) -> Option<bool> {
+    let xdr = raws_xdr(alloc, &RAWS).ok()?;
+    Some(xdr.as_slice() == BYTES.as_slice())
+}
+
 /// Whether the entries are those of the text.
 fn is_told(alloc: Global) -> Option<bool> {
     let text = raws_text(alloc, &RAWS).ok()?;
@@ -61,6 +67,7 @@ fn is_told(alloc: Global) -> Option<bool> {
 #[test]
 fn a_list_in_bytes(rt: HostRuntime) {
     assert!(rt; is_read(rt.alloc()) == Some(true));
+    assert!(rt; is_written(rt.alloc()) == Some(true));
     assert!(rt; is_told(rt.alloc()) == Some(true));
 }
 
