@@ -119,3 +119,6 @@ nothing_splits (byte ∷ name) =
           ap (λ b. list_any splits (cond b (octal byte) (byte ∷ []) ++ quoted name)) plain
           ∙ ap (λ b. b || list_any splits (quoted name)) (or_false _ (byte == backslash) plain).0 ∙ rest
     ]
+
+-- what is said of a printed name
+pub ruleset printed_laws = (written_again, nothing_splits)

@@ -1,6 +1,7 @@
 -- The users and groups of a host.
 use Rattle.std.specs.Prelude.{◌≡◌, ℕ, ◌==◌, nat_lt, List, [], ◌∷◌, length, Option}
-use Rattle.std.specs.Prelude.{option_map, ◌++◌, fold, map, filter, Result, Err, if◌then◌else◌, bytes_eq}
+use Rattle.std.specs.Prelude.{option_map, ◌++◌, fold, map, filter, Result, Err, if◌then◌else◌}
+use Rattle.std.specs.Prelude.{bytes_eq}
 use Rattle.std.specs.List.{find, flat_map, list_any}
 use Rattle.std.specs.Cmp.Lexicographic.{slice_cmp}
 use Rattle.std.specs.Ordering.{nat_cmp}

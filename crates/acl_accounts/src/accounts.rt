@@ -1,15 +1,17 @@
 //! The users and groups of a host.
 
-ghost use Rattle.std.specs.Prelude.{◌≡◌, ◌≢◌, ◌==◌, ℕ, List, ◌∷◌, bytes_eq, length, ◌++◌, ◌≤◌, map, filter, OnOk, IfOk, IfErr, IsOk, Ok, Err};
+ghost use Rattle.std.specs.Prelude.{◌≡◌, ◌≢◌, ◌==◌, ℕ, List, ◌∷◌, ◌++◌, bytes_eq, filter, map};
+ghost use Rattle.std.specs.Prelude.{OnOk, IfOk, IfErr, IsOk, Err};
 ghost use Rattle.std.specs.Cmp.Lexicographic.{slice_cmp};
-ghost use Rattle.std.specs.Ordering.{is_lt, nat_cmp};
-ghost use Rattle.std.specs.Option.{option_copied};
-ghost use Rattle.acl_accounts.specs.Views.{view_rows, view_group, view_membership, view_user};
-ghost use Rattle.acl_names.specs.Ascending.{IsAscending};
-ghost use Rattle.acl_accounts.specs.Accounts.{memberships_of, account_with, each_once, group_of, with_once};
 ghost use Rattle.std.specs.List.{list_any};
 ghost use Rattle.std.specs.List.Sorted.{IsSortedByKey};
-ghost use Rattle.acl_accounts.specs.Accounts.{AreOf, memberships_in, account_named, gid_of, rows_within, uid_of};
+ghost use Rattle.std.specs.Option.{option_copied};
+ghost use Rattle.std.specs.Ordering.{is_lt, nat_cmp};
+ghost use Rattle.acl_names.specs.Ascending.{IsAscending};
+ghost use Rattle.acl_accounts.specs.Accounts.{AreOf, account_named, account_with, each_once};
+ghost use Rattle.acl_accounts.specs.Accounts.{gid_of, group_of, memberships_in, memberships_of};
+ghost use Rattle.acl_accounts.specs.Accounts.{rows_within, uid_of, with_once};
+ghost use Rattle.acl_accounts.specs.Views.{view_group, view_membership, view_rows, view_user};
 ghost use Rattle.acl_accounts.specs.declared.fault.AccountsFault.TheVariants.{Memory};
 
 use crate::fault::AccountsFault;
@@ -119,12 +121,14 @@ impl Model for Accounts {
 
 impl Accounts {
     /// The accounts that a text lists: what `getent passwd` and `getent group` print, in any order.
-    /// The first line that is bad, or one too many, decides. `Memory` comes only if memory runs out.
+    /// The first line that is bad, or one too many, decides. `Memory` comes only if memory runs
+    /// out.
     pub fn read(alloc: Global, text: &[u8]) -> Result<Accounts, AccountsFault>
         ensures read { IfOk result (λ accounts. IfOk (rows_within text.now)
             (λ rows. AreOf rows accounts)) }
         ensures good { IfOk result (λ _. IsOk (rows_within text.now)) }
-        ensures fault { IfErr result (λ fault. (fault ≢ Memory) → rows_within text.now ≡ Err fault) }
+        ensures fault { IfErr result (λ fault. (fault ≢ Memory)
+            → rows_within text.now ≡ Err fault) }
     {
         if text.len() > MAX_ACCOUNTS_TEXT {
             return Err(AccountsFault::TooMany);

@@ -2,13 +2,13 @@
 
 ghost use Rattle.std.specs.Prelude.{◌≡◌, ℕ, List, find, filter, length, false, ◌-◌, OnOk, IfOk};
 ghost use Rattle.std.specs.Cmp.Lexicographic.{slice_cmp};
+ghost use Rattle.std.specs.List.{slice_get};
 ghost use Rattle.std.specs.List.Sorted.{IsSortedByKey};
 ghost use Rattle.std.specs.Option.{option_copied, option_map_or};
-ghost use Rattle.std.specs.List.{slice_get};
-ghost use Rattle.acl_accounts.specs.Firsts.{AreFirsts};
 ghost use Rattle.std.specs.Ordering.{nat_cmp};
 ghost use Rattle.std.specs.Str.{bytes_eq};
 ghost use Rattle.acl_names.specs.Ascending.{IsAscending};
+ghost use Rattle.acl_accounts.specs.Firsts.{AreFirsts};
 
 use crate::accounts::{Account, AccountGroup, Membership};
 use crate::rows::{GroupRow, UserRow};

@@ -4,9 +4,9 @@ ghost use Rattle.std.specs.Prelude.{◌≡◌, ◌≢◌, ◌≤◌, length, opt
 ghost use Rattle.acl_names.specs.Bytes.{colon};
 ghost use Rattle.acl_names.specs.Pieces.{parts};
 ghost use Rattle.acl_names.specs.Ids.{decimal_value};
-ghost use Rattle.acl_accounts.specs.Rows.{group_row, is_passed_over, no_rows, row_of, row_of_fields};
-ghost use Rattle.acl_accounts.specs.Rows.{rows_of, user_row, with_row};
-ghost use Rattle.acl_accounts.specs.Views.{view_group, view_row, view_rows, view_user};
+ghost use Rattle.acl_accounts.specs.Rows.{group_row, is_passed_over, row_of, row_of_fields};
+ghost use Rattle.acl_accounts.specs.Rows.{rows_of, user_row};
+ghost use Rattle.acl_accounts.specs.Views.{view_row, view_rows};
 ghost use Rattle.acl_accounts.specs.declared.limits.TheConstants.{MAX_ACCOUNTS_TEXT};
 ghost use Rattle.acl_accounts.specs.declared.fault.AccountsFault.TheVariants.{Memory};
 

@@ -23,9 +23,9 @@ pub enum WrittenAccount<'a> {
 
 impl<'a> WrittenAccount<'a> {
     /// What a text writes: all digits an id, if it is one, and anything else a name, in which `\`
-    /// and three octal digits are a byte. `None` if the id is out of range, or the name has no byte,
-    /// more than `MAX_ACCOUNT_NAME`, or a `:` or a newline. A name that has no `\` takes no memory;
-    /// another is written into `room`, in place of what stood there.
+    /// and three octal digits are a byte. `None` if the id is out of range, or the name has no
+    /// byte, more than `MAX_ACCOUNT_NAME`, or a `:` or a newline. The name is written into `room`,
+    /// in place of what stood there.
     pub fn read(
         text: &'a [u8],
         room: &'a mut Vec<u8>,
