@@ -53,7 +53,8 @@ fn is_quoted(byte: u8) -> bool
         || byte == b'\\'
 }
 
-fn octal(byte: u8) -> [u8; 4]
+/// `\` and the three octal digits of a byte.
+pub fn octal(byte: u8) -> [u8; 4]
     ensures { result ≡ octal byte }
 {
     [

@@ -2,7 +2,7 @@ use Rattle.std.proofs.Common.{◌∙◌, sym, ap, map, filter, bytes_eq}
 use Rattle.acl_accounts.specs.Accounts as accounts
 use Rattle.acl_accounts.specs.Views.{view_membership}
 use Rattle.acl_accounts.proofs.SortLemmas.{map-filter}
-use Rattle.acl_accounts.proofs.accounts.memberships_of.Goals as goal
+use Rattle.acl_accounts.proofs.memberships.memberships_of.Goals as goal
 
 pub returns-clause-kept : goal.returns-clause-kept
 returns-clause-kept c = λ name.

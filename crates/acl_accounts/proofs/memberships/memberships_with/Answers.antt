@@ -4,9 +4,9 @@ use Rattle.std.proofs.lemmas.Cmp.{nat_list_cmp_total}
 use Rattle.std.proofs.lemmas.List.{length-drop, take_all}
 use Rattle.std.proofs.lemmas.Fn.{always_returns_same}
 use Rattle.std.proofs.lemmas.List.Sorted.{searchable_from_sorted}
-use Rattle.acl_accounts.specs.declared.accounts.Membership.{Membership}
+use Rattle.acl_accounts.specs.declared.memberships.Membership.{Membership}
 use Rattle.acl_accounts.proofs.RangeLemmas.{lows, sames, still_up, still_high, in_range}
-use Rattle.acl_accounts.proofs.accounts.memberships_with.Goals as goal
+use Rattle.acl_accounts.proofs.memberships.memberships_with.Goals as goal
 
 pub returns : goal.returns
 returns c =

@@ -3,7 +3,7 @@ use Rattle.acl_names.specs.Pieces.{parts}
 use Rattle.acl_names.specs.Bytes.{comma}
 use Rattle.acl_accounts.specs.Accounts.{membership}
 use Rattle.acl_accounts.specs.Views.{view_membership}
-use Rattle.acl_accounts.proofs.accounts.push_members.Given as goal
+use Rattle.acl_accounts.proofs.memberships.push_members.Given as goal
 
 -- the memberships so far, and those of the members to come
 abbrev pub invariant-loop-name : goal.invariant-loop-name
