@@ -14,8 +14,9 @@ ghost use Rattle.acl_accounts.specs.Accounts.{user_name};
 ghost use Rattle.acl_accounts.specs.Views.{view_group, view_rows, view_user, view_written};
 ghost use Rattle.acl_accounts.specs.declared.fault.AccountsFault.TheVariants.{Memory};
 
-use crate::account::{Account, AccountGroup};
+use crate::account::Account;
 use crate::fault::AccountsFault;
+use crate::group::AccountGroup;
 use crate::guesses::{find_by_hash, guesses_of, place_by_hash};
 use crate::limits::MAX_ACCOUNTS_TEXT;
 use crate::memberships::memberships_of;

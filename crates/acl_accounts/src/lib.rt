@@ -5,6 +5,7 @@
 mod account;
 mod accounts;
 mod fault;
+mod group;
 mod guesses;
 mod limits;
 mod memberships;
@@ -15,9 +16,10 @@ mod requesters;
 mod rows;
 mod written;
 
-pub use account::{Account, AccountGroup};
+pub use account::Account;
 pub use accounts::Accounts;
 pub use fault::AccountsFault;
+pub use group::AccountGroup;
 pub use limits::{
     MAX_ACCOUNT_GROUPS, MAX_ACCOUNT_NAME, MAX_ACCOUNT_USERS, MAX_ACCOUNTS_TEXT, limits_in_numbers,
 };

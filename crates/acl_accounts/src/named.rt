@@ -10,7 +10,8 @@ ghost use Rattle.std.specs.Str.{bytes_eq};
 ghost use Rattle.acl_names.specs.Ascending.{IsAscending};
 ghost use Rattle.acl_accounts.specs.Firsts.{AreFirsts};
 
-use crate::account::{Account, AccountGroup};
+use crate::account::Account;
+use crate::group::AccountGroup;
 use crate::memberships::Membership;
 use crate::rows::{GroupRow, UserRow};
 use std::alloc::{AllocError, Global};

@@ -5,7 +5,8 @@ ghost use Rattle.std.specs.HashMap.{get};
 ghost use Rattle.std.specs.List.{position};
 ghost use Rattle.std.specs.Option.{option_and_then, option_copied};
 
-use crate::account::{Account, AccountGroup};
+use crate::account::Account;
+use crate::group::AccountGroup;
 use std::alloc::{AllocError, Global};
 use std::collections::HashMap;
 
