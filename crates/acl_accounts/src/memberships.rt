@@ -1,18 +1,19 @@
 //! Who is in which group.
 
-ghost use Rattle.std.specs.Prelude.{◌≡◌, ◌==◌, ℕ, List, ◌∷◌, ◌++◌, bytes_eq, filter, map};
+ghost use Rattle.std.specs.Prelude.{◌≡◌, ℕ, List, ◌∷◌, ◌++◌, bytes_eq, filter, map};
 ghost use Rattle.std.specs.Prelude.{OnOk, IfOk};
 ghost use Rattle.std.specs.Cmp.Lexicographic.{slice_cmp};
-ghost use Rattle.std.specs.List.{list_any};
 ghost use Rattle.std.specs.List.Sorted.{IsSortedByKey};
 ghost use Rattle.std.specs.Ordering.{is_lt, nat_cmp};
 ghost use Rattle.acl_accounts.specs.Accounts.{each_once, memberships_in, memberships_of, with_once};
+ghost use Rattle.acl_accounts.specs.Seen.{HaveBeenSeen};
 ghost use Rattle.acl_accounts.specs.Views.{view_group, view_membership};
 
 use crate::named::sort_by_name;
 use crate::rows::GroupRow;
 use acl_names::{Gid, Parts};
 use std::alloc::{AllocError, Global};
+use std::collections::HashSet;
 
 /// That a name is a member of a group.
 #[derive(Clone, Copy, Debug)]
@@ -111,25 +112,22 @@ pub(crate) fn gids_of(
         ≡ each_once (gid ∷ map (λ member. member.gid) memberships.now)) }
 {
     let mut gids = Vec::new(alloc);
-    gids.push(gid)?;
+    let mut seen = HashSet::new(alloc);
+    push_once(gid, &mut gids, &mut seen)?;
     for member in memberships {
-        push_once(member.gid, &mut gids)?;
+        push_once(member.gid, &mut gids, &mut seen)?;
     }
     Ok(gids)
 }
 
-/// Appends an id, if it isn't there.
-fn push_once(id: Gid, ids: &mut Vec<Gid>) -> Result<(), AllocError>
-    ensures { OnOk result (ids.new.items ≡ with_once ids.old.items id) }
+/// Appends an id, if it isn't there, by a set of the ids that are.
+fn push_once(id: Gid, ids: &mut Vec<Gid>, seen: &mut HashSet<u32>) -> Result<(), AllocError>
+    requires { HaveBeenSeen ids.old.items seen.old }
+    ensures pushed { OnOk result (ids.new.items ≡ with_once ids.old.items id) }
+    ensures seen { OnOk result (HaveBeenSeen ids.new.items seen.new) }
 {
-    if !has_id(ids, id) {
+    if seen.insert(id.value())? {
         ids.push(id)?;
     }
     Ok(())
-}
-
-fn has_id(ids: &[Gid], id: Gid) -> bool
-    ensures { result ≡ list_any (λ other. other == id) ids.now }
-{
-    ids.iter().any(|other| *other == id)
 }
