@@ -6,9 +6,9 @@ use Rattle.clap.specs.Words.{Row, Text, matches_of}
 use Rattle.acl_names.specs.Bytes.{hyphen, newline, space}
 use Rattle.acl_names.specs.Directory.{Known}
 use Rattle.acl_tree.specs.Tree.{NodesUnderUmask}
-use Rattle.acl_queries.specs.CommandLine.{Takes}
-use Rattle.acl_queries.specs.ErrorOutput.{SaysFault}
-use Rattle.acl_queries.specs.Meaning.{Meaning}
+use Rattle.acl_cli.specs.CommandLine.{Takes}
+use Rattle.acl_cli.specs.ErrorOutput.{SaysFault}
+use Rattle.acl_cli.specs.Meaning.{Meaning}
 use Rattle.acl_service.specs.Opened.{Opens}
 use Rattle.acl_service.specs.RunWords.{CanRun, HasBytes, HaveBytes, input_count, sessions_in}
 use Rattle.acl_service.specs.RunWords.{setup_in}

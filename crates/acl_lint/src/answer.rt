@@ -4,7 +4,7 @@ ghost use Rattle.std.specs.Prelude.{OnOk, length, map};
 ghost use Rattle.std.specs.Io.KnownBytes.{Appends, Keeps};
 ghost use Rattle.clap.specs.Words.{found_of, rows_of};
 ghost use Rattle.acl_lang.specs.declared.limits.TheConstants.{MAX_TEXT_LEN};
-ghost use Rattle.acl_queries.specs.Output.{AppendsFront};
+ghost use Rattle.acl_cli.specs.Output.{AppendsFront};
 ghost use Rattle.acl_service.specs.RunWords.{input_count, sessions_in};
 ghost use Rattle.acl_lint.specs.LintAnswer.{AnswersRows, IsLint};
 ghost use Rattle.acl_lint.specs.LintFaults.{IsLack, IsRowsFault, lint_status};
@@ -12,7 +12,7 @@ ghost use Rattle.acl_lint.specs.LintFaults.{IsLack, IsRowsFault, lint_status};
 use crate::fault::LintFault;
 use crate::sessions::write_sessions;
 use crate::setup::write_setup;
-use acl_queries::RunFault;
+use acl_cli::RunFault;
 use acl_service::{
     FilesFault, OpenFiles, SetupError, Texts, read_setup, read_texts, session_fields, setup_field,
 };

@@ -12,9 +12,9 @@ use Rattle.acl_nfs4.specs.declared.limits.TheConstants.{MAX_ACES}
 use Rattle.acl_posix.specs.declared.acl_text.AclFault.TheVariants as acl
 use Rattle.acl_queries.specs.AclText.{nobody}
 use Rattle.acl_queries.specs.ListField.{aces_of, as_ace}
-use Rattle.acl_queries.specs.Faults.{Explains, fault_of_aces}
-use Rattle.acl_queries.specs.declared.command.query_fault.FieldFault.{FieldFault}
-use Rattle.acl_queries.specs.declared.command.query_fault.FieldFault.TheVariants.{Acl}
+use Rattle.acl_cli.specs.Faults.{Explains, fault_of_aces}
+use Rattle.acl_cli.specs.declared.field_fault.FieldFault.{FieldFault}
+use Rattle.acl_cli.specs.declared.field_fault.FieldFault.TheVariants.{Acl}
 
 -- what a piece says, as the field has it
 abbrev pub ace_field : Text → Result Nfsace4 FieldFault

@@ -5,8 +5,8 @@ use Rattle.acl_posix.specs.AclText as posix
 use Rattle.acl_posix.specs.declared.acl_text.AclFault.{AclFault}
 use Rattle.acl_posix.specs.declared.acl_text.ReadAclFault.{ReadAclFault}
 use Rattle.acl_posix.specs.declared.acl_text.ReadAclFault.TheVariants as read
-use Rattle.acl_queries.specs.Faults.{Explains, fault_of_acl}
-use Rattle.acl_queries.specs.declared.command.query_fault.FieldFault.TheVariants.{Acl}
+use Rattle.acl_cli.specs.Faults.{Explains, fault_of_acl}
+use Rattle.acl_cli.specs.declared.field_fault.FieldFault.TheVariants.{Acl}
 
 -- a call that reads no list explains why the field doesn't read
 pub Explains-acl : {A : Type 0} (spelt : Result A AclFault) (fault : ReadAclFault) → posix.ReadsAs spelt (Err fault) → Explains (map_fault (λ fault. Acl fault) spelt) (fault_of_acl fault)

@@ -2,16 +2,16 @@
 use Rattle.std.proofs.Common.{◌≡◌, ℕ, List, Ok, Err, codes, refl, sym, subst, Result}
 use Rattle.clap.specs.Words.{Row}
 use Rattle.acl_names.specs.Steps.{◌>>=◌}
-use Rattle.acl_queries.specs.Asked.{id_in}
+use Rattle.acl_cli.specs.Fields.{id_in}
 use Rattle.acl_queries.specs.Compared.{Compared, compared_in}
 use Rattle.acl_queries.specs.ListField.{list_in}
 use Rattle.acl_queries.specs.Comparing.{between}
-use Rattle.acl_queries.specs.Faults.{Explains}
+use Rattle.acl_cli.specs.Faults.{Explains}
 use Rattle.acl_queries.specs.declared.command.list.AnyAcl.{AnyAcl}
-use Rattle.acl_queries.specs.declared.command.query_fault.QueryFault.{QueryFault}
-use Rattle.acl_queries.specs.declared.command.query_fault.QueryFault.TheVariants.{Field, Usage, Run}
-use Rattle.acl_queries.specs.declared.command.query_fault.FieldFault.{FieldFault}
-use Rattle.acl_queries.specs.declared.command.run_fault.RunFault.TheVariants.{Memory, NoThread, Output, Stopped}
+use Rattle.acl_cli.specs.declared.query_fault.QueryFault.{QueryFault}
+use Rattle.acl_cli.specs.declared.query_fault.QueryFault.TheVariants.{Field, Usage, Run}
+use Rattle.acl_cli.specs.declared.field_fault.FieldFault.{FieldFault}
+use Rattle.acl_cli.specs.declared.run_fault.RunFault.TheVariants.{Memory, NoThread, Output, Stopped}
 
 -- the fields, each as it reads
 abbrev fields : Result ℕ FieldFault → Result ℕ FieldFault → Result AnyAcl FieldFault → Result AnyAcl FieldFault → Result Compared FieldFault

@@ -3,16 +3,17 @@ use Rattle.std.proofs.Common.{◌≡◌, ◌≢◌, ◌∙◌, ◌≤◌, ◌⊎
 use Rattle.std.specs.Prelude.{⊤, IfSome}
 use Rattle.std.specs.Io.KnownBytes.{Keeps}
 use Rattle.clap.specs.Words.{App, Row, Text, fault_of, matches_of}
-use Rattle.acl_queries.specs.ErrorOutput.{ErrorText, Tells}
-use Rattle.acl_queries.specs.Faults.{IsRefusedFor, failed_write, fault_line, status_of}
-use Rattle.acl_queries.specs.Meaning.{Ends}
-use Rattle.acl_queries.specs.Output.{AppendsFront}
+use Rattle.acl_cli.specs.ErrorOutput.{ErrorText, Tells}
+use Rattle.acl_cli.specs.Faults.{IsRefusedFor, failed_write, fault_line, status_of}
+use Rattle.acl_cli.specs.Meaning.{Ends}
+use Rattle.acl_cli.specs.Output.{AppendsFront}
 use Rattle.acl_queries.specs.Queries.{IsAnswered, query_meaning}
-use Rattle.acl_queries.specs.declared.command.query_fault.FieldFault.{FieldFault}
-use Rattle.acl_queries.specs.declared.command.query_fault.QueryFault.{QueryFault}
-use Rattle.acl_queries.specs.declared.command.query_fault.QueryFault.TheVariants.{Field, Usage, Run}
-use Rattle.acl_queries.specs.declared.command.run_fault.RunFault.TheVariants.{Memory, NoThread, Output, Stopped}
-use Rattle.acl_queries.proofs.MeaningLemmas.{Ends-fault}
+use Rattle.acl_cli.specs.declared.field_fault.FieldFault.{FieldFault}
+use Rattle.acl_cli.specs.declared.query_fault.QueryFault.{QueryFault}
+use Rattle.acl_cli.specs.declared.query_fault.QueryFault.TheVariants.{Field, Usage, Run}
+use Rattle.acl_cli.specs.declared.run_fault.RunFault.TheVariants.{Memory, NoThread, Output, Stopped}
+use Rattle.acl_cli.proofs.ErrorLemmas.{query_bounds}
+use Rattle.acl_cli.proofs.MeaningLemmas.{Ends-fault}
 
 abbrev IsFailedWrite : QueryFault → Type 0
 IsFailedWrite (Field fault) = ⊥
@@ -21,11 +22,6 @@ IsFailedWrite (Run Memory) = ⊥
 IsFailedWrite (Run Stopped) = ⊥
 IsFailedWrite (Run NoThread) = ⊥
 IsFailedWrite (Run Output) = ⊤
-
-pub query_bounds : (fault : QueryFault) → (1 ≤ status_of fault) × (status_of fault ≤ 3)
-query_bounds (Field fault) = (omega arith, omega arith)
-query_bounds (Usage error) = (omega arith, omega arith)
-query_bounds (Run fault) = (omega arith, omega arith)
 
 module _ (old new : Option (List ℕ)) where
   -- nothing went out for a fault that isn't a failed write

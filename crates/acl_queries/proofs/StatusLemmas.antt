@@ -1,14 +1,14 @@
 -- The exit status of a query, by its words.
 use Rattle.std.proofs.Common.{◌≡◌, ◌≢◌, ◌∙◌, [], ◌∷◌, ℕ, zero, suc, List, Option, Result, Ok, Err, arith, refl, subst, sym}
 use Rattle.clap.specs.Words.{App, Kinds, Row, Text, fault_of, matches_of}
-use Rattle.acl_queries.specs.ErrorOutput.{ErrorText}
-use Rattle.acl_queries.specs.Faults.{IsRefusedFor, SaysQueryFault, status_of}
-use Rattle.acl_queries.specs.Meaning.{Ends}
+use Rattle.acl_cli.specs.ErrorOutput.{ErrorText}
+use Rattle.acl_cli.specs.Faults.{IsRefusedFor, SaysQueryFault, status_of}
+use Rattle.acl_cli.specs.Meaning.{Ends}
 use Rattle.acl_queries.specs.Queries.{IsAnswered, query_meaning}
 use Rattle.acl_queries.specs.QueryLaws.{HasTheStatusOfItsWords, status_of_reading, status_of_words}
-use Rattle.acl_queries.specs.declared.command.query_fault.FieldFault.{FieldFault}
-use Rattle.acl_queries.specs.declared.command.query_fault.QueryFault.{QueryFault}
-use Rattle.acl_queries.specs.declared.command.query_fault.QueryFault.TheVariants.{Field, Usage, Run}
+use Rattle.acl_cli.specs.declared.field_fault.FieldFault.{FieldFault}
+use Rattle.acl_cli.specs.declared.query_fault.QueryFault.{QueryFault}
+use Rattle.acl_cli.specs.declared.query_fault.QueryFault.TheVariants.{Field, Usage, Run}
 
 module _ {A : Type 0} where
   -- words that are taken have the status of their reading

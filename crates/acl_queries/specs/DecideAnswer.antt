@@ -9,7 +9,7 @@ use Rattle.acl_bridge.specs.Translation.{translation}
 use Rattle.acl_queries.specs.AclText.{nobody}
 use Rattle.acl_queries.specs.Asked.{Asked, asked_in}
 use Rattle.acl_queries.specs.DecideLine.{decide_line}
-use Rattle.acl_queries.specs.Meaning.{Meaning}
+use Rattle.acl_cli.specs.Meaning.{Meaning}
 use Rattle.acl_queries.specs.Queries.{query_meaning}
 
 -- whether what is asked is granted (1003.1e draft 17, section 23)

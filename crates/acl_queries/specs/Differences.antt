@@ -14,7 +14,7 @@ use Rattle.acl_bridge.specs.Comparison.{GrantAlikeToAll, IsFirstDifference, gran
 use Rattle.acl_bridge.specs.Comparison.{permission_bits, whole_requests}
 use Rattle.acl_queries.specs.CompareLine.{compare_line}
 use Rattle.acl_queries.specs.Compared.{Compared, compared_in}
-use Rattle.acl_queries.specs.Meaning.{Meaning}
+use Rattle.acl_cli.specs.Meaning.{Meaning}
 use Rattle.acl_queries.specs.Queries.{query_meaning}
 use Rattle.acl_queries.specs.declared.command.list.AnyAcl.TheVariants.{Posix, Nfs4}
 use Rattle.acl_queries.specs.declared.command.list.AnyAcl.{AnyAcl}

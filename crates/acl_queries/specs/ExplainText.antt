@@ -23,7 +23,7 @@ use Rattle.acl_queries.specs.DecideAnswer.{answer_line}
 use Rattle.acl_queries.specs.ExplainLine.{explain_line}
 use Rattle.acl_queries.specs.Explained.{Explained, explained_in}
 use Rattle.acl_queries.specs.Explanation.{class_of, first_speaker, is_limited, is_of_class, lacks}
-use Rattle.acl_queries.specs.Meaning.{Meaning}
+use Rattle.acl_cli.specs.Meaning.{Meaning}
 use Rattle.acl_queries.specs.Queries.{query_meaning}
 use Rattle.acl_queries.specs.declared.command.list.AnyAcl.TheVariants.{Posix, Nfs4}
 use Rattle.acl_queries.specs.declared.command.list.AnyAcl.{AnyAcl}

@@ -16,9 +16,9 @@ use Rattle.acl_posix.specs.declared.acl_text.AclFault.TheVariants as acl
 use Rattle.acl_queries.specs.AclText.{acl_of, nobody}
 use Rattle.acl_queries.specs.declared.command.list.AnyAcl.{AnyAcl}
 use Rattle.acl_queries.specs.declared.command.list.AnyAcl.TheVariants as list
-use Rattle.acl_queries.specs.declared.command.query_fault.FieldFault.{FieldFault}
-use Rattle.acl_queries.specs.declared.command.query_fault.FieldFault.TheVariants.{Acl, BadStyle}
-use Rattle.acl_queries.specs.declared.command.query_fault.FieldFault.TheVariants.{InheritOnly}
+use Rattle.acl_cli.specs.declared.field_fault.FieldFault.{FieldFault}
+use Rattle.acl_cli.specs.declared.field_fault.FieldFault.TheVariants.{Acl, BadStyle}
+use Rattle.acl_cli.specs.declared.field_fault.FieldFault.TheVariants.{InheritOnly}
 
 -- a faulty piece of an NFSv4 list, as the fault of the field
 abbrev pub ace_fault : PieceFault → FieldFault

@@ -1,10 +1,10 @@
 -- What words mean whose fields by themselves are answered.
 use Rattle.std.specs.Prelude.{◌≡◌, ℕ, List, Result, Ok}
 use Rattle.clap.specs.Words.{App, Row, Text, fault_of, matches_of}
-use Rattle.acl_queries.specs.CommandLine.{Takes}
-use Rattle.acl_queries.specs.Faults.{IsRefusedFor, SaysQueryFault}
-use Rattle.acl_queries.specs.Meaning.{Meaning}
-use Rattle.acl_queries.specs.declared.command.query_fault.FieldFault.{FieldFault}
+use Rattle.acl_cli.specs.CommandLine.{Takes}
+use Rattle.acl_cli.specs.Faults.{IsRefusedFor, SaysQueryFault}
+use Rattle.acl_cli.specs.Meaning.{Meaning}
+use Rattle.acl_cli.specs.declared.field_fault.FieldFault.{FieldFault}
 
 -- by a command's line, by what its fields ask, and by which texts answer that: the words are taken
 -- and ask something, and a text that answers it went out so

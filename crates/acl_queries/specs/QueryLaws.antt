@@ -1,10 +1,10 @@
 -- What the exit status of a query tells of its words.
 use Rattle.std.specs.Prelude.{◌≡◌, ◌≢◌, ℕ, List, [], ◌∷◌, Option, Result, Ok, Err}
 use Rattle.clap.specs.Words.{App, Kinds, Row, Text, fault_of, matches_of}
-use Rattle.acl_queries.specs.ErrorOutput.{ErrorText}
-use Rattle.acl_queries.specs.Meaning.{Ends}
+use Rattle.acl_cli.specs.ErrorOutput.{ErrorText}
+use Rattle.acl_cli.specs.Meaning.{Ends}
 use Rattle.acl_queries.specs.Queries.{query_meaning}
-use Rattle.acl_queries.specs.declared.command.query_fault.FieldFault.{FieldFault}
+use Rattle.acl_cli.specs.declared.field_fault.FieldFault.{FieldFault}
 
 -- the status of words that are taken, by the reading of their fields
 abbrev pub status_of_reading : {A : Type 0} → Result A FieldFault → ℕ

@@ -1,14 +1,14 @@
 //! The command `compare`.
 ghost use Rattle.std.specs.Prelude.{map};
 ghost use Rattle.acl_queries.specs.Differences.{compare_meaning};
-ghost use Rattle.acl_queries.specs.Meaning.{Ends};
+ghost use Rattle.acl_cli.specs.Meaning.{Ends};
 
 mod command_line;
 mod comparison;
 mod text;
 
-use crate::ErrorOutput;
 use crate::command::query::ask;
+use acl_cli::ErrorOutput;
 use comparison::Comparison;
 use std::alloc::Global;
 use std::convert::AsStr;

@@ -1,14 +1,14 @@
 //! The command `decide`.
 ghost use Rattle.std.specs.Prelude.{map};
 ghost use Rattle.acl_queries.specs.DecideAnswer.{decide_meaning};
-ghost use Rattle.acl_queries.specs.Meaning.{Ends};
+ghost use Rattle.acl_cli.specs.Meaning.{Ends};
 
 mod command_line;
 mod question;
 mod translation;
 
-use crate::ErrorOutput;
 use crate::command::query::ask;
+use acl_cli::ErrorOutput;
 use question::Question;
 use std::alloc::Global;
 use std::convert::AsStr;

@@ -1,7 +1,7 @@
 //! The command `explain`.
 ghost use Rattle.std.specs.Prelude.{map};
 ghost use Rattle.acl_queries.specs.ExplainText.{explain_meaning};
-ghost use Rattle.acl_queries.specs.Meaning.{Ends};
+ghost use Rattle.acl_cli.specs.Meaning.{Ends};
 
 mod command_line;
 mod nfs4;
@@ -9,8 +9,8 @@ mod posix;
 mod question;
 mod text;
 
-use crate::ErrorOutput;
 use crate::command::query::ask;
+use acl_cli::ErrorOutput;
 use question::Question;
 use std::alloc::Global;
 use std::convert::AsStr;

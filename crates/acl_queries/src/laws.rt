@@ -4,7 +4,7 @@ ghost use Rattle.clap.specs.Words.{matches_of};
 ghost use Rattle.acl_nfs4.specs.declared.comparison.Difference.{Difference};
 ghost use Rattle.acl_queries.specs.Ask.{Ask};
 ghost use Rattle.acl_queries.specs.Asked.{Asked, asked_in};
-ghost use Rattle.acl_queries.specs.CommandLine.{Takes};
+ghost use Rattle.acl_cli.specs.CommandLine.{Takes};
 ghost use Rattle.acl_queries.specs.CompareLine.{compare_line};
 ghost use Rattle.acl_queries.specs.Compared.{Compared, compared_in};
 ghost use Rattle.acl_queries.specs.DecideAnswer.{IsDecideText};

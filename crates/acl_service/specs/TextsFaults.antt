@@ -3,9 +3,9 @@ use Rattle.std.specs.Prelude.{◌≢◌, ◌<◌, ◌≤◌, ◌++◌, ⊤, ℕ,
 use Rattle.acl_broker.specs.declared.limits.TheConstants.{SESSIONS}
 use Rattle.acl_service.specs.Opened.{IsRefusedSetup}
 use Rattle.acl_service.specs.SetupFaults.{setup_error_words}
-use Rattle.acl_queries.specs.ErrorOutput.{SaysFault, line_of_words}
-use Rattle.acl_queries.specs.RunFaults.{run_fault_words}
-use Rattle.acl_queries.specs.declared.command.run_fault.RunFault.TheVariants as run
+use Rattle.acl_cli.specs.ErrorOutput.{SaysFault, line_of_words}
+use Rattle.acl_cli.specs.RunFaults.{run_fault_words}
+use Rattle.acl_cli.specs.declared.run_fault.RunFault.TheVariants as run
 use Rattle.acl_service.specs.declared.one.OneFault.{OneFault}
 use Rattle.acl_service.specs.declared.one.OneFault.TheVariants as one
 use Rattle.acl_service.specs.declared.run_command.fault.TextsFault.{TextsFault}

@@ -11,9 +11,12 @@ mod served;
 mod sessions;
 mod setup;
 
+pub use acl_cli::{
+    CapFault, CommandFault, ErrorOutput, RunFault, WordsFault, read_capped, report, words_of,
+    write_text,
+};
 pub use acl_queries::{
-    CapFault, CommandFault, ErrorOutput, RunFault, WordsFault, alike_lists_differ_for_nobody,
-    compare, decide, explain, read_capped, report, words_ask_what_they_give, words_of, write_text,
+    alike_lists_differ_for_nobody, compare, decide, explain, words_ask_what_they_give,
 };
 pub use acl_runs::{Gate, OpenGate, ServeFault};
 pub use files::{FilesFault, OpenFiles, Texts, count_inputs, read_file, read_sessions, read_texts};

@@ -1,7 +1,7 @@
 -- What is told of nodes, one more at a time.
 use Rattle.std.proofs.Common.{◌≡◌, ◌<◌, ◌+◌, ◌∙◌, ◌++◌, ℕ, List, [], ◌∷◌, Result, Ok, Err, OnErr, Option, ap, append_assoc, append-nil, get_or, length, map as each, refl, subst, sym, take}
 use Rattle.std.proofs.lemmas.List.{get_or-map, length-map, take_more}
-use Rattle.acl_queries.specs.Output.{AppendsFront}
+use Rattle.acl_cli.specs.Output.{AppendsFront}
 use Rattle.acl_tree_queries.specs.Nodes.{TellsOfEach, TellsOfFirst}
 
 -- what is written and kept, with a text more

@@ -2,8 +2,8 @@
 use Rattle.std.proofs.Common.{◌≡◌, ◌∙◌, ◌++◌, ℕ, List, Option, ap, append_assoc, subst, sym}
 use Rattle.std.proofs.KnownBytes.{Appends-trans}
 use Rattle.std.specs.Io.KnownBytes.{Appends}
-use Rattle.acl_queries.specs.Output.{AppendsFront}
-use Rattle.acl_queries.proofs.OutputLemmas.{front_behind, front_so_far}
+use Rattle.acl_cli.specs.Output.{AppendsFront}
+use Rattle.acl_cli.proofs.OutputLemmas.{front_behind, front_so_far}
 use Rattle.acl_tree_queries.proofs.NodesLemmas.{more_kept}
 
 -- what was told went out, but for what is kept of it

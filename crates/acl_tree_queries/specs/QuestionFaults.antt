@@ -3,14 +3,14 @@ use Rattle.std.specs.Prelude.{◌≡◌, ◌<◌, ◌++◌, ◌∷◌, ⊤, ℕ,
 use Rattle.std.specs.Prelude.{Contains, IsOk, codes}
 use Rattle.clap.specs.Words.{App, Row, Text, fault_of, matches_of}
 use Rattle.clap.specs.declared.error.Error.{Error}
-use Rattle.acl_queries.specs.CommandLine.{Takes}
-use Rattle.acl_queries.specs.ErrorOutput.{line_of_words}
-use Rattle.acl_queries.specs.Faults.{IsRefusedFor, fault_line, status_of}
-use Rattle.acl_queries.specs.RunFaults.{run_fault_line}
-use Rattle.acl_queries.specs.declared.command.query_fault.FieldFault.{FieldFault}
-use Rattle.acl_queries.specs.declared.command.query_fault.QueryFault.{QueryFault}
-use Rattle.acl_queries.specs.declared.command.query_fault.QueryFault.TheVariants as query
-use Rattle.acl_queries.specs.declared.command.run_fault.RunFault.TheVariants as run
+use Rattle.acl_cli.specs.CommandLine.{Takes}
+use Rattle.acl_cli.specs.ErrorOutput.{line_of_words}
+use Rattle.acl_cli.specs.Faults.{IsRefusedFor, fault_line, status_of}
+use Rattle.acl_cli.specs.RunFaults.{run_fault_line}
+use Rattle.acl_cli.specs.declared.field_fault.FieldFault.{FieldFault}
+use Rattle.acl_cli.specs.declared.query_fault.QueryFault.{QueryFault}
+use Rattle.acl_cli.specs.declared.query_fault.QueryFault.TheVariants as query
+use Rattle.acl_cli.specs.declared.run_fault.RunFault.TheVariants as run
 use Rattle.acl_service.specs.FilesFaults.{files_line, files_status}
 use Rattle.acl_service.specs.TextsFaults.{IsRefusedBy}
 use Rattle.acl_service.specs.RunWords.{HasBytes, setup_in}

@@ -8,7 +8,7 @@ ghost use Rattle.clap.specs.Words.{found_of, rows_of};
 ghost use Rattle.acl_names.specs.Ascending.{IsAscending};
 ghost use Rattle.acl_listings.specs.Cursor.{blocks_to_come};
 ghost use Rattle.acl_listings.specs.Listing.{Block as BlockValue};
-ghost use Rattle.acl_queries.specs.Output.{AppendsFront};
+ghost use Rattle.acl_cli.specs.Output.{AppendsFront};
 ghost use Rattle.acl_service.specs.Opened.{Opens};
 ghost use Rattle.acl_service.specs.RunWords.{HasBytes, bytes_of_session};
 ghost use Rattle.acl_tree.specs.Tree.{NodesUnderUmask};
@@ -21,8 +21,8 @@ ghost use Rattle.acl_service.specs.declared.files.fault.FilesFault.TheVariants.{
 
 use crate::blocks::{BlockText, BlocksFault, write_blocks};
 use crate::question::QuestionFault;
+use acl_cli::fields::text_field;
 use acl_names::Directory;
-use acl_queries::fields::text_field;
 use acl_service::{FilesFault, OpenFiles, read_file, read_setup};
 use clap::ArgMatches;
 use std::alloc::Global;

@@ -1,9 +1,9 @@
 //! A text that is written piece by piece while it is made.
 ghost use Rattle.std.specs.Prelude.{◌≡◌, ◌++◌, ℕ, List, OnErr, OnOk};
 ghost use Rattle.std.specs.Io.KnownBytes.{Appends};
-ghost use Rattle.acl_queries.specs.Output.{AppendsFront};
+ghost use Rattle.acl_cli.specs.Output.{AppendsFront};
 
-use acl_queries::write_text;
+use acl_cli::write_text;
 use std::io::{self, Write};
 
 /// How many bytes are kept before they are written.

@@ -6,11 +6,11 @@ use Rattle.acl_names.specs.Bytes.{newline}
 use Rattle.acl_lint.specs.LintAnswer.{lint_meaning}
 use Rattle.acl_queries.specs.DecideAnswer.{decide_meaning}
 use Rattle.acl_queries.specs.Differences.{compare_meaning}
-use Rattle.acl_queries.specs.ErrorOutput.{SaysFault}
+use Rattle.acl_cli.specs.ErrorOutput.{SaysFault}
 use Rattle.acl_queries.specs.ExplainText.{explain_meaning}
-use Rattle.acl_queries.specs.Meaning.{Meaning}
-use Rattle.acl_queries.specs.RunFaults.{run_fault_line}
-use Rattle.acl_queries.specs.declared.command.run_fault.RunFault.TheVariants.{Output}
+use Rattle.acl_cli.specs.Meaning.{Meaning}
+use Rattle.acl_cli.specs.RunFaults.{run_fault_line}
+use Rattle.acl_cli.specs.declared.run_fault.RunFault.TheVariants.{Output}
 use Rattle.acl_service.specs.RunMeaning.{run_meaning}
 use Rattle.acl_tree_queries.specs.DumpAnswer.{dump_meaning}
 use Rattle.acl_tree_queries.specs.ImpactWords.{impact_meaning}

@@ -1,7 +1,7 @@
 //! The program: its words, and the command that the first of them names.
 ghost use Rattle.std.specs.Prelude.{◌≡◌, ◌≢◌, [], map, IfSome};
 ghost use Rattle.std.specs.String.{string_bytes};
-ghost use Rattle.acl_queries.specs.Meaning.{Ends, EndsWithInput};
+ghost use Rattle.acl_cli.specs.Meaning.{Ends, EndsWithInput};
 ghost use Rattle.aclctl.specs.Program.{meaning_from, meaning_of};
 
 use crate::help::{print_help, print_version, report_no_command};

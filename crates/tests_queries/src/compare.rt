@@ -1,5 +1,6 @@
 //! Two lists compared for everyone.
-use acl_queries::{ErrorOutput, compare};
+use acl_cli::ErrorOutput;
+use acl_queries::compare;
 use std::alloc::Global;
 
 /// The fields in order: owner, group, first STYLE and TEXT, second STYLE and TEXT.

@@ -1,5 +1,6 @@
 //! Tests of `decide`.
-use acl_queries::{ErrorOutput, decide};
+use acl_cli::ErrorOutput;
+use acl_queries::decide;
 use std::alloc::{AllocError, Global};
 use std::io::{self, Write};
 use std::test::Fail;

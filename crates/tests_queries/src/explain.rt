@@ -1,5 +1,6 @@
 //! Tests of `explain`.
-use acl_queries::{ErrorOutput, explain};
+use acl_cli::ErrorOutput;
+use acl_queries::explain;
 use std::alloc::Global;
 use std::test::Fail;
 

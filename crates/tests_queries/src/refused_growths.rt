@@ -4,9 +4,8 @@
 //! `rt try --test --fail-alloc N` refuses the growth N of a test. Each test here passes whichever
 //! growth that is, and prints how many refusals it was told of: one up to the last growth that it
 //! asks for, and none from then on.
-use acl_queries::{
-    CapFault, ErrorOutput, WordsFault, compare, decide, explain, read_capped, words_of,
-};
+use acl_cli::{CapFault, ErrorOutput, WordsFault, read_capped, words_of};
+use acl_queries::{compare, decide, explain};
 use std::alloc::Global;
 use std::io::{self, Read};
 use std::test::Fail;

@@ -1,9 +1,9 @@
 //! Access control lists, as fields write them: with ids, for the directory has no names.
 ghost use Rattle.std.specs.Prelude.{◌≡◌, Ok, IfErr, IfOk};
 ghost use Rattle.acl_queries.specs.AclText.{acl_of, nobody};
-ghost use Rattle.acl_queries.specs.Faults.{Explains};
+ghost use Rattle.acl_cli.specs.Faults.{Explains};
 
-use super::query_fault::QueryFault;
+use acl_cli::QueryFault;
 use acl_names::{Directory, SetupFault};
 use acl_posix::Acl;
 use std::alloc::{AllocError, Global};

@@ -2,12 +2,12 @@
 ghost use Rattle.std.specs.Prelude.{◌≡◌, Ok, IfErr, IfOk};
 ghost use Rattle.clap.specs.Words.{found_of, rows_of};
 ghost use Rattle.acl_queries.specs.ListField.{aces_of, list_in, list_of};
-ghost use Rattle.acl_queries.specs.Faults.{Explains};
+ghost use Rattle.acl_cli.specs.Faults.{Explains};
 
 use super::acl::{empty_directory, read_acl};
-use super::fields::text_field;
-use super::query_fault::{FieldFault, QueryFault};
 use acl_bridge::Style;
+use acl_cli::fields::text_field;
+use acl_cli::{FieldFault, QueryFault};
 use acl_nfs4::{Acl4, read_aces};
 use acl_posix::{Acl, AclFault};
 use clap::ArgMatches;

@@ -2,15 +2,13 @@
 ghost use Rattle.std.specs.Prelude.{◌≡◌, ◌≢◌, ℕ, List, Ok, Result, IfErr, IfOk, IsErrOf, OnOk, map};
 ghost use Rattle.std.specs.Io.KnownBytes.{Appends, Keeps};
 ghost use Rattle.clap.specs.Words.{Row, fault_of, found_of, matches_of, rows_of};
-ghost use Rattle.acl_queries.specs.Faults.{Explains, IsRefusedFor, failed_write};
-ghost use Rattle.acl_queries.specs.Meaning.{Ends};
-ghost use Rattle.acl_queries.specs.Output.{AppendsFront};
+ghost use Rattle.acl_cli.specs.Faults.{Explains, IsRefusedFor, failed_write};
+ghost use Rattle.acl_cli.specs.Meaning.{Ends};
+ghost use Rattle.acl_cli.specs.Output.{AppendsFront};
 ghost use Rattle.acl_queries.specs.Queries.{IsAnswered, query_meaning};
-ghost use Rattle.acl_queries.specs.declared.command.query_fault.FieldFault.{FieldFault as Fault};
+ghost use Rattle.acl_cli.specs.declared.field_fault.FieldFault.{FieldFault as Fault};
 
-use super::command_line::{CommandLine, parse};
-use super::query_fault::QueryFault;
-use crate::{ErrorOutput, RunFault, report, write_text};
+use acl_cli::{CommandLine, ErrorOutput, QueryFault, RunFault, parse, report, write_text};
 use clap::ArgMatches;
 use std::alloc::{AllocError, Global};
 use std::convert::AsStr;

@@ -1,8 +1,8 @@
 //! The command line of `compare`.
 
 use super::comparison::Comparison;
-use crate::CommandLine;
-use crate::command::options::{group_option, owner_option, required_word};
+use acl_cli::CommandLine;
+use acl_cli::options::{group_option, owner_option, required_word};
 use clap::Command;
 use std::alloc::{AllocError, Global};
 

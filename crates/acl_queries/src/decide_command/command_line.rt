@@ -1,8 +1,8 @@
 //! The command line of `decide`.
 
 use super::question::Question;
-use crate::CommandLine;
-use crate::command::options::{
+use acl_cli::CommandLine;
+use acl_cli::options::{
     flag, gids_option, group_option, owner_option, perms_option, required_word, uid_option,
 };
 use clap::Command;

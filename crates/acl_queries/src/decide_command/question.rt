@@ -2,16 +2,15 @@
 ghost use Rattle.std.specs.Prelude.{◌≡◌, Ok, IfErr, IfOk};
 ghost use Rattle.clap.specs.Words.{found_of, rows_of};
 ghost use Rattle.acl_queries.specs.Asked.{acl_in};
-ghost use Rattle.acl_queries.specs.Faults.{Explains};
+ghost use Rattle.acl_cli.specs.Faults.{Explains};
 
 use super::translation::print_translation;
 use crate::command::acl::read_acl;
 use crate::command::answer::answer_line;
-use crate::command::fields::{flag_field, text_field};
-use crate::command::ids::{gid_field, gids_field, uid_field};
-use crate::command::perms::perms_field;
 use crate::command::query::Query;
-use crate::command::query_fault::{FieldFault, QueryFault};
+use acl_cli::fields::{flag_field, text_field};
+use acl_cli::ids::{gid_field, gids_field, uid_field};
+use acl_cli::{FieldFault, QueryFault, perms_field};
 use acl_names::{Gid, Requester, Uid};
 use acl_posix::{Acl, AclFault, Perms};
 use clap::ArgMatches;

@@ -3,7 +3,7 @@ ghost use Rattle.std.specs.Prelude.{◌≡◌};
 
 use crate::files::fault::TOO_MANY_SESSIONS;
 use crate::{OneFault, RunFault, SetupError};
-use acl_queries::{CommandFault, ErrorOutput};
+use acl_cli::{CommandFault, ErrorOutput};
 use acl_runs::ServeFault;
 use std::alloc::AllocError;
 use std::io::{self, Write};

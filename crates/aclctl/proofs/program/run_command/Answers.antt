@@ -1,9 +1,9 @@
 use Rattle.std.proofs.Common.{◌≡◌, ℕ, List, Option, None, Some, arith, map, refl, subst, sym}
 use Rattle.std.proofs.KnownBytes.{Keeps-refl}
 use Rattle.std.proofs.lemmas.Grind.{common_steps}
-use Rattle.acl_queries.specs.ErrorOutput.{ErrorText, Reports}
-use Rattle.acl_queries.specs.Meaning.{Ends, EndsWithInput}
-use Rattle.acl_queries.proofs.MeaningLemmas.{Ends-unread}
+use Rattle.acl_cli.specs.ErrorOutput.{ErrorText, Reports}
+use Rattle.acl_cli.specs.Meaning.{Ends, EndsWithInput}
+use Rattle.acl_cli.proofs.MeaningLemmas.{Ends-unread}
 use Rattle.aclctl.specs.Fault.{status_of}
 use Rattle.aclctl.specs.Program.{Command, Files, SaysNoCommand, command_in, command_meaning, meaning_of, no_command}
 use Rattle.aclctl.specs.Program.Command.{Compare, Decide, Dump, Explain, Help, Impact, Lint, Run, Version, Who}

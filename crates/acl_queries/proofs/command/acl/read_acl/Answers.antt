@@ -3,8 +3,8 @@ use Rattle.acl_names.specs.Pieces.{pieces}
 use Rattle.acl_names.specs.Steps.{map_fault}
 use Rattle.acl_posix.specs.AclText as posix
 use Rattle.acl_queries.specs.AclText.{acl_of, nobody}
-use Rattle.acl_queries.specs.Faults.{Explains, fault_of_acl}
-use Rattle.acl_queries.specs.declared.command.query_fault.FieldFault.TheVariants.{Acl}
+use Rattle.acl_cli.specs.Faults.{Explains, fault_of_acl}
+use Rattle.acl_cli.specs.declared.field_fault.FieldFault.TheVariants.{Acl}
 use Rattle.acl_queries.proofs.AclLemmas.{Explains-acl}
 use Rattle.acl_queries.proofs.command.acl.read_acl.Goals as goal
 

@@ -5,7 +5,7 @@ use Rattle.acl_nfs4.specs.ReadFault.{list_fault}
 use Rattle.acl_nfs4.specs.declared.limits.TheConstants.{MAX_ACES}
 use Rattle.acl_queries.specs.AclText.{nobody}
 use Rattle.acl_queries.specs.ListField.{aces_of}
-use Rattle.acl_queries.specs.Faults.{Explains, fault_of_aces}
+use Rattle.acl_cli.specs.Faults.{Explains, fault_of_aces}
 use Rattle.acl_queries.proofs.AcesLemmas.{Explains-aces, aces_of-spelt}
 use Rattle.acl_queries.proofs.command.list.read_acl4.Goals as goal
 

@@ -1,6 +1,6 @@
 use Rattle.std.proofs.Common.{Err, ap, map}
 use Rattle.acl_queries.specs.Queries.{query_meaning}
-use Rattle.acl_queries.proofs.MeaningLemmas.{Ends-answered}
+use Rattle.acl_cli.proofs.MeaningLemmas.{Ends-answered}
 use Rattle.acl_queries.proofs.QueryLemmas.{Ends-refused}
 use Rattle.acl_queries.proofs.command.query.ask.Goals as goal
 

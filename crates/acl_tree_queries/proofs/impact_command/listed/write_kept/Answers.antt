@@ -2,7 +2,7 @@ use Rattle.std.proofs.Common.{◌≡◌, ◌<◌, ◌≤◌, ◌+◌, ◌++◌, 
 use Rattle.std.specs.Io.KnownBytes.{Appends}
 use Rattle.std.proofs.lemmas.List.{take_all}
 use Rattle.acl_listings.specs.Listing.{Block}
-use Rattle.acl_queries.specs.Output.{AppendsFront}
+use Rattle.acl_cli.specs.Output.{AppendsFront}
 use Rattle.acl_tree_queries.specs.Nodes.{TellsOfEach}
 use Rattle.acl_tree_queries.specs.Placed.{Placed, in_places}
 use Rattle.acl_tree_queries.proofs.NodesLemmas.{cut_short}

@@ -3,7 +3,7 @@ use Rattle.std.proofs.lemmas.Result.{IfOk-weaker}
 use Rattle.clap.specs.Words.{app_of, new_app}
 use Rattle.clap.specs.Simple.{app_of_fields}
 use Rattle.acl_queries.specs.ExplainLine.{explain_line}
-use Rattle.acl_queries.proofs.CommandLemmas.{app_of-arg}
+use Rattle.acl_cli.proofs.CommandLemmas.{app_of-arg}
 use Rattle.acl_queries.proofs.explain_command.command_line.QuestionCommandLine.command.Goals as goal
 
 pub returns : goal.returns

@@ -1,6 +1,6 @@
 use Rattle.std.proofs.Common.{◌++◌, ℕ, List, codes, subst, sym}
 use Rattle.std.specs.Prelude.{IfSome}
-use Rattle.acl_queries.specs.ErrorOutput.{Tells, line_of_words}
+use Rattle.acl_cli.specs.ErrorOutput.{Tells, line_of_words}
 use Rattle.acl_tree_queries.specs.QuestionFaults.{question_line}
 use Rattle.acl_tree_queries.specs.declared.question.fault.QuestionFault.{QuestionFault}
 use Rattle.acl_tree_queries.proofs.question.fault.QuestionFaultCommandFault.tell.Goals as goal
