@@ -38,3 +38,7 @@ FailsBy-err kinds (Err e) has = λ none. from_none (subst (λ (k : Kinds). HasKi
     from_none : HasKind [] e → kind_of e ≡ OutOfMemory
     from_none (inl memory) = memory
     from_none (inr impossible) = absurd impossible
+
+pub FailsBy-kind : {T : Type 0} (kinds : Kinds) (r : Result T Error) → FailsBy kinds r → IfErr r (HasKind kinds)
+FailsBy-kind kinds (Ok t) none = tt
+FailsBy-kind kinds (Err e) has = has

@@ -1,5 +1,5 @@
 -- Texts that go to standard error one after the other.
-use Rattle.std.proofs.Common.{◌≡◌, ◌≤◌, ◌∙◌, ◌++◌, ℕ, Bool, false, true, List, Option, ap, arith, subst, sym, refl}
+use Rattle.std.proofs.Common.{◌≡◌, ◌≤◌, ◌∙◌, ◌++◌, ◌∷◌, [], ℕ, Bool, false, true, List, Option, ap, arith, subst, sym, refl}
 use Rattle.std.specs.Prelude.{IfSome}
 use Rattle.std.proofs.KnownBytes.{Appends-trans}
 use Rattle.std.specs.Io.KnownBytes.{Appends}
@@ -14,6 +14,15 @@ use Rattle.acl_cli.specs.Output.{AppendsFront}
 use Rattle.acl_cli.specs.declared.query_fault.QueryFault.{QueryFault}
 use Rattle.acl_cli.specs.declared.query_fault.QueryFault.TheVariants.{Field, Usage, Run}
 use Rattle.acl_cli.proofs.OutputLemmas.{front_behind, front_of_longer}
+
+-- both of two texts are empty that are so together
+nil_first : (first second : List ℕ) → first ++ second ≡ [] → first ≡ []
+nil_first [] second empty = refl
+nil_first (byte ∷ bytes) second empty = cc
+
+nil_second : (first second : List ℕ) → first ++ second ≡ [] → second ≡ []
+nil_second [] second empty = empty
+nil_second (byte ∷ bytes) second empty = cc
 
 module _ (first second : List ℕ) (old between new : ErrorText) (tells : Tells first old between) (more : Tells second between new) where
   -- nothing more went out after a failed write
@@ -30,6 +39,9 @@ module _ (first second : List ℕ) (old between new : ErrorText) (tells : Tells 
   whole true is well = absurd (true≢false (sym is ∙ ap (λ (text : ErrorText). text.has_failed) (sym (failed_before is)) ∙ well))
   whole false is well = Appends-trans old.contents between.contents new.contents first second (tells.whole is) (more.whole well)
 
+  none : first ++ second ≡ [] → new ≡ old
+  none empty = more.none (nil_second first second empty) ∙ tells.none (nil_first first second empty)
+
   stopped : old.has_failed ≡ true → new ≡ old
   stopped failed =
       let same = tells.stopped failed in
@@ -37,7 +49,7 @@ module _ (first second : List ℕ) (old between new : ErrorText) (tells : Tells 
 
   -- a text went out, and then another
   pub Tells-both : Tells (first ++ second) old new
-  Tells-both = record { whole = whole between.has_failed refl; front = front between.has_failed refl; stopped = stopped }
+  Tells-both = record { whole = whole between.has_failed refl; front = front between.has_failed refl; stopped = stopped; none = none }
 
 -- what is said at a status that is none of an answer's
 pub Reports-line : (Says : ℕ → Option (List ℕ) → Type 0) (status : ℕ) (line : Option (List ℕ)) (old new : ErrorText) → 1 ≤ status → Says status line

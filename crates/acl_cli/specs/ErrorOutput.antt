@@ -14,12 +14,13 @@ pub record ErrorText : Type 0 where
 abbrev pub line_of_words : List ℕ → List ℕ
 line_of_words words = codes "aclctl: " ++ words ++ newline ∷ []
 
--- a text went there: all of it, or, if a write failed, a front of it; and nothing more after a
--- failed write
+-- a text went there: all of it, or, if a write failed, a front of it; nothing more after a failed
+-- write; and of an empty text nothing is seen at all
 pub record Tells (text : List ℕ) (old new : ErrorText) : Type 0 where
   pub whole : new.has_failed ≡ false → Appends old.contents new.contents text
   pub front : AppendsFront old.contents new.contents text
   pub stopped : old.has_failed ≡ true → new ≡ old
+  pub none : text ≡ [] → new ≡ old
 
 -- a command of this exit status told what it has to say: nothing beside an answer, and else a line,
 -- if it isn't the parser's

@@ -5,12 +5,7 @@ use Rattle.clap.specs.Words.{Kinds, kind_of}
 use Rattle.clap.specs.declared.error.Error.{Error}
 use Rattle.clap.specs.declared.error.kind.ErrorKind.{ErrorKind}
 use Rattle.clap.specs.declared.error.kind.ErrorKind.TheVariants.{OutOfMemory}
-use Rattle.acl_nfs4.specs.declared.acl.AceFault.{AceFault}
-use Rattle.acl_nfs4.specs.declared.acl.AceFault.TheVariants as aces
 use Rattle.acl_posix.specs.AclText as posix
-use Rattle.acl_posix.specs.declared.acl_text.AclFault.TheVariants as acl
-use Rattle.acl_posix.specs.declared.acl_text.ReadAclFault.{ReadAclFault}
-use Rattle.acl_posix.specs.declared.acl_text.ReadAclFault.TheVariants as read
 use Rattle.acl_cli.specs.ErrorOutput.{SaysFault, line_of_words}
 use Rattle.acl_cli.specs.RunFaults.{run_fault_line}
 use Rattle.acl_cli.specs.declared.run_fault.RunFault.TheVariants.{Memory, Output}
@@ -31,12 +26,9 @@ field_fault_words (Acl fault) = posix.fault_word fault
 field_fault_words BadStyle = codes "bad-style"
 field_fault_words InheritOnly = codes "inherit-only"
 
-abbrev pub field_fault_line : FieldFault → List ℕ
-field_fault_line fault = line_of_words (field_fault_words fault)
-
 -- the line of a fault, if it isn't the parser's
 abbrev pub fault_line : QueryFault → Option (List ℕ)
-fault_line (Field fault) = Some (field_fault_line fault)
+fault_line (Field fault) = Some (line_of_words (field_fault_words fault))
 fault_line (Usage error) = None
 fault_line (Run fault) = Some (run_fault_line fault)
 
@@ -66,10 +58,6 @@ abbrev pub SaysUsage : Type 0 → ℕ → Option (List ℕ) → Type 0
 SaysUsage Refused = SaysFault usage_status usage_line
     (λ error. kind_of error ≢ OutOfMemory → Refused)
 
--- a status and a line are those of a fault for which words are refused
-abbrev pub SaysQueryFault : (QueryFault → Type 0) → ℕ → Option (List ℕ) → Type 0
-SaysQueryFault = SaysFault status_of fault_line
-
 -- a refusal by the parser is wrong usage, unless memory ran out
 abbrev pub BecomesFault : Error → QueryFault → Type 0
 BecomesFault error (Field fault) = ⊥
@@ -78,33 +66,6 @@ BecomesFault error (Run Memory) = kind_of error ≡ OutOfMemory
 BecomesFault error (Run Output) = ⊥
 BecomesFault error (Run Stopped) = ⊥
 BecomesFault error (Run NoThread) = ⊥
-
--- the fault is that of the reading, or out of memory
-abbrev pub Explains : {A : Type 0} → Result A FieldFault → QueryFault → Type 0
-Explains reading (Field fault) = reading ≡ Err fault
-Explains reading (Usage error) = ⊥
-Explains reading (Run Memory) = ⊤
-Explains reading (Run Output) = ⊥
-Explains reading (Run Stopped) = ⊥
-Explains reading (Run NoThread) = ⊥
-
-abbrev pub out_of_memory : QueryFault
-out_of_memory = Run Memory
-
-abbrev pub failed_write : QueryFault
-failed_write = Run Output
-
--- why a list of either style is not read
-abbrev pub fault_of_acl : ReadAclFault → QueryFault
-fault_of_acl (read.Acl fault) = Field (Acl fault)
-fault_of_acl read.Memory = Run Memory
-
-abbrev pub fault_of_aces : AceFault → QueryFault
-fault_of_aces aces.Syntax = Field (Acl acl.BadAcl)
-fault_of_aces aces.UnknownName = Field (Acl acl.UnknownName)
-fault_of_aces aces.TooMany = Field (Acl acl.TooMany)
-fault_of_aces aces.InheritOnly = Field InheritOnly
-fault_of_aces aces.Memory = Run Memory
 
 -- words are refused for this, if the parser finds these faults in them, and the fields read so: the
 -- parser's fault, or else the first field's

@@ -1,7 +1,7 @@
 //! The line of a command, and what the parser of command lines finds in words.
 ghost use Rattle.std.specs.Prelude.{◌≡◌, IfErr, IfOk, OnOk, map, true};
-ghost use Rattle.clap.specs.Words.{App, app_of, found_of, is_simple, is_simple_and_free, kind_of};
-ghost use Rattle.clap.specs.Words.{matches_of, rows_of};
+ghost use Rattle.clap.specs.Words.{App, HasKind, app_of, fault_of, found_of, is_simple, kind_of};
+ghost use Rattle.clap.specs.Words.{is_simple_and_free, matches_of, rows_of};
 ghost use Rattle.acl_cli.specs.CommandLine.{Takes};
 
 use clap::error::ErrorKind;
@@ -35,6 +35,7 @@ pub fn parse<'a, C: CommandLine, S: AsStr>(
         ≡ matches_of C.line (map S.text words.entry.now)) }
     ensures refused { IfErr result (λ error. Takes C.line (map S.text words.entry.now)
         → kind_of error ≡ ErrorKind.OutOfMemory) }
+    ensures kinds { IfErr result (HasKind (fault_of C.line (map S.text words.entry.now))) }
 {
     C::command(alloc)?.try_get_matches_from(words)
 }

@@ -48,7 +48,7 @@ impl<W: Write + Drop> ErrorOutput<W> {
     pub fn write_text(&mut self, text: &[u8])
         ensures { Tells text.now self.old self.new }
     {
-        if !self.has_failed {
+        if !self.has_failed && !text.is_empty() {
             self.has_failed = write_text(text, &mut self.inner).is_err();
         }
     }
@@ -60,6 +60,17 @@ impl<W: Write + Drop> ErrorOutput<W> {
         self.write_text(b"aclctl: ");
         self.write_text(words.as_bytes());
         self.write_text(more.as_bytes());
+        self.write_text(b"\n");
+    }
+
+    /// Writes the line of a fault whose words have a name among them, and a reason after it.
+    pub fn write_named(&mut self, words: &str, name: &str, reason: &str)
+        ensures { Tells (line_of_words (words.now ++ name.now ++ reason.now)) self.old self.new }
+    {
+        self.write_text(b"aclctl: ");
+        self.write_text(words.as_bytes());
+        self.write_text(name.as_bytes());
+        self.write_text(reason.as_bytes());
         self.write_text(b"\n");
     }
 

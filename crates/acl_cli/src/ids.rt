@@ -3,10 +3,10 @@ ghost use Rattle.std.specs.Prelude.{◌≡◌, ◌≤◌, Some, Ok, IfErr, IfOk}
 ghost use Rattle.clap.specs.Words.{found_of, rows_of};
 ghost use Rattle.acl_names.specs.declared.limits.TheConstants.{MAX_ID};
 ghost use Rattle.acl_cli.specs.Fields.{gids_in, gids_of, id_in, id_of};
-ghost use Rattle.acl_cli.specs.Faults.{Explains};
+ghost use Rattle.acl_cli.specs.Failures.{Explains};
 
 use super::fields::text_field;
-use crate::{FieldFault, QueryFault};
+use crate::{Failure, FieldFault};
 use acl_names::{Gid, MAX_GROUPS_OF_USER, Uid, read_decimal};
 use clap::ArgMatches;
 use std::alloc::Global;
@@ -51,14 +51,14 @@ pub fn gid_field(matches: &ArgMatches<'_>, name: &str) -> Result<Gid, FieldFault
 }
 
 /// The groups between the commas of a text. One that would be too many isn't read.
-fn read_gids(alloc: Global, text: &str) -> Result<Vec<Gid>, QueryFault>
-    ensures read { IfOk result (λ gids. gids_of (Some text.now) ≡ Ok gids.items) }
-    ensures refused { IfErr result (Explains (gids_of (Some text.now))) }
+fn read_gids<'a>(alloc: Global, text: &'a str) -> Result<Vec<Gid>, Failure<'a>>
+    ensures read { IfOk result (λ gids. gids_of (Some text.entry.now) ≡ Ok gids.items) }
+    ensures refused { IfErr result (Explains (gids_of (Some text.entry.now))) }
 {
     let mut gids = Vec::new(alloc);
     for piece in text.split(',') {
         if gids.len() == MAX_GIDS {
-            return Err(QueryFault::Field(FieldFault::TooMany));
+            return Err(Failure::Field(FieldFault::TooMany));
         }
         let gid = read_gid(piece)?;
         gids.push(gid)?;
@@ -67,7 +67,7 @@ fn read_gids(alloc: Global, text: &str) -> Result<Vec<Gid>, QueryFault>
 }
 
 /// The groups of who asks; none if the words don't tell.
-pub fn gids_field(alloc: Global, matches: &ArgMatches<'_>) -> Result<Vec<Gid>, QueryFault>
+pub fn gids_field<'a>(alloc: Global, matches: &ArgMatches<'a>) -> Result<Vec<Gid>, Failure<'a>>
     ensures read { IfOk result (λ gids. gids_in (rows_of (found_of matches.now)) ≡ Ok gids.items) }
     ensures refused { IfErr result (Explains (gids_in (rows_of (found_of matches.now)))) }
 {

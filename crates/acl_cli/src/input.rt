@@ -1,9 +1,11 @@
 //! The bytes of a reader, up to a limit.
-ghost use Rattle.std.specs.Prelude.{◌≡◌, ◌+◌, ◌<◌, ◌≤◌, length, vec_len, IfOk, IfSome, IsErrOf};
-ghost use Rattle.std.specs.Prelude.{OnOk};
+ghost use Rattle.std.specs.Prelude.{◌≡◌, ◌+◌, ◌<◌, ◌≤◌, length, vec_len, IfErr, IfOk, IfSome};
+ghost use Rattle.std.specs.Prelude.{IsErrOf, OnOk};
 ghost use Rattle.std.specs.Io.KnownBytes.{IsAtEnd};
+ghost use Rattle.acl_cli.specs.Failures.{IsReadFailure};
 ghost use Rattle.acl_cli.specs.Input.{ConsumesAtMost};
 
+use crate::{Failure, OpenFiles, Reason, RunFault};
 use std::alloc::Global;
 use std::io::{ErrorKind, Read};
 use thiserror::Error;
@@ -54,4 +56,41 @@ pub fn read_capped<R: Read>(alloc: Global, reader: &mut R, cap: usize) -> Result
         }
     }
     Err(CapFault::Read)
+}
+
+/// The bytes of a reader that has this name, of which there may be at most `cap`.
+pub fn read_named<'a, R: Read>(
+    alloc: Global,
+    name: &'a str,
+    reader: &mut R,
+    cap: usize,
+) -> Result<Vec<u8>, Failure<'a>>
+    ensures capped { IfOk result (λ bytes. vec_len bytes ≤ cap) }
+    ensures whole { IfOk result (λ bytes. IfSome (R.remaining reader.old)
+        (λ told. bytes.items ≡ told)) }
+    ensures refused { IfErr result (IsReadFailure name.entry.now) }
+{
+    match read_capped(alloc, reader, cap) {
+        Ok(bytes) => Ok(bytes),
+        Err(CapFault::Memory) => Err(Failure::Lacks(RunFault::Memory)),
+        Err(_) => Err(Failure::CannotRead(name, Reason::Unknown)),
+    }
+}
+
+/// The bytes of the file of this name, of which there may be at most `cap`.
+pub fn read_file<'a, F: OpenFiles>(
+    alloc: Global,
+    files: &F,
+    name: &'a str,
+    cap: usize,
+) -> Result<Vec<u8>, Failure<'a>>
+    ensures capped { IfOk result (λ bytes. vec_len bytes ≤ cap) }
+    ensures whole { IfOk result (λ bytes. IfSome (F.bytes_of files.now name.entry.now)
+        (λ told. bytes.items ≡ told)) }
+    ensures refused { IfErr result (IsReadFailure name.entry.now) }
+{
+    match files.open(name) {
+        Ok(mut file) => read_named(alloc, name, &mut file, cap),
+        Err(error) => Err(Failure::CannotRead(name, Reason::of(error.kind()))),
+    }
 }

@@ -7,8 +7,8 @@ ghost use Rattle.acl_lint.specs.LintFaults.{IsLack};
 ghost use Rattle.acl_lint.specs.LintText.{session_text, sessions_text};
 
 use crate::line::push_line;
-use acl_cli::{RunFault, write_text};
 use acl_names::{Directory, Parts};
+use acl_cli::{RunFault, write_text};
 use std::alloc::Global;
 use std::io::{self, Write};
 

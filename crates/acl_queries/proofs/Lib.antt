@@ -1,4 +1,3 @@
-pub mod AclLemmas
 pub mod AskLemmas
 pub mod AcesLemmas
 pub mod QueryLemmas

@@ -5,10 +5,10 @@ use Rattle.acl_names.specs.Requester.{Identity}
 use Rattle.acl_names.specs.Steps.{◌>>=◌, or_fault}
 use Rattle.acl_posix.specs.Entry.{EntryValue}
 use Rattle.acl_posix.specs.declared.acl_text.AclFault.TheVariants as acl
-use Rattle.acl_cli.specs.Fields.{flag_in, gids_in, id_in, perms_in}
+use Rattle.acl_queries.specs.AclText.{acl_of}
 use Rattle.acl_cli.specs.declared.field_fault.FieldFault.{FieldFault}
 use Rattle.acl_cli.specs.declared.field_fault.FieldFault.TheVariants.{Acl}
-use Rattle.acl_queries.specs.AclText.{acl_of}
+use Rattle.acl_cli.specs.Fields.{flag_in, gids_in, id_in, perms_in}
 
 -- whether the requester may do all of what is requested with a file of this owner, this group and
 -- this access control list; and, with nfs4, which NFSv4 list it translates to
@@ -20,7 +20,6 @@ pub record Asked : Type 0 where
   pub acl : List EntryValue
   pub nfs4 : Bool
 
--- the access control list among what the parser found
 abbrev pub acl_in : List Row → Result (List EntryValue) FieldFault
 acl_in rows = or_fault (Acl acl.BadAcl) (first_of (codes "text") rows) >>= acl_of
 

@@ -1,4 +1,4 @@
-//! What the commands share: lists as fields, and how what they ask is answered.
+//! What the commands share: lists as fields, and how an answer is made first and then written.
 
 pub(crate) mod acl;
 pub(crate) mod answer;

@@ -11,9 +11,9 @@ mod explanation;
 mod laws;
 
 pub use command::{push_bits, push_gids};
-pub use compare_command::compare;
-pub use decide_command::decide;
-pub use explain_command::explain;
+pub use compare_command::Compare;
+pub use decide_command::Decide;
+pub use explain_command::Explain;
 pub use explanation::{Class, class_of, first_speaker, lacks};
 pub use laws::{
     alike_lists_differ_for_nobody, explanation_laws, statuses_are_those_of_the_words,

@@ -15,9 +15,7 @@ pub use acl_cli::{
     CapFault, CommandFault, ErrorOutput, RunFault, WordsFault, read_capped, report, words_of,
     write_text,
 };
-pub use acl_queries::{
-    alike_lists_differ_for_nobody, compare, decide, explain, words_ask_what_they_give,
-};
+pub use acl_queries::{alike_lists_differ_for_nobody, words_ask_what_they_give};
 pub use acl_runs::{Gate, OpenGate, ServeFault};
 pub use files::{FilesFault, OpenFiles, Texts, count_inputs, read_file, read_sessions, read_texts};
 pub use laws::{

@@ -12,8 +12,7 @@ ghost use Rattle.acl_tree_queries.specs.ListingText.{AreAll, AreFirst, TellsInTu
 ghost use Rattle.acl_tree_queries.specs.ListingText.{node_of};
 ghost use Rattle.acl_tree_queries.specs.Readings.{unless_repeated};
 
-use crate::pieces::send_full;
-use acl_cli::{RunFault, write_text};
+use acl_cli::{RunFault, send_full, write_text};
 use acl_listings::{BlockFault, Blocks, File, FileFault, ReadFault, path_of, read_file};
 use acl_names::Directory;
 use acl_nfs4::Kind;

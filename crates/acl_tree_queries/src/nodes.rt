@@ -7,8 +7,7 @@ ghost use Rattle.acl_tree.specs.Entries.{Entry};
 ghost use Rattle.acl_tree_queries.specs.Nodes.{TellsOfEach, TellsOfFirst};
 ghost use Rattle.acl_tree_queries.specs.AnswerFaults.{IsLack};
 
-use crate::pieces::send_full;
-use acl_cli::{RunFault, write_text};
+use acl_cli::{RunFault, send_full, write_text};
 use acl_tree::{Node, Tree};
 use std::alloc::{AllocError, Global};
 use std::io::Write;

@@ -8,8 +8,7 @@ ghost use Rattle.acl_tree_queries.specs.Nodes.{TellsOfEach, TellsOfFirst};
 ghost use Rattle.acl_tree_queries.specs.Placed.{Placed, in_places};
 
 use super::kept::KeptListing;
-use crate::pieces::send_full;
-use acl_cli::{RunFault, write_text};
+use acl_cli::{RunFault, send_full, write_text};
 use std::alloc::{AllocError, Global};
 use std::io::Write;
 

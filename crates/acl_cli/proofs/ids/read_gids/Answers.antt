@@ -7,7 +7,7 @@ use Rattle.acl_cli.specs.Fields.{id_of}
 use Rattle.acl_names.specs.ReadList.{at_most_read}
 use Rattle.acl_names.specs.declared.limits.TheConstants.{MAX_GROUPS_OF_USER}
 use Rattle.acl_names.proofs.ReadListLemmas.{apart_at, at_most_read-all, at_most_read-fault, at_most_read-many}
-use Rattle.acl_cli.specs.declared.query_fault.QueryFault.TheVariants.{Field}
+use Rattle.acl_cli.specs.declared.failure.Failure.TheVariants.{Field}
 use Rattle.acl_cli.specs.declared.field_fault.FieldFault.TheVariants.{TooMany}
 use Rattle.acl_cli.proofs.ids.read_gids.Goals as goal
 

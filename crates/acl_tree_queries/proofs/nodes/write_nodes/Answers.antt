@@ -6,7 +6,7 @@ use Rattle.acl_cli.specs.Output.{AppendsFront}
 use Rattle.acl_cli.proofs.OutputLemmas.{front_of_none}
 use Rattle.acl_tree.specs.declared.node.Node.{Node}
 use Rattle.acl_tree_queries.proofs.NodesLemmas.{cut_short, next_told}
-use Rattle.acl_tree_queries.proofs.PiecesLemmas.{front_now, keeps_more, sends, sends_front}
+use Rattle.acl_cli.proofs.PiecesLemmas.{front_now, keeps_more, sends, sends_front}
 use Rattle.acl_tree_queries.proofs.nodes.write_nodes.Goals as goal
 
 pub returns-in_err-entries-clause-cut : goal.returns-in_err-entries-clause-cut
