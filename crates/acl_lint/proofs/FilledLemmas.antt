@@ -8,10 +8,10 @@ use Rattle.acl_names.specs.Ids.{has_domain_shape}
 use Rattle.acl_names.specs.declared.directory.fault.SetupFault.{SetupFault}
 use Rattle.acl_names.specs.declared.directory.fault.SetupFault.TheVariants as parts
 use Rattle.acl_names.specs.declared.limits.TheConstants.{MAX_GROUPS, MAX_USERS}
-use Rattle.acl_service.specs.Setup.{Setup, setup_in}
-use Rattle.acl_service.specs.SetupTable.{id_at, table_at, text_at, texts_at}
-use Rattle.acl_service.specs.declared.setup.fault.SetupError.{SetupError}
-use Rattle.acl_service.specs.declared.setup.fault.SetupError.TheVariants.{NotToml, BadField, Parts, Memory}
+use Rattle.acl_setup.specs.Setup.{Setup, setup_in}
+use Rattle.acl_setup.specs.SetupTable.{id_at, table_at, text_at, texts_at}
+use Rattle.acl_setup.specs.declared.fault.SetupError.{SetupError}
+use Rattle.acl_setup.specs.declared.fault.SetupError.TheVariants.{NotToml, BadField, Parts, Memory}
 use Rattle.toml.specs.Data.{Data, Items, Members, as_array, as_table, get_member, item, no_items}
 use Rattle.acl_lint.specs.FieldKeys.{key_in_group, key_in_root, key_in_user, key_of_array, key_of_fields}
 use Rattle.acl_lint.specs.FieldKeys.{key_of_root, key_of_table, key_of_tables, key_of_value, mode_at, or_key}

@@ -1,8 +1,8 @@
 -- A table that says no setup has a key at which its reading has no value, and that key is told.
 use Rattle.std.proofs.Common.{◌≡◌, ◌+◌, ℕ, List, ◌∷◌, Option, Some, None, codes, refl}
 use Rattle.std.specs.Prelude.{IsSome}
-use Rattle.acl_service.specs.Setup.{group_in, root_in, setup_in, user_in}
-use Rattle.acl_service.specs.SetupTable.{◌>>=◌, each_item, id_at, items_at, items_of, table_at, text_at, texts_at}
+use Rattle.acl_setup.specs.Setup.{group_in, root_in, setup_in, user_in}
+use Rattle.acl_setup.specs.SetupTable.{◌>>=◌, each_item, id_at, items_at, items_of, table_at, text_at, texts_at}
 use Rattle.toml.specs.Data.{Data, Items, Members, as_array, as_table, get_member, item, no_items}
 use Rattle.acl_lint.specs.FieldKeys.{mode_at, style_at, key_in_group, key_in_root, key_in_user, key_of_array, key_of_root, key_of_table, key_of_tables, key_of_value, or_key, unless_read}
 use Rattle.acl_lint.specs.Keys.{Key}

@@ -5,10 +5,10 @@ use Rattle.acl_names.specs.Directory.{Known, gid_of, uid_of}
 use Rattle.acl_names.specs.Directory.{fault_of as parts_fault}
 use Rattle.acl_names.specs.Steps.{◌>>=◌, or_fault}
 use Rattle.acl_names.specs.declared.directory.fault.SetupFault.{SetupFault}
-use Rattle.acl_service.specs.Opened.{opened_by, unless}
-use Rattle.acl_service.specs.Setup.{Setup, setup_in}
-use Rattle.acl_service.specs.declared.setup.fault.SetupError.{SetupError}
-use Rattle.acl_service.specs.declared.setup.fault.SetupError.TheVariants.{BadField, Parts}
+use Rattle.acl_setup.specs.Opened.{opened_by, unless}
+use Rattle.acl_setup.specs.Setup.{Setup, setup_in}
+use Rattle.acl_setup.specs.declared.fault.SetupError.{SetupError}
+use Rattle.acl_setup.specs.declared.fault.SetupError.TheVariants.{BadField, Parts}
 use Rattle.toml.specs.Data.{Members}
 use Rattle.acl_lint.specs.LintLaws.{TellsWhere}
 use Rattle.acl_lint.specs.SetupPlace.{key_of_reading, key_of_setup}

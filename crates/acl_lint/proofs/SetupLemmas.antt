@@ -8,10 +8,10 @@ use Rattle.toml.specs.Data.{Members}
 use Rattle.toml.specs.Errors.{IsMemory}
 use Rattle.toml.specs.Parse.{parse_document}
 use Rattle.toml.specs.declared.de.error.Error.{Error}
-use Rattle.acl_service.specs.SetupTable.{ReadsAs}
-use Rattle.acl_service.specs.TextsFaults.{IsRefusedBy}
-use Rattle.acl_service.specs.declared.setup.fault.SetupError.{SetupError}
-use Rattle.acl_service.specs.declared.setup.fault.SetupError.TheVariants.{NotToml, BadField, Parts, Memory}
+use Rattle.acl_setup.specs.SetupTable.{ReadsAs}
+use Rattle.acl_setup.specs.Opened.{IsRefusedBy}
+use Rattle.acl_setup.specs.declared.fault.SetupError.{SetupError}
+use Rattle.acl_setup.specs.declared.fault.SetupError.TheVariants.{NotToml, BadField, Parts, Memory}
 use Rattle.acl_lint.specs.PartsKeys.{repeated_from}
 use Rattle.acl_lint.specs.SetupPlace.{IsPlace, IsSpotIn, key_of_table_for, shown_key}
 

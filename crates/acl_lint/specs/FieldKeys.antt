@@ -8,7 +8,7 @@ use Rattle.acl_bridge.specs.Style.{style_of}
 use Rattle.acl_bridge.specs.declared.style.Style.{Style}
 use Rattle.acl_posix.specs.Mode.{Classes}
 use Rattle.acl_posix.specs.ModeText.{mode_of_octal}
-use Rattle.acl_service.specs.SetupTable.{◌>>=◌, id_at, table_at, text_at, texts_at}
+use Rattle.acl_setup.specs.SetupTable.{◌>>=◌, id_at, table_at, text_at, texts_at}
 use Rattle.acl_lint.specs.Keys.{Key, in_table, key_of_name}
 
 -- the mode and the style at a key

@@ -9,12 +9,12 @@ use Rattle.acl_tree.specs.Tree.{NodesUnderUmask}
 use Rattle.acl_queries.specs.CommandLine.{Takes}
 use Rattle.acl_queries.specs.ErrorOutput.{SaysFault}
 use Rattle.acl_queries.specs.Meaning.{Meaning}
-use Rattle.acl_service.specs.Opened.{Opens}
+use Rattle.acl_setup.specs.Opened.{Opens}
 use Rattle.acl_service.specs.RunWords.{CanRun, HasBytes, HaveBytes, input_count, sessions_in}
 use Rattle.acl_service.specs.RunWords.{setup_in}
-use Rattle.acl_service.specs.SetupFaults.{setup_error_words}
-use Rattle.acl_service.specs.TextsFaults.{IsRefusedBy}
-use Rattle.acl_service.specs.declared.setup.fault.SetupError.{SetupError}
+use Rattle.acl_setup.specs.SetupFaults.{setup_error_words}
+use Rattle.acl_setup.specs.Opened.{IsRefusedBy}
+use Rattle.acl_setup.specs.declared.fault.SetupError.{SetupError}
 use Rattle.acl_lint.specs.LintFaults.{IsLintFault, lint_fault_line, lint_status}
 use Rattle.acl_lint.specs.LintLine.{lint_line}
 use Rattle.acl_lint.specs.LintText.{sessions_text}

@@ -18,10 +18,10 @@ use Rattle.acl_lang.specs.Refusals.{Asked, acl_line_fault}
 use Rattle.acl_lang.specs.Texts.{requests_of}
 use Rattle.acl_lang.specs.declared.answer.Answer.{Answer}
 use Rattle.acl_lang.specs.declared.line.Line.TheVariants.{Command}
-use Rattle.acl_service.specs.Opened.{opened_in}
+use Rattle.acl_setup.specs.Opened.{opened_in}
 use Rattle.acl_service.specs.Runs.{answers_of}
-use Rattle.acl_service.specs.Setup.{setup_in}
-use Rattle.acl_service.specs.declared.setup.fault.SetupError.{SetupError}
+use Rattle.acl_setup.specs.Setup.{setup_in}
+use Rattle.acl_setup.specs.declared.fault.SetupError.{SetupError}
 use Rattle.acl_tree.specs.Tree.{NodesUnderUmask}
 use Rattle.acl_tree.specs.declared.faults.LineFault.{LineFault}
 use Rattle.acl_tree.specs.declared.reply.Reply.{Reply}

@@ -2,11 +2,11 @@
 use Rattle.std.specs.Prelude.{◌≡◌, ◌≤◌, ℕ, List, [], ◌∷◌, Option, Some, None, length, take}
 use Rattle.toml.specs.Data.{Members}
 use Rattle.acl_names.specs.Bytes.{hyphen}
-use Rattle.acl_service.specs.Setup.{Setup, setup_in}
-use Rattle.acl_service.specs.SetupTable.{ReadsAs}
-use Rattle.acl_service.specs.declared.setup.fault.SetupError.{SetupError}
-use Rattle.acl_service.specs.declared.setup.fault.SetupError.TheVariants.{NotToml, BadField, Parts}
-use Rattle.acl_service.specs.declared.setup.fault.SetupError.TheVariants.{Memory}
+use Rattle.acl_setup.specs.Setup.{Setup, setup_in}
+use Rattle.acl_setup.specs.SetupTable.{ReadsAs}
+use Rattle.acl_setup.specs.declared.fault.SetupError.{SetupError}
+use Rattle.acl_setup.specs.declared.fault.SetupError.TheVariants.{NotToml, BadField, Parts}
+use Rattle.acl_setup.specs.declared.fault.SetupError.TheVariants.{Memory}
 use Rattle.acl_lint.specs.FieldKeys.{key_of_fields, key_of_owners}
 use Rattle.acl_lint.specs.Keys.{Key, key_text}
 use Rattle.acl_lint.specs.PartsKeys.{key_of_parts}

@@ -13,9 +13,8 @@ use crate::fault::LintFault;
 use crate::sessions::write_sessions;
 use crate::setup::write_setup;
 use acl_queries::RunFault;
-use acl_service::{
-    FilesFault, OpenFiles, SetupError, Texts, read_setup, read_texts, session_fields, setup_field,
-};
+use acl_service::{FilesFault, OpenFiles, Texts, read_texts, session_fields, setup_field};
+use acl_setup::{SetupError, read_setup};
 use clap::ArgMatches;
 use std::alloc::Global;
 use std::io::{Read, Write};

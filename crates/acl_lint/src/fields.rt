@@ -2,7 +2,7 @@
 ghost use Rattle.std.specs.Prelude.{◌≡◌, ℕ, List, Option, codes, is_some};
 ghost use Rattle.toml.specs.Data.{Members, as_array, as_str, as_table, get_member};
 ghost use Rattle.toml.specs.View.{items_view, table_view, view};
-ghost use Rattle.acl_service.specs.SetupTable.{each_item, table_at, texts_at};
+ghost use Rattle.acl_setup.specs.SetupTable.{each_item, table_at, texts_at};
 ghost use Rattle.acl_lint.specs.FieldKeys.{key_in_group, key_in_root, key_in_user, key_of_fields};
 ghost use Rattle.acl_lint.specs.FieldKeys.{key_of_owners, mode_at, style_at};
 ghost use Rattle.acl_lint.specs.FieldKeys.{key_of_root, key_of_table, key_of_tables, key_of_value};
@@ -12,7 +12,7 @@ use crate::key::Key;
 use acl_bridge::Style;
 use acl_names::User;
 use acl_posix::Mode;
-use acl_service::{id_at, table_at, text_at, value_at};
+use acl_setup::{id_at, table_at, text_at, value_at};
 use toml::{Table, Value};
 
 /// Which key of a table in an array doesn't read.
@@ -47,7 +47,7 @@ fn are_texts(values: &[Value]) -> bool
 }
 
 /// Whether there are texts at a key.
-#[tactic(auto, unfolding(acl_service::specs::SetupTable::texts_at))]
+#[tactic(auto, unfolding(acl_setup::specs::SetupTable::texts_at))]
 fn has_texts(table: &Table, key: &str) -> bool
     ensures { result ≡ is_some (texts_at key.now (table_view table.now)) }
 {

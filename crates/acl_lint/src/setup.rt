@@ -2,13 +2,13 @@
 ghost use Rattle.std.specs.Prelude.{◌≡◌, ◌++◌, ◌⊎◌, ℕ, IfErr, IfOk, List, OnErr, OnOk};
 ghost use Rattle.std.specs.Io.KnownBytes.{Appends, Keeps};
 ghost use Rattle.acl_queries.specs.Output.{AppendsFront};
-ghost use Rattle.acl_service.specs.TextsFaults.{IsRefusedBy};
+ghost use Rattle.acl_setup.specs.Opened.{IsRefusedBy};
 ghost use Rattle.acl_lint.specs.LintAnswer.{IsOfSetup, setup_text, with_hyphens};
 ghost use Rattle.acl_lint.specs.LintFaults.{IsLack};
 
 use crate::setup_place::setup_place;
 use acl_queries::{RunFault, write_text};
-use acl_service::SetupError;
+use acl_setup::SetupError;
 use std::alloc::{AllocError, Global};
 use std::io::Write;
 

@@ -2,8 +2,8 @@
 ghost use Rattle.std.specs.Prelude.{◌≡◌, ◌≤◌, ◌↔◌, ◌++◌, IfOk, IfSome, IsNone, OnOk, length};
 ghost use Rattle.toml.specs.Errors.{IsMemory, IsWithin};
 ghost use Rattle.toml.specs.View.{table_view};
-ghost use Rattle.acl_service.specs.Shown.{setup_shown};
-ghost use Rattle.acl_service.specs.TextsFaults.{IsRefusedBy};
+ghost use Rattle.acl_setup.specs.Shown.{setup_shown};
+ghost use Rattle.acl_setup.specs.Opened.{IsRefusedBy};
 ghost use Rattle.acl_lint.specs.SetupPlace.{IsPlace, IsSpotIn, key_of_setup, key_of_table_for};
 ghost use Rattle.acl_lint.specs.SetupPlace.{shown_key};
 
@@ -11,7 +11,7 @@ use crate::fields::{key_of_fields, key_of_owners};
 use crate::key::{Key, push_key};
 use crate::parts::key_of_parts;
 use crate::spot::{push_spot, spot_after};
-use acl_service::{Setup, SetupError, read_table};
+use acl_setup::{Setup, SetupError, read_table};
 use std::alloc::{AllocError, Global};
 use toml::Table;
 use toml::de::Error;

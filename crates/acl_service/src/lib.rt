@@ -1,4 +1,4 @@
-//! The service: many sessions on one tree. The sessions of a run, the setup that it begins with,
+//! The service: many sessions on one tree. The sessions of a run,
 //! and the command `run`, over any words, readers and writers. The commands that ask of lists alone
 //! are those of `acl_queries`.
 #![tactic(auto)]
@@ -9,7 +9,6 @@ mod one;
 mod run_command;
 mod served;
 mod sessions;
-mod setup;
 
 pub use acl_queries::{
     CapFault, CommandFault, ErrorOutput, RunFault, WordsFault, alike_lists_differ_for_nobody,
@@ -25,6 +24,3 @@ pub use run_command::{run, run_texts, session_fields, session_words, setup_field
 pub use served::Served;
 pub(crate) use served::ServedInPrint;
 pub use sessions::{Report, serve, serve_rounds};
-pub use setup::{
-    Root, Setup, SetupError, id_at, read_setup, read_table, table_at, text_at, value_at,
-};

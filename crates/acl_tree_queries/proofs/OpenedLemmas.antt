@@ -8,11 +8,11 @@ use Rattle.acl_tree.specs.Commands.{root_alone}
 use Rattle.acl_tree.specs.Tree.{NodesUnderUmask}
 use Rattle.acl_bridge.specs.declared.style.Style.{Style}
 use Rattle.acl_lang.specs.Texts.{requests_of}
-use Rattle.acl_service.specs.Opened.{IsOpened, Opened, Opens, opened_by, unless}
+use Rattle.acl_setup.specs.Opened.{IsOpened, Opened, Opens, opened_by, unless}
 use Rattle.acl_service.specs.Runs.{tree_after}
-use Rattle.acl_service.specs.Setup.{Setup, setup_in}
-use Rattle.acl_service.specs.declared.setup.fault.SetupError.{SetupError}
-use Rattle.acl_service.specs.declared.setup.fault.SetupError.TheVariants.{BadField}
+use Rattle.acl_setup.specs.Setup.{Setup, setup_in}
+use Rattle.acl_setup.specs.declared.fault.SetupError.{SetupError}
+use Rattle.acl_setup.specs.declared.fault.SetupError.TheVariants.{BadField}
 use Rattle.acl_tree_queries.specs.Trees.{tree_left}
 
 -- a tree of the root alone

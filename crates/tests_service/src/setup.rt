@@ -1,6 +1,6 @@
 //! Tests of setups.
 use acl_names::{Directory, Gid, Requester, SetupFault, Uid};
-use acl_service::{SetupError, read_setup};
+use acl_setup::{SetupError, read_setup};
 use acl_tree::{Path, Tree};
 use std::alloc::Global;
 

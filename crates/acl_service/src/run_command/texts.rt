@@ -12,12 +12,13 @@ ghost use Rattle.acl_service.specs.Runs.{session_text};
 
 use super::fault::TextsFault;
 use super::printing::{print_journal, write_outputs};
+use crate::run_one;
 use crate::sessions::{RunInPrint, serve_in_print};
-use crate::{read_setup, run_one};
 use acl_broker::SESSIONS;
 use acl_names::Directory;
 use acl_queries::write_text;
 use acl_runs::Gate;
+use acl_setup::read_setup;
 use acl_tree::Tree;
 use std::alloc::Global;
 use std::io::Write;

@@ -3,7 +3,8 @@ ghost use Rattle.std.specs.Prelude.{◌≡◌};
 
 use super::AnswerFault;
 use acl_queries::{CommandFault, ErrorOutput, FieldFault, QueryFault, RunFault};
-use acl_service::{FilesFault, SetupError};
+use acl_service::FilesFault;
+use acl_setup::SetupError;
 use std::alloc::AllocError;
 use std::io::Write;
 

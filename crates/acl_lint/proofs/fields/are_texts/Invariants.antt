@@ -2,7 +2,7 @@ use Rattle.std.proofs.Common.{◌≡◌, drop}
 use Rattle.std.specs.Prelude.{is_some}
 use Rattle.toml.specs.Data.{as_str}
 use Rattle.toml.specs.View.{items_view}
-use Rattle.acl_service.specs.SetupTable.{each_item}
+use Rattle.acl_setup.specs.SetupTable.{each_item}
 use Rattle.acl_lint.proofs.fields.are_texts.Given as goal
 
 -- the values so far are texts

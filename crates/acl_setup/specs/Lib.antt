@@ -1,0 +1,5 @@
+pub mod SetupTable
+pub mod Setup
+pub mod Shown
+pub mod Opened
+pub mod SetupFaults
