@@ -44,7 +44,7 @@ fn write_answer<W: Write>(
             write_sessions(alloc, &directory, names, texts.sessions.as_slice(), out)
         }
         Err(SetupError::Memory) => Err(RunFault::Memory),
-        Err(error) => write_setup(alloc, setup, bytes, error, out),
+        Err(error) => write_setup(alloc, setup, error, out),
     }
 }
 

@@ -1,12 +1,14 @@
--- What a setup says, as a function of its table.
-use Rattle.std.specs.Prelude.{ℕ, List, Option, Some, codes}
+-- What a setup says, as a function of its table, or the first key at which it says nothing.
+use Rattle.std.specs.Prelude.{ℕ, List, Result, Ok, codes}
 use Rattle.toml.specs.Data.{Data, Members, as_table}
 use Rattle.acl_names.specs.Directory.{Known, KnownGroup, KnownUser}
-use Rattle.acl_bridge.specs.Style.{style_of}
+use Rattle.acl_names.specs.Steps.{◌>>=◌, or_fault}
 use Rattle.acl_bridge.specs.declared.style.Style.{Style}
 use Rattle.acl_posix.specs.Mode.{Classes}
-use Rattle.acl_posix.specs.ModeText.{mode_of_octal}
-use Rattle.acl_setup.specs.SetupTable.{◌>>=◌, id_at, items_at, table_at, text_at, texts_at}
+use Rattle.acl_setup.specs.Readings.{items_at}
+use Rattle.acl_setup.specs.SetupTable.{id_at, mode_at, style_at, table_at, text_at, texts_at}
+use Rattle.acl_setup.specs.declared.key.Key.{Key}
+use Rattle.acl_setup.specs.declared.key.Key.TheVariants as at
 
 -- the root directory
 pub record Root : Type 0 where
@@ -21,41 +23,41 @@ pub record Setup : Type 0 where
   pub known : Known
 
 -- owner = "..", group = "..", mode = "OOO", style = "posix" or "nfs4"
-unfoldable pub root_in : Members → Option Root
+unfoldable pub root_in : Members → Result Root Key
 root_in table = do
-  owner ← text_at (codes "owner") table
-  group ← text_at (codes "group") table
-  mode ← text_at (codes "mode") table >>= mode_of_octal
-  style ← text_at (codes "style") table >>= style_of
-  Some (record { owner = owner; group = group; mode = mode; style = style })
+  owner ← or_fault at.RootOwner (text_at (codes "owner") table)
+  group ← or_fault at.RootGroup (text_at (codes "group") table)
+  mode ← or_fault at.RootMode (mode_at (codes "mode") table)
+  style ← or_fault at.RootStyle (style_at (codes "style") table)
+  Ok (record { owner = owner; group = group; mode = mode; style = style })
 
--- name = "..", uid = N, groups = ["..", ..]
-unfoldable pub user_in : Data → Option KnownUser
-user_in value = do
-  table ← as_table value
-  name ← text_at (codes "name") table
-  uid ← id_at (codes "uid") table
-  groups ← texts_at (codes "groups") table
-  Some (record { name = name; uid = uid; groups = groups })
+-- of the table `user[index]`: name = "..", uid = N, groups = ["..", ..]
+unfoldable pub user_in : ℕ → Data → Result KnownUser Key
+user_in index value = do
+  table ← or_fault (at.User index) (as_table value)
+  name ← or_fault (at.UserName index) (text_at (codes "name") table)
+  uid ← or_fault (at.UserUid index) (id_at (codes "uid") table)
+  groups ← or_fault (at.UserGroups index) (texts_at (codes "groups") table)
+  Ok (record { name = name; uid = uid; groups = groups })
 
--- name = "..", gid = N
-unfoldable pub group_in : Data → Option KnownGroup
-group_in value = do
-  table ← as_table value
-  name ← text_at (codes "name") table
-  gid ← id_at (codes "gid") table
-  Some (record { name = name; gid = gid })
+-- of the table `group[index]`: name = "..", gid = N
+unfoldable pub group_in : ℕ → Data → Result KnownGroup Key
+group_in index value = do
+  table ← or_fault (at.Group index) (as_table value)
+  name ← or_fault (at.GroupName index) (text_at (codes "name") table)
+  gid ← or_fault (at.GroupGid index) (id_at (codes "gid") table)
+  Ok (record { name = name; gid = gid })
 
 -- domain = "..", umask = "OOO", [root], any number of [[user]] and of [[group]]; other keys play no
 -- part
-unfoldable pub setup_in : Members → Option Setup
+unfoldable pub setup_in : Members → Result Setup Key
 setup_in table = do
-  domain ← text_at (codes "domain") table
-  umask ← text_at (codes "umask") table >>= mode_of_octal
-  root ← table_at (codes "root") table >>= root_in
-  users ← items_at user_in (codes "user") table
-  groups ← items_at group_in (codes "group") table
-  Some (record {
+  domain ← or_fault at.Domain (text_at (codes "domain") table)
+  umask ← or_fault at.Umask (mode_at (codes "umask") table)
+  root ← or_fault at.Root (table_at (codes "root") table) >>= root_in
+  users ← items_at user_in at.Users (codes "user") table
+  groups ← items_at group_in at.Groups (codes "group") table
+  Ok (record {
     umask = umask;
     root = root;
     known = record {

@@ -14,7 +14,7 @@ parts_fault_words parts.TooMany = codes "too many"
 parts_fault_words parts.Memory = codes "memory"
 
 abbrev pub setup_error_words : SetupError → List ℕ
-setup_error_words setup.NotToml = codes "not toml"
-setup_error_words setup.BadField = codes "bad field"
-setup_error_words (setup.Parts fault) = parts_fault_words fault
+setup_error_words (setup.NotToml spot) = codes "not toml"
+setup_error_words (setup.BadField key) = codes "bad field"
+setup_error_words (setup.Parts fault key) = parts_fault_words fault
 setup_error_words setup.Memory = codes "memory"

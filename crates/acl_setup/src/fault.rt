@@ -3,21 +3,24 @@ ghost use Rattle.std.specs.Prelude.{◌≡◌, Some};
 ghost use Rattle.acl_setup.specs.SetupFaults.{parts_fault_words};
 ghost use Rattle.acl_setup.specs.declared.fault.SetupError.TheVariants.{Memory};
 
+use crate::key::Key;
+use crate::spot::Spot;
 use acl_names::SetupFault;
 use std::alloc::{AllocError, AllocFailed};
 use std::fmt;
 use thiserror::Error;
 
-/// Why a setup is refused. It is shown by the words that follow `aclctl: setup: ` on the fault
-/// line.
+/// Why a setup is refused, and where. It is shown by the words that follow `aclctl: setup: ` on the
+/// fault line, which say nothing of the place.
 #[derive(Clone, Copy, Debug, PartialEq, Eq, Error)]
 pub enum SetupError {
-    /// The bytes are no TOML document.
-    NotToml,
-    /// A key is absent, or its value has another type or isn't one that it may have.
-    BadField,
-    /// The users and groups are no directory. The fault is never `SetupFault::Memory`.
-    Parts(SetupFault),
+    /// The bytes are no TOML document, which shows at this spot.
+    NotToml(Spot),
+    /// The key is absent, or its value has another type or isn't one that it may have.
+    BadField(Key),
+    /// The users and groups are no directory, and this is the first key that has the fault. It is
+    /// never `SetupFault::Memory`.
+    Parts(SetupFault, Key),
     Memory,
 }
 
@@ -39,9 +42,9 @@ impl SetupError {
         ensures { result.now ≡ setup_error_words self.now }
     {
         match self {
-            SetupError::NotToml => "not toml",
-            SetupError::BadField => "bad field",
-            SetupError::Parts(fault) => parts_words(*fault),
+            SetupError::NotToml(_) => "not toml",
+            SetupError::BadField(_) => "bad field",
+            SetupError::Parts(fault, _) => parts_words(*fault),
             SetupError::Memory => "memory",
         }
     }
@@ -74,18 +77,5 @@ impl<T: Drop> From<AllocFailed<T>> for SetupError {
 
     fn from(_refused: AllocFailed<T>) -> SetupError {
         SetupError::Memory
-    }
-}
-
-impl From<SetupFault> for SetupError {
-    ghost use Rattle.acl_setup.specs.Opened.{error_of_parts};
-
-    ghost from_gives = { λ fault becomes. becomes ≡ error_of_parts fault };
-
-    fn from(fault: SetupFault) -> SetupError {
-        match fault {
-            SetupFault::Memory => SetupError::Memory,
-            _ => SetupError::Parts(fault),
-        }
     }
 }

@@ -4,10 +4,16 @@
 
 mod fault;
 mod fields;
+mod key;
+mod laws;
+mod parts;
+mod repeats;
 mod setup;
+mod spot;
 mod value;
 
 pub use fault::SetupError;
-pub use fields::{Root, Setup, read_table};
+pub use key::Key;
+pub use laws::setup_laws;
 pub use setup::read_setup;
-pub use value::{id_at, table_at, text_at, value_at};
+pub use spot::Spot;

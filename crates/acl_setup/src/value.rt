@@ -1,27 +1,35 @@
 //! The values of a table, by their types.
-ghost use Rattle.std.specs.Prelude.{◌≡◌, ◌≤◌, Option, IfSome, option_map};
-ghost use Rattle.toml.specs.Data.{Data, as_str, get_member};
+ghost use Rattle.std.specs.Prelude.{◌≡◌, ◌≤◌, ℕ, IfSome, Result, option_map};
+ghost use Rattle.toml.specs.Data.{Data, get_member};
 ghost use Rattle.toml.specs.View.{items_view, table_view, view};
+ghost use Rattle.acl_names.specs.Steps.{or_fault};
 ghost use Rattle.acl_names.specs.declared.limits.TheConstants.{MAX_ID};
-ghost use Rattle.acl_setup.specs.SetupTable.{IsReadingOf, each_item, id_at, id_of, items_at};
-ghost use Rattle.acl_setup.specs.SetupTable.{table_at, text_at, texts_at};
+ghost use Rattle.acl_setup.specs.Readings.{IsReadingOf, each_item, items_at};
+ghost use Rattle.acl_setup.specs.SetupTable.{id_at, id_of, mode_at, style_at, table_at, text_at};
+ghost use Rattle.acl_setup.specs.SetupTable.{texts_at, texts_in};
 ghost use Rattle.acl_setup.specs.Shown.{texts_shown};
 
 use crate::fault::SetupError;
+use crate::key::Key;
+use acl_bridge::Style;
 use acl_names::{Gid, MAX_ID, Uid};
+use acl_posix::Mode;
 use std::alloc::Global;
 use toml::{Table, Value};
 
-/// What a value may be read as.
+/// What an item of an array may be read as.
 pub(crate) trait FromValue: Drop {
-    ghost reading: { Data → Option Self };
+    ghost use Rattle.acl_setup.specs.declared.key.Key.{Key};
 
-    fn from_value(alloc: Global, value: &Value) -> Result<Self, SetupError>
-        ensures { IsReadingOf (λ read. read) (reading (view value.now)) result };
+    ghost reading: { ℕ → Data → Result Self Key };
+
+    /// What the item with this index is read as, or the first key at which it has no value.
+    fn from_value(alloc: Global, index: usize, value: &Value) -> Result<Self, SetupError>
+        ensures { IsReadingOf (λ read. read) (reading index (view value.now)) result };
 }
 
 /// The value at a key.
-pub fn value_at<'a>(table: &'a Table, key: &str) -> Option<&'a Value>
+fn value_at<'a>(table: &'a Table, key: &str) -> Option<&'a Value>
     ensures { option_map (λ value. view value.now) result
         ≡ get_member key.now (table_view table.now) }
 {
@@ -30,7 +38,7 @@ pub fn value_at<'a>(table: &'a Table, key: &str) -> Option<&'a Value>
 
 /// The text at a key.
 #[tactic(auto, unfolding(crate::specs::SetupTable::text_at))]
-pub fn text_at<'a>(table: &'a Table, key: &str) -> Option<&'a str>
+pub(crate) fn text_at<'a>(table: &'a Table, key: &str) -> Option<&'a str>
     ensures { option_map (λ text. text.now) result ≡ text_at key.now (table_view table.now) }
 {
     match value_at(table, key) {
@@ -41,7 +49,7 @@ pub fn text_at<'a>(table: &'a Table, key: &str) -> Option<&'a str>
 
 /// The table at a key.
 #[tactic(auto, unfolding(crate::specs::SetupTable::table_at))]
-pub fn table_at<'a>(table: &'a Table, key: &str) -> Option<&'a Table>
+pub(crate) fn table_at<'a>(table: &'a Table, key: &str) -> Option<&'a Table>
     ensures { option_map (λ inner. table_view inner.now) result
         ≡ table_at key.now (table_view table.now) }
 {
@@ -65,7 +73,7 @@ fn read_id(number: i64) -> Option<u32>
 
 /// The number of the id at a key.
 #[tactic(auto, unfolding(crate::specs::SetupTable::id_at))]
-pub fn id_at(table: &Table, key: &str) -> Option<u32>
+fn id_at(table: &Table, key: &str) -> Option<u32>
     ensures value { result ≡ id_at key.now (table_view table.now) }
     ensures in_range { IfSome result (λ id. id ≤ MAX_ID) }
 {
@@ -89,52 +97,80 @@ pub(crate) fn gid_at(table: &Table, key: &str) -> Option<Gid>
     Gid::new(id_at(table, key)?)
 }
 
-/// The texts that these values are.
-fn read_texts(alloc: Global, values: &[Value]) -> Result<Vec<String>, SetupError>
-    ensures { IsReadingOf texts_shown (each_item as_str (items_view values.now)) result }
+/// The mode at a key, which is written as three octal digits.
+pub(crate) fn mode_at(table: &Table, key: &str) -> Option<Mode>
+    ensures { result ≡ mode_at key.now (table_view table.now) }
+{
+    match text_at(table, key) {
+        Some(text) => Mode::from_octal(text.as_bytes()),
+        None => None,
+    }
+}
+
+/// The style at a key.
+pub(crate) fn style_at(table: &Table, key: &str) -> Option<Style>
+    ensures { result ≡ style_at key.now (table_view table.now) }
+{
+    match text_at(table, key) {
+        Some(text) => Style::read(text),
+        None => None,
+    }
+}
+
+/// The texts that these values are, which stand at this key of the setup.
+fn read_texts(alloc: Global, values: &[Value], at: Key) -> Result<Vec<String>, SetupError>
+    ensures { IsReadingOf texts_shown (or_fault at (texts_in (items_view values.now))) result }
 {
     let mut texts = Vec::new(alloc);
     for value in values {
-        let text = value.as_str().ok_or(SetupError::BadField)?;
+        let text = value.as_str().ok_or(SetupError::BadField(at))?;
         texts.push(String::from_str(alloc, text)?)?;
     }
     Ok(texts)
 }
 
-/// The texts at a key.
+/// The texts at a key, which is this one of the setup.
 #[tactic(auto, unfolding(crate::specs::SetupTable::texts_at))]
-pub(crate) fn texts_at(alloc: Global, table: &Table, key: &str) -> Result<Vec<String>, SetupError>
-    ensures { IsReadingOf texts_shown (texts_at key.now (table_view table.now)) result }
+pub(crate) fn texts_at(
+    alloc: Global,
+    table: &Table,
+    key: &str,
+    at: Key,
+) -> Result<Vec<String>, SetupError>
+    ensures { IsReadingOf texts_shown (or_fault at (texts_at key.now (table_view table.now)))
+        result }
 {
-    let value = value_at(table, key).ok_or(SetupError::BadField)?;
-    let values = value.as_array().ok_or(SetupError::BadField)?;
-    read_texts(alloc, values.as_slice())
+    let value = value_at(table, key).ok_or(SetupError::BadField(at))?;
+    let values = value.as_array().ok_or(SetupError::BadField(at))?;
+    read_texts(alloc, values.as_slice(), at)
 }
 
 fn read_items<T: FromValue>(alloc: Global, values: &[Value]) -> Result<Vec<T>, SetupError>
-    ensures { IsReadingOf (λ items. items.items) (each_item T.reading (items_view values.now))
+    ensures { IsReadingOf (λ items. items.items) (each_item T.reading 0 (items_view values.now))
         result }
 {
     let mut items = Vec::new(alloc);
-    for value in values {
-        items.push(T::from_value(alloc, value)?)?;
+    for index in 0..values.len() {
+        items.push(T::from_value(alloc, index, &values[index])?)?;
     }
     Ok(items)
 }
 
-/// The items at a key, of which there are none if it is absent.
-#[tactic(auto, unfolding(crate::specs::SetupTable::items_at))]
+/// The items of the array with this name, which is at this key of the setup. There are none if it
+/// is absent.
+#[tactic(auto, unfolding(crate::specs::Readings::items_at))]
 pub(crate) fn items_at<T: FromValue>(
     alloc: Global,
     table: &Table,
-    key: &str,
+    name: &str,
+    at: Key,
 ) -> Result<Vec<T>, SetupError>
-    ensures { IsReadingOf (λ items. items.items) (items_at T.reading key.now (table_view table.now))
-        result }
+    ensures { IsReadingOf (λ items. items.items)
+        (items_at T.reading at name.now (table_view table.now)) result }
 {
-    match value_at(table, key) {
+    match value_at(table, name) {
         Some(value) => {
-            let values = value.as_array().ok_or(SetupError::BadField)?;
+            let values = value.as_array().ok_or(SetupError::BadField(at))?;
             read_items(alloc, values.as_slice())
         }
         None => Ok(Vec::new(alloc)),
