@@ -13,9 +13,9 @@
  *
  * gids are all groups of the user, the primary one too, in any order. uid 0 has no special right here.
  *
- * Memory: a call takes none as long as no POSIX list has more than 8 entries (68 bytes) and no NFSv4 list, neither one that goes in
- * nor the one that comes out, more than 16; calls on texts always do. Else it calls malloc, frees all of it before it returns, and
- * answers MEARDWYN_NO_MEMORY if it gets none.
+ * Memory: checks of POSIX lists take none. Any other call takes none as long as no POSIX list has more than 8 entries (68 bytes) and
+ * no NFSv4 list, neither one that goes in nor the one that comes out, more than 16; calls on texts always do, and meardwyn_nfs4_to_xdr. Else it calls malloc,
+ * frees all of it before it returns, and answers MEARDWYN_NO_MEMORY if it gets none.
  */
 #ifndef MEARDWYN_H
 #define MEARDWYN_H
@@ -51,6 +51,7 @@ enum meardwyn_error {
     MEARDWYN_SYNTAX = -18,       /* a piece of a text has no shape of an entry */
     MEARDWYN_UNKNOWN_NAME = -19, /* a text or XDR has a name: map it to an id first */
     MEARDWYN_INVALID_LIST = -20, /* the entries of a text are no POSIX list: one, or the mask, is missing, or one stands twice */
+    MEARDWYN_UNKEPT_BITS = -21,  /* a call that puts a list would lose ACE4_INHERITED_ACE, or a bit of retention, of an entry */
 };
 
 /* The version of the calls, 0x10000: as long as the upper half is 1, what is here stays. */
@@ -67,9 +68,15 @@ enum { MEARDWYN_READ = 4, MEARDWYN_WRITE = 2, MEARDWYN_EXECUTE = 1 };
  * system.posix_acl_default: what getxattr(2) hands out.
  */
 
-/* 1 if the list grants a user who is in these groups all of the request, for a file of this owner and this group; 0 if not. */
+/* 1 if the list grants a user who is in these groups all of the request, for a file of this owner and this group; 0 if not. It takes
+   no memory, and neither does the next. */
 int32_t meardwyn_posix_check(const uint8_t *xattr, size_t xattr_len, uint32_t owner, uint32_t group, uint32_t uid,
                              const uint32_t *gids, size_t gids_len, uint32_t request);
+
+/* The same as Linux decides it, which passes over a list whose mask has no permission and goes by the file's mode: whom the list names
+   is then decided by the mode like anybody else, where draft 17 denies. */
+int32_t meardwyn_posix_check_linux(const uint8_t *xattr, size_t xattr_len, uint32_t owner, uint32_t group, uint32_t uid,
+                                   const uint32_t *gids, size_t gids_len, uint32_t request);
 
 /* 0 if the bytes are a list, in whatever order. */
 int32_t meardwyn_posix_valid(const uint8_t *xattr, size_t xattr_len);
@@ -116,6 +123,9 @@ int32_t meardwyn_posix_compare(const uint8_t *first, size_t first_len, uint32_t 
 
 /*
  * NFSv4 lists, RFC 8881, as arrays of entries, of which the first decides first.
+ *
+ * ACE4_INHERITED_ACE, ACE4_WRITE_RETENTION and ACE4_WRITE_RETENTION_HOLD decide nothing that is asked here. Calls that only decide
+ * (check, allowed, valid, mode, compare) pass over them; a call that puts a list or a text can't keep them, and refuses the list.
  */
 struct meardwyn_ace {
     uint32_t type;        /* 0 ALLOW, 1 DENY, 2 AUDIT, 3 ALARM */
@@ -152,6 +162,9 @@ int32_t meardwyn_nfs4_inherit(const struct meardwyn_ace *aces, size_t aces_len, 
 /* The list of the bytes of system.nfs4_acl: a count, and type, flag, mask and who of each, where who is OWNER@, GROUP@, EVERYONE@ or an
    id in decimal. */
 int32_t meardwyn_nfs4_from_xdr(const uint8_t *xdr, size_t xdr_len, struct meardwyn_ace *out, size_t out_len, size_t *needed);
+
+/* Such bytes of a list: they are read as that list again. It takes memory. */
+int32_t meardwyn_nfs4_to_xdr(const struct meardwyn_ace *aces, size_t aces_len, uint8_t *out, size_t out_len, size_t *needed);
 
 /* The list of a text as this project writes it, "A::OWNER@:rwx,A:g:50:r", with ids in decimal, and such a text of a list. These take
    memory. */

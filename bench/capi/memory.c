@@ -64,11 +64,12 @@ static int call(int which)
     case 15: return meardwyn_nfs4_chmod(aces, n, 0640, out, 128, &needed);
     case 16: return meardwyn_nfs4_to_text(aces, n, text, sizeof text, &needed);
     case 17: return meardwyn_posix_to_text(b.at, b.length, text, sizeof text, &needed);
+    case 19: return meardwyn_nfs4_to_xdr(aces, n, bytes, sizeof bytes, &needed) == MEARDWYN_NO_MEMORY ? MEARDWYN_NO_MEMORY : 0;
     case 18: return meardwyn_posix_from_text("u::rw-,g::r--,o::---", 20, bytes, sizeof bytes, &needed);
     default: return meardwyn_nfs4_from_text("A::OWNER@:rw", 12, out, 128, &needed);
     }
 }
-enum { CALLS = 20, FREE_OF_MEMORY = 15 };
+enum { CALLS = 21, FREE_OF_MEMORY = 15 };
 
 static void of_length(int posix, int nfs4, int may_take)
 {

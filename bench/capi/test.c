@@ -157,16 +157,18 @@ static void beside_the_kernel(int lists)
                 read_attribute(file, "system.posix_acl_access", &told);
                 SAME("bytes", &b, same_bytes(&told, out, needed), 1);
             }
-            /* decisions, but for an empty mask, which the kernel doesn't look at */
+            /* decisions; draft 17's are the same but for an empty mask */
             uint32_t mask = 7;
             for (const uint8_t *p = b.at + 4; p < b.at + b.length; p += 8) if (le16(p) == MASK) mask = le16(p + 2);
-            if (mask && i % 3 == 0) {
+            if (i % 3 == 0) {
                 uint32_t owner = 1 + below(8), group = 1 + below(8), uid = 1 + below(16);
                 gid_t gids[3] = {1 + below(12), 1 + below(12), 1 + below(12)};
                 if (chown(file, owner, group)) exit(1);
                 unsigned answers = kernel_answers(file, uid, gids, 3);
-                for (int want = 1; want < 8; want++, asked++)
-                    SAME("kernel's check", &b, meardwyn_posix_check(b.at, b.length, owner, group, uid, gids, 3, want), answers >> want & 1);
+                for (int want = 1; want < 8; want++, asked++) {
+                    SAME("kernel's check", &b, meardwyn_posix_check_linux(b.at, b.length, owner, group, uid, gids, 3, want), answers >> want & 1);
+                    if (mask) SAME("kernel's check by the draft", &b, meardwyn_posix_check(b.at, b.length, owner, group, uid, gids, 3, want), answers >> want & 1);
+                }
             }
             /* chmod */
             uint32_t mode = below(512);
@@ -268,7 +270,7 @@ static size_t xdr_of(const struct meardwyn_ace *aces, size_t n, uint8_t *to)
 static void nfs4(int lists)
 {
     static struct meardwyn_ace aces[MOST_ACES], other[MOST_ACES], again[MOST_ACES];
-    static uint8_t xdr[8192];
+    static uint8_t xdr[8192], written[8192];
     static char text[16384];
     int checks = 0, alike = 0, told = 0;
     for (int i = 0; i < lists; i++) {
@@ -294,6 +296,7 @@ static void nfs4(int lists)
         /* XDR and texts give the same entries. */
         size_t len = xdr_of(aces, n, xdr);
         must(meardwyn_nfs4_from_xdr(xdr, len, again, MOST_ACES, &needed) == 0 && needed == n && !memcmp(again, aces, n * sizeof *aces), "XDR");
+        must(meardwyn_nfs4_to_xdr(aces, n, written, sizeof written, &needed) == 0 && needed == len && !memcmp(written, xdr, len), "XDR that is written");
         must(meardwyn_nfs4_from_xdr(xdr, len - 1, again, MOST_ACES, &needed) == MEARDWYN_BAD_SIZE, "XDR that is cut");
         must(meardwyn_nfs4_to_text(aces, n, text, sizeof text, &needed) == 0, "text");
         if (n) must(meardwyn_nfs4_from_text(text, needed, again, MOST_ACES, &needed) == 0 && needed == n && !memcmp(again, aces, n * sizeof *aces),
@@ -386,13 +389,15 @@ static void edges(void)
     puts("edges");
 }
 
-int main(void)
+/* test [PERCENT]: of the usual numbers of lists so many percent. */
+int main(int count, char **words)
 {
+    int percent = count > 1 ? atoi(words[1]) : 100;
     edges();
-    nfs4(4000);
-    between(4000);
-    beside_libacl(20000);
-    beside_the_kernel(1500);
+    nfs4(40 * percent);
+    between(40 * percent);
+    beside_libacl(200 * percent);
+    beside_the_kernel(15 * percent);
     puts("ok");
     return 0;
 }

@@ -12,6 +12,7 @@ TOP = Path(__file__).resolve().parent.parent.parent
 SLOW = 600
 SCRIPTS = ("aclctl", "build-aclctl", "install", "release", "host-setup")
 FILES = (*(f"scripts/{it}" for it in SCRIPTS), "docs/aclctl.1", "completions/aclctl.bash")
+FILES += ("include/meardwyn.h", "docs/meardwyn.3")
 FILES += ("completions/_aclctl", "README.md", "LICENSE-APACHE", "LICENSE-MIT", "CHANGELOG.md")
 # It builds the program, unless it is told not to, and writes down that it was called.
 KIT = """#!/bin/sh
@@ -19,6 +20,15 @@ echo "$*" >> "$ROOM/calls"
 [ ! -e "$ROOM/bad" ] || exit 1
 mkdir -p out
 cp "$ROOM/program" out/aclctl
+"""
+# It builds the C library, unless it is told not to.
+LIBRARY = """#!/bin/sh
+cd "$(dirname "$0")/.."
+[ ! -e "$ROOM/bad" ] || exit 1
+mkdir -p out/capi out/build
+echo static > out/capi/libmeardwyn.a
+echo shared > out/capi/libmeardwyn.so.1
+sha256sum out/capi/* > out/build/capi.sha256
 """
 VERSION = re.search(r"^## (\S+)", (TOP / "CHANGELOG.md").read_text(), re.M)[1]
 
@@ -39,6 +49,7 @@ class SmallCheckout:
         (self.top / "crates/aclctl/src/main.rt").write_text("")
         (room / "bin").mkdir()
         self.write("bin/rt", KIT)
+        self.write("checkout/scripts/build-capi", LIBRARY)
         self.write("program", f'#!/bin/sh\necho "aclctl {VERSION}"\n')
         path = f"{room}/bin:{os.environ['PATH']}"
         self.env = {**os.environ, "PATH": path, "ROOM": str(room), "GIT_CONFIG_GLOBAL": "/dev/null"}

@@ -17,6 +17,9 @@ PLACES = {
     "share/bash-completion/completions/aclctl": "completions/aclctl.bash",
     "share/zsh/site-functions/_aclctl": "completions/_aclctl",
 }
+# Where the files of the C library go, but for the manual pages of the calls.
+LIBRARY = {"include/meardwyn.h", "lib/libmeardwyn.a", "lib/libmeardwyn.so", "lib/libmeardwyn.so.1"}
+LIBRARY |= {"lib/pkgconfig/meardwyn.pc", "share/man/man3/meardwyn.3"}
 RECORD = "share/aclctl/installed"
 STRANGER = "crates/aclctl/out/aclctl is not what scripts/build-aclctl left: run that first"
 
@@ -136,6 +139,36 @@ class Install(unittest.TestCase):
         program.write_text("#!/bin/sh\necho 'aclctl, but not proved'\n")
         self.refused(STRANGER)
         self.assertEqual(self.checkout.builds(), 1)
+
+    def pages(self):
+        """The manual pages of the calls that the header declares."""
+        header = (self.checkout.top / "include/meardwyn.h").read_text()
+        calls = {it.split("(")[0].split()[-1] for it in header.splitlines() if "int32_t meardwyn_" in it}
+        return {f"share/man/man3/{it}.3" for it in calls}
+
+    def test_the_library_comes_with_its_header_its_pages_and_what_pkg_config_reads(self):
+        self.assertEqual(self.install("--library")[0], 0)
+        self.assertEqual(self.files(self.prefix), {*PLACES, RECORD, *LIBRARY, *self.pages()})
+        link = self.prefix / "lib/libmeardwyn.so"
+        self.assertEqual((os.readlink(link), link.read_text()), ("libmeardwyn.so.1", "shared\n"))
+        told = (self.prefix / "lib/pkgconfig/meardwyn.pc").read_text().splitlines()
+        self.assertEqual(told[0], f"prefix={self.prefix}")
+        self.assertIn(f"Version: {VERSION}", told)
+        self.assertIn(".so man3/meardwyn.3", (self.prefix / sorted(self.pages())[0]).read_text())
+        self.install("--uninstall")
+        self.assertFalse((self.room / "new").exists())
+
+    def test_the_library_goes_without_the_program(self):
+        self.assertEqual(self.install("--library", "--no-program")[0], 0)
+        self.assertEqual(self.files(self.prefix), {RECORD, *LIBRARY, *self.pages()})
+        self.assertEqual(self.checkout.builds(), 0)
+
+    def test_a_library_that_cannot_be_built_is_not_installed(self):
+        (self.room / "bad").touch()
+        status, lines, errors = self.install("--library", "--no-program")
+        why = "scripts/install: the C library could not be built"
+        self.assertEqual((status, lines, errors[-1]), (1, [], why))
+        self.assertFalse((self.room / "new").exists())
 
     def test_what_cannot_be_written_is_told(self):
         (self.room / "new").write_text("a file")

@@ -4,3 +4,4 @@ pub mod MembershipLemmas
 pub mod RangeLemmas
 pub mod FirstLemmas
 pub mod ResultLemmas
+pub mod PlaceLemmas

@@ -3,7 +3,7 @@ use Rattle.std.proofs.Common.{◌≡◌, ◌∙◌, ℕ, List, [], ◌∷◌, ma
 use Rattle.acl_accounts.specs.Accounts.{gids_with}
 use Rattle.acl_accounts.specs.Accounts as accounts
 use Rattle.acl_accounts.specs.Views.{view_membership}
-use Rattle.acl_accounts.specs.declared.accounts.Membership.{Membership}
+use Rattle.acl_accounts.specs.declared.memberships.Membership.{Membership}
 use Rattle.acl_accounts.proofs.SortLemmas.{map-filter}
 
 gids_map : (members : List Membership) → map (λ (member : Membership). member.gid) members ≡ map (λ (member : accounts.Membership). member.gid) (map view_membership members)

@@ -55,6 +55,13 @@ plain_byte byte is (a ∷ []) = refl
 plain_byte byte is (a ∷ b ∷ []) = refl
 plain_byte byte is (a ∷ b ∷ c ∷ more) = rw is refl
 
+-- without one, a text is itself
+pub plain_text : (text : List ℕ) → list_any (λ byte. byte == backslash) text ≡ false → unquoted text ≡ text
+plain_text [] plain = refl
+plain_text (byte ∷ text) plain =
+    let parts = or_false (byte == backslash) (list_any (λ other. other == backslash) text) plain in
+    plain_byte byte parts.0 text ∙ ap (λ rest. byte ∷ rest) (plain_text text parts.1)
+
 byte_again : (byte : ℕ) (rest : List ℕ) → unquoted (quoted_byte byte ++ rest) ≡ byte ∷ unquoted rest
 byte_again byte rest =
     elim (cases_Bool (is_quoted byte)) [
@@ -119,3 +126,6 @@ nothing_splits (byte ∷ name) =
           ap (λ b. list_any splits (cond b (octal byte) (byte ∷ []) ++ quoted name)) plain
           ∙ ap (λ b. b || list_any splits (quoted name)) (or_false _ (byte == backslash) plain).0 ∙ rest
     ]
+
+-- what is said of a printed name
+pub ruleset printed_laws = (written_again, nothing_splits)

@@ -8,7 +8,9 @@ use Rattle.std.proofs.lemmas.List.{length-map}
 use Rattle.acl_names.specs.Ascending.{IsAscending}
 use Rattle.acl_names.specs.Directory.{first_of}
 use Rattle.acl_names.proofs.AscendingLemmas.{get_or-within}
-use Rattle.acl_accounts.specs.Accounts.{KnownAccount, KnownAccountGroup, Membership, each_once, account_with, account_of, group_of, memberships_of}
+use Rattle.acl_names.specs.Requester.{Identity}
+use Rattle.acl_accounts.specs.Accounts.{KnownAccount, KnownAccountGroup, Membership, each_once, account_of, group_of, memberships_of}
+use Rattle.acl_accounts.specs.Accounts.{requester_of, requester_with}
 use Rattle.acl_accounts.specs.Firsts.{AreFirsts}
 use Rattle.acl_accounts.specs.Rows as text
 use Rattle.acl_accounts.specs.Views.{view_group, view_user}
@@ -42,33 +44,22 @@ find-map {X} {Y} f p (x ∷ xs) = go (p (f x)) (find-map f p xs)
 find_stays : {X : Type 0} (p : X → Bool) (old new : List X) → filter p new ≡ filter p old → find p new ≡ find p old
 find_stays p old new kept = find-filter p new ∙ ap first_of kept ∙ sym (find-filter p old)
 
-map_agree : {X Y : Type 0} (f g : X → Y) → ((x : X) → f x ≡ g x) → (o : Option X) → option_map f o ≡ option_map g o
-map_agree f g agree None = refl
-map_agree f g agree (Some x) = ap Some (agree x)
-
 map_twice : {X Y Z : Type 0} (f : X → Y) (g : Y → Z) (o : Option X) → option_map (λ x. g (f x)) o ≡ option_map g (option_map f o)
 map_twice f g None = refl
 map_twice f g (Some x) = refl
 
 -- the users, by those of their rows that stand first
-pub users_found : (rows sorted firsts : List UserRow) (groups : List text.GroupRow) (members : List Membership)
+pub users_found : (rows sorted firsts : List UserRow)
     → ((name : List ℕ) → filter (λ (row : UserRow). bytes_eq row.name.now name) sorted ≡ filter (λ (row : UserRow). bytes_eq row.name.now name) rows)
     → AreFirsts (λ (row : UserRow). row.name.now) sorted firsts
-    → ((name : List ℕ) → filter (λ (member : Membership). bytes_eq member.name name) members ≡ filter (λ (member : Membership). bytes_eq member.name name) (memberships_of groups))
-    → (name : List ℕ) → find (λ (user : KnownAccount). bytes_eq user.name name) (map (λ (row : UserRow). account_with members (view_user row)) firsts)
-    ≡ option_map (account_of groups) (find (λ (row : text.UserRow). bytes_eq row.name name) (map view_user rows))
-users_found rows sorted firsts groups members kept are same name =
+    → (name : List ℕ) → find (λ (user : KnownAccount). bytes_eq user.name name) (map (λ (row : UserRow). account_of (view_user row)) firsts)
+    ≡ option_map account_of (find (λ (row : text.UserRow). bytes_eq row.name name) (map view_user rows))
+users_found rows sorted firsts kept are name =
     let has : UserRow → Bool = λ row. bytes_eq row.name.now name in
-    let agree : (row : UserRow) → account_with members (view_user row) ≡ account_of groups (view_user row) =
-    λ row. ap (λ ms. account row (map (λ (member : Membership). member.gid) ms)) (same row.name.now) in
-    find-map (λ (row : UserRow). account_with members (view_user row)) (λ (user : KnownAccount). bytes_eq user.name name) firsts
-    ∙ ap (option_map (λ (row : UserRow). account_with members (view_user row))) (are.found name ∙ find_stays has rows sorted (kept name))
-    ∙ map_agree (λ (row : UserRow). account_with members (view_user row)) (λ (row : UserRow). account_of groups (view_user row)) agree (find has rows)
-    ∙ map_twice view_user (account_of groups) (find has rows)
-    ∙ ap (option_map (account_of groups)) (sym (find-map view_user (λ (row : text.UserRow). bytes_eq row.name name) rows))
-  where
-    account : UserRow → List ℕ → KnownAccount
-    account row gids = record { name = row.name.now; uid = row.uid; gids = each_once (row.gid ∷ gids) }
+    find-map (λ (row : UserRow). account_of (view_user row)) (λ (user : KnownAccount). bytes_eq user.name name) firsts
+    ∙ ap (option_map (λ (row : UserRow). account_of (view_user row))) (are.found name ∙ find_stays has rows sorted (kept name))
+    ∙ map_twice view_user account_of (find has rows)
+    ∙ ap (option_map account_of) (sym (find-map view_user (λ (row : text.UserRow). bytes_eq row.name name) rows))
 
 -- the groups, by those of their rows that stand first
 pub groups_found : (rows sorted firsts : List GroupRow)
@@ -82,3 +73,20 @@ groups_found rows sorted firsts kept are name =
     ∙ ap (option_map (λ (row : GroupRow). group_of (view_group row))) (are.found name ∙ find_stays has rows sorted (kept name))
     ∙ map_twice view_group group_of (find has rows)
     ∙ ap (option_map group_of) (sym (find-map view_group (λ (row : text.GroupRow). bytes_eq row.name name) rows))
+
+-- those who ask, with the groups that each is a member of
+pub requesters_asked : (groups : List text.GroupRow) (members : List Membership)
+    → ((name : List ℕ) → filter (λ (member : Membership). bytes_eq member.name name) members ≡ filter (λ (member : Membership). bytes_eq member.name name) (memberships_of groups))
+    → (users : List KnownAccount) → map (requester_with members) users ≡ map (requester_of groups) users
+requesters_asked groups members same [] = refl
+requesters_asked groups members same (user ∷ users) =
+    ap (λ ms. requester user (map (λ (member : Membership). member.gid) ms) ∷ map (requester_with members) users) (same user.name)
+    ∙ ap (λ more. requester_of groups user ∷ more) (requesters_asked groups members same users)
+  where
+    requester : KnownAccount → List ℕ → Identity
+    requester one gids = record { uid = one.uid; gids = each_once (one.gid ∷ gids) }
+
+pub uids_asked : (members : List Membership) (users : List KnownAccount)
+    → map (λ (who : Identity). who.uid) (map (requester_with members) users) ≡ map (λ (user : KnownAccount). user.uid) users
+uids_asked members [] = refl
+uids_asked members (user ∷ users) = ap (λ uids. user.uid ∷ uids) (uids_asked members users)

@@ -1,31 +1,35 @@
 -- The users and groups of a host.
 use Rattle.std.specs.Prelude.{◌≡◌, ℕ, ◌==◌, nat_lt, List, [], ◌∷◌, length, Option}
-use Rattle.std.specs.Prelude.{option_map, ◌++◌, fold, map, filter, Result, Err, if◌then◌else◌, bytes_eq}
-use Rattle.std.specs.List.{find, flat_map, list_any}
+use Rattle.std.specs.Prelude.{option_map, ◌++◌, fold, map, filter, Result, Err, if◌then◌else◌}
+use Rattle.std.specs.Prelude.{bytes_eq}
+use Rattle.std.specs.List.{find, flat_map, list_any, position}
 use Rattle.std.specs.Cmp.Lexicographic.{slice_cmp}
 use Rattle.std.specs.Ordering.{nat_cmp}
 use Rattle.acl_names.specs.Ascending.{IsAscending}
 use Rattle.acl_names.specs.Bytes.{comma}
+use Rattle.acl_names.specs.Ids.{Written, Number, Name}
 use Rattle.acl_names.specs.Pieces.{parts}
+use Rattle.acl_names.specs.Requester.{Identity}
 use Rattle.acl_accounts.specs.Rows.{Rows, UserRow, GroupRow, rows_of}
 use Rattle.acl_accounts.specs.declared.fault.AccountsFault.{AccountsFault}
 use Rattle.acl_accounts.specs.declared.fault.AccountsFault.TheVariants.{TooMany}
 use Rattle.acl_accounts.specs.declared.limits.TheConstants.{MAX_ACCOUNTS_TEXT}
 
--- a user, with the gids of the user's groups, the user's own first
+-- a user, with the gid of the user's own group
 pub record KnownAccount : Type 0 where
   pub name : List ℕ
   pub uid : ℕ
-  pub gids : List ℕ
+  pub gid : ℕ
 
 pub record KnownAccountGroup : Type 0 where
   pub name : List ℕ
   pub gid : ℕ
 
--- what is known of a host
+-- what is known of a host; each user has a place, also among those who ask
 pub record KnownAccounts : Type 0 where
   pub users : List KnownAccount
   pub groups : List KnownAccountGroup
+  pub requesters : List Identity
 
 -- each once, where it stands first
 abbrev pub with_once : List ℕ → ℕ → List ℕ
@@ -54,17 +58,19 @@ abbrev pub gids_with : List ℕ → List Membership → List ℕ
 gids_with name memberships =
     map (λ member. member.gid) (filter (λ member. bytes_eq member.name name) memberships)
 
--- the groups of a user: the user's own, then in the order of the file each of which the user is a
--- member, each once
-abbrev pub account_with : List Membership → UserRow → KnownAccount
-account_with memberships user = record {
-  name = user.name;
+-- a user as one who asks: in the user's own group, then in the order of the file in each of which
+-- the user is a member, in each once
+abbrev pub requester_with : List Membership → KnownAccount → Identity
+requester_with memberships user = record {
   uid = user.uid;
   gids = each_once (user.gid ∷ gids_with user.name memberships);
 }
 
-abbrev pub account_of : List GroupRow → UserRow → KnownAccount
-account_of groups user = account_with (memberships_of groups) user
+abbrev pub requester_of : List GroupRow → KnownAccount → Identity
+requester_of groups user = requester_with (memberships_of groups) user
+
+abbrev pub account_of : UserRow → KnownAccount
+account_of user = record { name = user.name; uid = user.uid; gid = user.gid }
 
 abbrev pub group_of : GroupRow → KnownAccountGroup
 group_of group = record { name = group.name; gid = group.gid }
@@ -76,24 +82,51 @@ account_named accounts name = find (λ user. bytes_eq user.name name) accounts.u
 abbrev pub group_named : KnownAccounts → List ℕ → Option KnownAccountGroup
 group_named accounts name = find (λ group. bytes_eq group.name name) accounts.groups
 
+-- the ids of names
 abbrev pub uid_of : KnownAccounts → List ℕ → Option ℕ
 uid_of accounts name = option_map (λ user. user.uid) (account_named accounts name)
 
 abbrev pub gid_of : KnownAccounts → List ℕ → Option ℕ
 gid_of accounts name = option_map (λ group. group.gid) (group_named accounts name)
 
--- the users and the groups stand in the order of their names, each name once
+-- the names of ids: of those who share one, the first in the order of names
+abbrev pub user_name : KnownAccounts → ℕ → Option (List ℕ)
+user_name accounts uid =
+    option_map (λ user. user.name) (find (λ user. user.uid == uid) accounts.users)
+
+abbrev pub group_name : KnownAccounts → ℕ → Option (List ℕ)
+group_name accounts gid =
+    option_map (λ group. group.name) (find (λ group. group.gid == gid) accounts.groups)
+
+-- the place of the user who is written: by a name, or by an id, which is the first one's who has it
+abbrev pub place_of_written : KnownAccounts → Written → Option ℕ
+place_of_written accounts (Number uid) = position (λ user. user.uid == uid) accounts.users
+place_of_written accounts (Name name) = position (λ user. bytes_eq user.name name) accounts.users
+
+-- the users and the groups stand in the order of their names, each name once, and those who ask are
+-- the users
 pub record AreInOrder (accounts : KnownAccounts) : Type 0 where
   pub users : IsAscending (slice_cmp nat_cmp) (λ user. user.name) accounts.users
   pub groups : IsAscending (slice_cmp nat_cmp) (λ group. group.name) accounts.groups
+  pub uids : map (λ requester. requester.uid) accounts.requesters
+      ≡ map (λ user. user.uid) accounts.users
 
--- the accounts of rows: in order, and each name is that of its first row
+-- accounts whose members are found by their ids in these maps
+pub record AreIndexed (accounts : KnownAccounts) (user_places group_places : ℕ → Option ℕ) : Type 0
+  where
+    pub ordered : AreInOrder accounts
+    pub users : (uid : ℕ) → user_places uid ≡ position (λ user. user.uid == uid) accounts.users
+    pub groups : (gid : ℕ) → group_places gid ≡ position (λ group. group.gid == gid) accounts.groups
+
+-- the accounts of rows: in order, each name is that of its first row, and each user asks with the
+-- groups of all rows
 pub record AreOf (rows : Rows) (accounts : KnownAccounts) : Type 0 where
   pub ordered : AreInOrder accounts
   pub users : (name : List ℕ) → account_named accounts name
-      ≡ option_map (account_of rows.groups) (find (λ row. bytes_eq row.name name) rows.users)
+      ≡ option_map account_of (find (λ row. bytes_eq row.name name) rows.users)
   pub groups : (name : List ℕ) → group_named accounts name
       ≡ option_map group_of (find (λ row. bytes_eq row.name name) rows.groups)
+  pub requesters : accounts.requesters ≡ map (requester_of rows.groups) accounts.users
 
 -- the rows of a text that is not too long
 abbrev pub rows_within : List ℕ → Result Rows AccountsFault

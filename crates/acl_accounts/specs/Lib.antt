@@ -3,3 +3,4 @@ pub mod Rows
 pub mod Accounts
 pub mod Views
 pub mod Firsts
+pub mod Seen

@@ -33,7 +33,8 @@ is_quoted byte = splits byte || (byte == backslash)
 
 -- `\` and the three octal digits of a byte
 abbrev pub octal : ℕ → List ℕ
-octal byte = backslash ∷ (digit_0 + byte / 64) ∷ (digit_0 + byte / 8 % 8) ∷ (digit_0 + byte % 8) ∷ []
+octal byte =
+    backslash ∷ (digit_0 + byte / 64) ∷ (digit_0 + byte / 8 % 8) ∷ (digit_0 + byte % 8) ∷ []
 
 abbrev pub quoted_byte : ℕ → List ℕ
 quoted_byte byte = if is_quoted byte then octal byte else byte ∷ []

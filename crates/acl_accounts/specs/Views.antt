@@ -3,7 +3,7 @@ use Rattle.std.specs.Prelude.{map}
 use Rattle.acl_names.specs.Ids as ids
 use Rattle.acl_accounts.specs.Rows as text
 use Rattle.acl_accounts.specs.Accounts as accounts
-use Rattle.acl_accounts.specs.declared.accounts.Membership.{Membership}
+use Rattle.acl_accounts.specs.declared.memberships.Membership.{Membership}
 use Rattle.acl_accounts.specs.declared.rows.UserRow.{UserRow}
 use Rattle.acl_accounts.specs.declared.rows.GroupRow.{GroupRow}
 use Rattle.acl_accounts.specs.declared.rows.Row.{Row}

@@ -1,130 +1,84 @@
 //! The users and groups of a host.
 
-ghost use Rattle.std.specs.Prelude.{◌≡◌, ◌≢◌, ◌==◌, ℕ, List, ◌∷◌, bytes_eq, length, ◌++◌, ◌≤◌, map, filter, OnOk, IfOk, IfErr, IsOk, Ok, Err};
+ghost use Rattle.std.specs.Prelude.{◌≡◌, ◌≢◌, map, IfErr, IfOk, IfSome, IsOk, Err, Some};
+ghost use Rattle.std.specs.Prelude.{bytes_eq, option_map};
 ghost use Rattle.std.specs.Cmp.Lexicographic.{slice_cmp};
-ghost use Rattle.std.specs.Ordering.{is_lt, nat_cmp};
+ghost use Rattle.std.specs.List.{position};
 ghost use Rattle.std.specs.Option.{option_copied};
-ghost use Rattle.acl_accounts.specs.Views.{view_rows, view_group, view_membership, view_user};
+ghost use Rattle.std.specs.Ordering.{nat_cmp};
 ghost use Rattle.acl_names.specs.Ascending.{IsAscending};
-ghost use Rattle.acl_accounts.specs.Accounts.{memberships_of, account_with, each_once, group_of, with_once};
-ghost use Rattle.std.specs.List.{list_any};
-ghost use Rattle.std.specs.List.Sorted.{IsSortedByKey};
-ghost use Rattle.acl_accounts.specs.Accounts.{AreOf, memberships_in, account_named, gid_of, rows_within, uid_of};
+ghost use Rattle.acl_names.specs.Ids.{id_of_written};
+ghost use Rattle.acl_accounts.specs.Accounts.{AreOf, account_named, account_of, gid_of, group_name};
+ghost use Rattle.acl_accounts.specs.Accounts.{group_of, place_of_written, rows_within, uid_of};
+ghost use Rattle.acl_accounts.specs.Accounts.{user_name};
+ghost use Rattle.acl_accounts.specs.Views.{view_group, view_rows, view_user, view_written};
 ghost use Rattle.acl_accounts.specs.declared.fault.AccountsFault.TheVariants.{Memory};
 
+use crate::account::Account;
 use crate::fault::AccountsFault;
-use crate::guesses::{find_by_hash, guesses_of};
+use crate::group::AccountGroup;
+use crate::guesses::{find_by_hash, guesses_of, place_by_hash};
 use crate::limits::MAX_ACCOUNTS_TEXT;
+use crate::memberships::memberships_of;
 use crate::named::{first_of_each, sort_by_name};
+use crate::places::{find_by_id, places_by_id};
+use crate::requesters::requesters_of;
 use crate::rows::{GroupRow, Rows, UserRow, read_rows};
-use acl_names::Parts;
+use crate::written::WrittenAccount;
+use acl_names::{Gid, Requester, Uid};
 use std::alloc::{AllocError, Global};
+use std::collections::HashMap;
 use std::marker::Model;
-
-/// A user. A contract sees its name, its uid and its gids.
-#[derive(Debug, Drop)]
-pub struct Account {
-    name: Vec<u8>,
-    uid: u32,
-    gids: Vec<u32>,
-}
-
-impl Model for Account {
-    ghost use Rattle.acl_accounts.specs.Accounts.{KnownAccount};
-
-    ghost Value = { KnownAccount };
-
-    ghost view = { λ inside. record {
-      name = inside.name.items;
-      uid = inside.uid;
-      gids = inside.gids.items;
-    } };
-}
-
-impl Account {
-    /// The bytes of the user's name.
-    pub fn name(&self) -> &[u8]
-        ensures { result.now ≡ self.now.name }
-    {
-        self.name.as_slice()
-    }
-
-    /// The user's number.
-    pub fn uid(&self) -> u32
-        ensures { result ≡ self.now.uid }
-    {
-        self.uid
-    }
-
-    /// The numbers of the user's groups, the user's own first, and then in the order of the file.
-    pub fn gids(&self) -> &[u32]
-        ensures { result.now ≡ self.now.gids }
-    {
-        self.gids.as_slice()
-    }
-}
-
-/// A group. A contract sees its name and its gid.
-#[derive(Debug, Drop)]
-pub struct AccountGroup {
-    name: Vec<u8>,
-    gid: u32,
-}
-
-impl Model for AccountGroup {
-    ghost use Rattle.acl_accounts.specs.Accounts.{KnownAccountGroup};
-
-    ghost Value = { KnownAccountGroup };
-
-    ghost view = { λ inside. record { name = inside.name.items; gid = inside.gid } };
-}
-
-impl AccountGroup {
-    /// The bytes of the group's name.
-    pub fn name(&self) -> &[u8]
-        ensures { result.now ≡ self.now.name }
-    {
-        self.name.as_slice()
-    }
-
-    /// The group's number.
-    pub fn gid(&self) -> u32
-        ensures { result ≡ self.now.gid }
-    {
-        self.gid
-    }
-}
 
 /// The users and groups of a host, in the order of their names.
 #[derive(Debug, Drop)]
 pub struct Accounts {
     users: Vec<Account>,
     groups: Vec<AccountGroup>,
+    /// Each user as one who asks, in the order of the users.
+    requesters: Vec<Requester>,
     /// Guesses of the users' places by their names.
     user_guesses: Vec<u32>,
     /// Guesses of the groups' places by their names.
     group_guesses: Vec<u32>,
+    /// The place of the first user with each uid.
+    user_places: HashMap<u32, usize>,
+    /// The place of the first group with each gid.
+    group_places: HashMap<u32, usize>,
 }
 
 impl Model for Accounts {
-    ghost use Rattle.acl_accounts.specs.Accounts.{AreInOrder, KnownAccounts};
+    ghost use Rattle.std.specs.Prelude.{nat_eq};
+    ghost use Rattle.std.specs.HashMap.{get};
+    ghost use Rattle.acl_accounts.specs.Accounts.{AreIndexed, KnownAccounts};
 
     ghost Value = { KnownAccounts };
 
-    ghost view = { λ inside. record { users = inside.users.items; groups = inside.groups.items } };
+    ghost view = { λ inside. record {
+      users = inside.users.items;
+      groups = inside.groups.items;
+      requesters = inside.requesters.items;
+    } };
 
-    ghost invariant = { λ inside.
-        AreInOrder (record { users = inside.users.items; groups = inside.groups.items }) };
+    ghost invariant = { λ inside. AreIndexed
+        (record {
+          users = inside.users.items;
+          groups = inside.groups.items;
+          requesters = inside.requesters.items;
+        })
+        (get nat_eq inside.user_places) (get nat_eq inside.group_places) };
 }
 
 impl Accounts {
     /// The accounts that a text lists: what `getent passwd` and `getent group` print, in any order.
-    /// The first line that is bad, or one too many, decides. `Memory` comes only if memory runs out.
+    /// The first line that is bad, or one too many, decides. `Memory` comes only if memory runs
+    /// out.
     pub fn read(alloc: Global, text: &[u8]) -> Result<Accounts, AccountsFault>
         ensures read { IfOk result (λ accounts. IfOk (rows_within text.now)
             (λ rows. AreOf rows accounts)) }
         ensures good { IfOk result (λ _. IsOk (rows_within text.now)) }
-        ensures fault { IfErr result (λ fault. (fault ≢ Memory) → rows_within text.now ≡ Err fault) }
+        ensures fault { IfErr result (λ fault. (fault ≢ Memory)
+            → rows_within text.now ≡ Err fault) }
     {
         if text.len() > MAX_ACCOUNTS_TEXT {
             return Err(AccountsFault::TooMany);
@@ -148,15 +102,21 @@ impl Accounts {
         sort_by_name(&mut groups)?;
         let first_users = first_of_each(alloc, &users)?;
         let first_groups = first_of_each(alloc, &groups)?;
-        let users = accounts_of(alloc, &first_users, &memberships)?;
+        let users = accounts_of(alloc, &first_users)?;
         let groups = groups_of(alloc, &first_groups)?;
+        let requesters = requesters_of(alloc, &users, &memberships)?;
         let user_guesses = guesses_of(alloc, &users)?;
         let group_guesses = guesses_of(alloc, &groups)?;
+        let user_places = places_by_id(alloc, &users)?;
+        let group_places = places_by_id(alloc, &groups)?;
         Ok(Accounts {
             users,
             groups,
+            requesters,
             user_guesses,
             group_guesses,
+            user_places,
+            group_places,
         })
     }
 
@@ -176,6 +136,34 @@ impl Accounts {
         self.groups.as_slice()
     }
 
+    /// Each of the users as one who asks, in the order of the users: with the user's own group, and
+    /// then in the order of the file the others of which the user is a member. Two users of one uid
+    /// ask each for themselves.
+    pub fn requesters(&self) -> &[Requester]
+        ensures list { result.now ≡ self.now.requesters }
+        ensures uids { map (λ requester. requester.uid) result.now
+            ≡ map (λ user. user.uid) self.now.users }
+    {
+        self.requesters.as_slice()
+    }
+
+    /// The place, among `users` and `requesters`, of the user who is written: by a name, or by a
+    /// uid; of those who share a uid, the first.
+    pub fn user_place(&self, written: WrittenAccount<'_>) -> Option<usize>
+        ensures { result ≡ place_of_written self.now (view_written written.entry) }
+    {
+        match written {
+            WrittenAccount::Number(number) => self.user_places.get(&number).copied(),
+            WrittenAccount::Name(name) => self.place_of_name(name),
+        }
+    }
+
+    fn place_of_name(&self, name: &[u8]) -> Option<usize>
+        ensures { result ≡ position (λ user. bytes_eq user.name name.now) self.now.users }
+    {
+        place_by_hash(&self.users, &self.user_guesses, name)
+    }
+
     /// The user of this name.
     pub fn user(&self, name: &[u8]) -> Option<&Account>
         ensures { option_copied result ≡ account_named self.now name.now }
@@ -184,17 +172,17 @@ impl Accounts {
     }
 
     /// The uid of the user with this name.
-    pub fn uid_of(&self, name: &[u8]) -> Option<u32>
+    pub fn uid_of(&self, name: &[u8]) -> Option<Uid>
         ensures { result ≡ uid_of self.now name.now }
     {
-        match find_by_hash(&self.users, &self.user_guesses, name) {
+        match self.user(name) {
             Some(user) => Some(user.uid),
             None => None,
         }
     }
 
     /// The gid of the group with this name.
-    pub fn gid_of(&self, name: &[u8]) -> Option<u32>
+    pub fn gid_of(&self, name: &[u8]) -> Option<Gid>
         ensures { result ≡ gid_of self.now name.now }
     {
         match find_by_hash(&self.groups, &self.group_guesses, name) {
@@ -202,91 +190,63 @@ impl Accounts {
             None => None,
         }
     }
-}
 
-/// That a name is a member of a group.
-#[derive(Clone, Copy, Debug)]
-pub(crate) struct Membership<'t> {
-    pub name: &'t [u8],
-    pub gid: u32,
-}
-
-impl<'t> Membership<'t> {
-    fn is_below(&self, name: &[u8]) -> bool
-        ensures { result ≡ is_lt (slice_cmp nat_cmp self.now.name.now name.now) }
+    /// The uid that is written: a number's, or that of the user with the name.
+    pub fn uid(&self, written: WrittenAccount<'_>) -> Option<Uid>
+        ensures { result ≡ id_of_written (uid_of self.now) (view_written written.entry) }
     {
-        self.name.cmp(name).is_lt()
+        match written {
+            WrittenAccount::Number(number) => Uid::new(number),
+            WrittenAccount::Name(name) => self.uid_of(name),
+        }
     }
 
-    fn is_of(&self, name: &[u8]) -> bool
-        ensures { result ≡ bytes_eq self.now.name.now name.now }
+    /// The gid that is written: a number's, or that of the group with the name.
+    pub fn gid(&self, written: WrittenAccount<'_>) -> Option<Gid>
+        ensures { result ≡ id_of_written (gid_of self.now) (view_written written.entry) }
     {
-        self.name == name
+        match written {
+            WrittenAccount::Number(number) => Gid::new(number),
+            WrittenAccount::Name(name) => self.gid_of(name),
+        }
     }
-}
 
-/// Who is in which group, in the order of the members' names, and for each of them in the order of
-/// the file.
-fn memberships_of<'t>(
-    alloc: Global,
-    groups: &[GroupRow<'t>],
-) -> Result<Vec<Membership<'t>>, AllocError>
-    ensures sorted { IfOk result (λ memberships. IsSortedByKey (λ member. member.name.now)
-        (slice_cmp nat_cmp) memberships.items) }
-    ensures kept { IfOk result (λ memberships. (name : List ℕ)
-        → filter (λ member. bytes_eq member.name name) (map view_membership memberships.items)
-        ≡ filter (λ member. bytes_eq member.name name) (memberships_of (map view_group groups.now))) }
-{
-    let mut memberships = listed_memberships(alloc, groups)?;
-    sort_by_name(&mut memberships)?;
-    Ok(memberships)
-}
-
-/// Who is in which group, in the order of the file.
-fn listed_memberships<'t>(
-    alloc: Global,
-    groups: &[GroupRow<'t>],
-) -> Result<Vec<Membership<'t>>, AllocError>
-    ensures { IfOk result (λ memberships. map view_membership memberships.items
-        ≡ memberships_of (map view_group groups.now)) }
-{
-    let mut memberships = Vec::new(alloc);
-    for group in groups {
-        push_members(group, &mut memberships)?;
+    /// The name of the user with this uid; of those who share it, the first in the order of names.
+    pub fn user_name(&self, uid: Uid) -> Option<&[u8]>
+        ensures name { option_map (λ name. name.now) result ≡ user_name self.now uid }
+        ensures again { IfSome result (λ name. uid_of self.now name.now ≡ Some uid) }
+    {
+        match find_by_id(&self.users, &self.user_places, uid.value()) {
+            Some(user) => Some(user.name()),
+            None => None,
+        }
     }
-    Ok(memberships)
-}
 
-fn push_members<'t>(
-    group: &GroupRow<'t>,
-    memberships: &mut Vec<Membership<'t>>,
-) -> Result<(), AllocError>
-    ensures { OnOk result (map view_membership memberships.new.items
-        ≡ map view_membership memberships.old.items ++ memberships_in (view_group group.now)) }
-{
-    let mut members = Parts::new(b',', group.members);
-    while let Some(name) = members.next() {
-        memberships.push(Membership {
-            name,
-            gid: group.gid,
-        })?;
+    /// The name of the group with this gid; of those that share it, the first in the order of
+    /// names.
+    pub fn group_name(&self, gid: Gid) -> Option<&[u8]>
+        ensures name { option_map (λ name. name.now) result ≡ group_name self.now gid }
+        ensures again { IfSome result (λ name. gid_of self.now name.now ≡ Some gid) }
+    {
+        match find_by_id(&self.groups, &self.group_places, gid.value()) {
+            Some(group) => Some(group.name()),
+            None => None,
+        }
     }
-    Ok(())
 }
 
 /// The users of these rows.
-fn accounts_of(
-    alloc: Global,
-    rows: &[UserRow<'_>],
-    memberships: &[Membership<'_>],
-) -> Result<Vec<Account>, AllocError>
-    requires { IsSortedByKey (λ member. member.name.now) (slice_cmp nat_cmp) memberships.now }
-    ensures { IfOk result (λ users. users.items
-        ≡ map (λ row. account_with (map view_membership memberships.now) (view_user row)) rows.now) }
+fn accounts_of(alloc: Global, rows: &[UserRow<'_>]) -> Result<Vec<Account>, AllocError>
+    ensures { IfOk result (λ users. users.items ≡ map (λ row. account_of (view_user row)) rows.now) }
 {
     let mut users = Vec::with_capacity(alloc, rows.len())?;
     for row in rows {
-        users.push(account_of(alloc, row, memberships)?)?;
+        let name = Vec::from_slice(alloc, row.name)?;
+        users.push(Account {
+            name,
+            uid: row.uid,
+            gid: row.gid,
+        })?;
     }
     Ok(users)
 }
@@ -301,63 +261,4 @@ fn groups_of(alloc: Global, rows: &[GroupRow<'_>]) -> Result<Vec<AccountGroup>, 
         groups.push(AccountGroup { name, gid: row.gid })?;
     }
     Ok(groups)
-}
-
-/// The user of a row.
-fn account_of(
-    alloc: Global,
-    row: &UserRow<'_>,
-    memberships: &[Membership<'_>],
-) -> Result<Account, AllocError>
-    requires { IsSortedByKey (λ member. member.name.now) (slice_cmp nat_cmp) memberships.now }
-    ensures { IfOk result (λ user. user
-        ≡ account_with (map view_membership memberships.now) (view_user row.now)) }
-{
-    let name = Vec::from_slice(alloc, row.name)?;
-    let gids = gids_of(alloc, row.gid, memberships_with(memberships, row.name))?;
-    Ok(Account {
-        name,
-        uid: row.uid,
-        gids,
-    })
-}
-
-/// A gid, and those of these memberships, each once.
-fn gids_of(alloc: Global, gid: u32, memberships: &[Membership<'_>]) -> Result<Vec<u32>, AllocError>
-    ensures { IfOk result (λ gids. gids.items
-        ≡ each_once (gid ∷ map (λ member. member.gid) memberships.now)) }
-{
-    let mut gids = Vec::new(alloc);
-    gids.push(gid)?;
-    for member in memberships {
-        push_once(member.gid, &mut gids)?;
-    }
-    Ok(gids)
-}
-
-/// Appends an id, if it isn't there.
-fn push_once(id: u32, ids: &mut Vec<u32>) -> Result<(), AllocError>
-    ensures { OnOk result (ids.new.items ≡ with_once ids.old.items id) }
-{
-    if !has_id(ids, id) {
-        ids.push(id)?;
-    }
-    Ok(())
-}
-
-fn has_id(ids: &[u32], id: u32) -> bool
-    ensures { result ≡ list_any (λ other. other == id) ids.now }
-{
-    ids.iter().any(|other| *other == id)
-}
-
-/// The memberships of a name, of memberships in the order of names.
-fn memberships_with<'a, 't>(memberships: &'a [Membership<'t>], name: &[u8]) -> &'a [Membership<'t>]
-    requires { IsSortedByKey (λ member. member.name.now) (slice_cmp nat_cmp) memberships.now }
-    ensures { result.now ≡ filter (λ member. bytes_eq member.name.now name.now) memberships.now }
-{
-    let from = memberships.partition_point(|member| member.is_below(name));
-    let behind = &memberships[from..];
-    let count = behind.partition_point(|member| member.is_of(name));
-    &behind[..count]
 }

@@ -3,12 +3,14 @@
 
 ghost use Rattle.std.specs.Prelude.{◌≡◌, Some, find, IfSome};
 ghost use Rattle.std.specs.Cmp.Lexicographic.{slice_cmp};
+ghost use Rattle.std.specs.List.{position};
 ghost use Rattle.std.specs.Option.{option_copied};
 ghost use Rattle.std.specs.Ordering.{nat_cmp};
 ghost use Rattle.std.specs.Str.{bytes_eq};
 ghost use Rattle.acl_names.specs.Ascending.{IsAscending};
 
-use crate::named::{Named, find_by_name};
+use crate::named::{Named, place_by_name};
+use crate::places::member_at;
 use std::alloc::{AllocError, Global};
 
 /// Places of the table for each member.
@@ -40,17 +42,25 @@ pub(crate) fn find_by_hash<'a, T: Named>(
     requires { IsAscending (slice_cmp nat_cmp) T.name_of members.now }
     ensures { option_copied result ≡ find (λ other. bytes_eq (T.name_of other) name.now) members.now }
 {
-    if let Some(member) = find_at_guess(members, guesses, name) {
-        return Some(member);
+    member_at(members, place_by_hash(members, guesses, name))
+}
+
+/// Where the member of this name stands, of members in the order of their names.
+pub(crate) fn place_by_hash<T: Named>(members: &[T], guesses: &[u32], name: &[u8]) -> Option<usize>
+    requires { IsAscending (slice_cmp nat_cmp) T.name_of members.now }
+    ensures { result ≡ position (λ other. bytes_eq (T.name_of other) name.now) members.now }
+{
+    if let Some(place) = guessed_place(members, guesses, name) {
+        return Some(place);
     }
-    find_by_name(members, name)
+    place_by_name(members, name)
 }
 
 /// The same if the guess for its hash is right.
-fn find_at_guess<'a, T: Named>(members: &'a [T], guesses: &[u32], name: &[u8]) -> Option<&'a T>
+fn guessed_place<T: Named>(members: &[T], guesses: &[u32], name: &[u8]) -> Option<usize>
     requires { IsAscending (slice_cmp nat_cmp) T.name_of members.now }
-    ensures { IfSome result (λ member. find (λ other. bytes_eq (T.name_of other) name.now)
-        members.now ≡ Some member.now) }
+    ensures { IfSome result (λ place. position (λ other. bytes_eq (T.name_of other) name.now)
+        members.now ≡ Some place) }
 {
     let guess = guesses.get(guess_at(hash_of(name), guesses.len()))?;
     let place = *guess as usize;
@@ -59,7 +69,7 @@ fn find_at_guess<'a, T: Named>(members: &'a [T], guesses: &[u32], name: &[u8]) -
     }
     let member = &members[place];
     if member.key() == name {
-        Some(member)
+        Some(place)
     } else {
         None
     }

@@ -2,21 +2,26 @@
 //! them.
 #![tactic(auto)]
 
+mod account;
 mod accounts;
 mod fault;
+mod group;
 mod guesses;
 mod limits;
+mod memberships;
 mod named;
+mod places;
 mod quoting;
+mod requesters;
 mod rows;
-#[cfg(test)]
-mod tests;
 mod written;
 
-pub use accounts::{Account, AccountGroup, Accounts};
+pub use account::Account;
+pub use accounts::Accounts;
 pub use fault::AccountsFault;
+pub use group::AccountGroup;
 pub use limits::{
     MAX_ACCOUNT_GROUPS, MAX_ACCOUNT_NAME, MAX_ACCOUNT_USERS, MAX_ACCOUNTS_TEXT, limits_in_numbers,
 };
-pub use quoting::push_name;
+pub use quoting::{octal, push_name};
 pub use written::{WrittenAccount, is_account_name};

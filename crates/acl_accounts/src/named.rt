@@ -1,16 +1,18 @@
-//! Lists of what has a name, in which one is found by binary search.
+//! Lists of what has a name: sorted, without repeats, and where a name stands in them.
 
-ghost use Rattle.std.specs.Prelude.{◌≡◌, ℕ, List, find, filter, length, false, ◌-◌, OnOk, IfOk};
+ghost use Rattle.std.specs.Prelude.{◌≡◌, ◌-◌, ℕ, List, filter, length, false, OnOk, IfOk};
 ghost use Rattle.std.specs.Cmp.Lexicographic.{slice_cmp};
+ghost use Rattle.std.specs.List.{position, slice_get};
 ghost use Rattle.std.specs.List.Sorted.{IsSortedByKey};
-ghost use Rattle.std.specs.Option.{option_copied, option_map_or};
-ghost use Rattle.std.specs.List.{slice_get};
-ghost use Rattle.acl_accounts.specs.Firsts.{AreFirsts};
+ghost use Rattle.std.specs.Option.{option_map_or};
 ghost use Rattle.std.specs.Ordering.{nat_cmp};
 ghost use Rattle.std.specs.Str.{bytes_eq};
 ghost use Rattle.acl_names.specs.Ascending.{IsAscending};
+ghost use Rattle.acl_accounts.specs.Firsts.{AreFirsts};
 
-use crate::accounts::{Account, AccountGroup, Membership};
+use crate::account::Account;
+use crate::group::AccountGroup;
+use crate::memberships::Membership;
 use crate::rows::{GroupRow, UserRow};
 use std::alloc::{AllocError, Global};
 
@@ -62,14 +64,13 @@ impl<'t> Named for Membership<'t> {
     }
 }
 
-/// The member of this name, of members in the order of their names.
-pub(crate) fn find_by_name<'a, T: Named>(members: &'a [T], name: &[u8]) -> Option<&'a T>
+/// The place of the member of this name, of members in the order of their names.
+pub(crate) fn place_by_name<T: Named>(members: &[T], name: &[u8]) -> Option<usize>
     requires { IsAscending (slice_cmp nat_cmp) T.name_of members.now }
-    ensures { option_copied result ≡ find (λ member. bytes_eq (T.name_of member) name.now)
-        members.now }
+    ensures { result ≡ position (λ member. bytes_eq (T.name_of member) name.now) members.now }
 {
     match members.binary_search_by(|member| member.key().cmp(name)) {
-        Ok(place) => Some(&members[place]),
+        Ok(place) => Some(place),
         Err(_) => None,
     }
 }

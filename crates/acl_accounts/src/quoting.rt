@@ -1,20 +1,20 @@
 //! Names as getfacl writes them.
 
-ghost use Rattle.std.specs.Prelude.{◌≡◌, ◌∷◌, ◌++◌, [], MatchOption, IsTrue, IfSome, ◌<◌, length, if◌then◌else◌};
-ghost use Rattle.std.specs.Prelude.{option_map, false};
+ghost use Rattle.std.specs.Prelude.{◌≡◌, ◌<◌, ◌∷◌, [], false, length, option_map};
+ghost use Rattle.std.specs.Prelude.{MatchOption, IsTrue, IfSome, if◌then◌else◌};
 ghost use Rattle.std.specs.Char.{is_ascii_digit};
 ghost use Rattle.std.specs.List.{list_all, list_any};
 ghost use Rattle.acl_names.specs.Ids.{Number, decimal_value};
-ghost use Rattle.acl_accounts.specs.Names.{splits, named, written_account};
 ghost use Rattle.acl_names.specs.Pushing.{Pushes};
-ghost use Rattle.acl_accounts.specs.Names.{is_octal, is_quoted, octal, octal_value, quoted};
-ghost use Rattle.acl_accounts.specs.Names.{quoted_byte, unquoted, backslash};
+ghost use Rattle.acl_accounts.specs.Names.{backslash, is_octal, is_quoted, named, octal};
+ghost use Rattle.acl_accounts.specs.Names.{octal_value, quoted, quoted_byte, splits, unquoted};
+ghost use Rattle.acl_accounts.specs.Names.{written_account};
 
 use std::alloc::AllocError;
 
 /// Appends a name as getfacl writes it: a blank, a tab, a newline, a carriage return, `:`, `,` and
 /// `\` as `\` and three octal digits. If memory runs out, what `out` held still stands in front.
-#[tactic(auto, using(crate::proofs::QuotingLemmas::written_again, crate::proofs::QuotingLemmas::nothing_splits))]
+#[tactic(auto, using(crate::proofs::QuotingLemmas::printed_laws))]
 pub fn push_name(name: &[u8], out: &mut Vec<u8>) -> Result<(), AllocError>
     ensures printed { Pushes (quoted name.now) result out.old out.new }
     // What is printed is read as the name; a name that is all digits, as the id.
@@ -53,7 +53,8 @@ fn is_quoted(byte: u8) -> bool
         || byte == b'\\'
 }
 
-fn octal(byte: u8) -> [u8; 4]
+/// `\` and the three octal digits of a byte.
+pub fn octal(byte: u8) -> [u8; 4]
     ensures { result ≡ octal byte }
 {
     [

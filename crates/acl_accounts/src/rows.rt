@@ -4,31 +4,31 @@ ghost use Rattle.std.specs.Prelude.{◌≡◌, ◌≢◌, ◌≤◌, length, opt
 ghost use Rattle.acl_names.specs.Bytes.{colon};
 ghost use Rattle.acl_names.specs.Pieces.{parts};
 ghost use Rattle.acl_names.specs.Ids.{decimal_value};
-ghost use Rattle.acl_accounts.specs.Rows.{group_row, is_passed_over, no_rows, row_of, row_of_fields};
-ghost use Rattle.acl_accounts.specs.Rows.{rows_of, user_row, with_row};
-ghost use Rattle.acl_accounts.specs.Views.{view_group, view_row, view_rows, view_user};
+ghost use Rattle.acl_accounts.specs.Rows.{group_row, is_passed_over, row_of, row_of_fields};
+ghost use Rattle.acl_accounts.specs.Rows.{rows_of, user_row};
+ghost use Rattle.acl_accounts.specs.Views.{view_row, view_rows};
 ghost use Rattle.acl_accounts.specs.declared.limits.TheConstants.{MAX_ACCOUNTS_TEXT};
 ghost use Rattle.acl_accounts.specs.declared.fault.AccountsFault.TheVariants.{Memory};
 
 use crate::fault::AccountsFault;
 use crate::limits::{MAX_ACCOUNT_GROUPS, MAX_ACCOUNT_USERS};
 use crate::written::is_account_name;
-use acl_names::{Parts, read_decimal};
+use acl_names::{Gid, Parts, Uid, read_decimal};
 use std::alloc::Global;
 
 /// A line of passwd: a user, and the user's own group.
 #[derive(Clone, Copy, Debug)]
 pub(crate) struct UserRow<'t> {
     pub name: &'t [u8],
-    pub uid: u32,
-    pub gid: u32,
+    pub uid: Uid,
+    pub gid: Gid,
 }
 
 /// A line of group: a group, and the names of its members between commas.
 #[derive(Clone, Copy, Debug)]
 pub(crate) struct GroupRow<'t> {
     pub name: &'t [u8],
-    pub gid: u32,
+    pub gid: Gid,
     pub members: &'t [u8],
 }
 
@@ -64,13 +64,17 @@ pub(crate) fn read_rows(alloc: Global, text: &[u8]) -> Result<Rows<'_>, Accounts
                 if users.len() >= MAX_ACCOUNT_USERS {
                     return Err(AccountsFault::TooMany);
                 }
-                users.push(row)?;
+                if users.push(row).is_err() {
+                    return Err(AccountsFault::Memory);
+                }
             }
             Some(Row::Group(row)) => {
                 if groups.len() >= MAX_ACCOUNT_GROUPS {
                     return Err(AccountsFault::TooMany);
                 }
-                groups.push(row)?;
+                if groups.push(row).is_err() {
+                    return Err(AccountsFault::Memory);
+                }
             }
             Some(Row::Passed) => {}
             None => return Err(AccountsFault::BadAccount(number)),
@@ -131,7 +135,7 @@ fn read_user<'t>(name: &'t [u8], uid: &[u8], gid: &[u8]) -> Option<Row<'t>>
     ensures { option_map view_row result
         ≡ user_row name.now (decimal_value uid.now) (decimal_value gid.now) }
 {
-    match (read_decimal(uid), read_decimal(gid)) {
+    match (read_uid(uid), read_gid(gid)) {
         (Some(uid), Some(gid)) => {
             if is_account_name(name) {
                 Some(Row::User(UserRow { name, uid, gid }))
@@ -146,7 +150,7 @@ fn read_user<'t>(name: &'t [u8], uid: &[u8], gid: &[u8]) -> Option<Row<'t>>
 fn read_group<'t>(name: &'t [u8], gid: &[u8], members: &'t [u8]) -> Option<Row<'t>>
     ensures { option_map view_row result ≡ group_row name.now (decimal_value gid.now) members.now }
 {
-    match read_decimal(gid) {
+    match read_gid(gid) {
         Some(gid) => {
             if is_account_name(name) {
                 Some(Row::Group(GroupRow { name, gid, members }))
@@ -156,4 +160,16 @@ fn read_group<'t>(name: &'t [u8], gid: &[u8], members: &'t [u8]) -> Option<Row<'
         }
         None => None,
     }
+}
+
+fn read_uid(text: &[u8]) -> Option<Uid>
+    ensures { result ≡ decimal_value text.now }
+{
+    Uid::new(read_decimal(text)?)
+}
+
+fn read_gid(text: &[u8]) -> Option<Gid>
+    ensures { result ≡ decimal_value text.now }
+{
+    Gid::new(read_decimal(text)?)
 }

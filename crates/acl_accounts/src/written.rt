@@ -1,9 +1,11 @@
 //! Accounts as they are written: by an id, or by a name.
 
-ghost use Rattle.std.specs.Prelude.{◌≡◌, ◌==◌, ◌||◌, IfOk, option_map};
+ghost use Rattle.std.specs.Prelude.{◌≡◌, ◌==◌, ◌||◌, false, IfOk, IsOk, option_map};
+ghost use Rattle.std.specs.Bool.{OnFalse};
 ghost use Rattle.std.specs.List.{list_all, list_any};
 ghost use Rattle.std.specs.Char.{is_ascii_digit};
-ghost use Rattle.acl_accounts.specs.Names.{is_account_name, named, written_account};
+ghost use Rattle.acl_accounts.specs.Names.{backslash, is_account_name, named, unquoted};
+ghost use Rattle.acl_accounts.specs.Names.{written_account};
 ghost use Rattle.acl_names.specs.Bytes.{colon, newline};
 ghost use Rattle.acl_accounts.specs.Views.{view_written};
 
@@ -23,20 +25,25 @@ pub enum WrittenAccount<'a> {
 
 impl<'a> WrittenAccount<'a> {
     /// What a text writes: all digits an id, if it is one, and anything else a name, in which `\`
-    /// and three octal digits are a byte. `None` if the id is out of range, or the name has no byte,
-    /// more than `MAX_ACCOUNT_NAME`, or a `:` or a newline. A name that has no `\` takes no memory;
-    /// another is written into `room`, in place of what stood there.
+    /// and three octal digits are a byte. `None` if the id is out of range, or the name has no
+    /// byte, more than `MAX_ACCOUNT_NAME`, or a `:` or a newline. A text without `\` takes no
+    /// memory; what another writes goes into `room`, in place of what stood there.
     pub fn read(
         text: &'a [u8],
         room: &'a mut Vec<u8>,
     ) -> Result<Option<WrittenAccount<'a>>, AllocError>
-        ensures { IfOk result (λ read. option_map view_written read ≡ written_account text.now) }
+        ensures written { IfOk result (λ read. option_map view_written read
+            ≡ written_account text.now) }
+        ensures plain { list_any (λ byte. byte == backslash) text.now ≡ false → IsOk result }
     {
         if are_digits(text) {
             return match read_decimal(text) {
                 Some(number) => Ok(Some(WrittenAccount::Number(number))),
                 None => Ok(None),
             };
+        }
+        if !has_backslash(text) {
+            return Ok(read_name(text));
         }
         room.clear();
         push_unquoted(text, room)?;
@@ -48,6 +55,15 @@ fn are_digits(text: &[u8]) -> bool
     ensures { result ≡ list_all is_ascii_digit text.now }
 {
     text.iter().all(|byte| byte.is_ascii_digit())
+}
+
+#[tactic(auto, using(crate::proofs::QuotingLemmas::plain_text))]
+fn has_backslash(text: &[u8]) -> bool
+    ensures has { result ≡ list_any (λ byte. byte == backslash) text.now }
+    // Without one, a text writes itself.
+    ensures plain { OnFalse result (unquoted text.now ≡ text.now) }
+{
+    text.contains(&b'\\')
 }
 
 fn read_name(name: &[u8]) -> Option<WrittenAccount<'_>>

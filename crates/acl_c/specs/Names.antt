@@ -23,6 +23,7 @@ name_at n =
     else if n == 17 then codes "syntax"
     else if n == 18 then codes "unknown-name"
     else if n == 19 then codes "invalid-list"
+    else if n == 20 then codes "unkept-bits"
     else codes "unknown"
 
 abbrev pub error_name : ℤ → List ℕ

@@ -49,6 +49,7 @@ nfs4_number nfs4.Mask = negsuc 14
 nfs4_number nfs4.Who = negsuc 15
 nfs4_number nfs4.Id = negsuc 7
 nfs4_number nfs4.InheritOnly = negsuc 16
+nfs4_number nfs4.Unkept = negsuc 20
 
 abbrev pub nfs4_error_number : Nfs4Error → ℤ
 nfs4_error_number nfs4_errors.Memory = out_of_memory

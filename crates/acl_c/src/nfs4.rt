@@ -11,11 +11,14 @@ ghost use Rattle.acl_wire.specs.Nfs4.{asked, chmod_of, inherited_of};
 ghost use Rattle.acl_wire.specs.RawAces.{list_of};
 ghost use Rattle.acl_wire.specs.RawAcesWriting.{raws_of};
 ghost use Rattle.acl_wire.specs.Xdr.{xdr_list_of};
+ghost use Rattle.acl_wire.specs.XdrWriting.{raws_xdr_of};
+ghost use Rattle.acl_c.specs.Texts.{itself};
 
-use crate::buffers::put_raw_aces;
+use crate::buffers::{put_bytes, put_raw_aces};
 use crate::status::nfs4_error_number;
 use acl_wire::{
-    RawAce, acl4_of_xdr, raws_allow, raws_grant, raws_inherited, raws_with_mode, read_raw_aces,
+    Purpose, RawAce, acl4_of_xdr, raws_allow, raws_grant, raws_inherited, raws_with_mode, raws_xdr,
+    read_raw_aces,
 };
 use std::alloc::Global;
 
@@ -69,10 +72,10 @@ pub extern "C" fn meardwyn_nfs4_allowed(
 /// Whether the entries are a list: 0, or why not.
 #[unsafe(no_mangle)]
 pub extern "C" fn meardwyn_nfs4_valid(alloc: Global, aces: &[RawAce]) -> i32
-    ensures value { Tells nfs4_number zero_number (list_of aces.now) result }
+    ensures value { Tells nfs4_number zero_number (list_of Purpose.Decide aces.now) result }
     ensures short { length aces.now ≤ INLINE_ACES → result ≢ out_of_memory }
 {
-    match read_raw_aces(alloc, aces) {
+    match read_raw_aces(alloc, Purpose::Decide, aces) {
         Ok(_) => 0,
         Err(error) => nfs4_error_number(error),
     }
@@ -81,10 +84,10 @@ pub extern "C" fn meardwyn_nfs4_valid(alloc: Global, aces: &[RawAce]) -> i32
 /// The mode of a file with the list.
 #[unsafe(no_mangle)]
 pub extern "C" fn meardwyn_nfs4_mode(alloc: Global, aces: &[RawAce]) -> i32
-    ensures value { Tells nfs4_number (mode_number mode_of) (list_of aces.now) result }
+    ensures value { Tells nfs4_number (mode_number mode_of) (list_of Purpose.Decide aces.now) result }
     ensures short { length aces.now ≤ INLINE_ACES → result ≢ out_of_memory }
 {
-    match read_raw_aces(alloc, aces) {
+    match read_raw_aces(alloc, Purpose::Decide, aces) {
         Ok(acl) => i32::from(acl.mode4().bits()),
         Err(error) => nfs4_error_number(error),
     }
@@ -139,6 +142,23 @@ pub extern "C" fn meardwyn_nfs4_from_xdr(
 {
     match acl4_of_xdr(alloc, xdr) {
         Ok(acl) => put_raw_aces(&acl, out, needed),
+        Err(error) => nfs4_error_number(error),
+    }
+}
+
+/// The list in XDR.
+#[unsafe(no_mangle)]
+pub extern "C" fn meardwyn_nfs4_to_xdr(
+    alloc: Global,
+    aces: &[RawAce],
+    out: &mut [u8],
+    needed: &mut usize,
+) -> i32
+    ensures { PutsAnswer nfs4_number itself (raws_xdr_of aces.now) result out.old out.new needed.old
+        needed.new }
+{
+    match raws_xdr(alloc, aces) {
+        Ok(xdr) => put_bytes(&xdr, out, needed),
         Err(error) => nfs4_error_number(error),
     }
 }

@@ -1,26 +1,27 @@
 //! Calls on POSIX lists, in the bytes of extended attributes.
 
-ghost use Rattle.std.specs.Prelude.{◌≢◌};
-ghost use Rattle.acl_c.specs.Answers.{PutsAnswer, Tells, granted_number, mode_number, zero_number};
+ghost use Rattle.std.specs.Prelude.{◌≡◌, ◌≢◌};
+ghost use Rattle.acl_c.specs.Answers.{PutsAnswer, Tells, granted_number, mode_number};
+ghost use Rattle.acl_c.specs.Answers.{number_of_answer, zero_number};
 ghost use Rattle.acl_c.specs.Status.{out_of_memory, posix_number};
 ghost use Rattle.acl_posix.specs.Mode.{mode_of};
-ghost use Rattle.acl_wire.specs.Posix.{IsShort, acl_of, at_creation_of, check_of, chmod_of};
+ghost use Rattle.acl_wire.specs.Check.{check_of};
+ghost use Rattle.acl_wire.specs.Posix.{IsShort, acl_of, at_creation_of, chmod_of};
 ghost use Rattle.acl_wire.specs.Posix.{default_translation_of, of_mode_of, translation_of};
 ghost use Rattle.acl_wire.specs.RawAcesWriting.{raws_of};
 ghost use Rattle.acl_wire.specs.Xattr.{xattr_of};
 
 use crate::buffers::{put_raw_aces, put_xattr};
-use crate::status::posix_error_number;
+use crate::status::{posix_error_number, posix_number};
 use acl_wire::{
-    RawAce, acl_of_mode, acl_of_xattr, xattr_at_creation, xattr_grants, xattr_translated,
-    xattr_translated_default, xattr_with_mode,
+    PosixFault, RawAce, Rules, acl_of_mode, acl_of_xattr, xattr_at_creation, xattr_grants,
+    xattr_translated, xattr_translated_default, xattr_with_mode,
 };
 use std::alloc::Global;
 
 /// Whether the list grants the request: 1 or 0.
 #[unsafe(no_mangle)]
 pub extern "C" fn meardwyn_posix_check(
-    alloc: Global,
     xattr: &[u8],
     owner: u32,
     group: u32,
@@ -28,13 +29,37 @@ pub extern "C" fn meardwyn_posix_check(
     gids: &[u32],
     request: u32,
 ) -> i32
-    ensures value { Tells posix_number granted_number
-        (check_of xattr.now owner group (record { uid = uid; gids = gids.now }) request) result }
-    ensures short { IsShort xattr.now → result ≢ out_of_memory }
+    ensures { result ≡ number_of_answer posix_number granted_number
+        (check_of Rules.Draft xattr.now owner group (record { uid = uid; gids = gids.now })
+        request) }
 {
-    match xattr_grants(alloc, xattr, owner, group, uid, gids, request) {
+    granted_number(xattr_grants(Rules::Draft, xattr, owner, group, uid, gids, request))
+}
+
+/// Whether Linux grants the request by the list: 1 or 0.
+#[unsafe(no_mangle)]
+pub extern "C" fn meardwyn_posix_check_linux(
+    xattr: &[u8],
+    owner: u32,
+    group: u32,
+    uid: u32,
+    gids: &[u32],
+    request: u32,
+) -> i32
+    ensures { result ≡ number_of_answer posix_number granted_number
+        (check_of Rules.Linux xattr.now owner group (record { uid = uid; gids = gids.now })
+        request) }
+{
+    granted_number(xattr_grants(Rules::Linux, xattr, owner, group, uid, gids, request))
+}
+
+/// The number of the answer to a check.
+fn granted_number(answer: Result<bool, PosixFault>) -> i32
+    ensures { result ≡ number_of_answer posix_number granted_number answer }
+{
+    match answer {
         Ok(granted) => i32::from(granted),
-        Err(error) => posix_error_number(error),
+        Err(fault) => posix_number(fault),
     }
 }
 

@@ -59,6 +59,7 @@ pub(crate) fn nfs4_number(fault: Nfs4Fault) -> i32
         Nfs4Fault::Id => -8,
         Nfs4Fault::UnknownName => -19,
         Nfs4Fault::InheritOnly => -17,
+        Nfs4Fault::Unkept => -21,
     }
 }
 

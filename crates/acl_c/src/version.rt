@@ -40,6 +40,7 @@ fn name_of(error: i32) -> &'static str
         -18 => "syntax",
         -19 => "unknown-name",
         -20 => "invalid-list",
+        -21 => "unkept-bits",
         _ => "unknown",
     }
 }

@@ -41,5 +41,5 @@ is_mark_of table byte = (byte == hyphen) || is_letter_of table byte
 
 -- the bits whose letters stand in the text, in any order and any number of times, among hyphens
 unfoldable pub marks_of : List Letter → List ℕ → Option ℕ
-marks_of table text = if list_all (is_mark_of table) text then Some (bits_of_rows (rows_in table text))
-    else None
+marks_of table text = if list_all (is_mark_of table) text
+    then Some (bits_of_rows (rows_in table text)) else None

@@ -1,7 +1,6 @@
 //! Which form the entries of a text have.
 
-ghost use Rattle.std.specs.Prelude.{◌≡◌, List, ℕ, map};
-ghost use Rattle.acl_names.specs.Pieces.{trim};
+ghost use Rattle.std.specs.Prelude.{◌≡◌};
 ghost use Rattle.acl_nfs4.specs.AceText as nfs4;
 ghost use Rattle.acl_forms.specs.FormText.{type_of};
 ghost use Rattle.acl_forms.specs.Forms.{form_of, form_of_piece, is_type, last_or};

@@ -3,8 +3,7 @@
 
 ghost use Rattle.std.specs.Prelude.{◌≡◌, ◌==◌, option_map};
 ghost use Rattle.std.specs.List.{list_all, list_any};
-ghost use Rattle.acl_names.specs.Letters.{bits_of_rows, is_letter_of, letters_text, occurs};
-ghost use Rattle.acl_names.specs.Letters.{rows_in};
+ghost use Rattle.acl_names.specs.Letters.{bits_of_rows, is_letter_of, occurs, rows_in};
 ghost use Rattle.acl_names.specs.Pushing.{PushesInRoom};
 ghost use Rattle.acl_nfs4.specs.Flags.{flag_bits};
 ghost use Rattle.acl_nfs4.specs.Mask.{mask_bits};

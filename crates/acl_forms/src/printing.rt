@@ -1,7 +1,7 @@
 //! Printing entries in the freebsd form.
 
-ghost use Rattle.std.specs.Prelude.{◌≡◌, ◌<◌, ◌+◌, ◌++◌, ◌∷◌, decimal, length, option_map, unwrap_or};
-ghost use Rattle.std.specs.Prelude.{vec_capacity, vec_len, OnErr, OnOk};
+ghost use Rattle.std.specs.Prelude.{◌≡◌, ◌<◌, ◌+◌, ◌++◌, ◌∷◌, decimal, length, option_map};
+ghost use Rattle.std.specs.Prelude.{unwrap_or, vec_capacity, vec_len, OnErr, OnOk};
 ghost use Rattle.acl_names.specs.Bytes.{colon};
 ghost use Rattle.acl_names.specs.ListText.{Spells};
 ghost use Rattle.acl_names.specs.Pushing.{PushesInRoom};
@@ -61,7 +61,8 @@ fn push_lines(
     directory: &Directory,
     out: &mut Vec<u8>,
 ) -> Result<(), AllocError>
-    ensures printed { PushesInRoom (entries_text places directory.now aces.now) result out.old out.new }
+    ensures printed { PushesInRoom (entries_text places directory.now aces.now) result out.old
+        out.new }
     ensures have_ids { OnOk result (HaveIds aces.now) }
 {
     for ace in aces {
@@ -92,7 +93,8 @@ pub fn push_entry(
     directory: &Directory,
     out: &mut Vec<u8>,
 ) -> Result<(), AllocError>
-    ensures printed { PushesInRoom (entry_text places directory.now ace.now) result out.old out.new }
+    ensures printed { PushesInRoom (entry_text places directory.now ace.now) result out.old
+        out.new }
     ensures has_id { OnOk result (HasId ace.now.who) }
 {
     push_tag(&ace.who(), directory, out)?;
@@ -151,7 +153,8 @@ fn push_tag(who: &Who, directory: &Directory, out: &mut Vec<u8>) -> Result<(), A
 /// Appends the tag and the name, or the decimal of an id that has none.
 fn push_named(tag: &[u8], name: Option<&str>, id: u32, out: &mut Vec<u8>) -> Result<(), AllocError>
     ensures { PushesInRoom (tag.now
-        ++ unwrap_or (option_map (λ name. name.now) name.entry) (decimal id)) result out.old out.new }
+        ++ unwrap_or (option_map (λ name. name.now) name.entry) (decimal id)) result out.old
+        out.new }
 {
     out.extend_from_slice(tag)?;
     match name {

@@ -1,6 +1,6 @@
 //! Reading entries of the freebsd form.
 
-ghost use Rattle.std.specs.Prelude.{◌≡◌, ◌≢◌, ◌≤◌, ℕ, List, Some, length, option_map, ◌++◌, ◌∷◌};
+ghost use Rattle.std.specs.Prelude.{◌≡◌, ◌≢◌, ◌≤◌, ℕ, List, Some, length};
 ghost use Rattle.std.specs.Prelude.{IfOk, IfErr, IsOk, MatchResult};
 ghost use Rattle.acl_names.specs.ListText.{Spells};
 ghost use Rattle.acl_names.specs.Pieces.{pieces};

@@ -1,6 +1,6 @@
 -- What words come to that are answered, or aren't.
 use Rattle.std.proofs.Common.{◌≤◌, OnErr, OnOk, Result, Ok, Err, arith}
-use Rattle.acl_queries.proofs.ErrorLemmas.{usage_bounds}
+use Rattle.acl_cli.proofs.ErrorLemmas.{usage_bounds}
 use Rattle.acl_service.proofs.FaultLemmas.{files_bounds}
 use Rattle.acl_lint.specs.LintFaults.{lint_status}
 use Rattle.acl_lint.specs.declared.fault.LintFault.{LintFault}

@@ -1,10 +1,6 @@
 pub mod AnswerLemmas
 pub mod FilledLemmas
-pub mod KeyLemmas
 pub mod LawLemmas
-pub mod LocatedLemmas
-pub mod PartsLemmas
 pub mod PieceLemmas
 pub mod PlaceLemmas
 pub mod SessionLemmas
-pub mod SetupLemmas

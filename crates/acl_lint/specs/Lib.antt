@@ -1,10 +1,6 @@
 pub mod LintLine
 pub mod Places
 pub mod LintText
-pub mod Keys
-pub mod Spots
-pub mod FieldKeys
-pub mod PartsKeys
 pub mod SetupPlace
 pub mod LintFaults
 pub mod LintAnswer

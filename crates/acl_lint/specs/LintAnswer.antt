@@ -6,28 +6,28 @@ use Rattle.clap.specs.Words.{Row, Text, matches_of}
 use Rattle.acl_names.specs.Bytes.{hyphen, newline, space}
 use Rattle.acl_names.specs.Directory.{Known}
 use Rattle.acl_tree.specs.Tree.{NodesUnderUmask}
-use Rattle.acl_queries.specs.CommandLine.{Takes}
-use Rattle.acl_queries.specs.ErrorOutput.{SaysFault}
-use Rattle.acl_queries.specs.Meaning.{Meaning}
-use Rattle.acl_service.specs.Opened.{Opens}
+use Rattle.acl_cli.specs.CommandLine.{Takes}
+use Rattle.acl_cli.specs.ErrorOutput.{SaysFault}
+use Rattle.acl_cli.specs.Meaning.{Meaning}
+use Rattle.acl_setup.specs.Opened.{Opens}
 use Rattle.acl_service.specs.RunWords.{CanRun, HasBytes, HaveBytes, input_count, sessions_in}
 use Rattle.acl_service.specs.RunWords.{setup_in}
-use Rattle.acl_service.specs.SetupFaults.{setup_error_words}
-use Rattle.acl_service.specs.TextsFaults.{IsRefusedBy}
-use Rattle.acl_service.specs.declared.setup.fault.SetupError.{SetupError}
+use Rattle.acl_setup.specs.SetupFaults.{setup_error_words}
+use Rattle.acl_setup.specs.Opened.{IsRefusedBy}
+use Rattle.acl_setup.specs.declared.fault.SetupError.{SetupError}
 use Rattle.acl_lint.specs.LintFaults.{IsLintFault, lint_fault_line, lint_status}
 use Rattle.acl_lint.specs.LintLine.{lint_line}
 use Rattle.acl_lint.specs.LintText.{sessions_text}
-use Rattle.acl_lint.specs.SetupPlace.{IsPlace}
+use Rattle.acl_lint.specs.SetupPlace.{setup_place}
 
 -- words with `-` between them
 abbrev pub with_hyphens : List ℕ → List ℕ
 with_hyphens words = map (λ byte. if byte == space then hyphen else byte) words
 
 -- `NAME: WORD PLACE`
-abbrev pub setup_text : Text → SetupError → List ℕ → List ℕ
-setup_text name error place =
-    name ++ codes ": " ++ with_hyphens (setup_error_words error) ++ space ∷ place ++ newline ∷ []
+abbrev pub setup_text : Text → SetupError → List ℕ
+setup_text name error = name ++ codes ": " ++ with_hyphens (setup_error_words error)
+    ++ space ∷ setup_place error ++ newline ∷ []
 
 -- the setup opens, and that is told of sessions of these names, with these texts
 pub record IsOfSessions (setup : List ℕ) (names : List Text) (texts : List (Vec ℕ Global))
@@ -41,9 +41,7 @@ pub record IsOfSessions (setup : List ℕ) (names : List Text) (texts : List (Ve
 pub record IsOfSetup (name : Text) (setup text : List ℕ) : Type 0 where
   pub error : SetupError
   pub refused : IsRefusedBy setup error
-  pub place : List ℕ
-  pub is_place : IsPlace setup error place
-  pub is : text ≡ setup_text name error place
+  pub is : text ≡ setup_text name error
 
 -- that is told of the setup of this name, or of the sessions of these names
 abbrev pub IsLint : Text → List ℕ → List Text → List (Vec ℕ Global) → List ℕ → Type 0

@@ -2,11 +2,11 @@
 use Rattle.std.specs.Prelude.{◌≢◌, ⊤, ℕ, List, Option}
 use Rattle.clap.specs.Words.{Row, Text, kind_of, matches_of}
 use Rattle.clap.specs.declared.error.kind.ErrorKind.TheVariants.{OutOfMemory}
-use Rattle.acl_queries.specs.CommandLine.{Takes}
-use Rattle.acl_queries.specs.Faults.{usage_line, usage_status}
-use Rattle.acl_queries.specs.RunFaults.{run_line, run_status}
-use Rattle.acl_queries.specs.declared.command.run_fault.RunFault.{RunFault}
-use Rattle.acl_queries.specs.declared.command.run_fault.RunFault.TheVariants as run
+use Rattle.acl_cli.specs.CommandLine.{Takes}
+use Rattle.acl_cli.specs.Faults.{usage_line, usage_status}
+use Rattle.acl_cli.specs.RunFaults.{run_line, run_status}
+use Rattle.acl_cli.specs.declared.run_fault.RunFault.{RunFault}
+use Rattle.acl_cli.specs.declared.run_fault.RunFault.TheVariants as run
 use Rattle.acl_service.specs.FilesFaults.{IsFilesFault, files_line, files_status}
 use Rattle.acl_service.specs.RunWords.{CanRun, sessions_in, setup_in}
 use Rattle.acl_service.specs.declared.files.fault.FilesFault.{FilesFault}

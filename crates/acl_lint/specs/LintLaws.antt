@@ -1,13 +1,9 @@
--- What is told of sessions, beside what `run` answers and what the pieces of a list say; and of a
--- setup, beside what its reading says.
+-- What is told of sessions, beside what `run` answers and what the pieces of a list say.
 use Rattle.std.specs.Prelude.{◌≡◌, ◌≢◌, ◌++◌, ◌+◌, ℕ, All, List, [], ◌∷◌, Option, Some, None, Ok}
 use Rattle.std.specs.Prelude.{Err, IsSome, IsSomeAnd, bytes_eq, codes, if◌then◌else◌, length}
 use Rattle.std.specs.Prelude.{map, true}
 use Rattle.std.specs.List.{flat_map}
-use Rattle.toml.specs.Data.{Members}
 use Rattle.acl_names.specs.Directory.{Known}
-use Rattle.acl_names.specs.Directory.{fault_of as parts_fault}
-use Rattle.acl_names.specs.declared.directory.fault.SetupFault.{SetupFault}
 use Rattle.acl_names.specs.Pieces.{after_word, first_word, pieces, trim}
 use Rattle.acl_names.specs.Steps.{map_fault}
 use Rattle.acl_nfs4.specs.AceText.{piece_value}
@@ -18,20 +14,16 @@ use Rattle.acl_lang.specs.Refusals.{Asked, acl_line_fault}
 use Rattle.acl_lang.specs.Texts.{requests_of}
 use Rattle.acl_lang.specs.declared.answer.Answer.{Answer}
 use Rattle.acl_lang.specs.declared.line.Line.TheVariants.{Command}
-use Rattle.acl_service.specs.Opened.{opened_in}
 use Rattle.acl_service.specs.Runs.{answers_of}
-use Rattle.acl_service.specs.Setup.{setup_in}
-use Rattle.acl_service.specs.declared.setup.fault.SetupError.{SetupError}
+use Rattle.acl_setup.specs.declared.fault.SetupError.{SetupError}
 use Rattle.acl_tree.specs.Tree.{NodesUnderUmask}
 use Rattle.acl_tree.specs.declared.faults.LineFault.{LineFault}
 use Rattle.acl_tree.specs.declared.reply.Reply.{Reply}
 use Rattle.acl_tree.specs.declared.reply.Reply.TheVariants.{Fault}
 use Rattle.acl_tree.specs.declared.request.Request.TheVariants.{Bad}
-use Rattle.acl_lint.specs.FieldKeys.{key_of_fields}
 use Rattle.acl_lint.specs.LintText.{Found, found_in, place_text}
-use Rattle.acl_lint.specs.PartsKeys.{key_of_parts}
 use Rattle.acl_lint.specs.Places.{Piece, is_of_piece, piece_at_fault}
-use Rattle.acl_lint.specs.SetupPlace.{IsPlace, key_of_table_for}
+use Rattle.acl_lint.specs.SetupPlace.{setup_place}
 
 -- the number of a line, and its fault
 abbrev pub told_of : Found → ℕ × LineFault
@@ -86,22 +78,7 @@ TellsThePiece = (known : Known) (bytes : List ℕ) (fault : LineFault)
     → IsSomeAnd (piece_at_fault known fault bytes)
     (IsFirstOfFields known (after_word (trim bytes)) fault)
 
--- If a table says no setup, a key is told at which its reading has no value.
-abbrev pub TellsAKey : Type 0
-TellsAKey = (table : Members) → setup_in table ≡ None → IsSome (key_of_fields table)
-
--- If users and groups are no directory, one of them is told, or what of them is at fault.
-abbrev pub TellsAPart : Type 0
-TellsAPart = (known : Known) (fault : SetupFault) → parts_fault known ≡ Some fault
-    → IsSome (key_of_parts known.domain known.users known.groups fault)
-
--- Of each setup that is refused for what its table says, a key is told.
-abbrev pub TellsWhere : Type 0
-TellsWhere = (table : Members) (error : SetupError) → opened_in table ≡ Err error
-    → IsSome (key_of_table_for table error)
-
 -- No place that is told is empty: of a setup, and of a line.
 pub record TellsAPlace : Type 0 where
-  pub of_setup : (bytes : List ℕ) (error : SetupError) (place : List ℕ)
-      → IsPlace bytes error place → place ≢ []
+  pub of_setup : (error : SetupError) → setup_place error ≢ []
   pub of_line : (piece : Option Piece) → place_text piece ≢ []

@@ -1,47 +1,45 @@
--- Where in a setup a fault is.
-use Rattle.std.specs.Prelude.{◌≡◌, ◌≤◌, ℕ, List, [], ◌∷◌, Option, Some, None, length, take}
-use Rattle.toml.specs.Data.{Members}
-use Rattle.acl_names.specs.Bytes.{hyphen}
-use Rattle.acl_service.specs.Setup.{Setup, setup_in}
-use Rattle.acl_service.specs.SetupTable.{ReadsAs}
-use Rattle.acl_service.specs.declared.setup.fault.SetupError.{SetupError}
-use Rattle.acl_service.specs.declared.setup.fault.SetupError.TheVariants.{NotToml, BadField, Parts}
-use Rattle.acl_service.specs.declared.setup.fault.SetupError.TheVariants.{Memory}
-use Rattle.acl_lint.specs.FieldKeys.{key_of_fields, key_of_owners}
-use Rattle.acl_lint.specs.Keys.{Key, key_text}
-use Rattle.acl_lint.specs.PartsKeys.{key_of_parts}
-use Rattle.acl_lint.specs.Spots.{spot_after, spot_text}
+-- Where in a setup a fault is, as it is told.
+use Rattle.std.specs.Prelude.{ℕ, List, [], ◌∷◌, ◌++◌, codes, decimal}
+use Rattle.acl_names.specs.Bytes.{colon, hyphen}
+use Rattle.acl_setup.specs.declared.fault.SetupError.{SetupError}
+use Rattle.acl_setup.specs.declared.fault.SetupError.TheVariants.{NotToml, BadField, Parts}
+use Rattle.acl_setup.specs.declared.fault.SetupError.TheVariants.{Memory}
+use Rattle.acl_setup.specs.declared.key.Key.{Key}
+use Rattle.acl_setup.specs.declared.key.Key.TheVariants as at
+use Rattle.acl_setup.specs.declared.spot.Spot.{Spot}
 
--- the key at fault of what is read
-abbrev pub key_of_setup : Setup → SetupError → Option Key
-key_of_setup setup NotToml = None
-key_of_setup setup BadField = Some (key_of_owners setup.root.owner setup.known.users)
-key_of_setup setup (Parts fault) =
-    key_of_parts setup.known.domain setup.known.users setup.known.groups fault
-key_of_setup setup Memory = None
+-- an index, between what stands before it and what stands behind it
+abbrev pub indexed : List ℕ → ℕ → List ℕ → List ℕ
+indexed before index behind = before ++ decimal index ++ behind
 
--- of a table that reads so
-abbrev pub key_of_reading : Members → Option Setup → SetupError → Option Key
-key_of_reading table None error = key_of_fields table
-key_of_reading table (Some setup) error = key_of_setup setup error
+-- a key as TOML writes it
+abbrev pub key_text : Key → List ℕ
+key_text at.Domain = codes "domain"
+key_text at.Umask = codes "umask"
+key_text at.Root = codes "root"
+key_text at.RootOwner = codes "root.owner"
+key_text at.RootGroup = codes "root.group"
+key_text at.RootMode = codes "root.mode"
+key_text at.RootStyle = codes "root.style"
+key_text at.Users = codes "user"
+key_text (at.User index) = indexed (codes "user[") index (codes "]")
+key_text (at.UserName index) = indexed (codes "user[") index (codes "].name")
+key_text (at.UserUid index) = indexed (codes "user[") index (codes "].uid")
+key_text (at.UserGroups index) = indexed (codes "user[") index (codes "].groups")
+key_text (at.UserGroup index item) =
+    indexed (codes "user[") index (codes "].groups") ++ indexed (codes "[") item (codes "]")
+key_text at.Groups = codes "group"
+key_text (at.Group index) = indexed (codes "group[") index (codes "]")
+key_text (at.GroupName index) = indexed (codes "group[") index (codes "].name")
+key_text (at.GroupGid index) = indexed (codes "group[") index (codes "].gid")
 
--- and of a table
-abbrev pub key_of_table_for : Members → SetupError → Option Key
-key_of_table_for table error = key_of_reading table (setup_in table) error
+-- `LINE:COLUMN`
+abbrev pub spot_text : Spot → List ℕ
+spot_text spot = decimal spot.line ++ colon ∷ decimal spot.column
 
--- a key as TOML writes it, and `-` for none
-abbrev pub shown_key : Option Key → List ℕ
-shown_key None = hyphen ∷ []
-shown_key (Some key) = key_text key
-
--- the line and the column of one of these bytes, or of their end
-abbrev pub IsSpotIn : List ℕ → List ℕ → Type 0
-IsSpotIn bytes place = (at : ℕ) × (at ≤ length bytes)
-    × (place ≡ spot_text (spot_after (take at bytes)))
-
--- the place of a fault of a setup with these bytes: in its text, if that is no document, and else
--- in its table
-abbrev pub IsPlace : List ℕ → SetupError → List ℕ → Type 0
-IsPlace bytes NotToml place = IsSpotIn bytes place
-IsPlace bytes error place = (table : Members) × ReadsAs bytes table
-    × (place ≡ shown_key (key_of_table_for table error))
+-- the place of a fault: the spot in a text that is no document, and else the key
+abbrev pub setup_place : SetupError → List ℕ
+setup_place (NotToml spot) = spot_text spot
+setup_place (BadField key) = key_text key
+setup_place (Parts fault key) = key_text key
+setup_place Memory = hyphen ∷ []

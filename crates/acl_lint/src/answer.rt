@@ -4,7 +4,7 @@ ghost use Rattle.std.specs.Prelude.{OnOk, length, map};
 ghost use Rattle.std.specs.Io.KnownBytes.{Appends, Keeps};
 ghost use Rattle.clap.specs.Words.{found_of, rows_of};
 ghost use Rattle.acl_lang.specs.declared.limits.TheConstants.{MAX_TEXT_LEN};
-ghost use Rattle.acl_queries.specs.Output.{AppendsFront};
+ghost use Rattle.acl_cli.specs.Output.{AppendsFront};
 ghost use Rattle.acl_service.specs.RunWords.{input_count, sessions_in};
 ghost use Rattle.acl_lint.specs.LintAnswer.{AnswersRows, IsLint};
 ghost use Rattle.acl_lint.specs.LintFaults.{IsLack, IsRowsFault, lint_status};
@@ -12,10 +12,9 @@ ghost use Rattle.acl_lint.specs.LintFaults.{IsLack, IsRowsFault, lint_status};
 use crate::fault::LintFault;
 use crate::sessions::write_sessions;
 use crate::setup::write_setup;
-use acl_queries::RunFault;
-use acl_service::{
-    FilesFault, OpenFiles, SetupError, Texts, read_setup, read_texts, session_fields, setup_field,
-};
+use acl_cli::RunFault;
+use acl_service::{FilesFault, OpenFiles, Texts, read_texts, session_fields, setup_field};
+use acl_setup::{SetupError, read_setup};
 use clap::ArgMatches;
 use std::alloc::Global;
 use std::io::{Read, Write};
@@ -45,7 +44,7 @@ fn write_answer<W: Write>(
             write_sessions(alloc, &directory, names, texts.sessions.as_slice(), out)
         }
         Err(SetupError::Memory) => Err(RunFault::Memory),
-        Err(error) => write_setup(alloc, setup, bytes, error, out),
+        Err(error) => write_setup(alloc, setup, error, out),
     }
 }
 

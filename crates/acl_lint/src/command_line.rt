@@ -1,7 +1,7 @@
 //! The command line of `lint`.
 
-use acl_queries::CommandLine;
-use acl_queries::options::setup_option;
+use acl_cli::CommandLine;
+use acl_cli::options::setup_option;
 use acl_service::session_words;
 use clap::Command;
 use std::alloc::{AllocError, Global};

@@ -1,7 +1,7 @@
 //! Why `lint` has no answer.
 ghost use Rattle.std.specs.Prelude.{◌≡◌};
 
-use acl_queries::{CommandFault, ErrorOutput, RunFault};
+use acl_cli::{CommandFault, ErrorOutput, RunFault};
 use acl_service::FilesFault;
 use std::io::Write;
 

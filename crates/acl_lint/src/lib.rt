@@ -5,18 +5,13 @@
 mod answer;
 mod command_line;
 mod fault;
-mod fields;
-mod key;
 mod laws;
 mod line;
 mod lint_command;
-mod parts;
 mod piece;
-mod repeats;
+mod place;
 mod sessions;
 mod setup;
-mod setup_place;
-mod spot;
 
 pub use laws::lint_laws;
 pub use lint_command::lint;

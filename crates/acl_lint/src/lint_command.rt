@@ -1,15 +1,15 @@
 //! The command `lint`.
 ghost use Rattle.std.specs.Prelude.{◌≡◌, ◌≤◌, ◌⊎◌, IfErr, OnErr, OnOk, map};
 ghost use Rattle.std.specs.Io.KnownBytes.{Appends, Keeps};
-ghost use Rattle.acl_queries.specs.Meaning.{EndsWithInput};
-ghost use Rattle.acl_queries.specs.Output.{AppendsFront};
+ghost use Rattle.acl_cli.specs.Meaning.{EndsWithInput};
+ghost use Rattle.acl_cli.specs.Output.{AppendsFront};
 ghost use Rattle.acl_lint.specs.LintAnswer.{AnswersLint, lint_meaning};
 ghost use Rattle.acl_lint.specs.LintFaults.{IsLintFault, lint_status};
 
 use crate::answer::answer_matches;
 use crate::command_line::LintLine;
 use crate::fault::LintFault;
-use acl_queries::{ErrorOutput, parse, report};
+use acl_cli::{ErrorOutput, parse, report};
 use acl_service::OpenFiles;
 use std::alloc::Global;
 use std::convert::AsStr;

@@ -2,13 +2,13 @@
 ghost use Rattle.std.specs.Prelude.{◌≡◌, ◌≤◌, ◌++◌, ℕ, All, IfErr, List, OnErr, OnOk, length, map};
 ghost use Rattle.std.specs.Io.KnownBytes.{Appends};
 ghost use Rattle.acl_lang.specs.declared.limits.TheConstants.{MAX_TEXT_LEN};
-ghost use Rattle.acl_queries.specs.Output.{AppendsFront};
+ghost use Rattle.acl_cli.specs.Output.{AppendsFront};
 ghost use Rattle.acl_lint.specs.LintFaults.{IsLack};
 ghost use Rattle.acl_lint.specs.LintText.{session_text, sessions_text};
 
 use crate::line::push_line;
+use acl_cli::{RunFault, write_text};
 use acl_names::{Directory, Parts};
-use acl_queries::{RunFault, write_text};
 use std::alloc::Global;
 use std::io::{self, Write};
 

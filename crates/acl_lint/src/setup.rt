@@ -1,14 +1,13 @@
 //! What is told of a setup.
-ghost use Rattle.std.specs.Prelude.{◌≡◌, ◌++◌, ◌⊎◌, ℕ, IfErr, IfOk, List, OnErr, OnOk};
+ghost use Rattle.std.specs.Prelude.{◌≡◌, ◌++◌, ◌⊎◌, IfErr, IfOk, OnErr, OnOk};
 ghost use Rattle.std.specs.Io.KnownBytes.{Appends, Keeps};
-ghost use Rattle.acl_queries.specs.Output.{AppendsFront};
-ghost use Rattle.acl_service.specs.TextsFaults.{IsRefusedBy};
-ghost use Rattle.acl_lint.specs.LintAnswer.{IsOfSetup, setup_text, with_hyphens};
+ghost use Rattle.acl_cli.specs.Output.{AppendsFront};
+ghost use Rattle.acl_lint.specs.LintAnswer.{setup_text, with_hyphens};
 ghost use Rattle.acl_lint.specs.LintFaults.{IsLack};
 
-use crate::setup_place::setup_place;
-use acl_queries::{RunFault, write_text};
-use acl_service::SetupError;
+use crate::place::push_place;
+use acl_cli::{RunFault, write_text};
+use acl_setup::SetupError;
 use std::alloc::{AllocError, Global};
 use std::io::Write;
 
@@ -23,20 +22,15 @@ fn push_joined(words: &[u8], out: &mut Vec<u8>) -> Result<(), AllocError>
 }
 
 /// The line that tells of a setup.
-fn setup_line(
-    alloc: Global,
-    name: &str,
-    error: SetupError,
-    place: &[u8],
-) -> Result<Vec<u8>, AllocError>
-    ensures { IfOk result (λ line. line.items ≡ setup_text name.now error place.now) }
+fn setup_line(alloc: Global, name: &str, error: SetupError) -> Result<Vec<u8>, AllocError>
+    ensures { IfOk result (λ line. line.items ≡ setup_text name.now error) }
 {
     let mut line = Vec::new(alloc);
     line.extend_from_slice(name.as_bytes())?;
     line.extend_from_slice(b": ")?;
     push_joined(error.words().as_bytes(), &mut line)?;
     line.push(b' ')?;
-    line.extend_from_slice(place)?;
+    push_place(error, &mut line)?;
     line.push(b'\n')?;
     Ok(line)
 }
@@ -46,20 +40,16 @@ fn setup_line(
 pub(crate) fn write_setup<W: Write>(
     alloc: Global,
     name: &str,
-    setup: &[u8],
     error: SetupError,
     out: &mut W,
 ) -> Result<(), RunFault>
-    requires { IsRefusedBy setup.now error }
-    ensures written { OnOk result ((text : List ℕ) × IsOfSetup name.now setup.now text
-        × Appends (W.contents out.old) (W.contents out.new) text) }
+    ensures written { OnOk result
+        (Appends (W.contents out.old) (W.contents out.new) (setup_text name.now error)) }
     ensures cut { OnErr result (Keeps (W.contents out.old) (W.contents out.new)
-        ⊎ ((text : List ℕ) × IsOfSetup name.now setup.now text
-        × AppendsFront (W.contents out.old) (W.contents out.new) text)) }
+        ⊎ AppendsFront (W.contents out.old) (W.contents out.new) (setup_text name.now error)) }
     ensures lack { IfErr result IsLack }
 {
-    let place = setup_place(alloc, setup, error)?;
-    let line = setup_line(alloc, name, error, place.as_slice())?;
+    let line = setup_line(alloc, name, error)?;
     write_text(line.as_slice(), out)?;
     Ok(())
 }

@@ -215,8 +215,26 @@ by_mode : (acl : List EntryValue) → perms_of Mask acl ≡ Some 0 → linux_lis
 by_mode acl empty =
     ap (λ b. cond b (of_mode (mode_of acl)) acl) (ap (λ o. option_map_or (λ mask. mask == 0) o false) empty)
 
-by_itself : (acl : List EntryValue) → has_empty_mask acl ≡ false → linux_list acl ≡ acl
+pub by_itself : (acl : List EntryValue) → has_empty_mask acl ≡ false → linux_list acl ≡ acl
 by_itself acl is = ap (λ b. cond b (of_mode (mode_of acl)) acl) is
+
+-- the check by the list that Linux looks at, if the mask is empty
+module _ (acl : List EntryValue) (valid : IsValid acl) (empty : has_empty_mask acl ≡ true) (owner group : ℕ) (requester : Identity) (request : ℕ) where
+  has_none : perms_of Mask acl ≡ Some 0
+  has_none = elim (cases_mask acl) [ inl none ↦ none | inr some ↦ absurd (false≢true (sym some ∙ empty)) ]
+
+  in_mode : grants (linux_list acl) owner group requester request ≡ grants (of_mode (mode_of acl)) owner group requester request
+  in_mode = ap (λ (list : List EntryValue). grants list owner group requester request) (by_mode acl has_none)
+
+  pub linux-owner : (requester.uid == owner) ≡ true → grants (linux_list acl) owner group requester request ≡ tag_has UserObj acl request
+  linux-owner is_owner = in_mode ∙ by_mode-owner (mode_of acl) owner group requester request is_owner ∙ sym (tag_has-once UserObj acl request valid.user_obj)
+
+  pub linux-group : (requester.uid == owner) ≡ false → is_in_group requester group ≡ true → grants (linux_list acl) owner group requester request ≡ has_all 0 request
+  linux-group not_owner inside = in_mode ∙ in_mode-group acl valid has_none owner group requester request not_owner inside
+
+  pub linux-other : (requester.uid == owner) ≡ false → is_in_group requester group ≡ false → grants (linux_list acl) owner group requester request ≡ tag_has Other acl request
+  linux-other not_owner outside =
+      in_mode ∙ by_mode-other (mode_of acl) owner group requester request not_owner outside ∙ sym (tag_has-once Other acl request valid.other)
 
 pub grants_no_less : GrantsNoLess
 grants_no_less acl owner group requester request valid granted = elim (cases_mask acl) [

@@ -5,6 +5,7 @@ pub mod Validity
 pub mod Canonical
 pub mod Keys
 pub mod InOrder
+pub mod Checked
 pub mod Access
 pub mod Kinds
 pub mod Mode

@@ -1,5 +1,5 @@
--- The list by which Linux decides. It passes over a list whose mask is empty, and goes by the file's
--- mode, in which the mask stands for the group (`acl_permission_check` of its fs/namei.c).
+-- The list by which Linux decides. It passes over a list whose mask is empty, and goes by the
+-- file's mode, in which the mask stands for the group (`acl_permission_check` of its fs/namei.c).
 use Rattle.std.specs.Prelude.{Bool, false, ◌==◌, List, if◌then◌else◌}
 use Rattle.std.specs.Option.{option_map_or}
 use Rattle.acl_posix.specs.Entry.{EntryValue, perms_of}

@@ -4,13 +4,18 @@ ghost use Rattle.std.specs.Prelude.{List, ◌≡◌, ◌≢◌, ◌↔◌, IsTru
 ghost use Rattle.std.specs.Prelude.{option_map};
 ghost use Rattle.std.specs.List.{Contains};
 ghost use Rattle.std.specs.List.Sorted.{IsPermutation};
+ghost use Rattle.acl_posix.specs.Canonical.{IsCanonical};
+ghost use Rattle.acl_posix.specs.Entry.{perms_of};
+ghost use Rattle.acl_posix.specs.Perms.{bits_of};
 
 mod access;
+mod in_place;
 mod linux;
 mod modes;
 
 use crate::limits::INLINE_ENTRIES;
 use crate::{Entries, Entry, Perms, Tag};
+pub use in_place::{entries_grant, entries_grant_on_linux};
 use smallvec::SmallVec;
 use std::marker::Model;
 
@@ -46,11 +51,11 @@ impl Model for Acl {
 }
 
 impl Acl {
-    ghost use Rattle.acl_posix.specs.Entry.{EntryValue, perms_of};
+    ghost use Rattle.acl_posix.specs.Entry.{EntryValue};
     ghost use Rattle.acl_posix.specs.Validity.{IsValid, IsRefusedFor, fault_of};
     ghost use Rattle.acl_posix.specs.Canonical.{IsAcl};
     ghost use Rattle.acl_posix.specs.InOrder.{in_order};
-    ghost use Rattle.acl_posix.specs.Perms.{bits_of, IsPermissions};
+    ghost use Rattle.acl_posix.specs.Perms.{IsPermissions};
 
     /// The access control list of these entries, if they are one (1003.1e draft 17, section 23):
     /// one entry each for the owner, the file's group and the others, at most one mask, no user and
@@ -112,13 +117,20 @@ impl Acl {
         ensures acl { IsAcl self.now }
         ensures value { option_map bits_of result ≡ perms_of tag self.now }
     {
-        let entries = self.entries();
-        match entries.binary_search_by_key(&tag, |entry| entry.tag) {
-            Ok(place) => {
-                let found = &entries[place];
-                Some(found.perms)
-            }
-            Err(_) => None,
+        perms_of(self.entries(), tag)
+    }
+}
+
+/// The permissions of the entry with the tag, among entries in canonical order.
+fn perms_of(entries: &[Entry], tag: Tag) -> Option<Perms>
+    requires { IsCanonical entries.now }
+    ensures { option_map bits_of result ≡ perms_of tag entries.now }
+{
+    match entries.binary_search_by_key(&tag, |entry| entry.tag) {
+        Ok(place) => {
+            let found = &entries[place];
+            Some(found.perms)
         }
+        Err(_) => None,
     }
 }

@@ -1,4 +1,5 @@
-//! Laws of the text of entries, and of what Linux decides. There is nothing to run here: proofs cite the contracts.
+//! Laws of the text of entries, and of what Linux decides. There is nothing to run here: proofs
+//! cite the contracts.
 
 ghost use Rattle.std.specs.Prelude.{◌≡◌, ◌↔◌, ℕ, List, Ok, Err};
 ghost use Rattle.acl_names.specs.Directory.{Known};

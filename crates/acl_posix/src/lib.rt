@@ -18,7 +18,7 @@ mod reading;
 mod short;
 mod sorted_copy;
 
-pub use acl::{Acl, Invalid};
+pub use acl::{Acl, Invalid, entries_grant, entries_grant_on_linux};
 pub use acl_text::{AclFault, ReadAclFault, read_acl};
 pub use bits::{bits_if, without};
 pub use entries::{Entries, TextFault};

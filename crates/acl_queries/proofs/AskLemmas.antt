@@ -16,10 +16,11 @@ use Rattle.acl_posix.specs.Entry.{EntryValue}
 use Rattle.acl_posix.specs.declared.acl_text.AclFault.TheVariants as cause
 use Rattle.acl_queries.specs.AclText.{acl_of, nobody}
 use Rattle.acl_queries.specs.Ask.{Ask, GiveAcl, GiveFlag, GiveGids, GiveId, GivePerms, WriteIds}
-use Rattle.acl_queries.specs.Asked.{Asked, acl_in, asked_in, flag_in, flag_of, gids_in, gids_of, id_in, id_of, perms_in, perms_of}
-use Rattle.acl_queries.specs.CommandLine.{Takes}
+use Rattle.acl_cli.specs.Fields.{flag_in, flag_of, gids_in, gids_of, id_in, id_of, perms_in, perms_of}
+use Rattle.acl_queries.specs.Asked.{Asked, acl_in, asked_in}
+use Rattle.acl_cli.specs.CommandLine.{Takes}
 use Rattle.acl_queries.specs.DecideLine.{decide_line}
-use Rattle.acl_queries.specs.declared.command.query_fault.FieldFault.TheVariants.{Acl, BadId, BadPerms, TooMany}
+use Rattle.acl_cli.specs.declared.field_fault.FieldFault.TheVariants.{Acl, BadId, BadPerms, TooMany}
 
 -- Gids.
 

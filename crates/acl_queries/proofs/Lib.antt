@@ -1,9 +1,3 @@
-pub mod OutputLemmas
-pub mod ErrorLemmas
-pub mod LineLemmas
-pub mod CommandLemmas
-pub mod AclLemmas
-pub mod MeaningLemmas
 pub mod AskLemmas
 pub mod AcesLemmas
 pub mod QueryLemmas

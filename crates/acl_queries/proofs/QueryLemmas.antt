@@ -1,53 +1,54 @@
--- How a query ends that gives no answer, and what is said of it.
-use Rattle.std.proofs.Common.{◌≡◌, ◌≢◌, ◌∙◌, ◌≤◌, ◌⊎◌, ℕ, List, Option, ap, arith, inl, inr, refl, sym, subst, Result}
-use Rattle.std.specs.Prelude.{⊤, IfSome}
-use Rattle.std.specs.Io.KnownBytes.{Keeps}
-use Rattle.clap.specs.Words.{App, Row, Text, fault_of, matches_of}
-use Rattle.acl_queries.specs.ErrorOutput.{ErrorText, Tells}
-use Rattle.acl_queries.specs.Faults.{IsRefusedFor, failed_write, fault_line, status_of}
-use Rattle.acl_queries.specs.Meaning.{Ends}
-use Rattle.acl_queries.specs.Output.{AppendsFront}
-use Rattle.acl_queries.specs.Queries.{IsAnswered, query_meaning}
-use Rattle.acl_queries.specs.declared.command.query_fault.FieldFault.{FieldFault}
-use Rattle.acl_queries.specs.declared.command.query_fault.QueryFault.{QueryFault}
-use Rattle.acl_queries.specs.declared.command.query_fault.QueryFault.TheVariants.{Field, Usage, Run}
-use Rattle.acl_queries.specs.declared.command.run_fault.RunFault.TheVariants.{Memory, NoThread, Output, Stopped}
-use Rattle.acl_queries.proofs.MeaningLemmas.{Ends-fault}
+-- What a query came to that was answered.
+use Rattle.std.proofs.Common.{◌≡◌, [], ℕ, Bool, List, Option, Result, Ok, Err, arith, inl, inr, refl}
+use Rattle.std.specs.Io.KnownBytes.{Appends}
+use Rattle.clap.specs.Words.{App, Row, Text}
+use Rattle.acl_cli.specs.Commands.{Answer, Comes, of_words}
+use Rattle.acl_cli.specs.ErrorOutput.{ErrorText}
+use Rattle.acl_cli.specs.Failures.{failed_write}
+use Rattle.acl_cli.specs.Output.{AppendsFront}
+use Rattle.acl_cli.specs.Plain.{AnswersByText}
+use Rattle.acl_cli.specs.declared.command.Ending.TheVariants.{Answered}
+use Rattle.acl_cli.specs.declared.field_fault.FieldFault.{FieldFault}
+use Rattle.acl_cli.proofs.TellingLemmas.{Tells-nothing}
+use Rattle.acl_queries.specs.Queries.{FailsFor, IsAnswered, query_meaning}
 
-abbrev IsFailedWrite : QueryFault → Type 0
-IsFailedWrite (Field fault) = ⊥
-IsFailedWrite (Usage error) = ⊥
-IsFailedWrite (Run Memory) = ⊥
-IsFailedWrite (Run Stopped) = ⊥
-IsFailedWrite (Run NoThread) = ⊥
-IsFailedWrite (Run Output) = ⊤
+module _ {A I : Type 0} (asked_in : List Row → Result A FieldFault) (IsAnswer : A → List ℕ → Type 0) (rows : List Row) (asked : A) (read : asked_in rows ≡ Ok asked)
+    (text : List ℕ) (answers : IsAnswer asked text) (out out' : Option (List ℕ)) (err : ErrorText) (input : I) where
+  abbrev answer : Answer
+  answer = record { text = text; beside = []; ending = Answered }
 
-pub query_bounds : (fault : QueryFault) → (1 ≤ status_of fault) × (status_of fault ≤ 3)
-query_bounds (Field fault) = (omega arith, omega arith)
-query_bounds (Usage error) = (omega arith, omega arith)
-query_bounds (Run fault) = (omega arith, omega arith)
+  is_answered : IsAnswered (asked_in rows) IsAnswer answer
+  is_answered = record { asked = asked; read = read; answers = answers; quiet = refl; whole = refl }
 
-module _ (old new : Option (List ℕ)) where
-  -- nothing went out for a fault that isn't a failed write
-  silent_of : (fault : QueryFault) → (fault ≢ failed_write → Keeps old new) → ¬ IsFailedWrite fault → Keeps old new
-  silent_of fault silent other = silent (λ is. other (subst IsFailedWrite (sym is) tt))
+  -- the answer went out
+  pub Comes-written : Appends out out' text → Comes (query_meaning asked_in IsAnswer rows) (Ok Answered) out out' err err input input
+  Comes-written went = record {
+    answered = record { answer = answer; is = is_answered; ends = refl; text = went; beside = Tells-nothing err };
+    fails = tt;
+    silent = tt;
+    cut = tt;
+    untouched = λ none. refl;
+    unread = tt;
+  }
 
-  module _ {A : Type 0} (line : App) (asked_in : List Row → Result A FieldFault) (IsAnswer : A → List ℕ → Type 0) (words : List Text) where
-    -- of words that are refused, and of an answer that can't be written, no more went out than a front of an answer
-    cut_by : (fault : QueryFault) → (fault ≢ failed_write → Keeps old new) → (fault ≡ failed_write → IsAnswered line asked_in IsAnswer words (AppendsFront old new))
-        → Keeps old new ⊎ IsAnswered line asked_in IsAnswer words (AppendsFront old new)
-    cut_by (Field fault) silent cut = inl (silent_of (Field fault) silent (λ never. never))
-    cut_by (Usage error) silent cut = inl (silent_of (Usage error) silent (λ never. never))
-    cut_by (Run Memory) silent cut = inl (silent_of (Run Memory) silent (λ never. never))
-    cut_by (Run Stopped) silent cut = inl (silent_of (Run Stopped) silent (λ never. never))
-    cut_by (Run NoThread) silent cut = inl (silent_of (Run NoThread) silent (λ never. never))
-    cut_by (Run Output) silent cut = inr (cut refl)
+  -- a front of it did
+  pub Comes-unwritten : AppendsFront out out' text → Comes (query_meaning asked_in IsAnswer rows) (Err failed_write) out out' err err input input
+  Comes-unwritten front = record {
+    answered = tt;
+    fails = is_read;
+    silent = λ few. absurd (omega (arith, few));
+    cut = inr (record { answer = answer; is = is_answered; text = front; said = 0; beside = Tells-nothing err });
+    untouched = λ none. refl;
+    unread = λ two. refl;
+  }
+    where
+      is_read : FailsFor (asked_in rows) failed_write
+      is_read = rw read refl
 
-    pub Ends-refused : (fault : QueryFault) (status : ℕ) (err err' : ErrorText) → (fault ≢ failed_write → Keeps old new)
-        → (fault ≡ failed_write → IsAnswered line asked_in IsAnswer words (AppendsFront old new))
-        → IsRefusedFor (fault_of line words) (asked_in (matches_of line words)) fault → status ≡ status_of fault
-        → IfSome (fault_line fault) (λ line. Tells line err err') → Ends (query_meaning line asked_in IsAnswer words) status old new err err'
-    Ends-refused fault status err err' silent cut is is_status told =
-        let three : fault ≡ failed_write → status_of fault ≡ 3 = λ is. ap status_of is in
-        Ends-fault status_of fault_line query_bounds (query_meaning line asked_in IsAnswer words) fault status old new err err' is_status
-        (λ few. silent (λ is. let failed = three is in omega (arith, few, failed))) (cut_by fault silent cut) (fault, is, is_status, refl) told
+-- a query answers with a text alone
+pub answers_by_text : {A : Type 0} (line : App) (helps : Bool) (asked_in : List Row → Result A FieldFault) (IsAnswer : A → List ℕ → Type 0) (words : List Text)
+    → AnswersByText (of_words line helps (query_meaning asked_in IsAnswer) words)
+answers_by_text line helps asked_in IsAnswer words answer (inl (inl (is, asks, quiet, whole))) = (quiet, whole)
+answers_by_text line helps asked_in IsAnswer words answer (inl (inr (taken, answered))) = (answered.quiet, answered.whole)
+answers_by_text line helps asked_in IsAnswer words answer (inr (inl (is, asks, quiet, whole))) = (quiet, whole)
+answers_by_text line helps asked_in IsAnswer words answer (inr (inr (taken, answered))) = (answered.quiet, answered.whole)

@@ -1,51 +1,74 @@
 -- The exit status of a query, by its words.
-use Rattle.std.proofs.Common.{◌≡◌, ◌≢◌, ◌∙◌, [], ◌∷◌, ℕ, zero, suc, List, Option, Result, Ok, Err, arith, refl, subst, sym}
-use Rattle.clap.specs.Words.{App, Kinds, Row, Text, fault_of, matches_of}
-use Rattle.acl_queries.specs.ErrorOutput.{ErrorText}
-use Rattle.acl_queries.specs.Faults.{IsRefusedFor, SaysQueryFault, status_of}
-use Rattle.acl_queries.specs.Meaning.{Ends}
-use Rattle.acl_queries.specs.Queries.{IsAnswered, query_meaning}
-use Rattle.acl_queries.specs.QueryLaws.{HasTheStatusOfItsWords, status_of_reading, status_of_words}
-use Rattle.acl_queries.specs.declared.command.query_fault.FieldFault.{FieldFault}
-use Rattle.acl_queries.specs.declared.command.query_fault.QueryFault.{QueryFault}
-use Rattle.acl_queries.specs.declared.command.query_fault.QueryFault.TheVariants.{Field, Usage, Run}
+use Rattle.std.proofs.Common.{◌≡◌, ◌≢◌, ◌∙◌, [], ℕ, Bool, true, List, Option, Result, Ok, Err, ap, inl, inr, refl, sym}
+use Rattle.clap.specs.Words.{App, Kinds, Row, fault_of, kind_of, matches_of}
+use Rattle.clap.specs.declared.error.kind.ErrorKind.{ErrorKind}
+use Rattle.acl_cli.specs.Commands.{Comes, IsTold, of_words, status_of_ending}
+use Rattle.acl_cli.specs.ErrorOutput.{ErrorText}
+use Rattle.acl_cli.specs.Failures.{IsRefusal, is_help, status_of}
+use Rattle.acl_cli.specs.declared.command.Ending.{Ending}
+use Rattle.acl_cli.specs.declared.failure.Failure.{Failure}
+use Rattle.acl_cli.specs.declared.failure.Failure.TheVariants.{BadWords, CannotRead, Field, InputTwice, Lacks, LineTooLong, NoCommand, TooManyWords, Unread, Usage}
+use Rattle.acl_cli.specs.declared.field_fault.FieldFault.{FieldFault}
+use Rattle.acl_queries.specs.Queries.{FailsFor, query_meaning}
+use Rattle.acl_queries.specs.QueryLaws.{HasTheStatusOfItsWords, IsStatusOf, status_of_kind, status_of_reading}
 
-module _ {A : Type 0} where
-  -- words that are taken have the status of their reading
-  of_taken : (kinds : Kinds) (reading read : Result A FieldFault) → kinds ≡ [] → reading ≡ read → status_of_words kinds reading ≡ status_of_reading read
-  of_taken kinds reading read none is =
-      subst (λ (k : Kinds). status_of_words k reading ≡ status_of_reading read) (sym none)
-      (subst (λ (r : Result A FieldFault). status_of_words [] r ≡ status_of_reading read) (sym is) refl)
+-- help that is an answer has the status 0
+helped : (helps : Bool) (kind : ErrorKind) → helps ≡ true → is_help kind ≡ true → 0 ≡ status_of_kind helps kind
+helped helps kind is asks = rw (is, asks) refl
 
-  of_refused : (kinds : Kinds) (reading : Result A FieldFault) → ¬ (kinds ≡ []) → status_of_words kinds reading ≡ 2
-  of_refused [] reading some = absurd (some refl)
-  of_refused (kind ∷ kinds) reading some = refl
+module _ {A : Type 0} (helps : Bool) (kinds : Kinds) (reading : Result A FieldFault) where
+  -- what the parser refuses has the status 2, unless memory ran out
+  of_refusal : (failure : Failure) → IsRefusal helps kinds failure → status_of failure ≢ 3 → IsStatusOf helps kinds reading (status_of failure)
+  of_refusal (Usage error) (among, other) ended = inr (kind_of error, among, rw other refl)
+  of_refusal (Lacks lack) is ended = absurd (ended refl)
+  of_refusal (Field fault) is ended = absurd is
+  of_refusal InputTwice is ended = absurd is
+  of_refusal (CannotRead name reason) is ended = absurd is
+  of_refusal LineTooLong is ended = absurd is
+  of_refusal (Unread name) is ended = absurd is
+  of_refusal NoCommand is ended = absurd is
+  of_refusal BadWords is ended = absurd is
+  of_refusal TooManyWords is ended = absurd is
 
-  -- a fault that words are refused for has their status, unless something lacks
-  of_fault : (kinds : Kinds) (reading : Result A FieldFault) (fault : QueryFault) → IsRefusedFor kinds reading fault → status_of fault ≢ 3
-      → status_of fault ≡ status_of_words kinds reading
-  of_fault kinds reading (Field fault) (none, is) ended = sym (of_taken kinds reading (Err fault) none is)
-  of_fault kinds reading (Usage error) refused ended = sym (of_refused kinds reading refused)
-  of_fault kinds reading (Run fault) is ended = absurd (ended refl)
+  -- and fields that don't read have that of their reading, unless something lacks
+  of_fields : (failure : Failure) → kinds ≡ [] → FailsFor reading failure → status_of failure ≢ 3 → IsStatusOf helps kinds reading (status_of failure)
+  of_fields (Field fault) none is ended = inl (none, ap status_of_reading (sym is))
+  of_fields (Lacks lack) none is ended = absurd (ended refl)
+  of_fields (Usage error) none is ended = absurd is
+  of_fields InputTwice none is ended = absurd is
+  of_fields (CannotRead name reason) none is ended = absurd is
+  of_fields LineTooLong none is ended = absurd is
+  of_fields (Unread name) none is ended = absurd is
+  of_fields NoCommand none is ended = absurd is
+  of_fields BadWords none is ended = absurd is
+  of_fields TooManyWords none is ended = absurd is
 
-  module _ (line : App) (asked_in : List Row → Result A FieldFault) (IsAnswer : A → List ℕ → Type 0) where
-    of_answered : (words : List Text) (WentOut : List ℕ → Type 0) → IsAnswered line asked_in IsAnswer words WentOut
-        → status_of_words (fault_of line words) (asked_in (matches_of line words)) ≡ 0
-    of_answered words WentOut answered = of_taken (fault_of line words) (asked_in (matches_of line words)) (Ok answered.asked) answered.taken answered.read
+module _ {A : Type 0} (line : App) (helps : Bool) (asked_in : List Row → Result A FieldFault) (IsAnswer : A → List ℕ → Type 0) (words : List (List ℕ)) where
+  abbrev kinds : Kinds
+  kinds = fault_of line words
 
-    of_said : (words : List Text) (status : ℕ) (line_said : Option (List ℕ))
-        → SaysQueryFault (IsRefusedFor (fault_of line words) (asked_in (matches_of line words))) status line_said → status ≢ 3
-        → status ≡ status_of_words (fault_of line words) (asked_in (matches_of line words))
-    of_said words status line_said (fault, is, is_status, line_is) ended =
-        is_status ∙ of_fault (fault_of line words) (asked_in (matches_of line words)) fault is (λ three. ended (is_status ∙ three))
+  abbrev reading : Result A FieldFault
+  reading = asked_in (matches_of line words)
 
-    by_status : (words : List Text) (out out' : Option (List ℕ)) (err err' : ErrorText) (status : ℕ)
-        → Ends (query_meaning line asked_in IsAnswer words) status out out' err err'
-        → status ≢ 3 → status ≡ status_of_words (fault_of line words) (asked_in (matches_of line words))
-    by_status words out out' err err' zero ends ended = sym (of_answered words _ (ends.answered refl))
-    by_status words out out' err err' (suc n) ends ended =
-        let said = ends.told.told (λ none. absurd (omega (arith, none))) in
-        of_said words (suc n) said.0 said.1 ended
+  by_result : (result : Result Ending Failure) (status : ℕ) (out out' : Option (List ℕ)) (err err' told_err : ErrorText) (input input' : Unit {0})
+      → Comes (of_words line helps (query_meaning asked_in IsAnswer) words) result out out' err err' input input' → IsTold result status err' told_err
+      → status ≢ 3 → IsStatusOf helps kinds reading status
+  by_result (Ok ending) status out out' err err' told_err input input' comes told ended =
+      let went = comes.answered in
+      of_answer went.is (told.0 ∙ ap status_of_ending (sym went.ends))
+    where
+      of_answer : (of_words line helps (query_meaning asked_in IsAnswer) words).Answers comes.answered.answer → status ≡ status_of_ending comes.answered.answer.ending → IsStatusOf helps kinds reading status
+      of_answer (inl (is, (kind, among, asks), quiet, whole)) is_status = inr (kind, among, is_status ∙ ap status_of_ending whole ∙ helped helps kind is asks)
+      of_answer (inr (taken, answered)) is_status = inl (taken, is_status ∙ ap status_of_ending answered.whole ∙ ap status_of_reading (sym answered.read))
+  by_result (Err failure) status out out' err err' told_err input input' comes told ended = rw told.0 (of_failure comes.fails)
+    where
+      ends : status_of failure ≢ 3
+      ends three = ended (told.0 ∙ three)
 
-    pub the_status_of_its_words : HasTheStatusOfItsWords line asked_in IsAnswer
-    the_status_of_its_words words status out out' err err' = by_status words out out' err err' status
+      of_failure : (of_words line helps (query_meaning asked_in IsAnswer) words).Fails failure → IsStatusOf helps kinds reading (status_of failure)
+      of_failure (inl refused) = of_refusal helps kinds reading failure refused ends
+      of_failure (inr (taken, is)) = of_fields helps kinds reading failure taken is ends
+
+pub the_status_of_its_words : {A : Type 0} (line : App) (helps : Bool) (asked_in : List Row → Result A FieldFault) (IsAnswer : A → List ℕ → Type 0) → HasTheStatusOfItsWords line helps asked_in IsAnswer
+the_status_of_its_words line helps asked_in IsAnswer words status out out' err err' input input' ends =
+    by_result line helps asked_in IsAnswer words ends.result status out out' err ends.between err' input input' ends.comes ends.told

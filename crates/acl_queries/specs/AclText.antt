@@ -6,8 +6,8 @@ use Rattle.acl_names.specs.Pieces.{pieces}
 use Rattle.acl_names.specs.Steps.{map_fault}
 use Rattle.acl_posix.specs.AclText as posix
 use Rattle.acl_posix.specs.Entry.{EntryValue}
-use Rattle.acl_queries.specs.declared.command.query_fault.FieldFault.{FieldFault}
-use Rattle.acl_queries.specs.declared.command.query_fault.FieldFault.TheVariants.{Acl}
+use Rattle.acl_cli.specs.declared.field_fault.FieldFault.{FieldFault}
+use Rattle.acl_cli.specs.declared.field_fault.FieldFault.TheVariants.{Acl}
 
 -- a directory that knows no user and no group
 abbrev pub nobody : Known

@@ -11,7 +11,7 @@ use Rattle.acl_posix.specs.Entry.{EntryValue}
 use Rattle.acl_posix.specs.PermsText.{perms_of_text}
 use Rattle.acl_queries.specs.AclText.{nobody}
 use Rattle.acl_queries.specs.Asked.{Asked}
-use Rattle.acl_queries.specs.CommandLine.{Takes}
+use Rattle.acl_cli.specs.CommandLine.{Takes}
 use Rattle.acl_queries.specs.DecideLine.{decide_line}
 
 -- the words give the text for the name

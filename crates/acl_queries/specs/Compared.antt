@@ -2,10 +2,10 @@
 use Rattle.std.specs.Prelude.{ℕ, List, Result, Ok, codes}
 use Rattle.clap.specs.Words.{Row}
 use Rattle.acl_names.specs.Steps.{◌>>=◌}
-use Rattle.acl_queries.specs.Asked.{id_in}
+use Rattle.acl_cli.specs.Fields.{id_in}
 use Rattle.acl_queries.specs.ListField.{list_in}
 use Rattle.acl_queries.specs.declared.command.list.AnyAcl.{AnyAcl}
-use Rattle.acl_queries.specs.declared.command.query_fault.FieldFault.{FieldFault}
+use Rattle.acl_cli.specs.declared.field_fault.FieldFault.{FieldFault}
 
 -- two lists, compared for a file of this owner and this group
 pub record Compared : Type 0 where

@@ -1,6 +1,6 @@
 -- What `decide` answers.
 use Rattle.std.specs.Prelude.{◌≡◌, ◌++◌, ◌∷◌, [], Bool, ℕ, List, codes, if◌then◌else◌}
-use Rattle.clap.specs.Words.{Text}
+use Rattle.clap.specs.Words.{Row}
 use Rattle.acl_names.specs.Bytes.{newline}
 use Rattle.acl_posix.specs.Access.{grants}
 use Rattle.acl_posix.specs.Entry.{EntryValue}
@@ -8,8 +8,7 @@ use Rattle.acl_nfs4.specs.PrintedText.{aces_text}
 use Rattle.acl_bridge.specs.Translation.{translation}
 use Rattle.acl_queries.specs.AclText.{nobody}
 use Rattle.acl_queries.specs.Asked.{Asked, asked_in}
-use Rattle.acl_queries.specs.DecideLine.{decide_line}
-use Rattle.acl_queries.specs.Meaning.{Meaning}
+use Rattle.acl_cli.specs.Commands.{Meaning}
 use Rattle.acl_queries.specs.Queries.{query_meaning}
 
 -- whether what is asked is granted (1003.1e draft 17, section 23)
@@ -34,6 +33,6 @@ answer_text asked = answer_line (is_granted asked)
 abbrev pub IsDecideText : Asked → List ℕ → Type 0
 IsDecideText asked text = text ≡ answer_text asked
 
--- what the words of `decide` mean
-abbrev pub decide_meaning : List Text → Meaning
-decide_meaning = query_meaning decide_line asked_in IsDecideText
+-- what the fields of `decide` mean
+abbrev pub decide_meaning : List Row → Meaning
+decide_meaning = query_meaning asked_in IsDecideText

@@ -2,7 +2,7 @@
 use Rattle.std.specs.Prelude.{◌≡◌, ◌⊎◌, ◌==◌, ⊤, ℕ, List, ◌∷◌, ◌++◌, Option, Some, None, codes}
 use Rattle.std.specs.Prelude.{decimal, if◌then◌else◌}
 use Rattle.std.specs.List.{AllByRecursion}
-use Rattle.clap.specs.Words.{Text}
+use Rattle.clap.specs.Words.{Row}
 use Rattle.acl_names.specs.Bytes.{comma}
 use Rattle.acl_names.specs.Letters.{letters_text}
 use Rattle.acl_posix.specs.Access.{grants}
@@ -12,9 +12,8 @@ use Rattle.acl_nfs4.specs.Mask.{all_masks, mask_bits, mode_bits}
 use Rattle.acl_nfs4.specs.declared.comparison.Difference.{Difference}
 use Rattle.acl_bridge.specs.Comparison.{GrantAlikeToAll, IsFirstDifference, granted_by}
 use Rattle.acl_bridge.specs.Comparison.{permission_bits, whole_requests}
-use Rattle.acl_queries.specs.CompareLine.{compare_line}
 use Rattle.acl_queries.specs.Compared.{Compared, compared_in}
-use Rattle.acl_queries.specs.Meaning.{Meaning}
+use Rattle.acl_cli.specs.Commands.{Meaning}
 use Rattle.acl_queries.specs.Queries.{query_meaning}
 use Rattle.acl_queries.specs.declared.command.list.AnyAcl.TheVariants.{Posix, Nfs4}
 use Rattle.acl_queries.specs.declared.command.list.AnyAcl.{AnyAcl}
@@ -100,6 +99,6 @@ IsComparison compared text =
     (AreAlike compared × (text ≡ alike_text))
     ⊎ ((difference : Difference) × Differ compared difference × (text ≡ difference_text difference))
 
--- what the words of `compare` mean
-abbrev pub compare_meaning : List Text → Meaning
-compare_meaning = query_meaning compare_line compared_in IsComparison
+-- what the fields of `compare` mean
+abbrev pub compare_meaning : List Row → Meaning
+compare_meaning = query_meaning compared_in IsComparison

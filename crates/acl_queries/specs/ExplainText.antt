@@ -2,7 +2,7 @@
 use Rattle.std.specs.Prelude.{◌≡◌, ◌↔◌, ◌+◌, ◌^◌, ℕ, Bool, IsTrue, List, [], ◌∷◌, ◌++◌, Option}
 use Rattle.std.specs.Prelude.{Some, None, codes, decimal, if◌then◌else◌, slice_get}
 use Rattle.std.specs.List.{flat_map}
-use Rattle.clap.specs.Words.{Text}
+use Rattle.clap.specs.Words.{Row}
 use Rattle.acl_names.specs.Bits.{has_all}
 use Rattle.acl_names.specs.Directory.{Known}
 use Rattle.acl_names.specs.Letters.{letters_text}
@@ -20,10 +20,9 @@ use Rattle.acl_nfs4.specs.Who.{matches}
 use Rattle.acl_nfs4.specs.declared.who.Who.{Who}
 use Rattle.acl_queries.specs.AclText.{nobody}
 use Rattle.acl_queries.specs.DecideAnswer.{answer_line}
-use Rattle.acl_queries.specs.ExplainLine.{explain_line}
 use Rattle.acl_queries.specs.Explained.{Explained, explained_in}
 use Rattle.acl_queries.specs.Explanation.{class_of, first_speaker, is_limited, is_of_class, lacks}
-use Rattle.acl_queries.specs.Meaning.{Meaning}
+use Rattle.acl_cli.specs.Commands.{Meaning}
 use Rattle.acl_queries.specs.Queries.{query_meaning}
 use Rattle.acl_queries.specs.declared.command.list.AnyAcl.TheVariants.{Posix, Nfs4}
 use Rattle.acl_queries.specs.declared.command.list.AnyAcl.{AnyAcl}
@@ -124,6 +123,6 @@ pub record IsExplanation (asked : Explained) (text : List ℕ) : Type 0 where
   pub decides : Decides asked asked.acl granted
   pub says : text ≡ answer_line granted ++ reasons nobody asked asked.acl
 
--- what the words of `explain` mean
-abbrev pub explain_meaning : List Text → Meaning
-explain_meaning = query_meaning explain_line explained_in IsExplanation
+-- what the fields of `explain` mean
+abbrev pub explain_meaning : List Row → Meaning
+explain_meaning = query_meaning explained_in IsExplanation

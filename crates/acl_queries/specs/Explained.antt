@@ -3,10 +3,10 @@ use Rattle.std.specs.Prelude.{ℕ, List, Result, Ok, codes}
 use Rattle.clap.specs.Words.{Row}
 use Rattle.acl_names.specs.Requester.{Identity}
 use Rattle.acl_names.specs.Steps.{◌>>=◌}
-use Rattle.acl_queries.specs.Asked.{gids_in, id_in, perms_in}
+use Rattle.acl_cli.specs.Fields.{gids_in, id_in, perms_in}
 use Rattle.acl_queries.specs.ListField.{list_in}
 use Rattle.acl_queries.specs.declared.command.list.AnyAcl.{AnyAcl}
-use Rattle.acl_queries.specs.declared.command.query_fault.FieldFault.{FieldFault}
+use Rattle.acl_cli.specs.declared.field_fault.FieldFault.{FieldFault}
 
 -- why the requester may do all of what is requested with a file of this owner, this group and this
 -- access control list, or may not

@@ -1,10 +1,3 @@
-pub mod Input
-pub mod Output
-pub mod ErrorOutput
-pub mod CommandLine
-pub mod RunFaults
-pub mod Faults
-pub mod Meaning
 pub mod Queries
 pub mod AclText
 pub mod Asked

@@ -9,6 +9,11 @@ use Rattle.acl_bridge.specs.declared.style.Style.{Style}
 use Rattle.acl_bridge.specs.declared.style.Style.TheVariants as style
 use Rattle.acl_nfs4.specs.Ace.{Nfsace4}
 use Rattle.acl_nfs4.specs.AceText.{piece_value}
+use Rattle.acl_nfs4.specs.declared.acl.AceFault.{AceFault}
+use Rattle.acl_nfs4.specs.declared.acl.AceFault.TheVariants as aces
+use Rattle.acl_cli.specs.Failures.{out_of_memory}
+use Rattle.acl_cli.specs.declared.failure.Failure.{Failure}
+use Rattle.acl_cli.specs.declared.failure.Failure.TheVariants.{Field}
 use Rattle.acl_nfs4.specs.declared.limits.TheConstants.{MAX_ACES}
 use Rattle.acl_nfs4.specs.declared.reading.PieceFault.{PieceFault}
 use Rattle.acl_nfs4.specs.declared.reading.PieceFault.TheVariants as piece
@@ -16,9 +21,9 @@ use Rattle.acl_posix.specs.declared.acl_text.AclFault.TheVariants as acl
 use Rattle.acl_queries.specs.AclText.{acl_of, nobody}
 use Rattle.acl_queries.specs.declared.command.list.AnyAcl.{AnyAcl}
 use Rattle.acl_queries.specs.declared.command.list.AnyAcl.TheVariants as list
-use Rattle.acl_queries.specs.declared.command.query_fault.FieldFault.{FieldFault}
-use Rattle.acl_queries.specs.declared.command.query_fault.FieldFault.TheVariants.{Acl, BadStyle}
-use Rattle.acl_queries.specs.declared.command.query_fault.FieldFault.TheVariants.{InheritOnly}
+use Rattle.acl_cli.specs.declared.field_fault.FieldFault.{FieldFault}
+use Rattle.acl_cli.specs.declared.field_fault.FieldFault.TheVariants.{Acl, BadStyle}
+use Rattle.acl_cli.specs.declared.field_fault.FieldFault.TheVariants.{InheritOnly}
 
 -- a faulty piece of an NFSv4 list, as the fault of the field
 abbrev pub ace_fault : PieceFault → FieldFault
@@ -29,6 +34,14 @@ ace_fault piece.InheritOnly = InheritOnly
 abbrev pub as_ace : Result Nfsace4 PieceFault → Result Nfsace4 FieldFault
 as_ace (Ok ace) = Ok ace
 as_ace (Err fault) = Err (ace_fault fault)
+
+-- why an NFSv4 list isn't read, as a failure of its field
+abbrev pub failure_of_aces : AceFault → Failure
+failure_of_aces aces.Syntax = Field (Acl acl.BadAcl)
+failure_of_aces aces.UnknownName = Field (Acl acl.UnknownName)
+failure_of_aces aces.TooMany = Field (Acl acl.TooMany)
+failure_of_aces aces.InheritOnly = Field InheritOnly
+failure_of_aces aces.Memory = out_of_memory
 
 -- the entries of the NFSv4 list that a text spells, at most 128
 abbrev pub aces_of : Text → Result (List Nfsace4) FieldFault

@@ -1,29 +1,36 @@
--- What words mean whose fields by themselves are answered.
-use Rattle.std.specs.Prelude.{◌≡◌, ℕ, List, Result, Ok}
-use Rattle.clap.specs.Words.{App, Row, Text, fault_of, matches_of}
-use Rattle.acl_queries.specs.CommandLine.{Takes}
-use Rattle.acl_queries.specs.Faults.{IsRefusedFor, SaysQueryFault}
-use Rattle.acl_queries.specs.Meaning.{Meaning}
-use Rattle.acl_queries.specs.declared.command.query_fault.FieldFault.{FieldFault}
+-- What fields mean that by themselves are answered.
+use Rattle.std.specs.Prelude.{◌≡◌, ⊤, ℕ, List, [], Result, Ok, Err, IsOk}
+use Rattle.clap.specs.Words.{Row}
+use Rattle.acl_cli.specs.Commands.{Answer, Meaning}
+use Rattle.acl_cli.specs.declared.command.Ending.TheVariants.{Answered}
+use Rattle.acl_cli.specs.declared.failure.Failure.{Failure}
+use Rattle.acl_cli.specs.declared.failure.Failure.TheVariants.{Field, Lacks}
+use Rattle.acl_cli.specs.declared.field_fault.FieldFault.{FieldFault}
+use Rattle.acl_cli.specs.declared.run_fault.RunFault.TheVariants.{Memory, Output}
 
--- by a command's line, by what its fields ask, and by which texts answer that: the words are taken
--- and ask something, and a text that answers it went out so
-pub record IsAnswered {A : Type 0} (line : App) (asked_in : List Row → Result A FieldFault)
-    (IsAnswer : A → List ℕ → Type 0) (words : List Text) (WentOut : List ℕ → Type 0) : Type 0 where
-  pub taken : Takes line words
+-- by what the fields ask, and by which texts answer that: they ask something, and this answers it,
+-- wholly, with nothing beside it
+pub record IsAnswered {A : Type 0} (reading : Result A FieldFault) (IsAnswer : A → List ℕ → Type 0)
+    (answer : Answer) : Type 0 where
   pub asked : A
-  pub read : asked_in (matches_of line words) ≡ Ok asked
-  pub text : List ℕ
-  pub answers : IsAnswer asked text
-  pub out : WentOut text
+  pub read : reading ≡ Ok asked
+  pub answers : IsAnswer asked answer.text
+  pub quiet : answer.beside ≡ []
+  pub whole : answer.ending ≡ Answered
 
--- words that are refused have no answer: by the parser, or for the first field that doesn't read
-abbrev pub query_meaning : {A : Type 0} → App → (List Row → Result A FieldFault)
-    → (A → List ℕ → Type 0) → List Text → Meaning
-query_meaning line asked_in IsAnswer words = record {
-  Answers = IsAnswered line asked_in IsAnswer words;
-  Begins = IsAnswered line asked_in IsAnswer words;
-  Says = SaysQueryFault
-      (IsRefusedFor (fault_of line words) (asked_in (matches_of line words)));
+-- they have no answer for the first of them that doesn't read, or since memory ran out; or they
+-- have one, and it can't be written
+abbrev pub FailsFor : {A : Type 0} → Result A FieldFault → Failure → Type 0
+FailsFor reading (Field fault) = reading ≡ Err fault
+FailsFor reading (Lacks Memory) = ⊤
+FailsFor reading (Lacks Output) = IsOk reading
+FailsFor reading _ = ⊥
+
+abbrev pub query_meaning : {A : Type 0} → (List Row → Result A FieldFault)
+    → (A → List ℕ → Type 0) → List Row → Meaning
+query_meaning asked_in IsAnswer rows = record {
+  Answers = IsAnswered (asked_in rows) IsAnswer;
+  Begins = IsAnswered (asked_in rows) IsAnswer;
+  Fails = FailsFor (asked_in rows);
   inputs = 0;
 }

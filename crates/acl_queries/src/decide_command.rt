@@ -1,18 +1,15 @@
 //! The command `decide`.
-ghost use Rattle.std.specs.Prelude.{map};
-ghost use Rattle.acl_queries.specs.DecideAnswer.{decide_meaning};
-ghost use Rattle.acl_queries.specs.Meaning.{Ends};
 
 mod command_line;
 mod question;
 mod translation;
 
-use crate::ErrorOutput;
-use crate::command::query::ask;
+use crate::command::query::answer_query;
+use acl_cli::{Command, Ending, ErrorOutput, Failure, OpenFiles};
+use clap::ArgMatches;
 use question::Question;
 use std::alloc::Global;
-use std::convert::AsStr;
-use std::io::Write;
+use std::io::{Read, Write};
 
 /// Tells whether an access control list grants a request. The words are those of the command, its
 /// name first: `decide [--nfs4] --owner N --group N --uid N [--gids N,N..] --perms P TEXT`. The
@@ -21,16 +18,31 @@ use std::io::Write;
 /// written at once. What is wrong with the words goes to `err`, and so does help; a fault while
 /// writing there changes nothing.
 ///
-/// It returns the exit status: 0 with the answer, 1 if a field doesn't read, 2 if the parser of
+/// The exit status is 0 with the answer, 1 if a field doesn't read, 2 if the parser of
 /// command lines refuses the words, and 3 if memory runs out or the answer can't be written.
-pub fn decide<S: AsStr, W: Write, E: Write + Drop>(
-    alloc: Global,
-    words: &[S],
-    out: &mut W,
-    err: &mut ErrorOutput<E>,
-) -> u8
-    ensures { Ends (decide_meaning (map S.text words.now)) result (W.contents out.old)
-        (W.contents out.new) err.old err.new }
-{
-    ask::<Question, S, W, E>(alloc, words, out, err)
+pub struct Decide;
+
+impl Command for Decide {
+    ghost use Rattle.std.specs.Prelude.{false};
+    ghost use Rattle.acl_queries.specs.DecideAnswer.{decide_meaning};
+
+    ghost meaning = { λ files input. decide_meaning };
+
+    ghost helps = { false };
+
+    fn answers_help() -> bool {
+        false
+    }
+
+    fn answer<'a, F: OpenFiles, I: Read, W: Write, E: Write + Drop>(
+        &self,
+        alloc: Global,
+        _files: &F,
+        matches: &ArgMatches<'a>,
+        input: &mut I,
+        out: &mut W,
+        err: &mut ErrorOutput<E>,
+    ) -> Result<Ending, Failure<'a>> {
+        answer_query::<Question, I, W, E>(alloc, matches, input, out, err)
+    }
 }

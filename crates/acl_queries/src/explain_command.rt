@@ -1,7 +1,4 @@
 //! The command `explain`.
-ghost use Rattle.std.specs.Prelude.{map};
-ghost use Rattle.acl_queries.specs.ExplainText.{explain_meaning};
-ghost use Rattle.acl_queries.specs.Meaning.{Ends};
 
 mod command_line;
 mod nfs4;
@@ -9,12 +6,12 @@ mod posix;
 mod question;
 mod text;
 
-use crate::ErrorOutput;
-use crate::command::query::ask;
+use crate::command::query::answer_query;
+use acl_cli::{Command, Ending, ErrorOutput, Failure, OpenFiles};
+use clap::ArgMatches;
 use question::Question;
 use std::alloc::Global;
-use std::convert::AsStr;
-use std::io::Write;
+use std::io::{Read, Write};
 
 /// Tells whether an access control list grants a request, and which entries decide. The words are
 /// those of the command, its name first: `explain --owner N --group N --uid N [--gids N,N..]
@@ -27,19 +24,35 @@ use std::io::Write;
 /// that is asked for: its letter, the place from 1 of the entry that speaks first of it, and that
 /// entry; or two hyphens if none does.
 ///
-/// All of it is made first and then written at once. What is wrong with the words goes to `err`,
-/// and so does help; a fault while writing there changes nothing.
+/// All of it is made first and then written at once. What is wrong with the words goes to `err`; a
+/// fault while writing there changes nothing.
 ///
-/// It returns the exit status: 0 with the answer, 1 if a field doesn't read, 2 if the parser of
-/// command lines refuses the words, and 3 if memory runs out or the answer can't be written.
-pub fn explain<S: AsStr, W: Write, E: Write + Drop>(
-    alloc: Global,
-    words: &[S],
-    out: &mut W,
-    err: &mut ErrorOutput<E>,
-) -> u8
-    ensures { Ends (explain_meaning (map S.text words.now)) result (W.contents out.old)
-        (W.contents out.new) err.old err.new }
-{
-    ask::<Question, S, W, E>(alloc, words, out, err)
+/// The exit status is 0 with the answer, and with help, which goes to `out` too; 1 if a field
+/// doesn't read, 2 if the parser of command lines refuses the words, and 3 if memory runs out or
+/// the answer can't be written.
+pub struct Explain;
+
+impl Command for Explain {
+    ghost use Rattle.std.specs.Prelude.{true};
+    ghost use Rattle.acl_queries.specs.ExplainText.{explain_meaning};
+
+    ghost meaning = { λ files input. explain_meaning };
+
+    ghost helps = { true };
+
+    fn answers_help() -> bool {
+        true
+    }
+
+    fn answer<'a, F: OpenFiles, I: Read, W: Write, E: Write + Drop>(
+        &self,
+        alloc: Global,
+        _files: &F,
+        matches: &ArgMatches<'a>,
+        input: &mut I,
+        out: &mut W,
+        err: &mut ErrorOutput<E>,
+    ) -> Result<Ending, Failure<'a>> {
+        answer_query::<Question, I, W, E>(alloc, matches, input, out, err)
+    }
 }

@@ -1,10 +1,10 @@
 //! Laws about the commands' definitions. There is nothing to run here: a proof cites the contracts.
-ghost use Rattle.std.specs.Prelude.{◌≡◌, ◌↔◌, List, Ok, ℕ};
+ghost use Rattle.std.specs.Prelude.{◌≡◌, ◌↔◌, List, Ok, false, true, ℕ};
 ghost use Rattle.clap.specs.Words.{matches_of};
 ghost use Rattle.acl_nfs4.specs.declared.comparison.Difference.{Difference};
 ghost use Rattle.acl_queries.specs.Ask.{Ask};
 ghost use Rattle.acl_queries.specs.Asked.{Asked, asked_in};
-ghost use Rattle.acl_queries.specs.CommandLine.{Takes};
+ghost use Rattle.acl_cli.specs.CommandLine.{Takes};
 ghost use Rattle.acl_queries.specs.CompareLine.{compare_line};
 ghost use Rattle.acl_queries.specs.Compared.{Compared, compared_in};
 ghost use Rattle.acl_queries.specs.DecideAnswer.{IsDecideText};
@@ -20,11 +20,12 @@ ghost use Rattle.acl_queries.specs.QueryLaws.{HasTheStatusOfItsWords};
 
 /// The exit status of `decide`, `explain` and `compare` is that of their words, unless something is
 /// lacking (3): 2 if the parser of command lines refuses them, 1 if a field doesn't read, and else
-/// 0. What ended as the words mean has no other.
+/// 0; and 0 of `explain` and `compare` if the words ask for help. What ended as the words mean has
+/// no other.
 pub fn statuses_are_those_of_the_words()
-    ensures decide { HasTheStatusOfItsWords decide_line asked_in IsDecideText }
-    ensures explain { HasTheStatusOfItsWords explain_line explained_in IsExplanation }
-    ensures compare { HasTheStatusOfItsWords compare_line compared_in IsComparison }
+    ensures decide { HasTheStatusOfItsWords decide_line false asked_in IsDecideText }
+    ensures explain { HasTheStatusOfItsWords explain_line true explained_in IsExplanation }
+    ensures compare { HasTheStatusOfItsWords compare_line true compared_in IsComparison }
 {}
 
 /// Words of `decide` ask what their fields give, each field by itself, and nothing else.

@@ -1,7 +1,6 @@
 //! Queries of access control lists by themselves, from the words of a command line to what is
 //! printed: who may do what (`decide`), why (`explain`), and who gains or loses what between two
-//! lists (`compare`). And what all commands of the program share: their bytes and words, their
-//! options, and what a command may lack.
+//! lists (`compare`).
 #![tactic(auto)]
 
 mod command;
@@ -11,14 +10,10 @@ mod explain_command;
 mod explanation;
 mod laws;
 
-pub use command::{
-    CapFault, CommandFault, CommandLine, ErrorOutput, FieldFault, QueryFault, RunFault, WordsFault,
-    fields, optional_perms_field, options, parse, push_bits, push_gids, read_capped, report,
-    words_of, write_text,
-};
-pub use compare_command::compare;
-pub use decide_command::decide;
-pub use explain_command::explain;
+pub use command::{push_bits, push_gids};
+pub use compare_command::Compare;
+pub use decide_command::Decide;
+pub use explain_command::Explain;
 pub use explanation::{Class, class_of, first_speaker, lacks};
 pub use laws::{
     alike_lists_differ_for_nobody, explanation_laws, statuses_are_those_of_the_words,

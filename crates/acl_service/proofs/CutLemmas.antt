@@ -2,7 +2,7 @@
 use Rattle.std.proofs.Common.{◌≡◌, ◌≢◌, List, ℕ, Option, inl, inr, refl, subst, sym}
 use Rattle.std.specs.Prelude.{⊤, ◌⊎◌}
 use Rattle.std.specs.Io.KnownBytes.{Keeps}
-use Rattle.acl_queries.specs.declared.command.run_fault.RunFault.TheVariants.{Memory, NoThread, Output, Stopped}
+use Rattle.acl_cli.specs.declared.run_fault.RunFault.TheVariants.{Memory, NoThread, Output, Stopped}
 use Rattle.acl_service.specs.TextsFaults.{lost_output}
 use Rattle.acl_service.specs.declared.run_command.fault.TextsFault.{TextsFault}
 use Rattle.acl_service.specs.declared.run_command.fault.TextsFault.TheVariants.{TooManySessions, Setup, Run}

@@ -3,10 +3,10 @@ use Rattle.std.proofs.Common.{◌≤◌, ◌≡◌, ◌≢◌, ℕ, List, Option
 use Rattle.std.specs.Prelude.{IfSome}
 use Rattle.std.specs.Fmt.{digits}
 use Rattle.std.specs.Io.KnownBytes.{Keeps}
-use Rattle.acl_queries.specs.ErrorOutput.{ErrorText, Tells}
-use Rattle.acl_queries.specs.Meaning.{Ends, Meaning}
-use Rattle.acl_queries.specs.Output.{AppendsFront}
-use Rattle.acl_queries.proofs.MeaningLemmas.{Ends-fault}
+use Rattle.acl_cli.specs.ErrorOutput.{ErrorText, Tells}
+use Rattle.acl_cli.specs.Meaning.{Ends, Meaning}
+use Rattle.acl_cli.specs.Output.{AppendsFront}
+use Rattle.acl_cli.proofs.MeaningLemmas.{Ends-fault}
 use Rattle.acl_service.specs.FilesFaults.{files_line, files_status}
 use Rattle.acl_service.specs.TextsFaults.{lost_output, texts_line, texts_status, too_many_sessions}
 use Rattle.acl_service.specs.declared.files.fault.FilesFault.{FilesFault}

@@ -1,4 +1,3 @@
-pub mod SetupLemmas
 pub mod TextLengths
 pub mod SessionLemmas
 pub mod PrintLemmas

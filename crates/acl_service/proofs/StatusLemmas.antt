@@ -3,11 +3,11 @@ use Rattle.std.proofs.Common.{◌≡◌, ◌≢◌, ◌≤◌, ◌⊎◌, ◌∙
 use Rattle.clap.specs.Words.{Text, matches_of}
 use Rattle.clap.specs.declared.error.kind.ErrorKind.{ErrorKind}
 use Rattle.clap.specs.declared.error.kind.ErrorKind.TheVariants.{OutOfMemory}
-use Rattle.acl_queries.specs.CommandLine.{Takes}
-use Rattle.acl_queries.specs.ErrorOutput.{ErrorText}
-use Rattle.acl_queries.specs.Faults.{usage_status_by}
-use Rattle.acl_queries.specs.Meaning.{Ends}
-use Rattle.acl_queries.proofs.ErrorLemmas.{usage_bounds}
+use Rattle.acl_cli.specs.CommandLine.{Takes}
+use Rattle.acl_cli.specs.ErrorOutput.{ErrorText}
+use Rattle.acl_cli.specs.Faults.{usage_status_by}
+use Rattle.acl_cli.specs.Meaning.{Ends}
+use Rattle.acl_cli.proofs.ErrorLemmas.{usage_bounds}
 use Rattle.acl_service.specs.FilesFaults.{IsFilesFault, SaysRun, files_status}
 use Rattle.acl_service.specs.RunLaws.{CannotRun, StatusesTellTheWords}
 use Rattle.acl_service.specs.RunLine.{run_line}

@@ -3,11 +3,11 @@ use Rattle.std.specs.Prelude.{◌≡◌, ◌<◌, ◌⊎◌, ⊤, ℕ, List, ◌
 use Rattle.std.specs.Prelude.{Contains}
 use Rattle.clap.specs.Words.{Row, Text, matches_of}
 use Rattle.acl_broker.specs.declared.limits.TheConstants.{SESSIONS}
-use Rattle.acl_queries.specs.CommandLine.{Takes}
-use Rattle.acl_queries.specs.ErrorOutput.{SaysFault, line_of_words}
-use Rattle.acl_queries.specs.Faults.{SaysUsage}
-use Rattle.acl_queries.specs.RunFaults.{run_fault_words}
-use Rattle.acl_queries.specs.declared.command.run_fault.RunFault.TheVariants as run
+use Rattle.acl_cli.specs.CommandLine.{Takes}
+use Rattle.acl_cli.specs.ErrorOutput.{SaysFault, line_of_words}
+use Rattle.acl_cli.specs.Faults.{SaysUsage}
+use Rattle.acl_cli.specs.RunFaults.{run_fault_words}
+use Rattle.acl_cli.specs.declared.run_fault.RunFault.TheVariants as run
 use Rattle.acl_service.specs.RunLine.{run_line}
 use Rattle.acl_service.specs.RunWords.{CanRun, HasBytes, input_count, sessions_in, setup_in}
 use Rattle.acl_service.specs.TextsFaults.{SaysTexts, too_many_sessions}

@@ -1,11 +1,6 @@
 pub mod Runs
 pub mod Served
 pub mod ServedCode
-pub mod SetupTable
-pub mod Setup
-pub mod Shown
-pub mod Opened
-pub mod SetupFaults
 pub mod FilesFaults
 pub mod Sessions
 pub mod Cursor

@@ -3,7 +3,7 @@ use Rattle.std.specs.Prelude.{◌≡◌, [], ◌∷◌, Some, codes, fold, refl,
 use Rattle.clap.specs.Words.{App, Rule, is_simple, is_simple_and_free, new_app, with_rule}
 use Rattle.clap.specs.declared.builder.value_parser.ValueParser.TheVariants.{Unsigned}
 use Rattle.clap.proofs.OnLiterals.{clap_on_literals}
-use Rattle.acl_queries.specs.CommandLine.{flag, optional_option, required_option, required_word}
+use Rattle.acl_cli.specs.CommandLine.{flag, optional_option, required_option, required_word}
 
 -- `--max-errors K`, of 1 to 65535
 abbrev pub limit_option : Rule

@@ -2,7 +2,7 @@
 use Rattle.std.specs.Prelude.{ℕ, Bool, List, Option, Vec, length}
 use Rattle.std.specs.declared.alloc.Global.{Global}
 use Rattle.clap.specs.Words.{Row, Text, matches_of}
-use Rattle.acl_queries.specs.Meaning.{Meaning}
+use Rattle.acl_cli.specs.Meaning.{Meaning}
 use Rattle.acl_service.specs.FilesFaults.{SaysFiles, SaysRun}
 use Rattle.acl_service.specs.RunLine.{run_line}
 use Rattle.acl_service.specs.RunTexts.{RunsTexts}

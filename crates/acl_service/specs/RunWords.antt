@@ -5,8 +5,8 @@ use Rattle.std.specs.Str.Parse.{IsNumeral, digits_value, without_leading_plus}
 use Rattle.std.specs.declared.alloc.Global.{Global}
 use Rattle.clap.specs.Words.{Row, Text, all_of, first_of, matches_of}
 use Rattle.acl_broker.specs.declared.limits.TheConstants.{SESSIONS}
-use Rattle.acl_queries.specs.Asked.{flag_in}
-use Rattle.acl_queries.specs.CommandLine.{Takes}
+use Rattle.acl_cli.specs.Fields.{flag_in}
+use Rattle.acl_cli.specs.CommandLine.{Takes}
 use Rattle.acl_service.specs.RunLine.{run_line}
 use Rattle.acl_service.specs.RunTexts.{RunsTexts}
 

@@ -1,11 +1,11 @@
 -- The lines and the exit statuses of runs that come to nothing.
-use Rattle.std.specs.Prelude.{◌≢◌, ◌<◌, ◌≤◌, ◌++◌, ⊤, ℕ, List, Option, Some, codes, decimal}
+use Rattle.std.specs.Prelude.{◌<◌, ◌≤◌, ◌++◌, ⊤, ℕ, List, Option, Some, codes, decimal}
 use Rattle.acl_broker.specs.declared.limits.TheConstants.{SESSIONS}
-use Rattle.acl_service.specs.Opened.{IsRefusedSetup}
-use Rattle.acl_service.specs.SetupFaults.{setup_error_words}
-use Rattle.acl_queries.specs.ErrorOutput.{SaysFault, line_of_words}
-use Rattle.acl_queries.specs.RunFaults.{run_fault_words}
-use Rattle.acl_queries.specs.declared.command.run_fault.RunFault.TheVariants as run
+use Rattle.acl_setup.specs.Opened.{IsRefusedBy}
+use Rattle.acl_setup.specs.SetupFaults.{setup_error_words}
+use Rattle.acl_cli.specs.ErrorOutput.{SaysFault, line_of_words}
+use Rattle.acl_cli.specs.RunFaults.{run_fault_words}
+use Rattle.acl_cli.specs.declared.run_fault.RunFault.TheVariants as run
 use Rattle.acl_service.specs.declared.one.OneFault.{OneFault}
 use Rattle.acl_service.specs.declared.one.OneFault.TheVariants as one
 use Rattle.acl_service.specs.declared.run_command.fault.TextsFault.{TextsFault}
@@ -13,8 +13,8 @@ use Rattle.acl_service.specs.declared.run_command.fault.TextsFault.TheVariants.{
 use Rattle.acl_service.specs.declared.run_command.fault.TextsFault.TheVariants.{Setup, Run}
 use Rattle.acl_runs.specs.declared.stop.ServeFault.{ServeFault}
 use Rattle.acl_runs.specs.declared.stop.ServeFault.TheVariants as serve
-use Rattle.acl_service.specs.declared.setup.fault.SetupError.{SetupError}
-use Rattle.acl_service.specs.declared.setup.fault.SetupError.TheVariants as setup
+use Rattle.acl_setup.specs.declared.fault.SetupError.{SetupError}
+use Rattle.acl_setup.specs.declared.fault.SetupError.TheVariants as setup
 
 -- how many sessions there may be
 abbrev pub too_many_sessions : List ℕ
@@ -53,11 +53,6 @@ fault_of_serve serve.ThreadRefused = Run run.NoThread
 
 abbrev pub lost_output : TextsFault
 lost_output = Run run.Output
-
--- the setup is refused for this, and not because memory ran out
-pub record IsRefusedBy (bytes : List ℕ) (error : SetupError) : Type 0 where
-  pub refused : IsRefusedSetup bytes error
-  pub because : error ≢ setup.Memory
 
 -- so many sessions with this setup are refused for this: there are too many, or else for the setup;
 -- of a run that lacked something nothing is said but that there weren't too many

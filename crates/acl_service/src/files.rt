@@ -8,13 +8,12 @@ ghost use Rattle.acl_service.specs.RunWords.{CanRun, HasBytes, HaveBytes, bytes_
 ghost use Rattle.acl_service.specs.RunWords.{input_count};
 
 pub(crate) mod fault;
-mod open_files;
 
 use crate::{CapFault, read_capped};
 use acl_broker::SESSIONS;
+pub use acl_cli::OpenFiles;
 use acl_lang::MAX_TEXT_LEN;
 pub use fault::FilesFault;
-pub use open_files::OpenFiles;
 use std::alloc::Global;
 use std::io::Read;
 

@@ -1,4 +1,4 @@
-//! The service: many sessions on one tree. The sessions of a run, the setup that it begins with,
+//! The service: many sessions on one tree. The sessions of a run,
 //! and the command `run`, over any words, readers and writers. The commands that ask of lists alone
 //! are those of `acl_queries`.
 #![tactic(auto)]
@@ -9,12 +9,12 @@ mod one;
 mod run_command;
 mod served;
 mod sessions;
-mod setup;
 
-pub use acl_queries::{
-    CapFault, CommandFault, ErrorOutput, RunFault, WordsFault, alike_lists_differ_for_nobody,
-    compare, decide, explain, read_capped, report, words_ask_what_they_give, words_of, write_text,
+pub use acl_cli::{
+    CapFault, CommandFault, ErrorOutput, RunFault, WordsFault, read_capped, report, words_of,
+    write_text,
 };
+pub use acl_queries::{alike_lists_differ_for_nobody, words_ask_what_they_give};
 pub use acl_runs::{Gate, OpenGate, ServeFault};
 pub use files::{FilesFault, OpenFiles, Texts, count_inputs, read_file, read_sessions, read_texts};
 pub use laws::{
@@ -25,6 +25,3 @@ pub use run_command::{run, run_texts, session_fields, session_words, setup_field
 pub use served::Served;
 pub(crate) use served::ServedInPrint;
 pub use sessions::{Report, serve, serve_rounds};
-pub use setup::{
-    Root, Setup, SetupError, id_at, read_setup, read_table, table_at, text_at, value_at,
-};

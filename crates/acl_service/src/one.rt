@@ -2,13 +2,13 @@
 ghost use Rattle.std.specs.Prelude.{◌≡◌, ◌≤◌, ◌++◌, length, IfOk, IsErrOf, OnOk};
 ghost use Rattle.std.specs.Io.KnownBytes.{Appends, Keeps};
 ghost use Rattle.acl_lang.specs.Texts.{requests_of};
-ghost use Rattle.acl_queries.specs.Output.{AppendsFront};
+ghost use Rattle.acl_cli.specs.Output.{AppendsFront};
 ghost use Rattle.acl_lang.specs.Printed.{answer_text};
 ghost use Rattle.acl_service.specs.Runs.{answer_to, session_text, tree_after, tree_after_one};
 
+use acl_cli::write_text;
 use acl_lang::{Answer, MAX_TEXT_LEN, Numbered, Requests, render, render_node};
 use acl_names::Directory;
-use acl_queries::write_text;
 use acl_tree::{Request, Tree};
 use std::alloc::{AllocError, Global};
 use std::io::Write;

@@ -3,7 +3,7 @@ ghost use Rattle.std.specs.Prelude.{◌≢◌, ◌<◌, ◌≤◌, ◌≡◌, �
 ghost use Rattle.clap.specs.Words.{found_of, rows_of};
 ghost use Rattle.acl_lang.specs.declared.limits.TheConstants.{MAX_TEXT_LEN};
 ghost use Rattle.acl_broker.specs.declared.limits.TheConstants.{SESSIONS};
-ghost use Rattle.acl_queries.specs.Meaning.{Ends, EndsWithInput};
+ghost use Rattle.acl_cli.specs.Meaning.{Ends, EndsWithInput};
 ghost use Rattle.acl_service.specs.RunMeaning.{files_meaning, run_meaning, texts_meaning};
 
 mod command_line;
@@ -12,8 +12,8 @@ mod printing;
 mod texts;
 
 use crate::files::{FilesFault, OpenFiles, read_texts};
-use acl_queries::fields::flag_field;
-use acl_queries::{ErrorOutput, parse, report};
+use acl_cli::fields::flag_field;
+use acl_cli::{ErrorOutput, parse, report};
 use acl_runs::{Gate, OpenGate};
 use clap::ArgMatches;
 use command_line::{RunLine, limit_field};

@@ -2,7 +2,7 @@
 use Rattle.std.proofs.Common.{◌≡◌, ◌∙◌, ◌++◌, ℕ, List, [], ◌∷◌, Option, Some, None, Result, Ok, Err, OnErr, ap, append_assoc, append-nil, refl, sym}
 use Rattle.acl_listings.specs.Cursor.{HandsOut, IsOver}
 use Rattle.acl_listings.specs.Listing.{Block}
-use Rattle.acl_queries.specs.Output.{AppendsFront}
+use Rattle.acl_cli.specs.Output.{AppendsFront}
 use Rattle.acl_tree_queries.specs.ListingText.{AreAll, AreFirst, TellsInTurn}
 
 -- the blocks that were to come, if they are known, are those that were seen and those that still are

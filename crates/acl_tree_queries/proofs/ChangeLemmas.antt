@@ -23,7 +23,7 @@ use Rattle.acl_listings.specs.Listing.{Block}
 use Rattle.acl_listings.specs.declared.fault.BlockFault.{BlockFault}
 use Rattle.acl_listings.specs.declared.fault.BlockFault.TheVariants.{TooLong, BadHeader, RepeatedPath, UnknownOwner, UnknownGroup, Acl, UnknownWay}
 use Rattle.acl_listings.proofs.PathLemmas.{path_of-file}
-use Rattle.acl_queries.specs.Output.{AppendsFront}
+use Rattle.acl_cli.specs.Output.{AppendsFront}
 use Rattle.acl_tree_queries.specs.ChangeSteps.{AreMet, TellsFaultOf, TellsFile, TellsFound, TellsGoneOf, TellsNext, TellsOfKnown, is_marked, read_placed}
 use Rattle.acl_tree_queries.specs.ImpactListing.{Item, Before, After, Gone, TellsAfter, TellsBetween, TellsChange, TellsItem, TellsSaid, TellsSince, fault_in, file_before, gone_unless}
 use Rattle.acl_tree_queries.specs.Kept.{first_place, has_path, is_earlier, place_of}

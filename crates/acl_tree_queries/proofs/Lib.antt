@@ -13,7 +13,6 @@ pub mod PlacesLemmas
 pub mod ChangeLemmas
 pub mod ListingWordsLemmas
 pub mod NodesLemmas
-pub mod PiecesLemmas
 pub mod OpenedLemmas
 pub mod QuestionsLemmas
 pub mod TreesLemmas

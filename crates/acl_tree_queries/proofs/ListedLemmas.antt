@@ -17,8 +17,8 @@ use Rattle.acl_listings.specs.Cursor.{blocks_to_come}
 use Rattle.acl_listings.specs.Listing.{Block, blocks_of}
 use Rattle.acl_listings.specs.declared.fault.BlockFault.{BlockFault}
 use Rattle.acl_posix.specs.Perms.{bits_of}
-use Rattle.acl_queries.specs.Output.{AppendsFront}
-use Rattle.acl_service.specs.Opened.{Opens}
+use Rattle.acl_cli.specs.Output.{AppendsFront}
+use Rattle.acl_setup.specs.Opened.{Opens}
 use Rattle.acl_service.specs.RunWords.{HasBytes, setup_in}
 use Rattle.acl_tree.specs.Tree.{NodesUnderUmask}
 use Rattle.acl_tree_queries.specs.ChangeSteps.{read_placed}

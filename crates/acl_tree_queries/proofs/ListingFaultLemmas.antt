@@ -1,13 +1,13 @@
 -- Why words that ask of a listing have no answer.
 use Rattle.std.proofs.Common.{◌≡◌, ◌≢◌, ◌∙◌, ◌+◌, ℕ, suc, Bool, true, false, cond, Contains, List, ◌∷◌, Option, Ok, Result, IsOk, ap, arith, bytes_eq, codes, refl, subst, sym}
 use Rattle.clap.specs.Words.{App, Row, Text, matches_of}
-use Rattle.acl_queries.specs.declared.command.query_fault.FieldFault.{FieldFault}
+use Rattle.acl_cli.specs.declared.field_fault.FieldFault.{FieldFault}
 use Rattle.acl_service.specs.RunWords.{input_count, setup_in}
 use Rattle.acl_service.specs.declared.files.fault.FilesFault.TheVariants.{SessionCount, InputTwice, CannotRead, Memory}
 use Rattle.acl_tree_queries.specs.AnswerFaults.{IsLack}
 use Rattle.acl_tree_queries.specs.ListingFaults.{IsDirectoryFault, IsListingFault, IsNamedFault}
 use Rattle.acl_tree_queries.specs.QuestionFaults.{AsksQuestion, question_status}
-use Rattle.acl_queries.specs.CommandLine.{Takes}
+use Rattle.acl_cli.specs.CommandLine.{Takes}
 use Rattle.acl_tree_queries.specs.declared.question.fault.QuestionFault.{QuestionFault}
 use Rattle.acl_tree_queries.specs.declared.question.fault.QuestionFault.TheVariants.{Words, Files, Setup, LineTooLong, Unread, Run}
 

@@ -1,12 +1,8 @@
 -- What is told of nodes, one more at a time.
 use Rattle.std.proofs.Common.{◌≡◌, ◌<◌, ◌+◌, ◌∙◌, ◌++◌, ℕ, List, [], ◌∷◌, Result, Ok, Err, OnErr, Option, ap, append_assoc, append-nil, get_or, length, map as each, refl, subst, sym, take}
 use Rattle.std.proofs.lemmas.List.{get_or-map, length-map, take_more}
-use Rattle.acl_queries.specs.Output.{AppendsFront}
+use Rattle.acl_cli.specs.Output.{AppendsFront}
 use Rattle.acl_tree_queries.specs.Nodes.{TellsOfEach, TellsOfFirst}
-
--- what is written and kept, with a text more
-pub more_kept : (sent kept told text new : List ℕ) → sent ++ kept ≡ told → new ≡ kept ++ text → sent ++ new ≡ told ++ text
-more_kept sent kept told text new is is_new = ap (λ bytes. sent ++ bytes) is_new ∙ sym (append_assoc sent kept text) ∙ ap (λ bytes. bytes ++ text) is
 
 module _ {B : Type 0} (Tells : B → List ℕ → Type 0) where
   -- what is told of one node after the others

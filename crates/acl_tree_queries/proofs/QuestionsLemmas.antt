@@ -3,13 +3,13 @@ use Rattle.std.proofs.Common.{◌≡◌, ◌≢◌, ◌∙◌, ◌≤◌, ◌⊎
 use Rattle.std.specs.Prelude.{IfSome}
 use Rattle.std.specs.Io.KnownBytes.{Keeps}
 use Rattle.clap.specs.Words.{App, Row, Text, matches_of}
-use Rattle.acl_queries.specs.CommandLine.{Takes}
-use Rattle.acl_queries.specs.ErrorOutput.{ErrorText, Tells}
-use Rattle.acl_queries.specs.Meaning.{Ends, EndsWithInput, Meaning, meaning_if}
-use Rattle.acl_queries.specs.Output.{AppendsFront}
-use Rattle.acl_queries.specs.declared.command.query_fault.FieldFault.{FieldFault}
-use Rattle.acl_queries.proofs.MeaningLemmas.{Ends-fault}
-use Rattle.acl_queries.proofs.QueryLemmas.{query_bounds}
+use Rattle.acl_cli.specs.CommandLine.{Takes}
+use Rattle.acl_cli.specs.ErrorOutput.{ErrorText, Tells}
+use Rattle.acl_cli.specs.Meaning.{Ends, EndsWithInput, Meaning, meaning_if}
+use Rattle.acl_cli.specs.Output.{AppendsFront}
+use Rattle.acl_cli.specs.declared.field_fault.FieldFault.{FieldFault}
+use Rattle.acl_cli.proofs.MeaningLemmas.{Ends-fault}
+use Rattle.acl_cli.proofs.ErrorLemmas.{query_bounds}
 use Rattle.acl_service.proofs.FaultLemmas.{files_bounds}
 use Rattle.acl_tree_queries.specs.AnswerFaults.{IsAnswerFault, answer_status}
 use Rattle.acl_tree_queries.specs.QuestionFaults.{AsksQuestion, IsQuestionFault, fault_of_answer, question_line, question_status}

@@ -1,7 +1,7 @@
 -- Why a question that was asked of trees isn't answered, or not to the end.
 use Rattle.std.specs.Prelude.{⊤, ℕ}
-use Rattle.acl_queries.specs.declared.command.run_fault.RunFault.{RunFault}
-use Rattle.acl_queries.specs.declared.command.run_fault.RunFault.TheVariants as run
+use Rattle.acl_cli.specs.declared.run_fault.RunFault.{RunFault}
+use Rattle.acl_cli.specs.declared.run_fault.RunFault.TheVariants as run
 use Rattle.acl_tree_queries.specs.declared.question.answer_fault.AnswerFault.{AnswerFault}
 use Rattle.acl_tree_queries.specs.declared.question.answer_fault.AnswerFault.TheVariants as answer
 

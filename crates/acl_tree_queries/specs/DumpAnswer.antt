@@ -2,8 +2,8 @@
 use Rattle.std.specs.Prelude.{◌≡◌, ℕ, List, All, Option, Result, Ok}
 use Rattle.clap.specs.Words.{Row, Text}
 use Rattle.acl_audit.specs.Dump.{make_commands}
-use Rattle.acl_queries.specs.Meaning.{Meaning}
-use Rattle.acl_queries.specs.declared.command.query_fault.FieldFault.{FieldFault}
+use Rattle.acl_cli.specs.Meaning.{Meaning}
+use Rattle.acl_cli.specs.declared.field_fault.FieldFault.{FieldFault}
 use Rattle.acl_tree_queries.specs.DumpLine.{dump_line}
 use Rattle.acl_tree_queries.specs.DumpText.{HasLongLine, IsDumped, dump_text}
 use Rattle.acl_tree_queries.specs.QuestionMeaning.{tree_meaning}

@@ -8,8 +8,8 @@ use Rattle.acl_tree.specs.Entries.{Entry}
 use Rattle.acl_tree.specs.Tree.{NodesUnderUmask}
 use Rattle.acl_audit.specs.Impact.{IsImpactOn, requesters_of}
 use Rattle.acl_audit.specs.declared.impact.Impact.{Impact}
-use Rattle.acl_queries.specs.Meaning.{Meaning}
-use Rattle.acl_queries.specs.declared.command.query_fault.FieldFault.{FieldFault}
+use Rattle.acl_cli.specs.Meaning.{Meaning}
+use Rattle.acl_cli.specs.declared.field_fault.FieldFault.{FieldFault}
 use Rattle.acl_tree_queries.specs.ImpactText.{impact_text}
 use Rattle.acl_tree_queries.specs.ImpactLine.{impact_line}
 use Rattle.acl_tree_queries.specs.Nodes.{TellsOfEach, TellsOfFirst}

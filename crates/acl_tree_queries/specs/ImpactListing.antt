@@ -12,7 +12,7 @@ use Rattle.acl_audit.specs.declared.impact.Impact.{Impact}
 use Rattle.acl_listings.specs.Block.{FileValue}
 use Rattle.acl_listings.specs.Listing.{Block, blocks_of}
 use Rattle.acl_listings.specs.declared.fault.BlockFault.{BlockFault}
-use Rattle.acl_queries.specs.Meaning.{Meaning}
+use Rattle.acl_cli.specs.Meaning.{Meaning}
 use Rattle.acl_tree_queries.specs.ImpactAnswer.{asks_impact}
 use Rattle.acl_tree_queries.specs.ImpactListingLine.{impact_listing_line}
 use Rattle.acl_tree_queries.specs.ImpactText.{impact_text, new_text}

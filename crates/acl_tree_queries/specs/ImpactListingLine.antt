@@ -2,7 +2,7 @@
 use Rattle.std.specs.Prelude.{◌≡◌, [], ◌∷◌, codes, fold, refl, true}
 use Rattle.clap.specs.Words.{App, is_simple, is_simple_and_free, new_app, with_rule}
 use Rattle.clap.proofs.OnLiterals.{clap_on_literals}
-use Rattle.acl_queries.specs.CommandLine.{required_option, required_word}
+use Rattle.acl_cli.specs.CommandLine.{required_option, required_word}
 
 -- `impact --setup FILE --listing BEFORE AFTER`
 unfoldable pub impact_listing_line : App

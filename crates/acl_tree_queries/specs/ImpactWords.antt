@@ -1,7 +1,7 @@
 -- What the words of `impact` mean: they ask of listings, or else of a tree.
 use Rattle.std.specs.Prelude.{ℕ, List, Option}
 use Rattle.clap.specs.Words.{Text}
-use Rattle.acl_queries.specs.Meaning.{Meaning, meaning_if}
+use Rattle.acl_cli.specs.Meaning.{Meaning, meaning_if}
 use Rattle.acl_tree_queries.specs.ImpactAnswer.{impact_of_tree}
 use Rattle.acl_tree_queries.specs.ImpactListing.{impact_of_listings}
 use Rattle.acl_tree_queries.specs.Listings.{asks_of_listing}

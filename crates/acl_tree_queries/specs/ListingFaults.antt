@@ -4,13 +4,13 @@ use Rattle.std.specs.Borrow.{Bor}
 use Rattle.clap.specs.Words.{App, Row, Text, fault_of, matches_of}
 use Rattle.acl_listings.specs.declared.window.ReadFault.{ReadFault}
 use Rattle.acl_listings.specs.declared.window.ReadFault.TheVariants as read
-use Rattle.acl_queries.specs.Faults.{IsRefusedFor}
-use Rattle.acl_queries.specs.declared.command.query_fault.FieldFault.{FieldFault}
-use Rattle.acl_queries.specs.declared.command.run_fault.RunFault.{RunFault}
-use Rattle.acl_queries.specs.declared.command.run_fault.RunFault.TheVariants as run
+use Rattle.acl_cli.specs.Faults.{IsRefusedFor}
+use Rattle.acl_cli.specs.declared.field_fault.FieldFault.{FieldFault}
+use Rattle.acl_cli.specs.declared.run_fault.RunFault.{RunFault}
+use Rattle.acl_cli.specs.declared.run_fault.RunFault.TheVariants as run
 use Rattle.acl_service.specs.FilesFaults.{IsReadFault}
 use Rattle.acl_service.specs.RunWords.{HasBytes, input_count, setup_in}
-use Rattle.acl_service.specs.TextsFaults.{IsRefusedBy}
+use Rattle.acl_setup.specs.Opened.{IsRefusedBy}
 use Rattle.acl_service.specs.declared.files.fault.FilesFault.{FilesFault}
 use Rattle.acl_service.specs.declared.files.fault.FilesFault.TheVariants as files
 use Rattle.acl_tree_queries.specs.AnswerFaults.{IsLack}

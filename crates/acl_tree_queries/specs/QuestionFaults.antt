@@ -3,22 +3,22 @@ use Rattle.std.specs.Prelude.{◌≡◌, ◌<◌, ◌++◌, ◌∷◌, ⊤, ℕ,
 use Rattle.std.specs.Prelude.{Contains, IsOk, codes}
 use Rattle.clap.specs.Words.{App, Row, Text, fault_of, matches_of}
 use Rattle.clap.specs.declared.error.Error.{Error}
-use Rattle.acl_queries.specs.CommandLine.{Takes}
-use Rattle.acl_queries.specs.ErrorOutput.{line_of_words}
-use Rattle.acl_queries.specs.Faults.{IsRefusedFor, fault_line, status_of}
-use Rattle.acl_queries.specs.RunFaults.{run_fault_line}
-use Rattle.acl_queries.specs.declared.command.query_fault.FieldFault.{FieldFault}
-use Rattle.acl_queries.specs.declared.command.query_fault.QueryFault.{QueryFault}
-use Rattle.acl_queries.specs.declared.command.query_fault.QueryFault.TheVariants as query
-use Rattle.acl_queries.specs.declared.command.run_fault.RunFault.TheVariants as run
+use Rattle.acl_cli.specs.CommandLine.{Takes}
+use Rattle.acl_cli.specs.ErrorOutput.{line_of_words}
+use Rattle.acl_cli.specs.Faults.{IsRefusedFor, fault_line, status_of}
+use Rattle.acl_cli.specs.RunFaults.{run_fault_line}
+use Rattle.acl_cli.specs.declared.field_fault.FieldFault.{FieldFault}
+use Rattle.acl_cli.specs.declared.query_fault.QueryFault.{QueryFault}
+use Rattle.acl_cli.specs.declared.query_fault.QueryFault.TheVariants as query
+use Rattle.acl_cli.specs.declared.run_fault.RunFault.TheVariants as run
 use Rattle.acl_service.specs.FilesFaults.{files_line, files_status}
-use Rattle.acl_service.specs.TextsFaults.{IsRefusedBy}
+use Rattle.acl_setup.specs.Opened.{IsRefusedBy}
 use Rattle.acl_service.specs.RunWords.{HasBytes, setup_in}
-use Rattle.acl_service.specs.SetupFaults.{setup_error_words}
+use Rattle.acl_setup.specs.SetupFaults.{setup_error_words}
 use Rattle.acl_service.specs.declared.files.fault.FilesFault.{FilesFault}
 use Rattle.acl_service.specs.declared.files.fault.FilesFault.TheVariants as files
-use Rattle.acl_service.specs.declared.setup.fault.SetupError.{SetupError}
-use Rattle.acl_service.specs.declared.setup.fault.SetupError.TheVariants as setup
+use Rattle.acl_setup.specs.declared.fault.SetupError.{SetupError}
+use Rattle.acl_setup.specs.declared.fault.SetupError.TheVariants as setup
 use Rattle.acl_tree_queries.specs.AnswerFaults.{IsLack}
 use Rattle.acl_tree_queries.specs.Trees.{AreTreesOf, after_in, before_in, inputs_in}
 use Rattle.acl_tree_queries.specs.declared.question.answer_fault.AnswerFault.{AnswerFault}

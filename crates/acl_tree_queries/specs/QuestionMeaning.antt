@@ -1,9 +1,9 @@
 -- What words mean that ask of trees, and of listings.
 use Rattle.std.specs.Prelude.{ℕ, List, Option, Result}
 use Rattle.clap.specs.Words.{App, Row, Text, matches_of}
-use Rattle.acl_queries.specs.ErrorOutput.{SaysFault}
-use Rattle.acl_queries.specs.Meaning.{Meaning}
-use Rattle.acl_queries.specs.declared.command.query_fault.FieldFault.{FieldFault}
+use Rattle.acl_cli.specs.ErrorOutput.{SaysFault}
+use Rattle.acl_cli.specs.Meaning.{Meaning}
+use Rattle.acl_cli.specs.declared.field_fault.FieldFault.{FieldFault}
 use Rattle.acl_service.specs.RunWords.{input_count}
 use Rattle.acl_tree_queries.specs.ListingFaults.{IsListingFault}
 use Rattle.acl_tree_queries.specs.QuestionFaults.{IsQuestionFault, question_line, question_status}

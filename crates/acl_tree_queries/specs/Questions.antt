@@ -1,8 +1,8 @@
 -- What words come to that ask of the files that they name.
 use Rattle.std.specs.Prelude.{◌≡◌, ℕ, List, Option, Result, Ok}
 use Rattle.clap.specs.Words.{App, Row, Text, matches_of}
-use Rattle.acl_queries.specs.CommandLine.{Takes}
-use Rattle.acl_queries.specs.declared.command.query_fault.FieldFault.{FieldFault}
+use Rattle.acl_cli.specs.CommandLine.{Takes}
+use Rattle.acl_cli.specs.declared.field_fault.FieldFault.{FieldFault}
 
 -- By a command's line, by what its fields ask, by what the files that the words name give, and by
 -- what answers of that: the words are taken and ask a question, the files give what it is about,

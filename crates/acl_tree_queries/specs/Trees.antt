@@ -10,7 +10,7 @@ use Rattle.acl_names.specs.Ascending.{IsAscending}
 use Rattle.acl_names.specs.Directory.{Known}
 use Rattle.acl_tree.specs.Tree.{NodesUnderUmask}
 use Rattle.acl_lang.specs.Texts.{requests_of}
-use Rattle.acl_service.specs.Opened.{Opens}
+use Rattle.acl_setup.specs.Opened.{Opens}
 use Rattle.acl_service.specs.Runs.{tree_after}
 use Rattle.acl_service.specs.RunWords.{HasBytes, HaveBytes, input_count, setup_in}
 use Rattle.acl_tree_queries.specs.declared.trees.Trees.{Trees}

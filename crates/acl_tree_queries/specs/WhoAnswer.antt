@@ -8,7 +8,7 @@ use Rattle.acl_tree.specs.Tree.{NodesUnderUmask}
 use Rattle.acl_tree.specs.declared.node.Node.{Node}
 use Rattle.acl_audit.specs.Reach.{node_lines_on, node_lines_on_of_those_who_may, way_in}
 use Rattle.acl_audit.specs.Who.{node_lines, node_lines_of_those_who_may}
-use Rattle.acl_queries.specs.Meaning.{Meaning}
+use Rattle.acl_cli.specs.Meaning.{Meaning}
 use Rattle.acl_tree_queries.specs.Nodes.{TellsOfEach, TellsOfFirst}
 use Rattle.acl_tree_queries.specs.QuestionFaults.{IsNeverRefused}
 use Rattle.acl_tree_queries.specs.QuestionMeaning.{tree_meaning}

@@ -2,8 +2,8 @@
 use Rattle.std.specs.Prelude.{ℕ, Bool, List, Option, Result, Ok, codes}
 use Rattle.clap.specs.Words.{Row}
 use Rattle.acl_names.specs.Steps.{◌>>=◌}
-use Rattle.acl_queries.specs.Asked.{flag_in, optional_perms_in}
-use Rattle.acl_queries.specs.declared.command.query_fault.FieldFault.{FieldFault}
+use Rattle.acl_cli.specs.Fields.{flag_in, optional_perms_in}
+use Rattle.acl_cli.specs.declared.field_fault.FieldFault.{FieldFault}
 
 -- which permissions, if the words tell, else letters; and whether only those count who may search
 -- each folder above

@@ -2,7 +2,7 @@
 use Rattle.std.specs.Prelude.{◌≡◌, [], ◌∷◌, codes, fold, refl, true}
 use Rattle.clap.specs.Words.{App, is_simple, is_simple_and_free, new_app, with_rule}
 use Rattle.clap.proofs.OnLiterals.{clap_on_literals}
-use Rattle.acl_queries.specs.CommandLine.{flag, optional_option, optional_word, required_option}
+use Rattle.acl_cli.specs.CommandLine.{flag, optional_option, optional_word, required_option}
 
 -- `who --setup FILE [--perms P] [--reach] [SESSION]`
 unfoldable pub who_line : App

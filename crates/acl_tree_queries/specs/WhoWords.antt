@@ -1,7 +1,7 @@
 -- What the words of `who` mean: they ask of a listing, or else of a tree.
 use Rattle.std.specs.Prelude.{ℕ, List, Option}
 use Rattle.clap.specs.Words.{Text}
-use Rattle.acl_queries.specs.Meaning.{Meaning, meaning_if}
+use Rattle.acl_cli.specs.Meaning.{Meaning, meaning_if}
 use Rattle.acl_tree_queries.specs.Listings.{asks_of_listing}
 use Rattle.acl_tree_queries.specs.WhoAnswer.{who_of_tree}
 use Rattle.acl_tree_queries.specs.WhoListing.{who_of_listing}

@@ -1,22 +1,22 @@
 //! What is told of each block of a listing, written piece by piece.
-ghost use Rattle.std.specs.Prelude.{◌≡◌, ◌++◌, ◌∷◌, ℕ, IfErr, IfOk, List, [], Ok, OnErr, OnOk};
+ghost use Rattle.std.specs.Prelude.{◌≡◌, ◌++◌, ◌∷◌, ℕ, IfErr, IfOk, IsOk, List, [], Ok, OnErr};
+ghost use Rattle.std.specs.Prelude.{OnOk};
 ghost use Rattle.std.specs.Io.KnownBytes.{Appends};
 ghost use Rattle.acl_listings.specs.Block.{file_of, path_of};
 ghost use Rattle.acl_listings.specs.Cursor.{blocks_to_come};
 ghost use Rattle.acl_listings.specs.Faults.{IsFaultOf};
 ghost use Rattle.acl_listings.specs.Listing.{Block as BlockValue};
 ghost use Rattle.acl_listings.specs.Views.{view_file};
-ghost use Rattle.acl_queries.specs.Output.{AppendsFront};
+ghost use Rattle.acl_cli.specs.Output.{AppendsFront};
 ghost use Rattle.acl_tree_queries.specs.ListingFaults.{IsBlocksFault};
 ghost use Rattle.acl_tree_queries.specs.ListingText.{AreAll, AreFirst, TellsInTurn, fault_text};
 ghost use Rattle.acl_tree_queries.specs.ListingText.{node_of};
 ghost use Rattle.acl_tree_queries.specs.Readings.{unless_repeated};
 
-use crate::pieces::send_full;
+use acl_cli::{RunFault, send_full, write_text};
 use acl_listings::{BlockFault, Blocks, File, FileFault, ReadFault, path_of, read_file};
 use acl_names::Directory;
 use acl_nfs4::Kind;
-use acl_queries::{RunFault, write_text};
 use acl_tree::{Node, NodeAcl};
 use itoa::Buffer;
 use std::alloc::{AllocError, Global};

@@ -1,6 +1,6 @@
 //! The command `dump`.
 ghost use Rattle.std.specs.Prelude.{map};
-ghost use Rattle.acl_queries.specs.Meaning.{EndsWithInput};
+ghost use Rattle.acl_cli.specs.Meaning.{EndsWithInput};
 ghost use Rattle.acl_tree_queries.specs.DumpAnswer.{dump_meaning};
 
 mod lines;
@@ -8,7 +8,7 @@ mod question;
 mod text;
 
 use crate::question::ask;
-use acl_queries::ErrorOutput;
+use acl_cli::ErrorOutput;
 use acl_service::OpenFiles;
 use question::DumpQuestion;
 use std::alloc::Global;

@@ -1,6 +1,6 @@
 //! The command `impact`.
 ghost use Rattle.std.specs.Prelude.{map};
-ghost use Rattle.acl_queries.specs.Meaning.{EndsWithInput};
+ghost use Rattle.acl_cli.specs.Meaning.{EndsWithInput};
 ghost use Rattle.acl_tree_queries.specs.ImpactWords.{impact_meaning};
 
 mod before;
@@ -14,7 +14,7 @@ mod text;
 
 use crate::listing::asks_of_listing;
 use crate::question::ask;
-use acl_queries::ErrorOutput;
+use acl_cli::ErrorOutput;
 use acl_service::OpenFiles;
 use listing::ask_of_listings;
 use question::ImpactQuestion;

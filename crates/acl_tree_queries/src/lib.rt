@@ -10,7 +10,6 @@ mod impact_command;
 mod laws;
 mod listing;
 mod nodes;
-mod pieces;
 mod question;
 mod trees;
 mod who_command;

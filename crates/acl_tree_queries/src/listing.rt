@@ -8,8 +8,8 @@ ghost use Rattle.clap.specs.Words.{found_of, rows_of};
 ghost use Rattle.acl_names.specs.Ascending.{IsAscending};
 ghost use Rattle.acl_listings.specs.Cursor.{blocks_to_come};
 ghost use Rattle.acl_listings.specs.Listing.{Block as BlockValue};
-ghost use Rattle.acl_queries.specs.Output.{AppendsFront};
-ghost use Rattle.acl_service.specs.Opened.{Opens};
+ghost use Rattle.acl_cli.specs.Output.{AppendsFront};
+ghost use Rattle.acl_setup.specs.Opened.{Opens};
 ghost use Rattle.acl_service.specs.RunWords.{HasBytes, bytes_of_session};
 ghost use Rattle.acl_tree.specs.Tree.{NodesUnderUmask};
 ghost use Rattle.acl_tree_queries.specs.Listings.{asks_of_listing, is_listing_option, listing_in};
@@ -21,9 +21,10 @@ ghost use Rattle.acl_service.specs.declared.files.fault.FilesFault.TheVariants.{
 
 use crate::blocks::{BlockText, BlocksFault, write_blocks};
 use crate::question::QuestionFault;
+use acl_cli::fields::text_field;
 use acl_names::Directory;
-use acl_queries::fields::text_field;
-use acl_service::{FilesFault, OpenFiles, read_file, read_setup};
+use acl_service::{FilesFault, OpenFiles, read_file};
+use acl_setup::read_setup;
 use clap::ArgMatches;
 use std::alloc::Global;
 use std::convert::AsStr;

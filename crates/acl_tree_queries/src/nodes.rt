@@ -2,13 +2,12 @@
 ghost use Rattle.std.specs.Prelude.{◌≡◌, ◌++◌, ℕ, IfErr, List, OnErr, OnOk};
 ghost use Rattle.std.specs.FinMap as map;
 ghost use Rattle.std.specs.Io.KnownBytes.{Appends};
-ghost use Rattle.acl_queries.specs.Output.{AppendsFront};
+ghost use Rattle.acl_cli.specs.Output.{AppendsFront};
 ghost use Rattle.acl_tree.specs.Entries.{Entry};
 ghost use Rattle.acl_tree_queries.specs.Nodes.{TellsOfEach, TellsOfFirst};
 ghost use Rattle.acl_tree_queries.specs.AnswerFaults.{IsLack};
 
-use crate::pieces::send_full;
-use acl_queries::{RunFault, write_text};
+use acl_cli::{RunFault, send_full, write_text};
 use acl_tree::{Node, Tree};
 use std::alloc::{AllocError, Global};
 use std::io::Write;

@@ -3,9 +3,9 @@ ghost use Rattle.std.specs.Prelude.{◌≡◌, ◌≤◌, ◌⊎◌, ℕ, List, 
 ghost use Rattle.std.specs.Prelude.{map};
 ghost use Rattle.std.specs.Io.KnownBytes.{Appends, Keeps};
 ghost use Rattle.clap.specs.Words.{Row, found_of, matches_of, rows_of};
-ghost use Rattle.acl_queries.specs.Meaning.{EndsWithInput};
-ghost use Rattle.acl_queries.specs.Output.{AppendsFront};
-ghost use Rattle.acl_queries.specs.declared.command.query_fault.FieldFault.{FieldFault as Fault};
+ghost use Rattle.acl_cli.specs.Meaning.{EndsWithInput};
+ghost use Rattle.acl_cli.specs.Output.{AppendsFront};
+ghost use Rattle.acl_cli.specs.declared.field_fault.FieldFault.{FieldFault as Fault};
 ghost use Rattle.acl_tree_queries.specs.AnswerFaults.{IsAnswerFault, answer_status};
 ghost use Rattle.acl_tree_queries.specs.QuestionFaults.{IsQuestionFault, question_status};
 ghost use Rattle.acl_tree_queries.specs.QuestionMeaning.{tree_meaning};
@@ -17,7 +17,7 @@ mod answer_fault;
 mod fault;
 
 use crate::trees::{Trees, open_trees};
-use acl_queries::{CommandLine, ErrorOutput, FieldFault, parse, report};
+use acl_cli::{CommandLine, ErrorOutput, FieldFault, parse, report};
 use acl_service::OpenFiles;
 pub(crate) use answer_fault::AnswerFault;
 use clap::ArgMatches;

@@ -15,9 +15,9 @@ ghost use Rattle.acl_tree_queries.specs.Trees.{all_names, shown_names, tree_left
 use crate::question::QuestionFault;
 use acl_names::Directory;
 use acl_service::{
-    FilesFault, OpenFiles, apply_text, count_inputs, read_file, read_sessions, read_setup,
-    setup_field,
+    FilesFault, OpenFiles, apply_text, count_inputs, read_file, read_sessions, setup_field,
 };
+use acl_setup::read_setup;
 use acl_tree::Tree;
 use clap::ArgMatches;
 use std::alloc::{AllocError, Global};

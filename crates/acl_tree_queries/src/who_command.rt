@@ -1,6 +1,6 @@
 //! The command `who`.
 ghost use Rattle.std.specs.Prelude.{map};
-ghost use Rattle.acl_queries.specs.Meaning.{EndsWithInput};
+ghost use Rattle.acl_cli.specs.Meaning.{EndsWithInput};
 ghost use Rattle.acl_tree_queries.specs.WhoWords.{who_meaning};
 
 mod answers;
@@ -13,7 +13,7 @@ mod way;
 
 use crate::listing::asks_of_listing;
 use crate::question::ask;
-use acl_queries::ErrorOutput;
+use acl_cli::ErrorOutput;
 use acl_service::OpenFiles;
 use listing::ask_of_listing;
 use question::WhoQuestion;

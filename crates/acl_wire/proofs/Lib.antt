@@ -5,6 +5,10 @@ pub mod AcesLoop
 pub mod NumberLemmas
 pub mod XattrAgain
 pub mod RawAgain
+pub mod XdrAgain
+pub mod StepsBack
+pub mod XattrWritten
+pub mod RawsWritten
 pub mod GrantLemmas
 pub mod NobodyLemmas
 pub mod XdrLoop

@@ -23,6 +23,7 @@ use Rattle.acl_wire.specs.declared.fault.PosixError.{PosixError}
 use Rattle.acl_wire.specs.declared.fault.PosixError.TheVariants as posix_errors
 use Rattle.acl_wire.specs.declared.fault.PosixFault.{PosixFault}
 use Rattle.acl_wire.specs.declared.fault.PosixFault.TheVariants as posix
+use Rattle.acl_wire.specs.declared.raw_ace.Purpose.TheVariants.{Decide}
 use Rattle.acl_wire.specs.declared.raw_ace.RawAce.{RawAce}
 
 -- the group of a number, if it is one
@@ -85,8 +86,8 @@ unfoldable pub aces_compared : List RawAce → ℕ → ℕ → List RawAce → �
 aces_compared first owner group second other_owner other_group = do
   owners ← or_fault nfs4.Argument (owners_in owner group)
   others ← or_fault nfs4.Argument (owners_in other_owner other_group)
-  one ← list_of first
-  other ← list_of second
+  one ← list_of Decide first
+  other ← list_of Decide second
   Ok (record { first = one; owners = owners; second = other; others = others })
 
 -- of these bits somebody loses those that are granted only before and gains those that are granted

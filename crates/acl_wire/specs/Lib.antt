@@ -3,10 +3,13 @@ pub mod Writing
 pub mod Xattr
 pub mod XattrReading
 pub mod Posix
+pub mod Check
 pub mod RawAces
 pub mod RawAcesWriting
 pub mod Nfs4
 pub mod WireLaws
+pub mod Written
 pub mod Text
 pub mod Compare
 pub mod Xdr
+pub mod XdrWriting

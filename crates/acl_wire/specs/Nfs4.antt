@@ -20,6 +20,7 @@ use Rattle.acl_wire.specs.declared.fault.Nfs4Error.{Nfs4Error}
 use Rattle.acl_wire.specs.declared.fault.Nfs4Error.TheVariants as errors
 use Rattle.acl_wire.specs.declared.fault.Nfs4Fault.{Nfs4Fault}
 use Rattle.acl_wire.specs.declared.fault.Nfs4Fault.TheVariants as faults
+use Rattle.acl_wire.specs.declared.raw_ace.Purpose.TheVariants.{Decide, Write}
 use Rattle.acl_wire.specs.declared.raw_ace.RawAce.{RawAce}
 
 -- of the bits of a request, those that a list allows
@@ -33,7 +34,8 @@ are_ids owner group uid = nat_le owner MAX_ID && nat_le group MAX_ID && nat_le u
 
 -- the list that is asked
 unfoldable pub asked : List RawAce → ℕ → ℕ → ℕ → Result (List Nfsace4) Nfs4Fault
-asked raws owner group uid = if are_ids owner group uid then list_of raws else Err faults.Argument
+asked raws owner group uid = if are_ids owner group uid then list_of Decide raws
+    else Err faults.Argument
 
 -- a call answers what the list of these entries allows, or why there is none
 abbrev pub AllowsOf : List RawAce → ℕ → ℕ → Identity → ℕ → Result ℕ Nfs4Error → Type 0
@@ -65,7 +67,7 @@ fits aces = if nat_le (length aces) MAX_ACES then Ok aces else Err faults.TooMan
 unfoldable pub chmod_of : List RawAce → ℕ → Result (List Nfsace4) Nfs4Fault
 chmod_of raws mode = do
   classes ← classes_in mode
-  aces ← list_of raws
+  aces ← list_of Write raws
   fits (with_mode aces classes)
 
 abbrev pub kind_below : Bool → Kind
@@ -74,5 +76,5 @@ kind_below is_dir = if is_dir then Dir else File
 -- what a new file or directory inherits
 unfoldable pub inherited_of : List RawAce → Bool → Result (List Nfsace4) Nfs4Fault
 inherited_of raws is_dir = do
-  aces ← list_of raws
+  aces ← list_of Write raws
   Ok (inherited_list (kind_below is_dir) aces)

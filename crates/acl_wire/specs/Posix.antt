@@ -1,12 +1,9 @@
 -- What is answered of POSIX lists in bytes.
-use Rattle.std.specs.Prelude.{◌≤◌, ◌+◌, ◌*◌, ◌&&◌, ℕ, Bool, List, length, Option, Some, None}
-use Rattle.std.specs.Prelude.{Result, Ok, Err, nat_le, nat_lt, if◌then◌else◌}
+use Rattle.std.specs.Prelude.{◌≤◌, ◌+◌, ◌*◌, ℕ, List, length, Option, Some, None}
+use Rattle.std.specs.Prelude.{Result, Ok, Err, nat_le, if◌then◌else◌}
 use Rattle.acl_bridge.specs.Translation.{default_translation, translation}
-use Rattle.acl_names.specs.Requester.{Identity}
 use Rattle.acl_names.specs.Steps.{◌>>=◌}
-use Rattle.acl_names.specs.declared.limits.TheConstants.{MAX_ID}
 use Rattle.acl_nfs4.specs.Ace.{Nfsace4}
-use Rattle.acl_posix.specs.Access.{grants}
 use Rattle.acl_posix.specs.Entry.{EntryValue}
 use Rattle.acl_posix.specs.InOrder.{in_order}
 use Rattle.acl_posix.specs.Mode.{Classes, at_creation, chmod, classes_of, of_mode}
@@ -40,18 +37,6 @@ acl_of_entries entries = list_unless (fault_of entries) entries
 -- the list of the bytes
 unfoldable pub acl_of : List ℕ → Result (List EntryValue) PosixFault
 acl_of bytes = entries_of bytes >>= acl_of_entries
-
--- whether the numbers of a check are ids, and permissions
-abbrev pub are_check : ℕ → ℕ → ℕ → ℕ → Bool
-are_check owner group uid request = nat_le owner MAX_ID && nat_le group MAX_ID
-    && nat_le uid MAX_ID && nat_lt request 8
-
--- whether the list of the bytes grants a request
-unfoldable pub check_of : List ℕ → ℕ → ℕ → Identity → ℕ → Result Bool PosixFault
-check_of bytes owner group requester request =
-    if are_check owner group requester.uid request
-    then (acl_of bytes >>= λ acl. Ok (grants acl owner group requester request))
-    else Err faults.Argument
 
 -- the mode of a number
 abbrev pub classes_in : ℕ → Result Classes PosixFault

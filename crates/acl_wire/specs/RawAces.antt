@@ -16,6 +16,8 @@ use Rattle.acl_wire.specs.declared.fault.Nfs4Error.{Nfs4Error}
 use Rattle.acl_wire.specs.declared.fault.Nfs4Error.TheVariants as errors
 use Rattle.acl_wire.specs.declared.fault.Nfs4Fault.{Nfs4Fault}
 use Rattle.acl_wire.specs.declared.fault.Nfs4Fault.TheVariants as faults
+use Rattle.acl_wire.specs.declared.raw_ace.Purpose.{Purpose}
+use Rattle.acl_wire.specs.declared.raw_ace.Purpose.TheVariants.{Decide, Write}
 use Rattle.acl_wire.specs.declared.raw_ace.RawAce.{RawAce}
 
 -- what a call answers is this answer, unless memory ran out
@@ -51,23 +53,52 @@ who_of special is_group id =
 abbrev pub effective : Nfsace4 → Result Nfsace4 Nfs4Fault
 effective ace = if is_idle ace then Err faults.InheritOnly else Ok ace
 
+-- all bits but ACE4_INHERITED_ACE, and all but ACE4_WRITE_RETENTION and ACE4_WRITE_RETENTION_HOLD
+abbrev pub but_inherited : ℕ
+but_inherited = 0xffffff7f
+
+abbrev pub but_retention : ℕ
+but_retention = 0xfffff9ff
+
+-- why flags, or a mask, with a further bit are refused
+abbrev pub flags_fault : ℕ → Nfs4Fault
+flags_fault flags = if nat_le (flags ∩ but_inherited) all_flags then faults.Unkept
+    else faults.Flags
+
+abbrev pub mask_fault : ℕ → Nfs4Fault
+mask_fault mask = if (mask ∩ but_retention) ∩ all_masks == mask ∩ but_retention
+    then faults.Unkept else faults.Mask
+
+-- what of the numbers counts: to decide, all but the three bits that decide nothing
+abbrev pub seen : Purpose → RawAce → RawAce
+seen Decide raw = record {
+  kind = raw.kind;
+  flags = raw.flags ∩ but_inherited;
+  mask = raw.mask ∩ but_retention;
+  special = raw.special;
+  id = raw.id;
+}
+seen Write raw = raw
+
 -- the entry of these numbers
 unfoldable pub ace_of_raw : RawAce → Result Nfsace4 Nfs4Fault
 ace_of_raw raw = do
   kind ← kind_of raw.kind
-  flags ← if nat_le raw.flags all_flags then Ok raw.flags else Err faults.Flags
-  mask ← if raw.mask ∩ all_masks == raw.mask then Ok raw.mask else Err faults.Mask
+  flags ← if nat_le raw.flags all_flags then Ok raw.flags else Err (flags_fault raw.flags)
+  mask ← if raw.mask ∩ all_masks == raw.mask then Ok raw.mask
+      else Err (mask_fault raw.mask)
   who ← who_of raw.special (has flags identifier_group) raw.id
   Ok (ace_of kind flags who mask)
 
-unfoldable pub aces_of : List RawAce → Result (List Nfsace4) Nfs4Fault
-aces_of [] = Ok []
-aces_of (raw ∷ raws) = do
-  ace ← ace_of_raw raw
+unfoldable pub aces_of : Purpose → List RawAce → Result (List Nfsace4) Nfs4Fault
+aces_of purpose [] = Ok []
+aces_of purpose (raw ∷ raws) = do
+  ace ← ace_of_raw (seen purpose raw)
   first ← effective ace
-  others ← aces_of raws
+  others ← aces_of purpose raws
   Ok (first ∷ others)
 
--- the list of these entries
-abbrev pub list_of : List RawAce → Result (List Nfsace4) Nfs4Fault
-list_of raws = if nat_le (length raws) MAX_ACES then aces_of raws else Err faults.TooMany
+-- the list of these entries, as it is read for the purpose
+abbrev pub list_of : Purpose → List RawAce → Result (List Nfsace4) Nfs4Fault
+list_of purpose raws = if nat_le (length raws) MAX_ACES then aces_of purpose raws
+    else Err faults.TooMany

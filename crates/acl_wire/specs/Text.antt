@@ -8,6 +8,7 @@ use Rattle.acl_wire.specs.Posix.{acl_of}
 use Rattle.acl_wire.specs.RawAces.{list_of}
 use Rattle.acl_wire.specs.declared.fault.Nfs4Fault.{Nfs4Fault}
 use Rattle.acl_wire.specs.declared.fault.PosixFault.{PosixFault}
+use Rattle.acl_wire.specs.declared.raw_ace.Purpose.TheVariants.{Write}
 use Rattle.acl_wire.specs.declared.raw_ace.RawAce.{RawAce}
 
 -- there are no users and no groups
@@ -18,4 +19,4 @@ unfoldable pub xattr_text_of : List ℕ → Result (List ℕ) PosixFault
 xattr_text_of bytes = acl_of bytes >>= λ acl. Ok (posix.short_text acl)
 
 unfoldable pub raws_text_of : List RawAce → Result (List ℕ) Nfs4Fault
-raws_text_of raws = list_of raws >>= λ aces. Ok (nfs4.short_text aces)
+raws_text_of raws = list_of Write raws >>= λ aces. Ok (nfs4.short_text aces)

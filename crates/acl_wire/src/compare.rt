@@ -8,7 +8,9 @@ ghost use Rattle.acl_wire.specs.Compare.{identity_in};
 ghost use Rattle.acl_wire.specs.Compare.{AreUnlike, Differ, lists_compared, owners_in};
 ghost use Rattle.acl_posix.specs.Perms.{bits_of};
 
-use crate::{Nfs4Error, Nfs4Fault, PosixError, PosixFault, RawAce, acl_of_xattr, read_raw_aces};
+use crate::{
+    Nfs4Error, Nfs4Fault, PosixError, PosixFault, Purpose, RawAce, acl_of_xattr, read_raw_aces,
+};
 use acl_bridge::request_difference;
 use acl_names::{Asker, Gid, Uid};
 use acl_nfs4::{Acl4, Mask, Owners};
@@ -167,8 +169,8 @@ pub fn raws_difference(
 {
     let owners = owners_of(owner, group).ok_or(Nfs4Fault::Argument)?;
     let others = owners_of(other_owner, other_group).ok_or(Nfs4Fault::Argument)?;
-    let first = read_raw_aces(alloc, first)?;
-    let second = read_raw_aces(alloc, second)?;
+    let first = read_raw_aces(alloc, Purpose::Decide, first)?;
+    let second = read_raw_aces(alloc, Purpose::Decide, second)?;
     Ok(difference(
         &first,
         &owners,

@@ -5,7 +5,7 @@ ghost use Rattle.acl_nfs4.specs.declared.limits.TheConstants.{INLINE_ACES};
 ghost use Rattle.acl_wire.specs.Nfs4.{AllowsOf, GrantsOf, chmod_of, classes_in, inherited_of};
 ghost use Rattle.acl_wire.specs.RawAces.{Answers};
 
-use crate::{Caller, Nfs4Error, Nfs4Fault, RawAce, read_raw_aces};
+use crate::{Caller, Nfs4Error, Nfs4Fault, Purpose, RawAce, read_raw_aces};
 use acl_names::{Gid, Uid};
 use acl_nfs4::{Acl4, Fault4, Kind, Mask};
 use acl_posix::Mode;
@@ -35,7 +35,7 @@ pub fn raws_allow(
     else {
         return Err(Nfs4Error::Fault(Nfs4Fault::Argument));
     };
-    let acl = read_raw_aces(alloc, raws)?;
+    let acl = read_raw_aces(alloc, Purpose::Decide, raws)?;
     let caller = Caller { uid, gids };
     let allowed = acl.allowed(owner, group, &caller, Mask::from_bits_retain(request));
     Ok(allowed.bits())
@@ -83,7 +83,7 @@ pub fn raws_with_mode(alloc: Global, raws: &[RawAce], mode: u32) -> Result<Acl4,
     ensures { Answers (λ aces. aces) result (chmod_of raws.now mode) }
 {
     let mode = mode_of_number(mode)?;
-    let mut acl = read_raw_aces(alloc, raws)?;
+    let mut acl = read_raw_aces(alloc, Purpose::Write, raws)?;
     match acl.chmod4(alloc, mode) {
         Ok(()) => Ok(acl),
         Err(Fault4::TooMany) => Err(Nfs4Error::Fault(Nfs4Fault::TooMany)),
@@ -97,7 +97,7 @@ pub fn raws_with_mode(alloc: Global, raws: &[RawAce], mode: u32) -> Result<Acl4,
 pub fn raws_inherited(alloc: Global, raws: &[RawAce], is_dir: bool) -> Result<Acl4, Nfs4Error>
     ensures { Answers (λ aces. aces) result (inherited_of raws.now is_dir) }
 {
-    let acl = read_raw_aces(alloc, raws)?;
+    let acl = read_raw_aces(alloc, Purpose::Write, raws)?;
     let kind = if is_dir { Kind::Dir } else { Kind::File };
     Ok(acl.inherited(alloc, kind)?)
 }

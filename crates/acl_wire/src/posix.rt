@@ -2,22 +2,20 @@
 
 ghost use Rattle.std.specs.Prelude.{◌≡◌, ◌≢◌, ◌+◌, ◌*◌, length, IfErr, IfOk, List, Ok};
 ghost use Rattle.acl_wire.specs.XattrReading.{Gives};
-ghost use Rattle.acl_wire.specs.Posix.{IsShort, acl_of, acl_of_entries, check_of, refused};
+ghost use Rattle.acl_wire.specs.Posix.{IsShort, acl_of, acl_of_entries, refused};
 ghost use Rattle.acl_bridge.specs.TranslationLaws.{DecideAlike};
 ghost use Rattle.acl_posix.specs.Entry.{EntryValue};
 ghost use Rattle.acl_wire.specs.Posix.{at_creation_of, chmod_of, classes_in, translation_of};
 ghost use Rattle.acl_wire.specs.Posix.{default_translation_of, of_mode_of};
 
-use crate::{Caller, PosixError, PosixFault, read_xattr};
+use crate::{PosixError, PosixFault, read_xattr};
 use acl_bridge::{translate, translate_default};
-use acl_names::{Gid, Uid};
 use acl_nfs4::Acl4;
-use acl_posix::{Acl, Entries, Invalid, Mode, Perms};
-use bitflags::Flags;
+use acl_posix::{Acl, Entries, Invalid, Mode};
 use std::alloc::Global;
 
 /// The fault that the entries have.
-fn refused(invalid: Invalid) -> PosixFault
+pub(crate) fn refused(invalid: Invalid) -> PosixFault
     ensures { result ≡ refused invalid }
 {
     match invalid {
@@ -47,37 +45,6 @@ pub fn acl_of_xattr(alloc: Global, bytes: &[u8]) -> Result<Acl, PosixError>
     ensures short { IsShort bytes.now → IfErr result (λ error. error ≢ PosixError.Memory) }
 {
     acl_of_entries(read_xattr(alloc, bytes)?)
-}
-
-/// Whether the POSIX list of the bytes grants a user who is in these groups all of the request, for
-/// a file of this owner and this group: the access check of 1003.1e draft 17, section 23. The
-/// request has the bits of permissions: 4 to read, 2 to write, 1 to execute. An id that is none, or
-/// another bit, is the fault `Argument`, before all others. Memory runs out for more than
-/// `INLINE_ENTRIES` entries alone.
-#[tactic(auto, unfolding(crate::specs::Posix::check_of))]
-pub fn xattr_grants(
-    alloc: Global,
-    bytes: &[u8],
-    owner: u32,
-    group: u32,
-    uid: u32,
-    gids: &[u32],
-    request: u32,
-) -> Result<bool, PosixError>
-    ensures value { Gives (λ granted. granted) result
-        (check_of bytes.now owner group (record { uid = uid; gids = gids.now }) request) }
-    ensures short { IsShort bytes.now → IfErr result (λ error. error ≢ PosixError.Memory) }
-{
-    let (Some(owner), Some(group), Some(uid)) = (Uid::new(owner), Gid::new(group), Uid::new(uid))
-    else {
-        return Err(PosixError::Fault(PosixFault::Argument));
-    };
-    if request >= 8 {
-        return Err(PosixError::Fault(PosixFault::Argument));
-    }
-    let acl = acl_of_xattr(alloc, bytes)?;
-    let request = Perms::from_bits_retain(request as u8);
-    Ok(acl.grants(owner, group, &Caller { uid, gids }, request))
 }
 
 /// The mode of this number, at most octal 777.

@@ -4,8 +4,8 @@ ghost use Rattle.std.specs.Prelude.{◌≡◌, ◌≢◌, ◌≤◌, ◌<◌, �
 ghost use Rattle.acl_names.specs.Bits.{has};
 ghost use Rattle.acl_nfs4.specs.Flags.{identifier_group};
 ghost use Rattle.acl_nfs4.specs.declared.limits.TheConstants.{INLINE_ACES, MAX_ACES};
-ghost use Rattle.acl_wire.specs.RawAces.{Answers, ace_of_raw, aces_of, effective, kind_of, list_of};
-ghost use Rattle.acl_wire.specs.RawAces.{who_of};
+ghost use Rattle.acl_wire.specs.RawAces.{Answers, ace_of_raw, aces_of, effective, flags_fault};
+ghost use Rattle.acl_wire.specs.RawAces.{kind_of, list_of, mask_fault, seen, who_of};
 
 use crate::{Nfs4Error, Nfs4Fault};
 use acl_names::{Gid, Uid};
@@ -29,11 +29,28 @@ pub struct RawAce {
     pub id: u32,
 }
 
+/// What entries are read for.
+#[derive(Clone, Copy, Debug, PartialEq, Eq)]
+pub enum Purpose {
+    /// To be decided by: `ACE4_INHERITED_ACE`, `ACE4_WRITE_RETENTION` and
+    /// `ACE4_WRITE_RETENTION_HOLD` are passed over, since they decide nothing that is asked here.
+    Decide,
+    /// To be written again in whatever form: these three are the fault `Unkept`, since an `Acl4`
+    /// doesn't keep them.
+    Write,
+}
+
 /// The bits of flags that have a name.
 const ALL_FLAGS: u32 = 0x7F;
 
 /// The bits of masks that have a name.
 const ALL_MASKS: u32 = 0x1F_01FF;
+
+/// All bits but `ACE4_INHERITED_ACE`.
+const BUT_INHERITED: u32 = 0xFFFF_FF7F;
+
+/// All bits but those of retention.
+const BUT_RETENTION: u32 = 0xFFFF_F9FF;
 
 fn kind_of(number: u32) -> Result<AceType, Nfs4Fault>
     ensures { result ≡ kind_of number }
@@ -79,6 +96,45 @@ fn who_of(special: u32, is_group: bool, id: u32) -> Result<Who, Nfs4Fault>
     }
 }
 
+/// Why flags with a further bit are refused.
+fn flags_fault(flags: u32) -> Nfs4Fault
+    ensures { result ≡ flags_fault flags }
+{
+    if flags & BUT_INHERITED <= ALL_FLAGS {
+        Nfs4Fault::Unkept
+    } else {
+        Nfs4Fault::Flags
+    }
+}
+
+/// Why a mask with a further bit is refused.
+fn mask_fault(mask: u32) -> Nfs4Fault
+    ensures { result ≡ mask_fault mask }
+{
+    let rest = mask & BUT_RETENTION;
+    if rest & ALL_MASKS == rest {
+        Nfs4Fault::Unkept
+    } else {
+        Nfs4Fault::Mask
+    }
+}
+
+/// What of the numbers counts for the purpose.
+fn seen(purpose: Purpose, raw: &RawAce) -> RawAce
+    ensures { result ≡ seen purpose raw.now }
+{
+    match purpose {
+        Purpose::Decide => RawAce {
+            kind: raw.kind,
+            flags: raw.flags & BUT_INHERITED,
+            mask: raw.mask & BUT_RETENTION,
+            special: raw.special,
+            id: raw.id,
+        },
+        Purpose::Write => *raw,
+    }
+}
+
 /// The entry of these numbers.
 #[tactic(auto, unfolding(crate::specs::RawAces::ace_of_raw))]
 pub(crate) fn ace_of_raw(raw: &RawAce) -> Result<Ace, Nfs4Fault>
@@ -86,10 +142,10 @@ pub(crate) fn ace_of_raw(raw: &RawAce) -> Result<Ace, Nfs4Fault>
 {
     let kind = kind_of(raw.kind)?;
     if raw.flags > ALL_FLAGS {
-        return Err(Nfs4Fault::Flags);
+        return Err(flags_fault(raw.flags));
     }
     if raw.mask & ALL_MASKS != raw.mask {
-        return Err(Nfs4Fault::Mask);
+        return Err(mask_fault(raw.mask));
     }
     let flags = Flags::from_bits_retain(raw.flags as u8);
     let who = who_of(raw.special, is_group(raw.flags), raw.id)?;
@@ -112,29 +168,30 @@ pub(crate) fn push(aces: &mut Acl4, ace: Ace) -> Result<(), Nfs4Error>
 }
 
 /// The list of entries that are not too many.
-fn aces_of(alloc: Global, raws: &[RawAce]) -> Result<Acl4, Nfs4Error>
+fn aces_of(alloc: Global, purpose: Purpose, raws: &[RawAce]) -> Result<Acl4, Nfs4Error>
     requires { length raws.now ≤ MAX_ACES }
-    ensures value { Answers (λ aces. aces) result (aces_of raws.now) }
+    ensures value { Answers (λ aces. aces) result (aces_of purpose raws.now) }
     ensures short { length raws.now ≤ INLINE_ACES
         → IfErr result (λ error. error ≢ Nfs4Error.Memory) }
 {
     let mut aces = Acl4::with_capacity(alloc, raws.len())?;
     for raw in raws {
-        let ace = ace_of_raw(raw)?;
+        let ace = ace_of_raw(&seen(purpose, raw))?;
         push(&mut aces, ace)?;
     }
     Ok(aces)
 }
 
-/// The NFSv4 list of these entries, in their order. An entry is refused for what its numbers say,
-/// in the order of `Nfs4Fault`. Memory runs out for more than `INLINE_ACES` entries alone.
-pub fn read_raw_aces(alloc: Global, raws: &[RawAce]) -> Result<Acl4, Nfs4Error>
-    ensures value { Answers (λ aces. aces) result (list_of raws.now) }
+/// The NFSv4 list of these entries, in their order, as it is read for the purpose. An entry is
+/// refused for what its numbers say, in the order of `Nfs4Fault`. Memory runs out for more than
+/// `INLINE_ACES` entries alone.
+pub fn read_raw_aces(alloc: Global, purpose: Purpose, raws: &[RawAce]) -> Result<Acl4, Nfs4Error>
+    ensures value { Answers (λ aces. aces) result (list_of purpose raws.now) }
     ensures short { length raws.now ≤ INLINE_ACES
         → IfErr result (λ error. error ≢ Nfs4Error.Memory) }
 {
     if raws.len() > MAX_ACES {
         return Err(Nfs4Error::Fault(Nfs4Fault::TooMany));
     }
-    aces_of(alloc, raws)
+    aces_of(alloc, purpose, raws)
 }

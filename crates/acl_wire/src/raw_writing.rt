@@ -9,7 +9,7 @@ use crate::RawAce;
 use acl_nfs4::{Ace, AceType, Acl4, Who};
 use bitflags::Flags as FlagSet;
 
-fn kind_number(kind: AceType) -> u32
+pub(crate) fn kind_number(kind: AceType) -> u32
     ensures { result ≡ kind_number kind }
 {
     match kind {

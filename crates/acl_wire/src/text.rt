@@ -14,7 +14,7 @@ ghost use Rattle.acl_wire.specs.Writing.{PutsInFront};
 ghost use Rattle.acl_wire.specs.XattrReading.{Gives};
 
 use crate::xattr_writing::put_at;
-use crate::{Nfs4Error, PosixError, RawAce, acl_of_xattr, read_raw_aces};
+use crate::{Nfs4Error, PosixError, Purpose, RawAce, acl_of_xattr, read_raw_aces};
 use acl_names::Directory;
 use acl_nfs4::{AceFault, Acl4, read_aces};
 use acl_posix::{Acl, ReadAclFault, read_acl};
@@ -73,7 +73,7 @@ pub fn xattr_text(alloc: Global, bytes: &[u8]) -> Result<Vec<u8>, PosixError>
 pub fn raws_text(alloc: Global, raws: &[RawAce]) -> Result<Vec<u8>, Nfs4Error>
     ensures { Answers (λ text. text.items) result (raws_text_of raws.now) }
 {
-    let acl = read_raw_aces(alloc, raws)?;
+    let acl = read_raw_aces(alloc, Purpose::Write, raws)?;
     let mut out = Vec::new(alloc);
     acl.print_short(&mut out)?;
     Ok(out)

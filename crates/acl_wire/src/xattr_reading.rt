@@ -1,7 +1,7 @@
 //! Reading POSIX lists from the bytes of an extended attribute.
 
-ghost use Rattle.std.specs.Prelude.{◌≡◌, ◌≢◌, ◌≤◌, ◌+◌, ◌*◌, ◌/◌, length, IfErr, IfOk};
-ghost use Rattle.acl_posix.specs.declared.limits.TheConstants.{INLINE_ENTRIES};
+ghost use Rattle.std.specs.Prelude.{◌≡◌, ◌≢◌, ◌≤◌, ◌+◌, ◌*◌, length, IfErr, IfOk, IsOk};
+ghost use Rattle.acl_posix.specs.declared.limits.TheConstants.{INLINE_ENTRIES, MAX_ENTRIES};
 ghost use Rattle.acl_wire.specs.Numbers.{Reads};
 ghost use Rattle.acl_wire.specs.XattrReading.{Gives, body_of, entries_at, entries_of, fields_at};
 ghost use Rattle.acl_wire.specs.XattrReading.{entry_of, tag_of};
@@ -10,8 +10,9 @@ use crate::numbers::u32_at;
 use crate::{PosixError, PosixFault};
 use acl_names::{Gid, Uid};
 use acl_posix::{Entries, Entry, MAX_ENTRIES, Perms, Tag};
+use arrayvec::ArrayVec;
 use bitflags::Flags;
-use std::alloc::Global;
+use std::alloc::{AllocError, Global};
 
 /// The version of the form.
 pub(crate) const VERSION: u32 = 2;
@@ -78,38 +79,65 @@ fn fields_at(bytes: &[u8]) -> Result<(Fields, &[u8]), PosixFault>
     Ok((fields, rest))
 }
 
-/// So many entries.
-fn entries_at(alloc: Global, count: usize, bytes: &[u8]) -> Result<Entries, PosixError>
-    ensures value { Gives (λ entries. entries) result (entries_at count bytes.now) }
-    ensures count { IfOk result (λ entries. length entries ≡ count) }
-    ensures short { count ≤ INLINE_ENTRIES → IfErr result (λ error. error ≢ PosixError.Memory) }
+/// So many entries, in their order there.
+fn entries_at(count: usize, bytes: &[u8]) -> Result<ArrayVec<Entry, MAX_ENTRIES>, PosixFault>
+    requires { count ≤ MAX_ENTRIES }
+    ensures value { Reads (λ entries. entries.items) result (entries_at count bytes.now) }
+    ensures count { IfOk result (λ entries. length entries.items ≡ count) }
 {
-    let mut entries = Entries::with_capacity(alloc, count)?;
+    let mut entries = ArrayVec::new();
     let mut rest = bytes;
     for _ in 0..count {
         let (fields, behind) = fields_at(rest)?;
         let entry = entry_of(fields)?;
-        entries.push(entry)?;
+        entries.push(entry);
         rest = behind;
     }
     Ok(entries)
 }
 
 /// The entries behind the version.
-fn body_of(alloc: Global, bytes: &[u8]) -> Result<Entries, PosixError>
-    ensures value { Gives (λ entries. entries) result (body_of bytes.now) }
-    ensures count { IfOk result (λ entries. length bytes.now ≡ 8 * length entries) }
-    ensures short { length bytes.now / 8 ≤ INLINE_ENTRIES
-        → IfErr result (λ error. error ≢ PosixError.Memory) }
+fn body_of(bytes: &[u8]) -> Result<ArrayVec<Entry, MAX_ENTRIES>, PosixFault>
+    ensures value { Reads (λ entries. entries.items) result (body_of bytes.now) }
+    ensures count { IfOk result (λ entries. length bytes.now ≡ 8 * length entries.items) }
 {
     if bytes.len() % 8 != 0 {
-        return Err(PosixError::Fault(PosixFault::Size));
+        return Err(PosixFault::Size);
     }
     let count = bytes.len() / 8;
     if count > MAX_ENTRIES {
-        return Err(PosixError::Fault(PosixFault::TooMany));
+        return Err(PosixFault::TooMany);
     }
-    entries_at(alloc, count, bytes)
+    entries_at(count, bytes)
+}
+
+/// The entries of the bytes, as `read_xattr` says. They have room where they are, so it takes no
+/// memory.
+#[tactic(auto, unfolding(crate::specs::XattrReading::entries_of))]
+pub(crate) fn entries_of(bytes: &[u8]) -> Result<ArrayVec<Entry, MAX_ENTRIES>, PosixFault>
+    ensures value { Reads (λ entries. entries.items) result (entries_of bytes.now) }
+    ensures count { IfOk result (λ entries. length bytes.now ≡ 4 + 8 * length entries.items) }
+{
+    let (number, rest) = u32_at(bytes)?;
+    if number != VERSION {
+        return Err(PosixFault::Version);
+    }
+    body_of(rest)
+}
+
+/// The entries, for a list that they may make.
+fn gathered(alloc: Global, read: &[Entry]) -> Result<Entries, AllocError>
+    requires { length read.now ≤ MAX_ENTRIES }
+    ensures value { IfOk result (λ entries. entries ≡ read.now) }
+    ensures short { length read.now ≤ INLINE_ENTRIES → IsOk result }
+{
+    let mut entries = Entries::with_capacity(alloc, read.len())?;
+    for entry in read {
+        let Ok(()) = entries.push(*entry) else {
+            return Err(AllocError);
+        };
+    }
+    Ok(entries)
 }
 
 /// The entries of a POSIX list in the binary form of the extended attributes
@@ -117,16 +145,12 @@ fn body_of(alloc: Global, bytes: &[u8]) -> Result<Entries, PosixError>
 /// entry that names nobody plays no part. They needn't be a valid list. Of several faults the first
 /// is told, as `PosixFault` has them, entry by entry from the third on. Memory runs out for more
 /// than `INLINE_ENTRIES` entries alone.
-#[tactic(auto, unfolding(crate::specs::XattrReading::entries_of))]
 pub fn read_xattr(alloc: Global, bytes: &[u8]) -> Result<Entries, PosixError>
     ensures value { Gives (λ entries. entries) result (entries_of bytes.now) }
     ensures count { IfOk result (λ entries. length bytes.now ≡ 4 + 8 * length entries) }
     ensures short { length bytes.now ≤ 4 + 8 * INLINE_ENTRIES
         → IfErr result (λ error. error ≢ PosixError.Memory) }
 {
-    let (number, rest) = u32_at(bytes)?;
-    if number != VERSION {
-        return Err(PosixError::Fault(PosixFault::Version));
-    }
-    body_of(alloc, rest)
+    let read = entries_of(bytes)?;
+    Ok(gathered(alloc, read.as_slice())?)
 }

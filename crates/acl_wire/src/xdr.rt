@@ -26,7 +26,7 @@ fn number_at(bytes: &[u8]) -> Result<(u32, &[u8]), Nfs4Fault>
 }
 
 /// A length in whole groups of four bytes.
-fn padded(len: usize) -> usize
+pub(crate) fn padded(len: usize) -> usize
     requires { len ≤ 0xffffffff }
     ensures { result ≡ padded len }
 {

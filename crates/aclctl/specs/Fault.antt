@@ -1,10 +1,10 @@
 -- The lines and the exit statuses of the program's faults.
 use Rattle.std.specs.Prelude.{ℕ, List, Option, Some, codes}
-use Rattle.acl_queries.specs.ErrorOutput.{line_of_words}
-use Rattle.acl_queries.specs.declared.command.input.CapFault.{CapFault}
-use Rattle.acl_queries.specs.declared.command.input.CapFault.TheVariants as cap
-use Rattle.acl_queries.specs.declared.command.words.WordsFault.{WordsFault}
-use Rattle.acl_queries.specs.declared.command.words.WordsFault.TheVariants as words
+use Rattle.acl_cli.specs.ErrorOutput.{line_of_words}
+use Rattle.acl_cli.specs.declared.input.CapFault.{CapFault}
+use Rattle.acl_cli.specs.declared.input.CapFault.TheVariants as cap
+use Rattle.acl_cli.specs.declared.words.WordsFault.{WordsFault}
+use Rattle.acl_cli.specs.declared.words.WordsFault.TheVariants as words
 use Rattle.aclctl.specs.declared.fault.ProgramFault.{ProgramFault}
 use Rattle.aclctl.specs.declared.fault.ProgramFault.TheVariants.{CannotRead, TooManyWords, BadWords}
 use Rattle.aclctl.specs.declared.fault.ProgramFault.TheVariants.{NoCommand, Memory}

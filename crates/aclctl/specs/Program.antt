@@ -1,16 +1,21 @@
 -- What the program comes to.
 use Rattle.std.specs.Prelude.{◌≡◌, ◌⊎◌, ℕ, ◌++◌, List, [], ◌∷◌, Option, Some, None, codes}
-use Rattle.std.specs.Prelude.{if◌then◌else◌, bytes_eq}
+use Rattle.std.specs.Prelude.{if◌then◌else◌, bytes_eq, false, true}
 use Rattle.std.specs.Io.KnownBytes.{IsAtEnd}
 use Rattle.acl_names.specs.Bytes.{newline}
 use Rattle.acl_lint.specs.LintAnswer.{lint_meaning}
+use Rattle.acl_cli.specs.Commands.{of_words}
+use Rattle.acl_cli.specs.ErrorOutput.{SaysFault}
+use Rattle.acl_cli.specs.Meaning.{Meaning}
+use Rattle.acl_cli.specs.Plain.{by_text}
+use Rattle.acl_cli.specs.RunFaults.{run_fault_line}
+use Rattle.acl_cli.specs.declared.run_fault.RunFault.TheVariants.{Output}
+use Rattle.acl_queries.specs.CompareLine.{compare_line}
 use Rattle.acl_queries.specs.DecideAnswer.{decide_meaning}
+use Rattle.acl_queries.specs.DecideLine.{decide_line}
 use Rattle.acl_queries.specs.Differences.{compare_meaning}
-use Rattle.acl_queries.specs.ErrorOutput.{SaysFault}
+use Rattle.acl_queries.specs.ExplainLine.{explain_line}
 use Rattle.acl_queries.specs.ExplainText.{explain_meaning}
-use Rattle.acl_queries.specs.Meaning.{Meaning}
-use Rattle.acl_queries.specs.RunFaults.{run_fault_line}
-use Rattle.acl_queries.specs.declared.command.run_fault.RunFault.TheVariants.{Output}
 use Rattle.acl_service.specs.RunMeaning.{run_meaning}
 use Rattle.acl_tree_queries.specs.DumpAnswer.{dump_meaning}
 use Rattle.acl_tree_queries.specs.ImpactWords.{impact_meaning}
@@ -89,9 +94,12 @@ no_command = record {
 
 -- with these files and this standard input, what words mean to a command
 abbrev pub command_meaning : Files → Option (List ℕ) → Option Command → List (List ℕ) → Meaning
-command_meaning files input (Some Decide) words = decide_meaning words
-command_meaning files input (Some Explain) words = explain_meaning words
-command_meaning files input (Some Compare) words = compare_meaning words
+command_meaning files input (Some Decide) words =
+    by_text (of_words decide_line false decide_meaning words)
+command_meaning files input (Some Explain) words =
+    by_text (of_words explain_line true explain_meaning words)
+command_meaning files input (Some Compare) words =
+    by_text (of_words compare_line true compare_meaning words)
 command_meaning files input (Some Run) words = run_meaning files input words
 command_meaning files input (Some Who) words = who_meaning files input words
 command_meaning files input (Some Impact) words = impact_meaning files input words

@@ -1,7 +1,7 @@
 //! What the program says of itself.
 ghost use Rattle.std.specs.Prelude.{◌≡◌};
-ghost use Rattle.acl_queries.specs.ErrorOutput.{Reports};
-ghost use Rattle.acl_queries.specs.Meaning.{Ends};
+ghost use Rattle.acl_cli.specs.ErrorOutput.{Reports};
+ghost use Rattle.acl_cli.specs.Meaning.{Ends};
 ghost use Rattle.aclctl.specs.Fault.{status_of};
 ghost use Rattle.aclctl.specs.Program.{SaysNoCommand, text_meaning, version_text};
 ghost use Rattle.aclctl.specs.declared.fault.ProgramFault.TheVariants.{NoCommand};

@@ -1,13 +1,14 @@
 //! The program: its words, and the command that the first of them names.
 ghost use Rattle.std.specs.Prelude.{◌≡◌, ◌≢◌, [], map, IfSome};
 ghost use Rattle.std.specs.String.{string_bytes};
-ghost use Rattle.acl_queries.specs.Meaning.{Ends, EndsWithInput};
+ghost use Rattle.acl_cli.specs.Meaning.{Ends, EndsWithInput};
 ghost use Rattle.aclctl.specs.Program.{meaning_from, meaning_of};
 
 use crate::help::{print_help, print_version, report_no_command};
 use crate::input::command_words;
 use acl_lint::lint;
-use acl_service::{ErrorOutput, OpenFiles, compare, decide, explain, report};
+use acl_queries::{Compare, Decide, Explain};
+use acl_service::{ErrorOutput, OpenFiles, report};
 use acl_tree_queries::{dump, impact, who};
 use std::alloc::Global;
 use std::convert::AsStr;
@@ -42,9 +43,15 @@ where
         input.old input.new }
 {
     match words.first() {
-        Some(first) if first.as_str() == "decide" => decide(alloc, words, out, err),
-        Some(first) if first.as_str() == "explain" => explain(alloc, words, out, err),
-        Some(first) if first.as_str() == "compare" => compare(alloc, words, out, err),
+        Some(first) if first.as_str() == "decide" => {
+            acl_cli::run_command(&Decide, alloc, files, words, input, out, err)
+        }
+        Some(first) if first.as_str() == "explain" => {
+            acl_cli::run_command(&Explain, alloc, files, words, input, out, err)
+        }
+        Some(first) if first.as_str() == "compare" => {
+            acl_cli::run_command(&Compare, alloc, files, words, input, out, err)
+        }
         Some(first) if first.as_str() == "run" => {
             acl_service::run(rt, alloc, files, words, input, out, err)
         }

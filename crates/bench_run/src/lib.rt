@@ -3,7 +3,8 @@
 #![tactic(auto)]
 
 use acl_lang::MAX_TEXT_LEN;
-use acl_service::{read_setup, run_one};
+use acl_service::run_one;
+use acl_setup::read_setup;
 use std::alloc::Global;
 
 /// Writes what the sessions print, each after the one before, and answers how long that is.

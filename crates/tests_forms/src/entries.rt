@@ -5,24 +5,17 @@ use std::alloc::Global;
 use tests_common::{acl4, directory};
 
 /// Whether the freebsd text and the text of the project's own form spell one list.
-fn is_same(alloc: Global, text: &str, own: &str) -> Option<bool> {
+pub(crate) fn is_same(alloc: Global, text: &str, own: &str) -> Option<bool> {
     let names = directory(alloc)?;
     let read = read_entries(alloc, text.as_bytes(), &names).ok()?;
     let wanted = acl4(alloc, own)?;
     Some(read.has_same_entries(&wanted))
 }
 
-/// Lines as libarchive and FreeBSD print and take them, and what they say in the project's form.
+/// Lines that no tool prints, and what they say in the project's form.
 #[test]
 fn what_entries_say(rt: HostRuntime) {
-    const ROWS: [(&str, &str); 9] = [
-        // As getfacl of FreeBSD prints a folder.
-        (
-            "            owner@:rwxpDdaARWcCos:fd-----:allow\n         user:alice:rw-p--aARWc--s:-------:allow\n      group:staff:r-x---a-R-c--s:-------:allow\n         everyone@:r-x---a-R-c--s:-------:allow\n",
-            "A:fd:OWNER@:rwxaDdtTnNcCoy,A::alice:rwatTnNcy,A:g:staff:rxtncy,A::EVERYONE@:rxtncy",
-        ),
-        // The compact form of libarchive.
-        ("owner@:rwpaARWcCos::allow", "A::OWNER@:rwatTnNcCoy"),
+    const ROWS: [(&str, &str); 7] = [
         ("owner@:rw:allow,group:60:x:deny", "A::OWNER@:rw,D:g:60:x"),
         // Letters in any order, and again.
         ("user:bob:wrwr:SFS:audit", "U:SF:bob:rw"),
@@ -65,7 +58,7 @@ fn entries_that_are_refused(rt: HostRuntime) {
     }
 }
 
-fn text_fault(alloc: Global, text: &str) -> Option<AceFault> {
+pub(crate) fn text_fault(alloc: Global, text: &str) -> Option<AceFault> {
     let names = directory(alloc)?;
     read_entries(alloc, text.as_bytes(), &names).err()
 }

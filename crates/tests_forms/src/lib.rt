@@ -5,3 +5,9 @@
 mod entries;
 #[cfg(test)]
 mod forms;
+#[cfg(test)]
+mod refused_growths;
+#[cfg(test)]
+mod sizes;
+#[cfg(test)]
+mod tools;

@@ -76,6 +76,32 @@ const FILES: &[(&str, &str)] = &[
         "domain = \"example.org\"\numask = \"022\"\nroot = { owner = \"root\", group = \"root\", mode = \"755\", style = \"posix\" }\nuser = [ { name = \"root\", uid = 0, groups = [\"root\", \"staff\"] } ]\ngroup = [ { name = \"root\", gid = 0 } ]\n",
     ),
     ("no-value", "umask = \"022\" # ü\né = 1\n"),
+    ("twice-a-key", "abc = 1\nabc = 2\n"),
+    ("no-word", "a = nope\n"),
+    (
+        "no-root-group",
+        "domain = \"example.org\"\numask = \"022\"\nroot = { owner = \"root\", mode = \"755\" }\n",
+    ),
+    (
+        "no-root-mode",
+        "domain = \"example.org\"\numask = \"022\"\nroot = { owner = \"root\", group = \"root\", mode = 755 }\n",
+    ),
+    (
+        "no-user-name",
+        "domain = \"example.org\"\numask = \"022\"\nroot = { owner = \"root\", group = \"root\", mode = \"755\", style = \"posix\" }\nuser = [ { name = 0, uid = \"root\" } ]\n",
+    ),
+    (
+        "no-groups",
+        "domain = \"example.org\"\numask = \"022\"\nroot = { owner = \"root\", group = \"root\", mode = \"755\", style = \"posix\" }\nuser = [ { name = \"root\", uid = 0, groups = [\"root\"] } ]\ngroup = 0\n",
+    ),
+    (
+        "no-group-table",
+        "domain = \"example.org\"\numask = \"022\"\nroot = { owner = \"root\", group = \"root\", mode = \"755\", style = \"posix\" }\nuser = [ { name = \"root\", uid = 0, groups = [\"root\"] } ]\ngroup = [ [] ]\n",
+    ),
+    (
+        "no-gid",
+        "domain = \"example.org\"\numask = \"022\"\nroot = { owner = \"root\", group = \"root\", mode = \"755\", style = \"posix\" }\nuser = [ { name = \"root\", uid = 0, groups = [\"root\"] } ]\ngroup = [ { name = \"root\", gid = 0 }, { name = \"ops\", gid = 4294967295 } ]\n",
+    ),
     (
         "no-root",
         "domain = \"example.org\"\numask = \"022\"\nroot = \"root\"\n",

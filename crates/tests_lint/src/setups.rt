@@ -3,9 +3,17 @@ use crate::fixture::Lint;
 use tests_files::Command;
 
 /// The setup, and what is told of it.
-const REFUSED: [(&str, &str); 22] = [
+const REFUSED: [(&str, &str); 30] = [
     ("no-toml", "no-toml: not-toml 2:12\n"),
     ("no-value", "no-value: not-toml 2:1\n"),
+    ("twice-a-key", "twice-a-key: not-toml 2:1\n"),
+    ("no-word", "no-word: not-toml 1:5\n"),
+    ("no-root-group", "no-root-group: bad-field root.group\n"),
+    ("no-root-mode", "no-root-mode: bad-field root.mode\n"),
+    ("no-user-name", "no-user-name: bad-field user[0].name\n"),
+    ("no-groups", "no-groups: bad-field group\n"),
+    ("no-group-table", "no-group-table: bad-field group[0]\n"),
+    ("no-gid", "no-gid: bad-field group[1].gid\n"),
     ("no-domain", "no-domain: bad-field domain\n"),
     ("no-umask", "no-umask: bad-field umask\n"),
     ("no-root", "no-root: bad-field root\n"),

@@ -1,5 +1,6 @@
 //! Two lists compared for everyone.
-use acl_queries::{ErrorOutput, compare};
+use crate::harness::{ends_with, helps, is_wrong_usage};
+use acl_queries::Compare;
 use std::alloc::Global;
 
 /// The fields in order: owner, group, first STYLE and TEXT, second STYLE and TEXT.
@@ -113,22 +114,6 @@ fn words_for<'a>(fields: &Fields<'a>) -> [&'a str; 9] {
     ]
 }
 
-/// Whether the command ends so: with this status, and with these texts on its output and for its
-/// faults.
-fn ends_with(alloc: Global, fields: &Fields<'_>, status: u8, text: &str, fault: &str) -> bool {
-    let words = words_for(fields);
-    let mut out = Vec::new(alloc);
-    let mut err = Vec::new(alloc);
-    compare(
-        alloc,
-        words.as_slice(),
-        &mut out,
-        &mut ErrorOutput::new(&mut err),
-    ) == status
-        && out.as_slice() == text.as_bytes()
-        && err.as_slice() == fault.as_bytes()
-}
-
 /// Whether these two lists, each with its STYLE before it, are answered so.
 fn answers(alloc: Global, first: &str, second: &str, text: &str) -> Option<bool> {
     let mut first = first.split(' ');
@@ -141,7 +126,7 @@ fn answers(alloc: Global, first: &str, second: &str, text: &str) -> Option<bool>
         second.next()?,
         second.next()?,
     ];
-    Some(ends_with(alloc, &fields, 0, text, ""))
+    Some(ends_with(&Compare, alloc, &words_for(&fields), 0, text, ""))
 }
 
 #[test]
@@ -163,7 +148,7 @@ fn refuses(alloc: Global, line: &str, fault: &str) -> Option<bool> {
         fields.next()?,
         fields.next()?,
     ];
-    Some(ends_with(alloc, &fields, 1, "", fault))
+    Some(ends_with(&Compare, alloc, &words_for(&fields), 1, "", fault))
 }
 
 #[test]
@@ -193,7 +178,14 @@ fn many_ends_with(
 ) -> Option<bool> {
     let list = many(alloc, entry, count)?;
     let fields = ["1", "2", style, list.as_str(), other[0], other[1]];
-    Some(ends_with(alloc, &fields, ending.0, ending.1, ending.2))
+    Some(ends_with(
+        &Compare,
+        alloc,
+        &words_for(&fields),
+        ending.0,
+        ending.1,
+        ending.2,
+    ))
 }
 
 #[test]
@@ -222,7 +214,7 @@ fn longest_ends_with(alloc: Global, last: &str, other: &str, text: &str) -> Opti
     let first = longest(alloc, last)?;
     let second = longest(alloc, other)?;
     let fields = ["1", "2", "posix", first.as_str(), "posix", second.as_str()];
-    Some(ends_with(alloc, &fields, 0, text, ""))
+    Some(ends_with(&Compare, alloc, &words_for(&fields), 0, text, ""))
 }
 
 #[test]
@@ -234,17 +226,14 @@ fn longest_lists(rt: HostRuntime) {
     }
 }
 
-/// Whether the parser refuses the words, and says why.
-fn is_wrong_usage(alloc: Global, words: &[&str]) -> bool {
-    let mut out = Vec::new(alloc);
-    let mut err = Vec::new(alloc);
-    compare(alloc, words, &mut out, &mut ErrorOutput::new(&mut err)) == 2
-        && out.is_empty()
-        && !err.is_empty()
-}
-
 #[test]
 fn wrong_usage(rt: HostRuntime) {
     let words = ["compare", "--owner", "1", "posix", "u::r,g::r,o::r"];
-    assert!(rt; is_wrong_usage(rt.alloc(), words.as_slice()));
+    assert!(rt; is_wrong_usage(&Compare, rt.alloc(), words.as_slice()));
+}
+
+#[test]
+fn help_is_an_answer(rt: HostRuntime) {
+    let words = ["compare", "--help"];
+    assert!(rt; helps(&Compare, rt.alloc(), words.as_slice(), "Tells whether "));
 }

@@ -1,5 +1,7 @@
 //! Tests of `decide`.
-use acl_queries::{ErrorOutput, decide};
+use crate::harness::{self, ends_with, run};
+use acl_cli::ErrorOutput;
+use acl_queries::Decide;
 use std::alloc::{AllocError, Global};
 use std::io::{self, Write};
 use std::test::Fail;
@@ -99,28 +101,10 @@ fn words_for<'a>(fields: &Fields<'a>) -> [&'a str; 12] {
     ]
 }
 
-/// Whether the command ends so: with this status, and with these texts on its output and for its
-/// faults.
-fn ends_with(alloc: Global, words: &[&str], status: u8, text: &str, fault: &str) -> bool {
-    let mut out = Vec::new(alloc);
-    let mut err = Vec::new(alloc);
-    decide(alloc, words, &mut out, &mut ErrorOutput::new(&mut err)) == status
-        && out.as_slice() == text.as_bytes()
-        && err.as_slice() == fault.as_bytes()
-}
-
 /// Whether the parser refuses the words of a line, and says why.
 fn is_wrong_usage(alloc: Global, line: &str) -> Option<bool> {
     let words = words_in(alloc, line).ok()?;
-    let mut out = Vec::new(alloc);
-    let mut err = Vec::new(alloc);
-    let status = decide(
-        alloc,
-        words.as_slice(),
-        &mut out,
-        &mut ErrorOutput::new(&mut err),
-    );
-    Some(status == 2 && out.is_empty() && !err.is_empty())
+    Some(harness::is_wrong_usage(&Decide, alloc, words.as_slice()))
 }
 
 /// Fails at each write.
@@ -148,7 +132,7 @@ fn answers(alloc: Global, line: &str, list: &str, text: &str) -> Option<bool> {
         fields.next()?,
         list,
     ];
-    Some(ends_with(alloc, &words_for(&fields), 0, text, ""))
+    Some(ends_with(&Decide, alloc, &words_for(&fields), 0, text, ""))
 }
 
 #[test]
@@ -165,7 +149,7 @@ fn translates(alloc: Global, perms: &str, list: &str, text: &str) -> bool {
         "decide", "--nfs4", "--owner", "1000", "--group", "50", "--uid", "1001", "--gids", "50,60",
         "--perms", perms, list,
     ];
-    ends_with(alloc, &words, 0, text, "")
+    ends_with(&Decide, alloc, &words, 0, text, "")
 }
 
 #[test]
@@ -178,7 +162,7 @@ fn with_the_translation(rt: HostRuntime) {
 /// Whether the command refuses such a field in its place, and says this.
 fn refuses(alloc: Global, at: usize, field: &str, line: &str) -> bool {
     let mut fields = ASKED;
-    put(&mut fields, at, field) && ends_with(alloc, &words_for(&fields), 1, "", line)
+    put(&mut fields, at, field) && ends_with(&Decide, alloc, &words_for(&fields), 1, "", line)
 }
 
 #[test]
@@ -198,7 +182,13 @@ fn parser_refuses_words(rt: HostRuntime) {
 /// Whether the command ends with the status where the output fails, and says this.
 fn fails(alloc: Global, words: &[&str], status: u8, fault: &str) -> bool {
     let mut err = Vec::new(alloc);
-    decide(alloc, words, &mut Broken, &mut ErrorOutput::new(&mut err)) == status
+    run(
+        &Decide,
+        alloc,
+        words,
+        &mut Broken,
+        &mut ErrorOutput::new(&mut err),
+    ) == status
         && err.as_slice() == fault.as_bytes()
 }
 
@@ -211,7 +201,10 @@ fn failed_writes(rt: HostRuntime) -> Result<(), Fail> {
     // A fault while writing to the other writer changes no status.
     for (words, status) in [(translated.as_slice(), 3), (["decide"].as_slice(), 2)] {
         let mut err = ErrorOutput::new(Broken);
-        assert_eq!(rt; decide(rt.alloc(), words, &mut Broken, &mut err), status);
+        assert_eq!(rt;
+            run(&Decide, rt.alloc(), words, &mut Broken, &mut err),
+            status
+        );
         assert!(rt; err.has_failed());
     }
     Ok(())

@@ -1,6 +1,6 @@
 //! Standard error: what goes there, that nothing does after a write that failed, and that a write
 //! is told as failed only if it did.
-use acl_queries::{ErrorOutput, RunFault, report};
+use acl_cli::{ErrorOutput, RunFault, report};
 
 /// Writes a line of these words to so much room. Whether a write failed.
 fn fails_in(room: &mut [u8], words: &str, more: &str) -> bool {

@@ -1,5 +1,7 @@
 //! Tests of `explain`.
-use acl_queries::{ErrorOutput, explain};
+use crate::harness::{ends_with, helps, is_wrong_usage, run};
+use acl_cli::ErrorOutput;
+use acl_queries::Explain;
 use std::alloc::Global;
 use std::test::Fail;
 
@@ -60,22 +62,6 @@ fn words_for<'a>(fields: &Fields<'a>) -> [&'a str; 13] {
     ]
 }
 
-/// Whether the command ends so: with this status, and with these texts on its output and for its
-/// faults.
-fn ends_with(alloc: Global, fields: &Fields<'_>, status: u8, text: &str, fault: &str) -> bool {
-    let words = words_for(fields);
-    let mut out = Vec::new(alloc);
-    let mut err = Vec::new(alloc);
-    explain(
-        alloc,
-        words.as_slice(),
-        &mut out,
-        &mut ErrorOutput::new(&mut err),
-    ) == status
-        && out.as_slice() == text.as_bytes()
-        && err.as_slice() == fault.as_bytes()
-}
-
 /// Whether the words end so whose fields are those of a line, and TEXT.
 fn ends(alloc: Global, line: &str, text: &str, ending: (u8, &str, &str)) -> Option<bool> {
     let mut fields = line.split(' ');
@@ -88,7 +74,8 @@ fn ends(alloc: Global, line: &str, text: &str, ending: (u8, &str, &str)) -> Opti
         fields.next()?,
         text,
     ];
-    Some(ends_with(alloc, &fields, ending.0, ending.1, ending.2))
+    let words = words_for(&fields);
+    Some(ends_with(&Explain, alloc, &words, ending.0, ending.1, ending.2))
 }
 
 #[test]
@@ -109,17 +96,36 @@ fn faults_of_fields(rt: HostRuntime) {
 
 /// Without groups, and with a list that the words lack.
 #[test]
-fn words_that_are_refused(rt: HostRuntime) -> Result<(), Fail> {
+fn words_that_are_refused(rt: HostRuntime) {
     let words = [
         "explain", "--owner", "1", "--group", "2", "--uid", "3", "--perms", "r", "posix",
     ];
-    let mut out = Vec::new(rt.alloc());
+    assert!(rt; is_wrong_usage(&Explain, rt.alloc(), words.as_slice()));
+}
+
+#[test]
+fn help_is_an_answer(rt: HostRuntime) {
+    let words = ["explain", "--uid", "3", "--help"];
+    assert!(rt; helps(&Explain, rt.alloc(), words.as_slice(), "Tells why "));
+}
+
+/// Help asked of an output that takes nothing.
+#[test]
+fn help_that_cannot_be_written(rt: HostRuntime) -> Result<(), Fail> {
+    let mut room = [0; 5];
+    let mut out = room.as_mut_slice();
     let mut err = Vec::new(rt.alloc());
     let mut told = ErrorOutput::new(&mut err);
-    let status = explain(rt.alloc(), words.as_slice(), &mut out, &mut told);
-    assert_eq!(rt; status, 2);
-    assert!(rt; out.is_empty());
-    assert!(rt; !err.is_empty());
+    let status = run(
+        &Explain,
+        rt.alloc(),
+        ["explain", "--help"].as_slice(),
+        &mut out,
+        &mut told,
+    );
+    assert_eq!(rt; status, 3);
+    assert!(rt; room == *b"Tells");
+    assert!(rt; err.as_slice() == b"aclctl: run: output\n".as_slice());
     Ok(())
 }
 
@@ -133,7 +139,7 @@ fn an_answer_that_cannot_be_written(rt: HostRuntime) -> Result<(), Fail> {
     let mut out = room.as_mut_slice();
     let mut err = Vec::new(rt.alloc());
     let mut told = ErrorOutput::new(&mut err);
-    let status = explain(rt.alloc(), words.as_slice(), &mut out, &mut told);
+    let status = run(&Explain, rt.alloc(), words.as_slice(), &mut out, &mut told);
     assert_eq!(rt; status, 3);
     assert!(rt; room == *b"granted\nr");
     assert!(rt; err.as_slice() == b"aclctl: run: output\n".as_slice());

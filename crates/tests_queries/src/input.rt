@@ -1,5 +1,5 @@
 //! Tests of reading up to a limit.
-use acl_queries::{CapFault, read_capped};
+use acl_cli::{CapFault, read_capped};
 use std::alloc::Global;
 use std::io::{self, ErrorKind, Read};
 

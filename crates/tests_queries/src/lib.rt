@@ -15,6 +15,8 @@ mod explain;
 #[cfg(test)]
 mod explanation;
 #[cfg(test)]
+mod harness;
+#[cfg(test)]
 mod input;
 #[cfg(test)]
 mod refused_growths;

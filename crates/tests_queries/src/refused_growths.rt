@@ -4,9 +4,9 @@
 //! `rt try --test --fail-alloc N` refuses the growth N of a test. Each test here passes whichever
 //! growth that is, and prints how many refusals it was told of: one up to the last growth that it
 //! asks for, and none from then on.
-use acl_queries::{
-    CapFault, ErrorOutput, WordsFault, compare, decide, explain, read_capped, words_of,
-};
+use crate::harness::run;
+use acl_cli::{CapFault, ErrorOutput, WordsFault, read_capped, words_of};
+use acl_queries::{Compare, Decide, Explain};
 use std::alloc::Global;
 use std::io::{self, Read};
 use std::test::Fail;
@@ -105,11 +105,11 @@ fn ask(alloc: Global, words: &[&str], answer: &str) -> Ending {
     let mut err = faults.as_mut_slice();
     let mut told = ErrorOutput::new(&mut err);
     let status = if words.first() == Some(&"compare") {
-        compare(alloc, words, &mut out, &mut told)
+        run(&Compare, alloc, words, &mut out, &mut told)
     } else if words.first() == Some(&"explain") {
-        explain(alloc, words, &mut out, &mut told)
+        run(&Explain, alloc, words, &mut out, &mut told)
     } else {
-        decide(alloc, words, &mut out, &mut told)
+        run(&Decide, alloc, words, &mut out, &mut told)
     };
     let (room, fault_room) = (out.len(), err.len());
     let written = room.checked_add(answer.len()) == Some(512);

@@ -1,5 +1,5 @@
 //! Tests of words that are lines, and of how faults of what is read are told.
-use acl_queries::{CapFault, WordsFault, words_of};
+use acl_cli::{CapFault, WordsFault, words_of};
 use std::alloc::Global;
 use std::fmt::Display;
 

@@ -9,10 +9,8 @@ use crate::fixture::tree;
 use crate::setup::SETUP;
 use crate::texts::{are_short, has_output, serve_texts, serve_texts_in_rounds};
 use acl_names::Directory;
-use acl_service::{
-    ErrorOutput, OneFault, OpenGate, Report, ServeFault, SetupError, read_setup, run, run_one,
-    run_texts,
-};
+use acl_service::{ErrorOutput, OneFault, OpenGate, Report, ServeFault, run, run_one, run_texts};
+use acl_setup::{SetupError, read_setup};
 use std::alloc::Global;
 use std::io;
 use std::sync::Wait;

@@ -1,6 +1,6 @@
 //! Tests of setups.
 use acl_names::{Directory, Gid, Requester, SetupFault, Uid};
-use acl_service::{SetupError, read_setup};
+use acl_setup::{Key, SetupError, Spot, read_setup};
 use acl_tree::{Path, Tree};
 use std::alloc::Global;
 
@@ -30,40 +30,43 @@ const SETUPS: [(&str, &[&str], Option<SetupError>); 9] = [
             SETUP,
             "[[user]]\nname = \"bob\"\nuid = 1000\ngroups = [\"wheel\"]\n",
         ],
-        Some(SetupError::Parts(SetupFault::RepeatedName)),
+        Some(SetupError::Parts(SetupFault::RepeatedName, Key::UserName(4))),
     ),
     (
         "bad name",
         &[SETUP, "[[group]]\nname = \"7\"\ngid = 70\n"],
-        Some(SetupError::Parts(SetupFault::BadName)),
+        Some(SetupError::Parts(SetupFault::BadName, Key::GroupName(4))),
     ),
     // A field is faulty before an id is there twice, and nothing is before the bytes are a
     // document.
     (
         "an id twice",
         &[HEAD, ROOT, TWICE],
-        Some(SetupError::Parts(SetupFault::RepeatedId)),
+        Some(SetupError::Parts(SetupFault::RepeatedId, Key::UserUid(1))),
     ),
     (
         "a wrong id too",
         &[HEAD, ROOT, TWICE, WRONG],
-        Some(SetupError::BadField),
+        Some(SetupError::BadField(Key::UserUid(2))),
     ),
     (
         "an open table too",
         &[HEAD, ROOT, TWICE, WRONG, "[["],
-        Some(SetupError::NotToml),
+        Some(SetupError::NotToml(Spot {
+            line: 23,
+            column: 3,
+        })),
     ),
     // Fields that are none.
     (
         "no umask",
         &["domain = \"a\"\n", ROOT],
-        Some(SetupError::BadField),
+        Some(SetupError::BadField(Key::Umask)),
     ),
     (
         "a umask of four digits",
         &["domain = \"a\"\numask = \"0022\"\n", ROOT],
-        Some(SetupError::BadField),
+        Some(SetupError::BadField(Key::Umask)),
     ),
     // Neither users nor groups have to be there, but then nobody has the root.
     (
@@ -72,7 +75,7 @@ const SETUPS: [(&str, &[&str], Option<SetupError>); 9] = [
             HEAD,
             "[root]\nowner = \"a\"\ngroup = \"g\"\nmode = \"755\"\nstyle = \"posix\"\n",
         ],
-        Some(SetupError::BadField),
+        Some(SetupError::BadField(Key::RootOwner)),
     ),
 ];
 
@@ -147,5 +150,9 @@ fn refusal_of_long(alloc: Global, lines: usize) -> Option<Option<SetupError>> {
 #[test]
 fn a_long_setup_that_is_no_document(rt: HostRuntime) {
     let said = refusal_of_long(rt.alloc(), 6000);
-    assert_eq!(rt; said, Some(Some(SetupError::NotToml)));
+    let spot = Spot {
+        line: 6001,
+        column: 6,
+    };
+    assert_eq!(rt; said, Some(Some(SetupError::NotToml(spot))));
 }

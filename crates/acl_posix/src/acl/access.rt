@@ -3,12 +3,14 @@
 ghost use Rattle.std.specs.Prelude.{◌≡◌, ◌&&◌, List};
 ghost use Rattle.std.specs.List.Sorted.{IsPermutation};
 ghost use Rattle.acl_posix.specs.Access.{effective_perms, grants, is_for_group_of};
+ghost use Rattle.acl_posix.specs.Canonical.{IsCanonical};
 ghost use Rattle.acl_posix.specs.CheckSteps.{group_answer, groups_answer, mask_allows, tag_answer};
 ghost use Rattle.acl_posix.specs.CheckSteps.{tag_has, user_answer};
 ghost use Rattle.acl_posix.specs.Entry.{EntryValue};
 ghost use Rattle.acl_posix.specs.Perms.{bits_of};
 ghost use Rattle.acl_posix.specs.Validity.{IsValid};
 
+use crate::acl::perms_of;
 use crate::{Acl, Entry, Perms, Tag};
 use acl_names::{Gid, Subject, Uid};
 use bitflags::Flags;
@@ -28,85 +30,7 @@ impl Acl {
         ensures any_order { (entries : List EntryValue) → IsPermutation self.now entries
             → result ≡ grants entries owner group (S.identity subject.now) (bits_of request) }
     {
-        self.decide(owner, group, subject, request)
-    }
-
-    /// The same, step by step.
-    #[inline(always)]
-    fn decide<S: Subject>(&self, owner: Uid, group: Gid, subject: &S, request: Perms) -> bool
-        ensures valid { IsValid self.now }
-        ensures value { result
-            ≡ grants self.now owner group (S.identity subject.now) (bits_of request) }
-    {
-        let uid = subject.uid();
-        if uid == owner {
-            return self.first_has(request);
-        }
-        match self.user_answer(uid, request) {
-            Some(answer) => answer,
-            None => match self.group_answer(subject, group, request) {
-                Some(answer) => answer,
-                None => self.last_has(request),
-            },
-        }
-    }
-
-    /// Whether the owner's entry, which is the first, has all of the request.
-    fn first_has(&self, request: Perms) -> bool
-        ensures valid { IsValid self.now }
-        ensures value { result ≡ tag_has Tag.UserObj self.now (bits_of request) }
-    {
-        match self.entries() {
-            [first, ..] => first.perms.contains(request),
-            [] => false,
-        }
-    }
-
-    /// Whether the others' entry, which is the last, has all of the request.
-    fn last_has(&self, request: Perms) -> bool
-        ensures valid { IsValid self.now }
-        ensures value { result ≡ tag_has Tag.Other self.now (bits_of request) }
-    {
-        match self.entries() {
-            [.., last] => last.perms.contains(request),
-            [] => false,
-        }
-    }
-
-    /// Whether the entry of the user and the mask have all of the request, if there is such an
-    /// entry.
-    fn user_answer(&self, uid: Uid, request: Perms) -> Option<bool>
-        ensures valid { IsValid self.now }
-        ensures value { result ≡ user_answer self.now uid (bits_of request) }
-    {
-        match self.tag_answer(Tag::User(uid), request) {
-            Some(has) => Some(has && self.mask_allows(request)),
-            None => None,
-        }
-    }
-
-    /// Whether the entry with the tag has all of the request, if there is such an entry.
-    fn tag_answer(&self, tag: Tag, request: Perms) -> Option<bool>
-        ensures valid { IsValid self.now }
-        ensures value { result ≡ tag_answer tag self.now (bits_of request) }
-    {
-        match self.perms_of(tag) {
-            Some(perms) => Some(perms.contains(request)),
-            None => None,
-        }
-    }
-
-    /// Whether an entry for a group of the subject, and the mask, have all of the request, if there
-    /// is such an entry.
-    fn group_answer<S: Subject>(&self, subject: &S, group: Gid, request: Perms) -> Option<bool>
-        ensures valid { IsValid self.now }
-        ensures value { result
-            ≡ group_answer self.now group (S.identity subject.now) (bits_of request) }
-    {
-        match groups_answer(self.entries(), subject, group, request) {
-            Some(granted) => Some(granted && self.mask_allows(request)),
-            None => None,
-        }
+        decide(self.entries(), owner, group, subject, request)
     }
 
     /// The effective permissions of an entry: its own, as far as the list's mask leaves them. The
@@ -116,15 +40,107 @@ impl Acl {
     {
         entry.perms_under(self.mask())
     }
+}
 
-    /// Whether the mask, if there is one, has all of the request.
-    fn mask_allows(&self, request: Perms) -> bool
-        ensures { result ≡ mask_allows self.now (bits_of request) }
-    {
-        match self.mask() {
-            Some(mask) => mask.contains(request),
-            None => true,
-        }
+/// The same of the entries of a list, in canonical order, step by step.
+#[inline(always)]
+pub(crate) fn decide<S: Subject>(
+    entries: &[Entry],
+    owner: Uid,
+    group: Gid,
+    subject: &S,
+    request: Perms,
+) -> bool
+    requires valid { IsValid entries.now }
+    requires canonical { IsCanonical entries.now }
+    ensures { result ≡ grants entries.now owner group (S.identity subject.now) (bits_of request) }
+{
+    let uid = subject.uid();
+    if uid == owner {
+        return first_has(entries, request);
+    }
+    match user_answer(entries, uid, request) {
+        Some(answer) => answer,
+        None => match group_answer(entries, subject, group, request) {
+            Some(answer) => answer,
+            None => last_has(entries, request),
+        },
+    }
+}
+
+/// Whether the owner's entry, which is the first, has all of the request.
+pub(super) fn first_has(entries: &[Entry], request: Perms) -> bool
+    requires valid { IsValid entries.now }
+    requires canonical { IsCanonical entries.now }
+    ensures { result ≡ tag_has Tag.UserObj entries.now (bits_of request) }
+{
+    match entries {
+        [first, ..] => first.perms.contains(request),
+        [] => false,
+    }
+}
+
+/// Whether the others' entry, which is the last, has all of the request.
+pub(super) fn last_has(entries: &[Entry], request: Perms) -> bool
+    requires valid { IsValid entries.now }
+    requires canonical { IsCanonical entries.now }
+    ensures { result ≡ tag_has Tag.Other entries.now (bits_of request) }
+{
+    match entries {
+        [.., last] => last.perms.contains(request),
+        [] => false,
+    }
+}
+
+/// Whether the entry of the user and the mask have all of the request, if there is such an entry.
+fn user_answer(entries: &[Entry], uid: Uid, request: Perms) -> Option<bool>
+    requires valid { IsValid entries.now }
+    requires canonical { IsCanonical entries.now }
+    ensures { result ≡ user_answer entries.now uid (bits_of request) }
+{
+    match tag_answer(entries, Tag::User(uid), request) {
+        Some(has) => Some(has && mask_allows(entries, request)),
+        None => None,
+    }
+}
+
+/// Whether the entry with the tag has all of the request, if there is such an entry.
+fn tag_answer(entries: &[Entry], tag: Tag, request: Perms) -> Option<bool>
+    requires valid { IsValid entries.now }
+    requires canonical { IsCanonical entries.now }
+    ensures { result ≡ tag_answer tag entries.now (bits_of request) }
+{
+    match perms_of(entries, tag) {
+        Some(perms) => Some(perms.contains(request)),
+        None => None,
+    }
+}
+
+/// Whether an entry for a group of the subject, and the mask, have all of the request, if there is
+/// such an entry.
+fn group_answer<S: Subject>(
+    entries: &[Entry],
+    subject: &S,
+    group: Gid,
+    request: Perms,
+) -> Option<bool>
+    requires { IsCanonical entries.now }
+    ensures { result ≡ group_answer entries.now group (S.identity subject.now) (bits_of request) }
+{
+    match groups_answer(entries, subject, group, request) {
+        Some(granted) => Some(granted && mask_allows(entries, request)),
+        None => None,
+    }
+}
+
+/// Whether the mask, if there is one, has all of the request.
+fn mask_allows(entries: &[Entry], request: Perms) -> bool
+    requires { IsCanonical entries.now }
+    ensures { result ≡ mask_allows entries.now (bits_of request) }
+{
+    match perms_of(entries, Tag::Mask) {
+        Some(mask) => mask.contains(request),
+        None => true,
     }
 }
 

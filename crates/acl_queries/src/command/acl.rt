@@ -1,11 +1,11 @@
 //! Access control lists, as fields write them: with ids, for the directory has no names.
 ghost use Rattle.std.specs.Prelude.{◌≡◌, Ok, IfErr, IfOk};
 ghost use Rattle.acl_queries.specs.AclText.{acl_of, nobody};
-ghost use Rattle.acl_queries.specs.Faults.{Explains};
+ghost use Rattle.acl_cli.specs.Failures.{Explains};
 
-use super::query_fault::QueryFault;
+use acl_cli::{Failure, FieldFault, RunFault};
 use acl_names::{Directory, SetupFault};
-use acl_posix::Acl;
+use acl_posix::{Acl, ReadAclFault};
 use std::alloc::{AllocError, Global};
 
 /// A directory that knows no user and no group.
@@ -22,10 +22,14 @@ pub(crate) fn empty_directory(alloc: Global) -> Result<Directory, AllocError>
 }
 
 /// The access control list that a text spells.
-pub(crate) fn read_acl(alloc: Global, text: &str) -> Result<Acl, QueryFault>
-    ensures read { IfOk result (λ acl. acl_of text.now ≡ Ok acl) }
-    ensures refused { IfErr result (Explains (acl_of text.now)) }
+pub(crate) fn read_acl<'a>(alloc: Global, text: &'a str) -> Result<Acl, Failure<'a>>
+    ensures read { IfOk result (λ acl. acl_of text.entry.now ≡ Ok acl) }
+    ensures refused { IfErr result (Explains (acl_of text.entry.now)) }
 {
     let directory = empty_directory(alloc)?;
-    Ok(acl_posix::read_acl(alloc, text.as_bytes(), &directory)?)
+    match acl_posix::read_acl(alloc, text.as_bytes(), &directory) {
+        Ok(acl) => Ok(acl),
+        Err(ReadAclFault::Acl(fault)) => Err(Failure::Field(FieldFault::Acl(fault))),
+        Err(ReadAclFault::Memory) => Err(Failure::Lacks(RunFault::Memory)),
+    }
 }

@@ -1,14 +1,14 @@
 //! Lists of either style, as fields write them: with ids, for the directory has no names.
 ghost use Rattle.std.specs.Prelude.{◌≡◌, Ok, IfErr, IfOk};
 ghost use Rattle.clap.specs.Words.{found_of, rows_of};
-ghost use Rattle.acl_queries.specs.ListField.{aces_of, list_in, list_of};
-ghost use Rattle.acl_queries.specs.Faults.{Explains};
+ghost use Rattle.acl_queries.specs.ListField.{aces_of, failure_of_aces, list_in, list_of};
+ghost use Rattle.acl_cli.specs.Failures.{Explains};
 
 use super::acl::{empty_directory, read_acl};
-use super::fields::text_field;
-use super::query_fault::{FieldFault, QueryFault};
 use acl_bridge::Style;
-use acl_nfs4::{Acl4, read_aces};
+use acl_cli::fields::text_field;
+use acl_cli::{Failure, FieldFault, RunFault};
+use acl_nfs4::{AceFault, Acl4, read_aces};
 use acl_posix::{Acl, AclFault};
 use clap::ArgMatches;
 use std::alloc::Global;
@@ -20,19 +20,35 @@ pub(crate) enum AnyAcl {
     Nfs4(Acl4),
 }
 
+/// Why an NFSv4 list isn't read, as a failure of its field.
+fn failure_of<'a>(fault: AceFault) -> Failure<'a>
+    ensures { result ≡ failure_of_aces fault }
+{
+    match fault {
+        AceFault::Syntax => Failure::Field(FieldFault::Acl(AclFault::BadAcl)),
+        AceFault::UnknownName => Failure::Field(FieldFault::Acl(AclFault::UnknownName)),
+        AceFault::TooMany => Failure::Field(FieldFault::Acl(AclFault::TooMany)),
+        AceFault::InheritOnly => Failure::Field(FieldFault::InheritOnly),
+        AceFault::Memory => Failure::Lacks(RunFault::Memory),
+    }
+}
+
 /// The NFSv4 list that a text spells.
-fn read_acl4(alloc: Global, text: &str) -> Result<Acl4, QueryFault>
-    ensures read { IfOk result (λ aces. aces_of text.now ≡ Ok aces) }
-    ensures refused { IfErr result (Explains (aces_of text.now)) }
+fn read_acl4<'a>(alloc: Global, text: &'a str) -> Result<Acl4, Failure<'a>>
+    ensures read { IfOk result (λ aces. aces_of text.entry.now ≡ Ok aces) }
+    ensures refused { IfErr result (Explains (aces_of text.entry.now)) }
 {
     let directory = empty_directory(alloc)?;
-    Ok(read_aces(alloc, text.as_bytes(), &directory)?)
+    match read_aces(alloc, text.as_bytes(), &directory) {
+        Ok(aces) => Ok(aces),
+        Err(fault) => Err(failure_of(fault)),
+    }
 }
 
 /// The list of this style that a text spells.
-fn read_list(alloc: Global, style: Style, text: &str) -> Result<AnyAcl, QueryFault>
-    ensures read { IfOk result (λ acl. list_of style text.now ≡ Ok acl) }
-    ensures refused { IfErr result (Explains (list_of style text.now)) }
+fn read_list<'a>(alloc: Global, style: Style, text: &'a str) -> Result<AnyAcl, Failure<'a>>
+    ensures read { IfOk result (λ acl. list_of style text.entry.now ≡ Ok acl) }
+    ensures refused { IfErr result (Explains (list_of style text.entry.now)) }
 {
     match style {
         Style::Posix => Ok(AnyAcl::Posix(read_acl(alloc, text)?)),
@@ -41,12 +57,12 @@ fn read_list(alloc: Global, style: Style, text: &str) -> Result<AnyAcl, QueryFau
 }
 
 /// The list whose style and text have these names.
-pub(crate) fn list_field(
+pub(crate) fn list_field<'a>(
     alloc: Global,
-    matches: &ArgMatches<'_>,
+    matches: &ArgMatches<'a>,
     style_name: &str,
     text_name: &str,
-) -> Result<AnyAcl, QueryFault>
+) -> Result<AnyAcl, Failure<'a>>
     ensures read { IfOk result (λ acl. list_in style_name.now text_name.now
         (rows_of (found_of matches.now)) ≡ Ok acl) }
     ensures refused { IfErr result (Explains (list_in style_name.now text_name.now

@@ -1,8 +1,8 @@
 //! The command line of `compare`.
 
-use super::comparison::Comparison;
-use crate::CommandLine;
-use crate::command::options::{group_option, owner_option, required_word};
+use super::Compare;
+use acl_cli::CommandLine;
+use acl_cli::options::{group_option, owner_option, required_word};
 use clap::Command;
 use std::alloc::{AllocError, Global};
 
@@ -10,10 +10,10 @@ use std::alloc::{AllocError, Global};
 const EXAMPLE: &str = "For example:
   aclctl compare --owner 1000 --group 50 posix u::rw,g::r,o::- posix u::rw,g::r,o::r
 Exit status: 0 with an answer, whichever it is; 1 if a field doesn't read;
-    2 if the words are wrong, and with this help; 3 if
-memory runs out or the answer can't be written.";
+    2 if the words are wrong; 3 if memory runs out
+or the answer can't be written.";
 
-impl CommandLine for Comparison {
+impl CommandLine for Compare {
     ghost use Rattle.acl_queries.specs.CompareLine.{compare_line, compare_line-free};
     ghost use Rattle.acl_queries.specs.CompareLine.{compare_line-simple};
 

@@ -5,11 +5,11 @@ ghost use Rattle.acl_queries.specs.Comparing.{between};
 ghost use Rattle.acl_queries.specs.Differences.{AreAlike, Differ};
 
 use super::text::answer_text;
-use crate::command::ids::{gid_field, uid_field};
 use crate::command::list::{AnyAcl, list_field};
 use crate::command::query::Query;
-use crate::command::query_fault::QueryFault;
 use acl_bridge::{difference_from_posix, posix_difference, whole_request_difference};
+use acl_cli::Failure;
+use acl_cli::ids::{gid_field, uid_field};
 use acl_names::{Gid, Uid};
 use acl_nfs4::{Acl4, Difference, Mask, Owners};
 use acl_posix::Acl;
@@ -154,7 +154,7 @@ impl Query for Comparison {
     ghost IsAnswer = { IsComparison };
 
     #[tactic(auto, unfolding(crate::specs::Compared::compared_in))]
-    fn read(alloc: Global, matches: &ArgMatches<'_>) -> Result<Comparison, QueryFault> {
+    fn read<'a>(alloc: Global, matches: &ArgMatches<'a>) -> Result<Comparison, Failure<'a>> {
         let owner = uid_field(matches, "owner")?;
         let group = gid_field(matches, "group")?;
         let first = list_field(alloc, matches, "style", "text")?;

@@ -1,8 +1,8 @@
 //! The command line of `decide`.
 
-use super::question::Question;
-use crate::CommandLine;
-use crate::command::options::{
+use super::Decide;
+use acl_cli::CommandLine;
+use acl_cli::options::{
     flag, gids_option, group_option, owner_option, perms_option, required_word, uid_option,
 };
 use clap::Command;
@@ -15,7 +15,7 @@ Exit status: 0 with an answer, granted or denied; 1 if a field doesn't read;
     2 if the words are wrong, and with this help; 3 if
 memory runs out or the answer can't be written.";
 
-impl CommandLine for Question {
+impl CommandLine for Decide {
     ghost use Rattle.acl_queries.specs.DecideLine.{decide_line, decide_line-free};
     ghost use Rattle.acl_queries.specs.DecideLine.{decide_line-simple};
 

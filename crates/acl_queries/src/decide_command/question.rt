@@ -2,16 +2,15 @@
 ghost use Rattle.std.specs.Prelude.{◌≡◌, Ok, IfErr, IfOk};
 ghost use Rattle.clap.specs.Words.{found_of, rows_of};
 ghost use Rattle.acl_queries.specs.Asked.{acl_in};
-ghost use Rattle.acl_queries.specs.Faults.{Explains};
+ghost use Rattle.acl_cli.specs.Failures.{Explains};
 
 use super::translation::print_translation;
 use crate::command::acl::read_acl;
 use crate::command::answer::answer_line;
-use crate::command::fields::{flag_field, text_field};
-use crate::command::ids::{gid_field, gids_field, uid_field};
-use crate::command::perms::perms_field;
 use crate::command::query::Query;
-use crate::command::query_fault::{FieldFault, QueryFault};
+use acl_cli::fields::{flag_field, text_field};
+use acl_cli::ids::{gid_field, gids_field, uid_field};
+use acl_cli::{Failure, FieldFault, perms_field};
 use acl_names::{Gid, Requester, Uid};
 use acl_posix::{Acl, AclFault, Perms};
 use clap::ArgMatches;
@@ -59,7 +58,7 @@ impl Question {
 }
 
 /// The file's access control list.
-fn acl_field(alloc: Global, matches: &ArgMatches<'_>) -> Result<Acl, QueryFault>
+fn acl_field<'a>(alloc: Global, matches: &ArgMatches<'a>) -> Result<Acl, Failure<'a>>
     ensures read { IfOk result (λ acl. acl_in (rows_of (found_of matches.now)) ≡ Ok acl) }
     ensures refused { IfErr result (Explains (acl_in (rows_of (found_of matches.now)))) }
 {
@@ -78,7 +77,7 @@ impl Query for Question {
     ghost IsAnswer = { IsDecideText };
 
     #[tactic(auto, unfolding(crate::specs::Asked::asked_in))]
-    fn read(alloc: Global, matches: &ArgMatches<'_>) -> Result<Question, QueryFault> {
+    fn read<'a>(alloc: Global, matches: &ArgMatches<'a>) -> Result<Question, Failure<'a>> {
         let owner = uid_field(matches, "owner")?;
         let group = gid_field(matches, "group")?;
         let uid = uid_field(matches, "uid")?;

@@ -1,8 +1,8 @@
 //! The command line of `explain`.
 
-use super::question::Question;
-use crate::CommandLine;
-use crate::command::options::{
+use super::Explain;
+use acl_cli::CommandLine;
+use acl_cli::options::{
     gids_option, group_option, owner_option, perms_option, required_word, uid_option,
 };
 use clap::Command;
@@ -12,10 +12,10 @@ use std::alloc::{AllocError, Global};
 const EXAMPLE: &str = "For example:
   aclctl explain --owner 1000 --group 50 --uid 1001 --gids 60 --perms rw nfs4 A::OWNER@:rwa,D:g:60:w
 Exit status: 0 with an answer, granted or denied; 1 if a field doesn't read;
-    2 if the words are wrong, and with this help; 3 if
-memory runs out or the answer can't be written.";
+    2 if the words are wrong; 3 if memory runs out
+or the answer can't be written.";
 
-impl CommandLine for Question {
+impl CommandLine for Explain {
     ghost use Rattle.acl_queries.specs.ExplainLine.{explain_line, explain_line-free};
     ghost use Rattle.acl_queries.specs.ExplainLine.{explain_line-simple};
 

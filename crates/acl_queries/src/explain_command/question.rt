@@ -2,11 +2,10 @@
 ghost use Rattle.std.specs.Prelude.{Ok};
 
 use super::text::explanation_text;
-use crate::command::ids::{gid_field, gids_field, uid_field};
 use crate::command::list::{AnyAcl, list_field};
-use crate::command::perms::perms_field;
 use crate::command::query::Query;
-use crate::command::query_fault::QueryFault;
+use acl_cli::ids::{gid_field, gids_field, uid_field};
+use acl_cli::{Failure, perms_field};
 use acl_names::{Gid, Requester, Uid};
 use acl_posix::Perms;
 use clap::ArgMatches;
@@ -47,7 +46,7 @@ impl Query for Question {
     ghost IsAnswer = { IsExplanation };
 
     #[tactic(auto, unfolding(crate::specs::Explained::explained_in))]
-    fn read(alloc: Global, matches: &ArgMatches<'_>) -> Result<Question, QueryFault> {
+    fn read<'a>(alloc: Global, matches: &ArgMatches<'a>) -> Result<Question, Failure<'a>> {
         let owner = uid_field(matches, "owner")?;
         let group = gid_field(matches, "group")?;
         let uid = uid_field(matches, "uid")?;

@@ -1,7 +1,7 @@
 //! Why files give no texts.
 
 use crate::RunFault;
-use acl_queries::{CommandFault, ErrorOutput};
+use acl_cli::{CommandFault, ErrorOutput};
 use std::io::Write;
 
 /// What is said of more sessions than there may be.

@@ -4,9 +4,9 @@ ghost use Rattle.clap.specs.Words.{all_of, found_of, rows_of, rule_of};
 ghost use Rattle.acl_service.specs.RunLine.{limit_option, session_words};
 ghost use Rattle.acl_service.specs.RunWords.{HasLimit, IsLimit, setup_in};
 
-use acl_queries::CommandLine;
-use acl_queries::fields::text_field;
-use acl_queries::options::{flag, optional_option, required_word, setup_option};
+use acl_cli::CommandLine;
+use acl_cli::fields::text_field;
+use acl_cli::options::{flag, optional_option, required_word, setup_option};
 use clap::builder::ValueParser;
 use clap::{Arg, ArgMatches, Command};
 use std::alloc::{AllocError, Global};

@@ -2,9 +2,10 @@
 ghost use Rattle.std.specs.Prelude.{◌≡◌};
 
 use crate::files::fault::TOO_MANY_SESSIONS;
-use crate::{OneFault, RunFault, SetupError};
-use acl_queries::{CommandFault, ErrorOutput};
+use crate::{OneFault, RunFault};
+use acl_cli::{CommandFault, ErrorOutput};
 use acl_runs::ServeFault;
+use acl_setup::SetupError;
 use std::alloc::AllocError;
 use std::io::{self, Write};
 

@@ -2,13 +2,13 @@
 ghost use Rattle.std.specs.Prelude.{◌≡◌, ◌++◌, map, IfOk, OnOk};
 ghost use Rattle.std.specs.Io.KnownBytes.{Appends};
 ghost use Rattle.std.specs.List.{flat_map};
-ghost use Rattle.acl_queries.specs.Output.{AppendsFront};
+ghost use Rattle.acl_cli.specs.Output.{AppendsFront};
 ghost use Rattle.acl_service.specs.RunText.{entry_text, journal_text, outputs_text, sessions_text};
 
 use crate::ServedInPrint;
 use acl_broker::KeptEntry;
+use acl_cli::write_text;
 use acl_names::{put_bytes, put_decimal};
-use acl_queries::write_text;
 use itoa::Buffer;
 use std::alloc::{AllocError, Global};
 use std::io;

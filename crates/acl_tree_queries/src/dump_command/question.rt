@@ -3,8 +3,8 @@
 use super::text::push_dump;
 use crate::question::{AnswerFault, Question};
 use crate::trees::Trees;
-use acl_queries::options::{optional_word, setup_option};
-use acl_queries::{CommandLine, FieldFault, write_text};
+use acl_cli::options::{optional_word, setup_option};
+use acl_cli::{CommandLine, FieldFault, write_text};
 use clap::{ArgMatches, Command};
 use std::alloc::{AllocError, Global};
 use std::io::Write;

@@ -4,7 +4,7 @@ ghost use Rattle.std.specs.Io.KnownBytes.{Appends};
 ghost use Rattle.acl_listings.specs.Block.{file_of};
 ghost use Rattle.acl_listings.specs.Cursor.{blocks_to_come};
 ghost use Rattle.acl_listings.specs.Views.{view_file};
-ghost use Rattle.acl_queries.specs.Output.{AppendsFront};
+ghost use Rattle.acl_cli.specs.Output.{AppendsFront};
 ghost use Rattle.acl_tree_queries.specs.ChangeSteps.{TellsFile, TellsFound, is_marked};
 ghost use Rattle.acl_tree_queries.specs.ImpactListing.{TellsBetween};
 ghost use Rattle.acl_tree_queries.specs.Readings.{reading_of, unless_repeated};

@@ -2,14 +2,13 @@
 ghost use Rattle.std.specs.Prelude.{◌≡◌, ◌++◌, ℕ, IfErr, IfSome, List, OnErr, OnOk, slice_get};
 ghost use Rattle.std.specs.Io.KnownBytes.{Appends};
 ghost use Rattle.acl_listings.specs.Listing.{Block};
-ghost use Rattle.acl_queries.specs.Output.{AppendsFront};
+ghost use Rattle.acl_cli.specs.Output.{AppendsFront};
 ghost use Rattle.acl_tree_queries.specs.AnswerFaults.{IsLack};
 ghost use Rattle.acl_tree_queries.specs.Nodes.{TellsOfEach, TellsOfFirst};
 ghost use Rattle.acl_tree_queries.specs.Placed.{Placed, in_places};
 
 use super::kept::KeptListing;
-use crate::pieces::send_full;
-use acl_queries::{RunFault, write_text};
+use acl_cli::{RunFault, send_full, write_text};
 use std::alloc::{AllocError, Global};
 use std::io::Write;
 

@@ -1,7 +1,7 @@
 //! Why an answer isn't written, or not all of it.
 ghost use Rattle.std.specs.Prelude.{◌≡◌};
 
-use acl_queries::RunFault;
+use acl_cli::RunFault;
 use std::alloc::AllocError;
 use std::io;
 
@@ -25,7 +25,7 @@ impl From<RunFault> for AnswerFault {
 }
 
 impl From<AllocError> for AnswerFault {
-    ghost use Rattle.acl_queries.specs.declared.command.run_fault.RunFault.TheVariants.{Memory};
+    ghost use Rattle.acl_cli.specs.declared.run_fault.RunFault.TheVariants.{Memory};
     ghost use Rattle.acl_tree_queries.specs.AnswerFaults.{fault_of_lack};
 
     ghost from_gives = { λ _ becomes. becomes ≡ fault_of_lack Memory };
@@ -36,7 +36,7 @@ impl From<AllocError> for AnswerFault {
 }
 
 impl From<io::Error> for AnswerFault {
-    ghost use Rattle.acl_queries.specs.declared.command.run_fault.RunFault.TheVariants.{Output};
+    ghost use Rattle.acl_cli.specs.declared.run_fault.RunFault.TheVariants.{Output};
     ghost use Rattle.acl_tree_queries.specs.AnswerFaults.{fault_of_lack};
 
     ghost from_gives = { λ _ becomes. becomes ≡ fault_of_lack Output };

@@ -2,8 +2,9 @@
 ghost use Rattle.std.specs.Prelude.{◌≡◌};
 
 use super::AnswerFault;
-use acl_queries::{CommandFault, ErrorOutput, FieldFault, QueryFault, RunFault};
-use acl_service::{FilesFault, SetupError};
+use acl_cli::{CommandFault, ErrorOutput, FieldFault, QueryFault, RunFault};
+use acl_service::FilesFault;
+use acl_setup::SetupError;
 use std::alloc::AllocError;
 use std::io::Write;
 
@@ -55,7 +56,7 @@ impl<'a> CommandFault for QuestionFault<'a> {
 
 impl<'a> From<clap::Error> for QuestionFault<'a> {
     ghost use Rattle.acl_tree_queries.specs.QuestionFaults.{IsWordsFaultBy};
-    ghost use Rattle.acl_queries.specs.Faults.{BecomesFault};
+    ghost use Rattle.acl_cli.specs.Faults.{BecomesFault};
 
     ghost from_gives = { IsWordsFaultBy BecomesFault };
 

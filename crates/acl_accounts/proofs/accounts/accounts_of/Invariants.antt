@@ -1,7 +1,7 @@
 use Rattle.std.proofs.Common.{◌≡◌, map, take}
-use Rattle.acl_accounts.specs.Accounts.{account_with}
-use Rattle.acl_accounts.specs.Views.{view_user, view_membership}
+use Rattle.acl_accounts.specs.Accounts.{account_of}
+use Rattle.acl_accounts.specs.Views.{view_user}
 use Rattle.acl_accounts.proofs.accounts.accounts_of.Given as goal
 
 abbrev pub invariant-loop-row : goal.invariant-loop-row
-invariant-loop-row l = l.users.items ≡ map (λ row. account_with (map view_membership l.memberships) (view_user row)) (take l.row-index l.rows)
+invariant-loop-row l = l.users.items ≡ map (λ row. account_of (view_user row)) (take l.row-index l.rows)

@@ -1,5 +1,5 @@
 use Rattle.std.proofs.Common.{ap, inl, inr, map, subst}
-use Rattle.acl_service.specs.Opened.{Opens}
+use Rattle.acl_setup.specs.Opened.{Opens}
 use Rattle.acl_lint.specs.LintText.{sessions_text}
 use Rattle.acl_lint.proofs.AnswerLemmas.{map_err, map_ok}
 use Rattle.acl_lint.proofs.answer.write_answer.Goals as goal

@@ -1,10 +1,7 @@
 use Rattle.acl_lint.proofs.FilledLemmas.{tells_a_place}
-use Rattle.acl_lint.proofs.KeyLemmas.{tells_a_key}
 use Rattle.acl_lint.proofs.LawLemmas.{tells_what_is_answered}
-use Rattle.acl_lint.proofs.LocatedLemmas.{tells_where}
-use Rattle.acl_lint.proofs.PartsLemmas.{tells_a_part}
 use Rattle.acl_lint.proofs.PieceLemmas.{tells_the_piece}
 use Rattle.acl_lint.proofs.laws.lint_laws.Goals as goal
 
 pub returns : goal.returns
-returns c = record { answered = tells_what_is_answered; read = tells_the_piece; keys = tells_a_key; parts = tells_a_part; located = tells_where; places = tells_a_place }
+returns c = record { answered = tells_what_is_answered; read = tells_the_piece; places = tells_a_place }

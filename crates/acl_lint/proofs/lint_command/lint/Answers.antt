@@ -1,5 +1,5 @@
 use Rattle.std.proofs.Common.{◌∙◌, arith, map, refl, sym}
-use Rattle.acl_queries.proofs.MeaningLemmas.{Ends-answered, Ends-fault}
+use Rattle.acl_cli.proofs.MeaningLemmas.{Ends-answered, Ends-fault}
 use Rattle.acl_lint.specs.LintAnswer.{lint_meaning}
 use Rattle.acl_lint.specs.LintFaults.{lint_fault_line, lint_status}
 use Rattle.acl_lint.proofs.AnswerLemmas.{lint_bounds}

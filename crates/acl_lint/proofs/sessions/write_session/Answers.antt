@@ -2,9 +2,9 @@ use Rattle.std.proofs.Common.{rules, ◌≡◌, ◌≤◌, ◌∙◌, ◌++◌, 
 use Rattle.std.proofs.KnownBytes.{Appends-trans}
 use Rattle.std.specs.Io.KnownBytes.{Keeps}
 use Rattle.acl_lang.specs.declared.limits.TheConstants.{MAX_TEXT_LEN}
-use Rattle.acl_queries.specs.Output.{AppendsFront}
-use Rattle.acl_queries.proofs.OutputLemmas.{Appends-nothing}
-use Rattle.acl_queries.proofs.OutputLemmas.{front_among, front_so_far}
+use Rattle.acl_cli.specs.Output.{AppendsFront}
+use Rattle.acl_cli.proofs.OutputLemmas.{Appends-nothing}
+use Rattle.acl_cli.proofs.OutputLemmas.{front_among, front_so_far}
 use Rattle.acl_lint.specs.LintText.{session_text}
 use Rattle.acl_lint.proofs.AnswerLemmas.{on_err}
 use Rattle.acl_lint.proofs.SessionLemmas.{parts-few, session-next, session-sent, told_from, told_of_parts}

@@ -1,5 +1,5 @@
 use Rattle.std.proofs.Common.{◌<◌, ◌∙◌, ◌+◌, ◌++◌, ℕ, Bor, List, [], ap, arith, drop, get_or, length, refl}
-use Rattle.acl_queries.proofs.OutputLemmas.{front_among, more_among}
+use Rattle.acl_cli.proofs.OutputLemmas.{front_among, more_among}
 use Rattle.acl_lint.specs.LintText.{session_text, sessions_text}
 use Rattle.acl_lint.proofs.AnswerLemmas.{on_err}
 use Rattle.acl_lint.proofs.SessionLemmas.{sessions-next, shown}

@@ -2,10 +2,10 @@ use Rattle.std.proofs.Common.{◌≤◌, ℕ, List, arith, inl, inr, map, refl, 
 use Rattle.std.proofs.KnownBytes.{Keeps-refl}
 use Rattle.clap.specs.Words.{Row, matches_of}
 use Rattle.clap.specs.declared.error.Error.{Error}
-use Rattle.acl_queries.specs.Faults.{usage_line, usage_status}
-use Rattle.acl_queries.specs.Meaning.{EndsWithInput}
-use Rattle.acl_queries.proofs.ErrorLemmas.{usage_bounds}
-use Rattle.acl_queries.proofs.MeaningLemmas.{Ends-fault, Ends-map, Ends-unread}
+use Rattle.acl_cli.specs.Faults.{usage_line, usage_status}
+use Rattle.acl_cli.specs.Meaning.{EndsWithInput}
+use Rattle.acl_cli.proofs.ErrorLemmas.{usage_bounds}
+use Rattle.acl_cli.proofs.MeaningLemmas.{Ends-fault, Ends-map, Ends-unread}
 use Rattle.acl_service.specs.RunLine.{run_line}
 use Rattle.acl_service.specs.RunMeaning.{files_meaning, run_meaning}
 use Rattle.acl_service.specs.RunWords.{RunsRows, RunsWords}

@@ -3,7 +3,7 @@ use Rattle.std.proofs.KnownBytes.{Keeps-refl}
 use Rattle.std.proofs.lemmas.List.{length-map}
 use Rattle.clap.specs.Words.{Row, Text, all_of, found_of, rows_of}
 use Rattle.acl_broker.specs.declared.limits.TheConstants.{SESSIONS}
-use Rattle.acl_queries.proofs.MeaningLemmas.{Ends-map, Ends-unread}
+use Rattle.acl_cli.proofs.MeaningLemmas.{Ends-map, Ends-unread}
 use Rattle.acl_service.specs.FilesFaults.{IsFilesFault, SaysFiles}
 use Rattle.acl_service.specs.RunMeaning.{files_meaning, texts_meaning}
 use Rattle.acl_service.specs.RunTexts.{RunsTexts}

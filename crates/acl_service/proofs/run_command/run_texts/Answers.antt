@@ -1,5 +1,5 @@
 use Rattle.std.proofs.Common.{Err, ap, refl}
-use Rattle.acl_queries.proofs.MeaningLemmas.{Ends-answered}
+use Rattle.acl_cli.proofs.MeaningLemmas.{Ends-answered}
 use Rattle.acl_service.specs.RunMeaning.{texts_meaning}
 use Rattle.acl_service.proofs.FaultLemmas.{Ends-texts}
 use Rattle.acl_service.proofs.run_command.run_texts.Goals as goal

@@ -2,7 +2,7 @@ use Rattle.std.proofs.Common.{rules, List, [], Option, refl}
 use Rattle.std.specs.Io.KnownBytes.{Keeps}
 use Rattle.acl_listings.specs.Cursor.{blocks_to_come}
 use Rattle.acl_listings.specs.Listing.{Block}
-use Rattle.acl_queries.proofs.OutputLemmas.{front_of_none}
+use Rattle.acl_cli.proofs.OutputLemmas.{front_of_none}
 use Rattle.acl_tree_queries.proofs.BlocksLemmas.{cut_among_blocks, splits_begun}
 use Rattle.acl_tree_queries.proofs.blocks.write_blocks.Goals as goal
 

@@ -3,9 +3,9 @@ use Rattle.std.specs.Bool.{MatchBool}
 use Rattle.std.specs.Io.KnownBytes.{Appends}
 use Rattle.acl_listings.specs.Cursor.{CursorValue, HandsOut, IsOver}
 use Rattle.acl_listings.specs.Listing.{Block}
-use Rattle.acl_queries.specs.Output.{AppendsFront}
+use Rattle.acl_cli.specs.Output.{AppendsFront}
 use Rattle.acl_tree_queries.proofs.BlocksLemmas.{cut_among_blocks, seen_all, seen_first, splits_on}
-use Rattle.acl_tree_queries.proofs.PiecesLemmas.{front_now, keeps_more, sends, sends_all, sends_front}
+use Rattle.acl_cli.proofs.PiecesLemmas.{front_now, keeps_more, sends, sends_all, sends_front}
 use Rattle.acl_tree_queries.proofs.PlacedLemmas.{turn_more}
 use Rattle.acl_tree_queries.proofs.blocks.write_each.Goals as goal
 

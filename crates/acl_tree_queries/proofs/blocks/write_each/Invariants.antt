@@ -2,7 +2,7 @@ use Rattle.std.proofs.Common.{ℕ, List}
 use Rattle.acl_listings.specs.Listing.{Block}
 use Rattle.acl_tree_queries.specs.ListingText.{TellsInTurn}
 use Rattle.acl_tree_queries.proofs.BlocksLemmas.{Splits}
-use Rattle.acl_tree_queries.proofs.PiecesLemmas.{WentOut}
+use Rattle.acl_cli.proofs.PiecesLemmas.{WentOut}
 use Rattle.acl_tree_queries.proofs.blocks.write_each.Given as goal
 
 -- what was written, and what is kept, tells of the blocks so far

@@ -1,5 +1,5 @@
 use Rattle.std.proofs.Common.{ℕ, List, subst}
-use Rattle.acl_service.specs.Opened.{Opens}
+use Rattle.acl_setup.specs.Opened.{Opens}
 use Rattle.acl_tree_queries.proofs.listing.read_directory.Goals as goal
 
 pub returns-clause-opened : goal.returns-clause-opened

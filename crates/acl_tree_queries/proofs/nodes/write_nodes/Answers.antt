@@ -2,11 +2,11 @@ use Rattle.std.proofs.Common.{rules, ◌≡◌, ◌++◌, ◌<◌, ◌+◌, ℕ,
 use Rattle.std.specs.FinMap as map
 use Rattle.std.specs.Io.KnownBytes.{Keeps}
 use Rattle.std.specs.Map.Iter.{deref_pair}
-use Rattle.acl_queries.specs.Output.{AppendsFront}
-use Rattle.acl_queries.proofs.OutputLemmas.{front_of_none}
+use Rattle.acl_cli.specs.Output.{AppendsFront}
+use Rattle.acl_cli.proofs.OutputLemmas.{front_of_none}
 use Rattle.acl_tree.specs.declared.node.Node.{Node}
 use Rattle.acl_tree_queries.proofs.NodesLemmas.{cut_short, next_told}
-use Rattle.acl_tree_queries.proofs.PiecesLemmas.{front_now, keeps_more, sends, sends_front}
+use Rattle.acl_cli.proofs.PiecesLemmas.{front_now, keeps_more, sends, sends_front}
 use Rattle.acl_tree_queries.proofs.nodes.write_nodes.Goals as goal
 
 pub returns-in_err-entries-clause-cut : goal.returns-in_err-entries-clause-cut

@@ -1,7 +1,7 @@
 use Rattle.std.proofs.Common.{ℕ, List, take}
 use Rattle.std.specs.FinMap as map
 use Rattle.acl_tree_queries.specs.Nodes.{TellsOfEach}
-use Rattle.acl_tree_queries.proofs.PiecesLemmas.{WentOut}
+use Rattle.acl_cli.proofs.PiecesLemmas.{WentOut}
 use Rattle.acl_tree_queries.proofs.nodes.write_nodes.Given as goal
 
 -- what was written, and what is kept, tells of the nodes so far

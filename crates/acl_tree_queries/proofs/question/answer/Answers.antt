@@ -2,7 +2,7 @@ use Rattle.std.proofs.Common.{◌∙◌, map, sym}
 use Rattle.std.specs.Io.KnownBytes.{Appends, Keeps}
 use Rattle.std.proofs.lemmas.Result.{err_from_is_err_and}
 use Rattle.clap.specs.Words.{found_of, rows_of}
-use Rattle.acl_queries.specs.Output.{AppendsFront}
+use Rattle.acl_cli.specs.Output.{AppendsFront}
 use Rattle.acl_tree_queries.specs.Trees.{AreTreesOf}
 use Rattle.acl_tree_queries.proofs.QuestionsLemmas.{answered, of_failed, refused_of, silent_of, unread_of}
 use Rattle.acl_tree_queries.proofs.question.answer.Goals as goal

@@ -1,5 +1,5 @@
 use Rattle.std.proofs.Common.{◌∙◌, arith, map, refl, sym}
-use Rattle.acl_queries.proofs.MeaningLemmas.{Ends-answered}
+use Rattle.acl_cli.proofs.MeaningLemmas.{Ends-answered}
 use Rattle.acl_tree_queries.specs.QuestionMeaning.{tree_meaning}
 use Rattle.acl_tree_queries.proofs.QuestionsLemmas.{Ends-question}
 use Rattle.acl_tree_queries.proofs.question.ask.Goals as goal

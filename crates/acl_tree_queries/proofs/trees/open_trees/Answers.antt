@@ -3,7 +3,7 @@ use Rattle.std.specs.Cmp.Lexicographic.{slice_cmp}
 use Rattle.std.specs.Ordering.{nat_cmp}
 use Rattle.acl_names.specs.Ascending.{IsAscending}
 use Rattle.acl_names.specs.Directory.{Known}
-use Rattle.acl_service.specs.Opened.{Opens}
+use Rattle.acl_setup.specs.Opened.{Opens}
 use Rattle.acl_tree_queries.specs.Trees.{tree_left}
 use Rattle.acl_tree_queries.proofs.trees.open_trees.Goals as goal
 

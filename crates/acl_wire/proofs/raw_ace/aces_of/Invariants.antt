@@ -5,6 +5,6 @@ use Rattle.acl_wire.proofs.raw_ace.aces_of.Given as goal
 
 abbrev pub invariant-loop-raw : goal.invariant-loop-raw
 invariant-loop-raw l = record {
-  so_far : with_front l.aces (aces_of (drop l.raw-index l.raws)) ≡ aces_of l.raws;
+  so_far : with_front l.aces (aces_of l.purpose (drop l.raw-index l.raws)) ≡ aces_of l.purpose l.raws;
   count : length l.aces ≡ l.raw-index;
 }

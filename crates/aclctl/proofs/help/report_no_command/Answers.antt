@@ -1,6 +1,6 @@
 use Rattle.std.proofs.Common.{◌≤◌, ◌++◌, ◌∷◌, [], ℕ, Some, arith, refl, subst, sym}
 use Rattle.acl_names.specs.Bytes.{newline}
-use Rattle.acl_queries.proofs.ErrorLemmas.{Reports-line, Tells-both}
+use Rattle.acl_cli.proofs.ErrorLemmas.{Reports-line, Tells-both}
 use Rattle.aclctl.specs.Fault.{fault_line}
 use Rattle.aclctl.specs.Program.{SaysNoCommand}
 use Rattle.aclctl.specs.declared.fault.ProgramFault.TheVariants.{NoCommand}

@@ -1,8 +1,8 @@
 use Rattle.std.proofs.Common.{◌≤◌, ◌∙◌, ap, arith, map, inl, inr, refl, subst, Some, [], List, ℕ, Option, String, Global, string_bytes}
 use Rattle.std.proofs.KnownBytes.{Keeps-refl}
 use Rattle.std.proofs.lemmas.Option.{IfSome_then}
-use Rattle.acl_queries.specs.Meaning.{Ends, EndsWithInput}
-use Rattle.acl_queries.proofs.MeaningLemmas.{Ends-fault, Ends-map}
+use Rattle.acl_cli.specs.Meaning.{Ends, EndsWithInput}
+use Rattle.acl_cli.proofs.MeaningLemmas.{Ends-fault, Ends-map}
 use Rattle.aclctl.specs.Fault.{program_line, status_of}
 use Rattle.aclctl.specs.Program.{meaning_from, meaning_of}
 use Rattle.aclctl.specs.declared.fault.ProgramFault.{ProgramFault}

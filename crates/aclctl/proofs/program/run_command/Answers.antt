@@ -1,9 +1,20 @@
-use Rattle.std.proofs.Common.{◌≡◌, ℕ, List, Option, None, Some, arith, map, refl, subst, sym}
+use Rattle.std.proofs.Common.{◌≡◌, ℕ, List, Option, None, Some, arith, false, map, refl, subst, sym, true}
 use Rattle.std.proofs.KnownBytes.{Keeps-refl}
 use Rattle.std.proofs.lemmas.Grind.{common_steps}
-use Rattle.acl_queries.specs.ErrorOutput.{ErrorText, Reports}
-use Rattle.acl_queries.specs.Meaning.{Ends, EndsWithInput}
-use Rattle.acl_queries.proofs.MeaningLemmas.{Ends-unread}
+use Rattle.acl_cli.specs.ErrorOutput.{ErrorText, Reports}
+use Rattle.acl_cli.specs.Meaning.{Ends, EndsWithInput}
+use Rattle.acl_cli.proofs.MeaningLemmas.{Ends-unread}
+use Rattle.acl_cli.proofs.PlainLemmas.{Ends-by_text}
+use Rattle.acl_queries.specs.Asked.{asked_in}
+use Rattle.acl_queries.specs.CompareLine.{compare_line}
+use Rattle.acl_queries.specs.Compared.{compared_in}
+use Rattle.acl_queries.specs.DecideAnswer.{IsDecideText}
+use Rattle.acl_queries.specs.DecideLine.{decide_line}
+use Rattle.acl_queries.specs.Differences.{IsComparison}
+use Rattle.acl_queries.specs.ExplainLine.{explain_line}
+use Rattle.acl_queries.specs.ExplainText.{IsExplanation}
+use Rattle.acl_queries.specs.Explained.{explained_in}
+use Rattle.acl_queries.proofs.QueryLemmas.{answers_by_text}
 use Rattle.aclctl.specs.Fault.{status_of}
 use Rattle.aclctl.specs.Program.{Command, Files, SaysNoCommand, command_in, command_meaning, meaning_of, no_command}
 use Rattle.aclctl.specs.Program.Command.{Compare, Decide, Dump, Explain, Help, Impact, Lint, Run, Version, Who}
@@ -30,29 +41,32 @@ ends_unnamed status out err err' two told = record {
   told = told;
 }
 
-named-Decide : (g : given.Over) (c : goal.After-decide g) → command_in (map g.S.AsStr.text c.args.words.now) ≡ Some Decide
+named-Decide : (g : given.Over) (c : goal.After-run_command g) → command_in (map g.S.AsStr.text c.args.words.now) ≡ Some Decide
 named-Decide g c = grind (arith, common_steps)
 
 pub returns-in-Some : goal.returns-in-Some
 returns-in-Some g c =
     ends_as (g.F.OpenFiles.bytes_of c.args.files.now) (g.I.Read.remaining c.args.input.now) (map g.S.AsStr.text c.args.words.now) (Some Decide)
-    (named-Decide g c) _ _ _ _ _ _ _ (Ends-unread _ _ _ _ _ _ _ c.decide.ensures)
+    (named-Decide g c) _ _ _ _ _ _ _
+    (Ends-by_text _ (answers_by_text decide_line false asked_in IsDecideText (map g.S.AsStr.text c.args.words.now)) _ _ _ _ _ _ _ c.run_command.ensures)
 
-named-Explain : (g : given.Over) (c : goal.After-explain g) → command_in (map g.S.AsStr.text c.args.words.now) ≡ Some Explain
+named-Explain : (g : given.Over) (c : goal.After-run_command-in-Some-2 g) → command_in (map g.S.AsStr.text c.args.words.now) ≡ Some Explain
 named-Explain g c = grind (arith, common_steps)
 
 pub returns-in-Some-2 : goal.returns-in-Some-2
 returns-in-Some-2 g c =
     ends_as (g.F.OpenFiles.bytes_of c.args.files.now) (g.I.Read.remaining c.args.input.now) (map g.S.AsStr.text c.args.words.now) (Some Explain)
-    (named-Explain g c) _ _ _ _ _ _ _ (Ends-unread _ _ _ _ _ _ _ c.explain.ensures)
+    (named-Explain g c) _ _ _ _ _ _ _
+    (Ends-by_text _ (answers_by_text explain_line true explained_in IsExplanation (map g.S.AsStr.text c.args.words.now)) _ _ _ _ _ _ _ c.run_command-in-Some-2.ensures)
 
-named-Compare : (g : given.Over) (c : goal.After-compare g) → command_in (map g.S.AsStr.text c.args.words.now) ≡ Some Compare
+named-Compare : (g : given.Over) (c : goal.After-run_command-in-Some-3 g) → command_in (map g.S.AsStr.text c.args.words.now) ≡ Some Compare
 named-Compare g c = grind (arith, common_steps)
 
 pub returns-in-Some-3 : goal.returns-in-Some-3
 returns-in-Some-3 g c =
     ends_as (g.F.OpenFiles.bytes_of c.args.files.now) (g.I.Read.remaining c.args.input.now) (map g.S.AsStr.text c.args.words.now) (Some Compare)
-    (named-Compare g c) _ _ _ _ _ _ _ (Ends-unread _ _ _ _ _ _ _ c.compare.ensures)
+    (named-Compare g c) _ _ _ _ _ _ _
+    (Ends-by_text _ (answers_by_text compare_line true compared_in IsComparison (map g.S.AsStr.text c.args.words.now)) _ _ _ _ _ _ _ c.run_command-in-Some-3.ensures)
 
 named-Run : (g : given.Over) (c : goal.After-run g) → command_in (map g.S.AsStr.text c.args.words.now) ≡ Some Run
 named-Run g c = grind (arith, common_steps)

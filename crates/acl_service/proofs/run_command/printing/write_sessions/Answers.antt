@@ -1,7 +1,7 @@
 use Rattle.std.proofs.Common.{◌∙◌, ◌++◌, ap, refl}
 use Rattle.std.specs.Io.KnownBytes.{Appends}
-use Rattle.acl_queries.specs.Output.{AppendsFront}
-use Rattle.acl_queries.proofs.OutputLemmas.{front_among, front_so_far, more_among}
+use Rattle.acl_cli.specs.Output.{AppendsFront}
+use Rattle.acl_cli.proofs.OutputLemmas.{front_among, front_so_far, more_among}
 use Rattle.acl_service.proofs.PrintLemmas.{session_texts, sessions_text-next}
 use Rattle.acl_service.proofs.run_command.printing.write_sessions.Goals as goal
 

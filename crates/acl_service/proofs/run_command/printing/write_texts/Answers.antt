@@ -1,5 +1,5 @@
 use Rattle.std.proofs.Common.{◌∙◌, ◌++◌, ◌+◌, ap, drop, sym, flat_map}
-use Rattle.acl_queries.proofs.OutputLemmas.{front_among, front_so_far, more_among}
+use Rattle.acl_cli.proofs.OutputLemmas.{front_among, front_so_far, more_among}
 use Rattle.acl_service.proofs.PrintLemmas.{texts-next}
 use Rattle.acl_service.proofs.run_command.printing.write_texts.Goals as goal
 

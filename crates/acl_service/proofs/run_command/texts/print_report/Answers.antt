@@ -1,6 +1,6 @@
 use Rattle.std.proofs.Common.{◌≡◌, [], List, ℕ, Vec, Global, map, rules, subst, if◌then◌else◌}
-use Rattle.acl_queries.specs.Output.{AppendsFront}
-use Rattle.acl_queries.proofs.OutputLemmas.{front_behind, front_of_longer}
+use Rattle.acl_cli.specs.Output.{AppendsFront}
+use Rattle.acl_cli.proofs.OutputLemmas.{front_behind, front_of_longer}
 use Rattle.acl_service.specs.RunText.{journal_text, run_text}
 use Rattle.acl_service.proofs.run_command.texts.print_report.Goals as goal
 use Rattle.acl_service.proofs.run_command.texts.print_report.Goals.{then-journal+in_ok-entries, else-journal}

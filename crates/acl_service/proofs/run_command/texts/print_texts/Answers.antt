@@ -2,7 +2,7 @@ use Rattle.std.proofs.Common.{◌≡◌, ◌∷◌, [], ℕ, Bool, List, Option,
 use Rattle.std.proofs.lemmas.Result.{on_ok_weaker}
 use Rattle.acl_names.specs.Directory.{Known}
 use Rattle.acl_tree.specs.Tree.{NodesUnderUmask}
-use Rattle.acl_service.specs.Opened.{Opens}
+use Rattle.acl_setup.specs.Opened.{Opens}
 use Rattle.acl_service.specs.RunTexts.{IsOfReport, Prints, RunsTexts}
 use Rattle.acl_service.specs.Runs.{session_text}
 use Rattle.acl_service.proofs.PrintLemmas.{only_one}

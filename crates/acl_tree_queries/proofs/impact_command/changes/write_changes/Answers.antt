@@ -2,7 +2,7 @@ use Rattle.std.proofs.Common.{◌++◌, Bool, List, [], Option, append-nil, subs
 use Rattle.std.proofs.KnownBytes.{Appends-trans}
 use Rattle.acl_listings.specs.Cursor.{blocks_to_come}
 use Rattle.acl_listings.specs.Listing.{Block}
-use Rattle.acl_queries.proofs.OutputLemmas.{front_behind, front_so_far}
+use Rattle.acl_cli.proofs.OutputLemmas.{front_behind, front_so_far}
 use Rattle.acl_tree_queries.specs.ChangeSteps.{AreMet, TellsGoneOf}
 use Rattle.acl_tree_queries.specs.Nodes.{TellsOfEach, TellsOfFirst}
 use Rattle.acl_tree_queries.specs.Placed.{in_places}

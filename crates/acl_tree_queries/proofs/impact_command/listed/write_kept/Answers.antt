@@ -2,11 +2,11 @@ use Rattle.std.proofs.Common.{◌≡◌, ◌<◌, ◌≤◌, ◌+◌, ◌++◌, 
 use Rattle.std.specs.Io.KnownBytes.{Appends}
 use Rattle.std.proofs.lemmas.List.{take_all}
 use Rattle.acl_listings.specs.Listing.{Block}
-use Rattle.acl_queries.specs.Output.{AppendsFront}
+use Rattle.acl_cli.specs.Output.{AppendsFront}
 use Rattle.acl_tree_queries.specs.Nodes.{TellsOfEach}
 use Rattle.acl_tree_queries.specs.Placed.{Placed, in_places}
 use Rattle.acl_tree_queries.proofs.NodesLemmas.{cut_short}
-use Rattle.acl_tree_queries.proofs.PiecesLemmas.{front_now, keeps_more, sends, sends_all, sends_front}
+use Rattle.acl_cli.proofs.PiecesLemmas.{front_now, keeps_more, sends, sends_all, sends_front}
 use Rattle.acl_tree_queries.proofs.PlacedLemmas.{length_placed, next_there}
 use Rattle.acl_tree_queries.proofs.impact_command.listed.write_kept.Goals as goal
 

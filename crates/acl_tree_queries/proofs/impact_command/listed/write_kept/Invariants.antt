@@ -1,7 +1,7 @@
 use Rattle.std.proofs.Common.{ℕ, List, take}
 use Rattle.acl_tree_queries.specs.Nodes.{TellsOfEach}
 use Rattle.acl_tree_queries.specs.Placed.{in_places}
-use Rattle.acl_tree_queries.proofs.PiecesLemmas.{WentOut}
+use Rattle.acl_cli.proofs.PiecesLemmas.{WentOut}
 use Rattle.acl_tree_queries.proofs.impact_command.listed.write_kept.Given as goal
 
 -- what was written, and what is kept, tells of the blocks so far

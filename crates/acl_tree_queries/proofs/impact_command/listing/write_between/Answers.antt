@@ -3,7 +3,7 @@ use Rattle.std.specs.Io.KnownBytes.{Keeps}
 use Rattle.acl_audit.specs.Impact.{requesters_of}
 use Rattle.acl_listings.specs.Cursor.{blocks_to_come}
 use Rattle.acl_listings.specs.Listing.{Block}
-use Rattle.acl_queries.proofs.OutputLemmas.{front_of_none}
+use Rattle.acl_cli.proofs.OutputLemmas.{front_of_none}
 use Rattle.acl_tree_queries.specs.Kept.{block_of}
 use Rattle.acl_tree_queries.specs.ListingFaults.{IsReadingFault}
 use Rattle.acl_tree_queries.specs.ListingText.{AreAll}

@@ -1,5 +1,5 @@
 use Rattle.std.proofs.Common.{subst, sym}
-use Rattle.acl_queries.specs.ErrorOutput.{Tells}
+use Rattle.acl_cli.specs.ErrorOutput.{Tells}
 use Rattle.aclctl.specs.Fault.{fault_line}
 use Rattle.aclctl.specs.declared.fault.ProgramFault.{ProgramFault}
 use Rattle.aclctl.proofs.fault.ProgramFaultCommandFault.tell.Goals as goal

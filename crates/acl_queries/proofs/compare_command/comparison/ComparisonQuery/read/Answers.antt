@@ -1,8 +1,8 @@
 use Rattle.std.proofs.Common.{rules, ◌≡◌, Ok, codes}
 use Rattle.clap.specs.Words.{found_of, rows_of}
-use Rattle.acl_queries.specs.Asked.{id_in}
+use Rattle.acl_cli.specs.Fields.{id_in}
 use Rattle.acl_queries.specs.Compared.{compared_in}
-use Rattle.acl_queries.specs.Faults.{Explains}
+use Rattle.acl_cli.specs.Failures.{Explains}
 use Rattle.acl_queries.proofs.ComparedLemmas.{compared-read, last-explains}
 use Rattle.acl_queries.proofs.compare_command.comparison.ComparisonQuery.read.Goals as goal
 

@@ -1,5 +1,5 @@
 use Rattle.std.proofs.Common.{ℕ, List, subst, sym}
-use Rattle.acl_queries.specs.ErrorOutput.{Tells, line_of_words}
+use Rattle.acl_cli.specs.ErrorOutput.{Tells, line_of_words}
 use Rattle.acl_service.specs.FilesFaults.{files_fault_line}
 use Rattle.acl_service.specs.declared.files.fault.FilesFault.{FilesFault}
 use Rattle.acl_service.proofs.FaultLemmas.{too_many-is}

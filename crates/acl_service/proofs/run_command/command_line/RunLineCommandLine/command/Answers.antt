@@ -3,7 +3,7 @@ use Rattle.std.proofs.lemmas.Result.{IfOk-weaker}
 use Rattle.clap.specs.Words.{app_of, new_app}
 use Rattle.clap.specs.Simple.{app_of_fields}
 use Rattle.acl_service.specs.RunLine.{run_line}
-use Rattle.acl_queries.proofs.CommandLemmas.{app_of-arg}
+use Rattle.acl_cli.proofs.CommandLemmas.{app_of-arg}
 use Rattle.acl_service.proofs.run_command.command_line.RunLineCommandLine.command.Goals as goal
 
 pub returns : goal.returns

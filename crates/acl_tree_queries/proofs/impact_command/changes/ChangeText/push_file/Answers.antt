@@ -32,7 +32,8 @@ returns-in-Ok c =
     let old = view_file c.in-Ok.old in
     let read : file_of teller.findings.directory.now block.text ≡ Ok old =
     ap (file_of teller.findings.directory.now) (sym c.as_slice-2.ensures.value) ∙ c.in-Ok.ensures.read in
-    tells_impact teller c.args.place block at (view_file c.args.file) _ old read c.node_of.result c.node_of-in-Ok.result c.node_of.ensures c.node_of-in-Ok.ensures _ _ c.push_impact.ensures
+    tells_impact teller c.args.place block at (view_file c.args.file) _ old read c.in_ok-old-in-Ok.old c.in_ok-new-in-Ok.new c.in_ok-old-in-Ok.ensures.value c.in_ok-new-in-Ok.ensures.value
+    _ _ c.push_impact.ensures
 
 pub returns-in-Err-Block : goal.returns-in-Err-Block
 returns-in-Err-Block c =

@@ -1,7 +1,7 @@
 use Rattle.std.proofs.Common.{rules, [], refl}
 use Rattle.std.specs.FinMap as map
 use Rattle.std.specs.Io.KnownBytes.{Keeps}
-use Rattle.acl_queries.proofs.OutputLemmas.{front_of_none}
+use Rattle.acl_cli.proofs.OutputLemmas.{front_of_none}
 use Rattle.acl_tree_queries.specs.ImpactAnswer.{TellsImpactOn}
 use Rattle.acl_tree_queries.proofs.NodesLemmas.{cut_short}
 use Rattle.acl_tree_queries.proofs.impact_command.question.ImpactQuestionQuestion.write.Goals as goal

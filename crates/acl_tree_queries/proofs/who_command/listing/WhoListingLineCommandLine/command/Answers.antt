@@ -2,7 +2,7 @@ use Rattle.std.proofs.Common.{◌≡◌, ◌∙◌, ap, codes}
 use Rattle.std.proofs.lemmas.Result.{IfOk-weaker}
 use Rattle.clap.specs.Words.{app_of, new_app}
 use Rattle.clap.specs.Simple.{app_of_fields}
-use Rattle.acl_queries.proofs.CommandLemmas.{app_of-arg}
+use Rattle.acl_cli.proofs.CommandLemmas.{app_of-arg}
 use Rattle.acl_tree_queries.specs.WhoListingLine.{who_listing_line}
 use Rattle.acl_tree_queries.proofs.who_command.listing.WhoListingLineCommandLine.command.Goals as goal
 

@@ -1,6 +1,0 @@
-use Rattle.std.proofs.Common.{◌≡◌, ◌∷◌, map, take}
-use Rattle.acl_accounts.specs.Accounts.{each_once}
-use Rattle.acl_accounts.proofs.accounts.gids_of.Given as goal
-
-abbrev pub invariant-loop-member : goal.invariant-loop-member
-invariant-loop-member l = l.gids.items ≡ each_once (l.gid ∷ map (λ member. member.gid) (take l.member-index l.memberships))

@@ -1,0 +1,10 @@
+pub mod OutputLemmas
+pub mod ErrorLemmas
+pub mod LineLemmas
+pub mod CommandLemmas
+pub mod MeaningLemmas
+pub mod FailureLemmas
+pub mod PiecesLemmas
+pub mod TellingLemmas
+pub mod CommandsLemmas
+pub mod PlainLemmas

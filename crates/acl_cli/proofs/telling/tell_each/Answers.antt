@@ -1,0 +1,91 @@
+use Rattle.std.proofs.Common.{rules, ◌≡◌, ◌∙◌, ◌++◌, true, false, ap, ℕ, List, subst}
+use Rattle.std.specs.Io.KnownBytes.{Appends}
+use Rattle.acl_cli.specs.ErrorOutput.{Tells as GoesTo}
+use Rattle.acl_cli.specs.Output.{AppendsFront}
+use Rattle.acl_cli.proofs.ErrorLemmas.{Tells-both}
+use Rattle.acl_cli.proofs.PiecesLemmas.{front_now, keeps_more, sends, sends_all, sends_front}
+use Rattle.acl_cli.proofs.TellingLemmas.{LeadsOn-end, LeadsOn-more, cut_at, if_false, if_true}
+use Rattle.acl_cli.proofs.telling.tell_each.Goals as goal
+
+pub returns-in_err-tell_next-clause-cut : goal.returns-in_err-tell_next-clause-cut
+returns-in_err-tell_next-clause-cut g c =
+    let was = c.loop.invariant in
+    let Begins = g.T.Telling.Begins in
+    cut_at _ (Begins c.args.telling.now) (Begins c.loop.telling) _ _ _ _ was.told was.said was.first was.begun (front_now _ _ _ _ was.out) was.beside
+
+pub returns-in_err-write_text-clause-cut : goal.returns-in_err-write_text-clause-cut
+returns-in_err-write_text-clause-cut g c =
+    let was = c.loop.invariant in
+    let Begins = g.T.Telling.Begins in
+    let none : c.in_ok-tell_next.field-0 ≡ false = search rules in
+    let over = if_false _ _ _ none c.in_ok-tell_next.ensures.told in
+    let last = g.W.Write.contents c.write_text.new.out in
+    let kept : c.as_slice.result.now ≡ c.loop.text.items = search (rules, over.0) in
+    let front : AppendsFront (g.W.Write.contents c.loop.out) last c.loop.text.items =
+    subst (AppendsFront (g.W.Write.contents c.loop.out) last) kept c.write_text.ensures.front in
+    cut_at _ (Begins c.args.telling.now) (Begins c.loop.telling) _ last _ _ was.told was.said was.first was.begun (sends_front _ _ _ was.told was.out last front) was.beside
+
+pub returns-then-not-branch-clause-written : goal.returns-then-not-branch-clause-written
+returns-then-not-branch-clause-written g c =
+    let was = c.loop.invariant in
+    let Tells = g.T.Telling.Tells in
+    let none : c.in_ok-tell_next.field-0 ≡ false = search rules in
+    let over = if_false _ _ _ none c.in_ok-tell_next.ensures.told in
+    let last = g.W.Write.contents c.write_text.new.out in
+    let kept : c.as_slice.result.now ≡ c.loop.text.items = search (rules, over.0) in
+    let whole : Appends (g.W.Write.contents c.loop.out) last c.loop.text.items =
+    subst (Appends (g.W.Write.contents c.loop.out) last) kept c.in_ok-write_text.ensures.written in (
+      was.told,
+      was.said,
+      LeadsOn-end (Tells c.args.telling.now) (Tells c.loop.telling) was.told was.said was.all over.2,
+      sends_all _ _ _ was.told was.out last whole,
+      was.beside,
+    )
+
+pub returns-in_err-send_full-clause-cut : goal.returns-in_err-send_full-clause-cut
+returns-in_err-send_full-clause-cut g c =
+    let was = c.loop.invariant in
+    let some : c.in_ok-tell_next.field-0 ≡ true = search rules in
+    let (more, others, is, is_beside, all, first, begun) = if_true _ _ _ some c.in_ok-tell_next.ensures.told in
+    let kept = keeps_more _ _ _ was.told was.out more c.tell_next.new.out.items is in
+    let last = g.W.Write.contents c.send_full.new.out in
+    let Begins = g.T.Telling.Begins in
+    let said : c.as_slice-in-loop.result.now ≡ others = c.as_slice-in-loop.ensures.value ∙ is_beside ∙ ap (λ bytes. bytes ++ others) was.empty in
+    let beside : GoesTo others c.loop.err c.write_text-in-loop.new.self = subst (λ (bytes : List ℕ). GoesTo bytes c.loop.err c.write_text-in-loop.new.self) said c.write_text-in-loop.ensures in
+    cut_at _ (Begins c.args.telling.now) (Begins c.tell_next.new.self) _ last _ _ (was.told ++ more) (was.said ++ others)
+    (LeadsOn-more (Begins c.args.telling.now) (Begins c.loop.telling) (Begins c.tell_next.new.self) was.told more was.said others was.first first) begun
+    (sends_front _ _ _ _ kept last c.in_err-send_full.ensures.front) (Tells-both was.said others _ _ _ was.beside beside)
+
+pub loop-preserved : goal.loop-preserved
+loop-preserved g c =
+    let was = c.loop.invariant in
+    let some : c.in_ok-tell_next.field-0 ≡ true = search rules in
+    let (more, others, is, is_beside, all, first, begun) = if_true _ _ _ some c.in_ok-tell_next.ensures.told in
+    let kept = keeps_more _ _ _ was.told was.out more c.tell_next.new.out.items is in
+    let Tells = g.T.Telling.Tells in
+    let Begins = g.T.Telling.Begins in
+    let last = g.W.Write.contents c.send_full.new.out in
+    let sent = c.in_ok-send_full.ensures.sent in
+    let said : c.as_slice-in-loop.result.now ≡ others = c.as_slice-in-loop.ensures.value ∙ is_beside ∙ ap (λ bytes. bytes ++ others) was.empty in
+    let beside : GoesTo others c.loop.err c.write_text-in-loop.new.self = subst (λ (bytes : List ℕ). GoesTo bytes c.loop.err c.write_text-in-loop.new.self) said c.write_text-in-loop.ensures in
+    record {
+      told = was.told ++ more;
+      said = was.said ++ others;
+      out = sends _ _ _ _ kept last sent.0 c.send_full.new.text.items sent.1 sent.2;
+      beside = Tells-both was.said others _ _ _ was.beside beside;
+      empty = c.clear.ensures.items;
+      all = LeadsOn-more (Tells c.args.telling.now) (Tells c.loop.telling) (Tells c.tell_next.new.self) was.told more was.said others was.all all;
+      first = LeadsOn-more (Begins c.args.telling.now) (Begins c.loop.telling) (Begins c.tell_next.new.self) was.told more was.said others was.first first;
+      begun = begun;
+      fails = λ failure is. was.fails failure (c.tell_next.ensures.stays failure is);
+    }
+
+pub returns-clause-cut : goal.returns-clause-cut
+returns-clause-cut g c =
+    let was = c.loop.invariant in (
+      was.told,
+      was.said,
+      LeadsOn-end (g.T.Telling.Begins c.args.telling.now) (g.T.Telling.Begins c.loop.telling) was.told was.said was.first was.begun,
+      front_now _ _ _ _ was.out,
+      was.beside,
+    )

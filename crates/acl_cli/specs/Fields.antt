@@ -1,0 +1,55 @@
+-- What fields of command lines say, each by itself.
+use Rattle.std.specs.Prelude.{ℕ, Bool, false, List, [], Option, Some, None, Result, Ok, codes}
+use Rattle.std.specs.Prelude.{bytes_eq}
+use Rattle.clap.specs.Words.{Text, Row, first_of}
+use Rattle.acl_names.specs.Bytes.{comma}
+use Rattle.acl_names.specs.Ids.{decimal_value}
+use Rattle.acl_names.specs.Pieces.{parts}
+use Rattle.acl_names.specs.ReadList.{at_most_read}
+use Rattle.acl_names.specs.Steps.{◌>>=◌, or_fault}
+use Rattle.acl_names.specs.declared.limits.TheConstants.{MAX_GROUPS_OF_USER}
+use Rattle.acl_posix.specs.PermsText.{perms_of_text}
+use Rattle.acl_cli.specs.declared.field_fault.FieldFault.{FieldFault}
+use Rattle.acl_cli.specs.declared.field_fault.FieldFault.TheVariants.{BadId, BadPerms, TooMany}
+
+-- the id that a text writes in decimal
+abbrev pub id_of : Text → Result ℕ FieldFault
+id_of text = or_fault BadId (decimal_value text)
+
+-- the ids between commas, at most `MAX_GROUPS_OF_USER` of them; without a text there are none
+abbrev pub gids_of : Option Text → Result (List ℕ) FieldFault
+gids_of None = Ok []
+gids_of (Some text) = at_most_read TooMany MAX_GROUPS_OF_USER id_of (parts comma text)
+
+-- the permissions that a text writes
+abbrev pub perms_of : Text → Result ℕ FieldFault
+perms_of text = or_fault BadPerms (perms_of_text text)
+
+-- whether a flag is set, by the value that the parser gives it
+abbrev pub flag_of : Option Text → Bool
+flag_of None = false
+flag_of (Some text) = bytes_eq text (codes "true")
+
+-- The fields by name, among what the parser found.
+
+abbrev pub id_in : Text → List Row → Result ℕ FieldFault
+id_in name rows = or_fault BadId (first_of name rows) >>= id_of
+
+abbrev pub gids_in : List Row → Result (List ℕ) FieldFault
+gids_in rows = gids_of (first_of (codes "gids") rows)
+
+abbrev pub perms_in : List Row → Result ℕ FieldFault
+perms_in rows = or_fault BadPerms (first_of (codes "perms") rows) >>= perms_of
+
+-- the same, if the words tell
+abbrev pub perms_given : Option Text → Result (Option ℕ) FieldFault
+perms_given None = Ok None
+perms_given (Some text) = do
+  perms ← perms_of text
+  Ok (Some perms)
+
+abbrev pub optional_perms_in : List Row → Result (Option ℕ) FieldFault
+optional_perms_in rows = perms_given (first_of (codes "perms") rows)
+
+abbrev pub flag_in : Text → List Row → Bool
+flag_in name rows = flag_of (first_of name rows)

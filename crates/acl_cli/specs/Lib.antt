@@ -1,0 +1,12 @@
+pub mod Input
+pub mod Output
+pub mod ErrorOutput
+pub mod CommandLine
+pub mod RunFaults
+pub mod Faults
+pub mod Failures
+pub mod Fields
+pub mod Meaning
+pub mod Commands
+pub mod Telling
+pub mod Plain

@@ -1,0 +1,41 @@
+//! The shell of all commands: words, options and fields, files, what goes out, why a command gives
+//! no answer, and the one function that runs a command and tells how it ended.
+#![tactic(auto)]
+
+mod command;
+mod command_fault;
+mod command_line;
+mod error_output;
+mod failure;
+mod field_fault;
+pub mod fields;
+pub mod ids;
+mod input;
+mod open_files;
+pub mod options;
+mod output;
+mod perms;
+mod pieces;
+mod query_fault;
+mod reason;
+mod run_fault;
+mod telling;
+mod usage;
+mod words;
+
+pub use command::{Command, Ending, run_command};
+pub use command_fault::{CommandFault, report};
+pub use command_line::{CommandLine, parse};
+pub use error_output::ErrorOutput;
+pub use failure::Failure;
+pub use field_fault::FieldFault;
+pub use input::{CapFault, read_capped, read_file, read_named};
+pub use open_files::OpenFiles;
+pub use output::write_text;
+pub use perms::{optional_perms_field, perms_field};
+pub use pieces::send_full;
+pub use query_fault::QueryFault;
+pub use reason::Reason;
+pub use run_fault::RunFault;
+pub use telling::{Telling, tell_each};
+pub use words::{WordsFault, words_of};

@@ -1,0 +1,83 @@
+//! Why a valid command failed.
+ghost use Rattle.std.specs.Prelude.{◌≡◌, Some};
+
+use crate::{CommandFault, ErrorOutput};
+use std::alloc::AllocError;
+use std::fmt;
+use std::io::{self, Write};
+use thiserror::Error;
+
+/// What a run lacked. It is shown by the words that follow `aclctl: run: ` on the fault line.
+#[derive(Clone, Copy, Debug, PartialEq, Eq, Error)]
+pub enum RunFault {
+    /// Memory ran out.
+    Memory,
+    /// A request was stopped by the gate.
+    Stopped,
+    /// A thread couldn't be started.
+    NoThread,
+    /// The answer couldn't be written.
+    Output,
+}
+
+impl RunFault {
+    ghost use Rattle.acl_cli.specs.RunFaults.{run_fault_words};
+
+    /// What follows `aclctl: run: ` on the fault line.
+    pub fn words(&self) -> &'static str
+        ensures { result.now ≡ run_fault_words self.now }
+    {
+        match self {
+            RunFault::Memory => "memory",
+            RunFault::Stopped => "stopped",
+            RunFault::NoThread => "no thread",
+            RunFault::Output => "output",
+        }
+    }
+}
+
+impl fmt::Display for RunFault {
+    ghost use Rattle.acl_cli.specs.RunFaults.{run_fault_words};
+
+    ghost output = { λ fault. Some (run_fault_words fault) };
+
+    fn fmt<W: fmt::Write>(&self, f: &mut fmt::Formatter<W>) -> fmt::Result {
+        f.write_str(self.words())
+    }
+}
+
+impl CommandFault for RunFault {
+    ghost use Rattle.acl_cli.specs.RunFaults.{run_line, run_status};
+
+    ghost status_of = { run_status };
+
+    ghost line_of = { run_line };
+
+    fn status(&self) -> u8 {
+        3
+    }
+
+    fn tell<E: Write + Drop>(&self, err: &mut ErrorOutput<E>) {
+        err.write_line("run: ", self.words());
+    }
+}
+
+impl From<AllocError> for RunFault {
+    ghost use Rattle.acl_cli.specs.declared.run_fault.RunFault.TheVariants.{Memory};
+
+    ghost from_gives = { λ _ becomes. becomes ≡ Memory };
+
+    fn from(_refused: AllocError) -> RunFault {
+        RunFault::Memory
+    }
+}
+
+impl From<io::Error> for RunFault {
+    ghost use Rattle.acl_cli.specs.declared.run_fault.RunFault.TheVariants.{Output};
+
+    ghost from_gives = { λ _ becomes. becomes ≡ Output };
+
+    fn from(_failed: io::Error) -> RunFault {
+        RunFault::Output
+    }
+}

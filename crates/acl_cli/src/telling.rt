@@ -1,0 +1,75 @@
+//! Answers that are told thing by thing, and written in pieces.
+ghost use Rattle.std.specs.Prelude.{◌≡◌, ◌++◌, ◌⊎◌, ℕ, IfErr, IfOk, List, [], OnErr, OnOk};
+ghost use Rattle.std.specs.Bool.{MatchBool};
+ghost use Rattle.std.specs.Io.KnownBytes.{Appends};
+ghost use Rattle.acl_cli.specs.ErrorOutput.{Tells as GoesTo};
+ghost use Rattle.acl_cli.specs.Failures.{failed_write};
+ghost use Rattle.acl_cli.specs.Output.{AppendsFront};
+ghost use Rattle.acl_cli.specs.Telling.{LeadsOn};
+ghost use Rattle.acl_cli.specs.declared.failure.Failure.{Failure as FailureValue};
+
+use crate::{ErrorOutput, Failure, RunFault, send_full, write_text};
+use std::alloc::Global;
+use std::io::Write;
+
+/// What is told, thing by thing: an answer, and what stands beside it on standard error.
+pub trait Telling<'n> {
+    /// The texts are all that is told from here on.
+    ghost Tells: { Self → List ℕ → List ℕ → Type 0 };
+
+    /// The texts are what is told of the first things from here on.
+    ghost Begins: { Self → List ℕ → List ℕ → Type 0 };
+
+    /// It may fail so.
+    ghost Fails: { Self → FailureValue → Type 0 };
+
+    /// Appends what is told of the next thing, if there is one, and what is said beside it.
+    fn tell_next(
+        &mut self,
+        alloc: Global,
+        out: &mut Vec<u8>,
+        beside: &mut Vec<u8>,
+    ) -> Result<bool, Failure<'n>>
+        ensures told { IfOk result (λ some. MatchBool some
+            ((more : List ℕ) × (others : List ℕ) × (out.new.items ≡ out.old.items ++ more)
+            × (beside.new.items ≡ beside.old.items ++ others)
+            × LeadsOn (Tells self.old) (Tells self.new) more others
+            × LeadsOn (Begins self.old) (Begins self.new) more others × Begins self.new [] [])
+            ((out.new.items ≡ out.old.items) × (beside.new.items ≡ beside.old.items)
+            × Tells self.old [] [])) }
+        ensures failed { IfErr result (Fails self.old) }
+        ensures stays { (failure : FailureValue) → Fails self.new failure → Fails self.old failure };
+}
+
+/// Writes all that is told, in pieces of some 64 KiB, and what stands beside it at once. If it
+/// fails, or a write does, what is told of the first things went out: a front of the answer, and
+/// all that stands beside it.
+pub fn tell_each<'n, T: Telling<'n>, W: Write, E: Write + Drop>(
+    alloc: Global,
+    telling: &mut T,
+    out: &mut W,
+    err: &mut ErrorOutput<E>,
+) -> Result<(), Failure<'n>>
+    requires { T.Begins telling.old [] [] }
+    ensures written { OnOk result ((text : List ℕ) × (said : List ℕ) × T.Tells telling.old text said
+        × Appends (W.contents out.old) (W.contents out.new) text × GoesTo said err.old err.new) }
+    ensures cut { OnErr result ((text : List ℕ) × (said : List ℕ) × T.Begins telling.old text said
+        × AppendsFront (W.contents out.old) (W.contents out.new) text
+        × GoesTo said err.old err.new) }
+    ensures failed { IfErr result (λ failure. T.Fails telling.old failure
+        ⊎ (failure ≡ failed_write)) }
+{
+    let mut text = Vec::new(alloc);
+    let mut beside = Vec::new(alloc);
+    for _ in 0..u64::MAX {
+        if !telling.tell_next(alloc, &mut text, &mut beside)? {
+            write_text(text.as_slice(), out)?;
+            return Ok(());
+        }
+        err.write_text(beside.as_slice());
+        beside.clear();
+        send_full(&mut text, out)?;
+    }
+    // Nothing has so many things.
+    Err(Failure::Lacks(RunFault::Output))
+}

@@ -1,6 +1,0 @@
-use Rattle.acl_queries.proofs.CommandLemmas.{FailsBy-err, FailsBy-line}
-use Rattle.acl_queries.proofs.command.command_line.parse.Goals as goal
-
-pub returns-clause-refused : goal.returns-clause-refused
-returns-clause-refused g c =
-    FailsBy-err _ _ (FailsBy-line g.C.CommandLine.line _ _ c.in_ok-command.ensures _ g.met.C.CommandLine.line_free c.try_get_matches_from.ensures.kinds)

@@ -1,0 +1,4 @@
+pub mod SetupLemmas
+pub mod PartsLemmas
+pub mod FirstKeyLemmas
+pub mod FirstPartLemmas

@@ -1,0 +1,9 @@
+pub mod Spots
+pub mod SetupTable
+pub mod Readings
+pub mod Setup
+pub mod Shown
+pub mod PartsKeys
+pub mod Opened
+pub mod SetupFaults
+pub mod SetupLaws

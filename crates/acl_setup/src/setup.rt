@@ -1,0 +1,102 @@
+//! Setups: a file in TOML that says whom the service knows, and with which root a tree starts.
+ghost use Rattle.std.specs.Prelude.{◌≡◌, ◌≤◌, ◌↔◌, IfErr, IfOk, IfSome, IsNone, Ok, length};
+ghost use Rattle.toml.specs.Errors.{IsMemory, IsWithin};
+ghost use Rattle.toml.specs.View.{table_view};
+ghost use Rattle.acl_names.specs.Directory.{IsRefusedFor};
+ghost use Rattle.acl_setup.specs.Opened.{ExplainsSetup, IsOpened, IsRefusedSetup, Opens, opened_by};
+ghost use Rattle.acl_setup.specs.Setup.{setup_in};
+ghost use Rattle.acl_setup.specs.Shown.{setup_shown};
+
+use crate::fault::SetupError;
+use crate::fields::{Setup, read_table};
+use crate::key::Key;
+use crate::parts::key_of_parts;
+use crate::spot::spot_after;
+use acl_names::{Directory, SetupFault};
+use acl_tree::Tree;
+use std::alloc::Global;
+use toml::Table;
+use toml::de::Error;
+
+/// Why the users and groups of the setup are no directory, if this is wrong with them.
+#[tactic(auto, unfolding(crate::specs::Opened::opened_by))]
+fn parts_error(setup: &Setup, fault: SetupFault) -> SetupError
+    requires { IsRefusedFor (setup_shown setup.now).known fault }
+    ensures { ExplainsSetup (opened_by (setup_shown setup.now)) result }
+{
+    let users = setup.users.as_slice();
+    let groups = setup.groups.as_slice();
+    match key_of_parts(setup.domain.as_str(), users, groups, fault) {
+        Some(key) => SetupError::Parts(fault, key),
+        None => SetupError::Memory,
+    }
+}
+
+/// The directory of the users and groups, and a tree of the root, of a setup that the table says.
+/// The table is read again if they are no directory, for they are dropped then.
+#[tactic(auto, unfolding(crate::specs::Opened::opened_by))]
+fn open(alloc: Global, table: &Table, setup: Setup) -> Result<(Directory, Tree), SetupError>
+    requires { setup_in (table_view table.now) ≡ Ok (setup_shown setup) }
+    ensures opened { IfOk result (λ opened. IsOpened (opened_by (setup_shown setup)) opened.0
+        opened.1) }
+    ensures refused { IfErr result (ExplainsSetup (opened_by (setup_shown setup))) }
+{
+    let Setup {
+        umask,
+        root,
+        domain,
+        users,
+        groups,
+    } = setup;
+    let directory = match Directory::from_parts(alloc, domain, users, groups) {
+        Ok(directory) => directory,
+        Err(fault) => return Err(parts_error(&read_table(alloc, table)?, fault)),
+    };
+    let owner = directory
+        .uid_of(root.owner.as_str())
+        .ok_or(SetupError::BadField(Key::RootOwner))?;
+    let group = directory
+        .gid_of(root.group.as_str())
+        .ok_or(SetupError::BadField(Key::RootGroup))?;
+    let tree = Tree::new(alloc, owner, group, root.mode, root.style, umask)?;
+    Ok((directory, tree))
+}
+
+/// How many bytes of the text stand before the fault for which it is no document, if memory hasn't
+/// run out.
+fn start_of(bytes: &[u8], error: &Error) -> Option<usize>
+    requires { IsWithin bytes.now error.now }
+    ensures within { IfSome result (λ start. start ≤ length bytes.now) }
+    ensures memory { IsNone result ↔ IsMemory error.now }
+{
+    match error.span() {
+        Some(range) => Some(range.start),
+        None => None,
+    }
+}
+
+/// The directory and the tree that a setup opens. The tree has the root alone, and the setup's
+/// umask.
+///
+/// The bytes are a TOML document with the keys `domain` and `umask`, a table `root` with `owner`,
+/// `group`, `mode` and `style`, and any number of tables `user`, with `name`, `uid` and `groups`,
+/// and `group`, with `name` and `gid`. Other keys play no part. A mode has three octal digits, and
+/// a style is `posix` or `nfs4`.
+///
+/// The bytes are refused as `NotToml` if they are no such document; then as `BadField` for the
+/// first key, in this order, that is absent or has a value of another type or out of its range;
+/// then as `Parts` for the first thing that is wrong with the users and groups, as
+/// `Directory::from_parts` tells it, and the first key at which it is; and then as `BadField` if
+/// the root's owner is no user or its group no group. `Memory` comes if memory runs out.
+pub fn read_setup(alloc: Global, bytes: &[u8]) -> Result<(Directory, Tree), SetupError>
+    ensures opened { IfOk result (λ opened. Opens bytes.now opened.0 opened.1) }
+    ensures refused { IfErr result (IsRefusedSetup bytes.now) }
+{
+    match toml::table_from_slice(alloc, bytes) {
+        Ok(table) => open(alloc, &table, read_table(alloc, &table)?),
+        Err(error) => match start_of(bytes, &error) {
+            Some(start) => Err(SetupError::NotToml(spot_after(&bytes[..start]))),
+            None => Err(SetupError::Memory),
+        },
+    }
+}

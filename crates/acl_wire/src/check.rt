@@ -1,0 +1,97 @@
+//! Checks of POSIX lists in bytes.
+
+ghost use Rattle.std.specs.Prelude.{◌≡◌};
+ghost use Rattle.acl_posix.specs.Access.{grants};
+ghost use Rattle.acl_posix.specs.Checked.{checked};
+ghost use Rattle.acl_posix.specs.Perms.{bits_of};
+ghost use Rattle.acl_wire.specs.Check.{answer_of, check_of, looked_at};
+
+use crate::posix::refused;
+use crate::xattr_reading::entries_of;
+use crate::{Caller, PosixFault};
+use acl_names::{Gid, Uid};
+use acl_posix::{Entry, Invalid, Perms, entries_grant, entries_grant_on_linux};
+use bitflags::Flags;
+
+/// By whose rules a check is decided.
+#[derive(Clone, Copy, Debug, PartialEq, Eq)]
+pub enum Rules {
+    /// Those of 1003.1e draft 17, section 23.
+    Draft,
+    /// Those of Linux, which passes over a list whose mask has no permission and goes by the mode.
+    Linux,
+}
+
+/// Whether the list of these entries grants the request, or what is wrong with them.
+fn decide(
+    entries: &mut [Entry],
+    rules: Rules,
+    owner: Uid,
+    group: Gid,
+    caller: &Caller<'_>,
+    request: Perms,
+) -> Result<bool, Invalid>
+    ensures { result ≡ checked (λ acl. grants (looked_at rules acl) owner group
+        (record { uid = caller.now.uid; gids = caller.now.gids.now }) (bits_of request))
+        entries.old }
+{
+    match rules {
+        Rules::Draft => entries_grant(entries, owner, group, caller, request),
+        Rules::Linux => entries_grant_on_linux(entries, owner, group, caller, request),
+    }
+}
+
+/// The same, with the fault of the bytes.
+fn decide_or_refuse(
+    entries: &mut [Entry],
+    rules: Rules,
+    owner: Uid,
+    group: Gid,
+    caller: &Caller<'_>,
+    request: Perms,
+) -> Result<bool, PosixFault>
+    ensures { result ≡ answer_of rules entries.old owner group
+        (record { uid = caller.now.uid; gids = caller.now.gids.now }) (bits_of request) }
+{
+    match decide(entries, rules, owner, group, caller, request) {
+        Ok(granted) => Ok(granted),
+        Err(invalid) => Err(refused(invalid)),
+    }
+}
+
+/// Whether the POSIX list of the bytes grants a user who is in these groups all of the request, for
+/// a file of this owner and this group. The request has the bits of permissions: 4 to read, 2 to
+/// write, 1 to execute. An id that is none, or another bit, is the fault `Argument`, before all
+/// others. It takes no memory.
+#[tactic(auto, unfolding(crate::specs::Check::check_of, crate::specs::Posix::acl_of))]
+pub fn xattr_grants(
+    rules: Rules,
+    bytes: &[u8],
+    owner: u32,
+    group: u32,
+    uid: u32,
+    gids: &[u32],
+    request: u32,
+) -> Result<bool, PosixFault>
+    ensures { result
+        ≡ check_of rules bytes.now owner group (record { uid = uid; gids = gids.now }) request }
+{
+    let (Some(owner), Some(group), Some(uid)) = (Uid::new(owner), Gid::new(group), Uid::new(uid))
+    else {
+        return Err(PosixFault::Argument);
+    };
+    if request >= 8 {
+        return Err(PosixFault::Argument);
+    }
+    let mut entries = entries_of(bytes)?;
+    let request = Perms::from_bits_retain(request as u8);
+    let caller = Caller { uid, gids };
+    decide_or_refuse(
+        entries.as_mut_slice(),
+        rules,
+        owner,
+        group,
+        &caller,
+        request,
+    )
+}

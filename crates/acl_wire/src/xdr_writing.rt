@@ -1,0 +1,117 @@
+//! NFSv4 lists written in XDR (RFC 4506).
+
+ghost use Rattle.std.specs.Prelude.{◌≡◌, ◌≤◌, ◌++◌, ◌-◌, length, replicate, decimal, OnOk, IfOk};
+ghost use Rattle.std.specs.Int.{w32, to_be_bytes};
+ghost use Rattle.acl_wire.specs.RawAces.{Answers};
+ghost use Rattle.acl_wire.specs.XdrWriting.{ace_bytes, filled, raws_xdr_of, text_bytes};
+ghost use Rattle.acl_wire.specs.XdrWriting.{who_text, xdr_of};
+ghost use Rattle.acl_wire.specs.Xdr.{padded};
+
+use crate::raw_writing::kind_number;
+use crate::xdr::padded;
+use crate::{Nfs4Error, Purpose, RawAce, read_raw_aces};
+use acl_names::push_decimal;
+use acl_nfs4::{Ace, Acl4, Who};
+use bitflags::Flags as FlagSet;
+use std::alloc::{AllocError, Global};
+
+/// Appends the number in four bytes, highest first.
+fn push_number(number: u32, out: &mut Vec<u8>) -> Result<(), AllocError>
+    ensures { OnOk result (out.new.items ≡ out.old.items ++ to_be_bytes w32 number) }
+{
+    out.extend_from_slice(&number.to_be_bytes())
+}
+
+/// So many zeros, at most 3.
+fn zeros(count: usize) -> &'static [u8]
+    requires { count ≤ 3 }
+    ensures { result.now ≡ replicate count 0 }
+{
+    match count {
+        0 => &[],
+        1 => &[0],
+        2 => &[0, 0],
+        _ => &[0, 0, 0],
+    }
+}
+
+/// How many zeros fill a string of this length up.
+fn lacking(len: usize) -> usize
+    requires { len ≤ 0xffffffff }
+    ensures value { result ≡ padded len - len }
+    ensures few { result ≤ 3 }
+{
+    padded(len) - len
+}
+
+/// Appends the bytes of the string, and what fills it up.
+fn push_filled(text: &[u8], out: &mut Vec<u8>) -> Result<(), AllocError>
+    requires { length text.now ≤ 0xffffffff }
+    ensures { OnOk result (out.new.items ≡ out.old.items ++ filled text.now) }
+{
+    out.extend_from_slice(text)?;
+    out.extend_from_slice(zeros(lacking(text.len())))
+}
+
+/// Appends the string.
+fn push_text(text: &[u8], out: &mut Vec<u8>) -> Result<(), AllocError>
+    requires { length text.now ≤ 0xffffffff }
+    ensures { OnOk result (out.new.items ≡ out.old.items ++ text_bytes text.now) }
+{
+    push_number(text.len() as u32, out)?;
+    push_filled(text, out)
+}
+
+/// Appends the id as a string.
+fn push_id(id: u32, out: &mut Vec<u8>) -> Result<(), AllocError>
+    ensures { OnOk result (out.new.items ≡ out.old.items ++ text_bytes (decimal id)) }
+{
+    let mut text = Vec::new(*out.allocator());
+    push_decimal(id, &mut text)?;
+    push_text(&text, out)
+}
+
+/// Appends the who as a string.
+fn push_who(who: &Who, out: &mut Vec<u8>) -> Result<(), AllocError>
+    ensures { OnOk result (out.new.items ≡ out.old.items ++ text_bytes (who_text who.now)) }
+{
+    match *who {
+        Who::Owner => push_text(b"OWNER@", out),
+        Who::Group => push_text(b"GROUP@", out),
+        Who::Everyone => push_text(b"EVERYONE@", out),
+        Who::User(uid) => push_id(uid.value(), out),
+        Who::NamedGroup(gid) => push_id(gid.value(), out),
+    }
+}
+
+/// Appends the entry.
+fn push_ace(ace: &Ace, out: &mut Vec<u8>) -> Result<(), AllocError>
+    ensures { OnOk result (out.new.items ≡ out.old.items ++ ace_bytes ace.now) }
+{
+    push_number(kind_number(ace.kind()), out)?;
+    push_number(u32::from(ace.flags().bits()), out)?;
+    push_number(ace.mask().bits(), out)?;
+    push_who(&ace.who(), out)
+}
+
+/// The list in XDR.
+fn written(alloc: Global, acl: &Acl4) -> Result<Vec<u8>, AllocError>
+    ensures { IfOk result (λ xdr. xdr.items ≡ xdr_of acl.now) }
+{
+    let mut out = Vec::new(alloc);
+    let aces = acl.aces();
+    push_number(aces.len() as u32, &mut out)?;
+    for ace in aces {
+        push_ace(ace, &mut out)?;
+    }
+    Ok(out)
+}
+
+/// The NFSv4 list of the entries in XDR, as `acl4_of_xdr` reads it.
+#[tactic(auto, unfolding(crate::specs::XdrWriting::raws_xdr_of))]
+pub fn raws_xdr(alloc: Global, raws: &[RawAce]) -> Result<Vec<u8>, Nfs4Error>
+    ensures { Answers (λ xdr. xdr.items) result (raws_xdr_of raws.now) }
+{
+    let acl = read_raw_aces(alloc, Purpose::Write, raws)?;
+    Ok(written(alloc, &acl)?)
+}

@@ -1,0 +1,167 @@
+//! NFSv4 lists in the layout of RFC 8881, section 6.2.1, as XDR (RFC 4506): a count, and for each
+//! entry its type, its flags, its mask and its who, numbers of four bytes with the highest first; a
+//! string has its length before it, and zeros up to a whole group of four bytes behind it.
+use acl_wire::{
+    Nfs4Error, Nfs4Fault, Purpose, RawAce, acl4_of_xdr, raws_allow, raws_grant, raws_text,
+    raws_xdr, read_raw_aces, write_raw_aces,
+};
+use std::alloc::Global;
+
+const TEXT: &str = "A::OWNER@:rw,D:g:50:x";
+
+/// ACE4_ACCESS_ALLOWED_ACE_TYPE of OWNER@, and ACE4_ACCESS_DENIED_ACE_TYPE of the group 50, which
+/// ACE4_IDENTIFIER_GROUP says is one.
+const BYTES: [u8; 48] = [
+    0, 0, 0, 2, 0, 0, 0, 0, 0, 0, 0, 0, 0, 0, 0, 3, 0, 0, 0, 6, b'O', b'W', b'N', b'E', b'R', b'@',
+    0, 0, 0, 0, 0, 1, 0, 0, 0, 0x40, 0, 0, 0, 0x20, 0, 0, 0, 2, b'5', b'0', 0, 0,
+];
+
+const RAWS: [RawAce; 2] = [
+    RawAce {
+        kind: 0,
+        flags: 0,
+        mask: 3,
+        special: 1,
+        id: 0,
+    },
+    RawAce {
+        kind: 1,
+        flags: 0x40,
+        mask: 0x20,
+        special: 0,
+        id: 50,
+    },
+];
+
+const NOTHING: RawAce = RawAce {
+    kind: 0,
+    flags: 0,
+    mask: 0,
+    special: 0,
+    id: 0,
+};
+
+/// Whether the bytes are read as the entries.
+fn is_read(alloc: Global) -> Option<bool> {
+    let list = acl4_of_xdr(alloc, &BYTES).ok()?;
+    let mut out = [NOTHING; 4];
+    let count = write_raw_aces(&list, &mut out);
+    if count > 4 {
+        return None;
+    }
+    Some(&out[..count] == RAWS.as_slice())
+}
+
+/// Whether the entries are written as the bytes.
+fn is_written(alloc: Global) -> Option<bool> {
+    let xdr = raws_xdr(alloc, &RAWS).ok()?;
+    Some(xdr.as_slice() == BYTES.as_slice())
+}
+
+/// Whether the entries are those of the text.
+fn is_told(alloc: Global) -> Option<bool> {
+    let text = raws_text(alloc, &RAWS).ok()?;
+    Some(text.as_slice() == TEXT.as_bytes())
+}
+
+#[test]
+fn a_list_in_bytes(rt: HostRuntime) {
+    assert!(rt; is_read(rt.alloc()) == Some(true));
+    assert!(rt; is_written(rt.alloc()) == Some(true));
+    assert!(rt; is_told(rt.alloc()) == Some(true));
+}
+
+/// The owner, whose uid is 7, may read and write; nobody may execute.
+#[test]
+fn who_may_do_what(rt: HostRuntime) {
+    const ROWS: [(u32, u32, u32); 4] = [(7, 3, 3), (7, 0x23, 3), (8, 3, 0), (8, 0, 0)];
+    for (uid, request, wanted) in ROWS {
+        let allowed = raws_allow(rt.alloc(), &RAWS, 7, 1, uid, &[50], request);
+        let granted = raws_grant(rt.alloc(), &RAWS, 7, 1, uid, &[50], request);
+        assert_eq!(rt; allowed, Ok(wanted), "{uid} {request}");
+        assert_eq!(rt; granted, Ok(wanted == request), "{uid} {request}");
+    }
+}
+
+/// Why the bytes, with one of them changed, are no list.
+fn fault_with(alloc: Global, place: usize, byte: u8) -> Option<Nfs4Error> {
+    let mut bytes = BYTES;
+    if place < 48 {
+        bytes[place] = byte;
+    }
+    acl4_of_xdr(alloc, &bytes).err()
+}
+
+#[test]
+fn bytes_that_are_no_list(rt: HostRuntime) {
+    const ROWS: [(usize, u8, Nfs4Fault); 8] = [
+        // Fewer entries, or more, than there are.
+        (3, 1, Nfs4Fault::Size),
+        (3, 3, Nfs4Fault::Size),
+        (3, 129, Nfs4Fault::TooMany),
+        (7, 4, Nfs4Fault::Type),
+        // INHERIT_ONLY of what isn't inherited.
+        (11, 8, Nfs4Fault::InheritOnly),
+        (12, 1, Nfs4Fault::Mask),
+        // PWNER@ is a name.
+        (20, b'P', Nfs4Fault::UnknownName),
+        // A string beyond the end.
+        (43, 7, Nfs4Fault::Size),
+    ];
+    for (place, byte, wanted) in ROWS {
+        let fault = fault_with(rt.alloc(), place, byte);
+        assert_eq!(rt; fault, Some(Nfs4Error::Fault(wanted)), "{place} {byte}");
+    }
+}
+
+fn fault_of(alloc: Global, purpose: Purpose, raw: RawAce) -> Option<Nfs4Error> {
+    read_raw_aces(alloc, purpose, &[raw]).err()
+}
+
+#[test]
+fn numbers_that_are_no_entry(rt: HostRuntime) {
+    let nobody = RawAce {
+        id: 0xffff_ffff,
+        ..NOTHING
+    };
+    let whoever = RawAce {
+        special: 4,
+        ..NOTHING
+    };
+    let marked = RawAce {
+        flags: 0x100,
+        ..NOTHING
+    };
+    let rows = [
+        (nobody, Nfs4Fault::Id),
+        (whoever, Nfs4Fault::Who),
+        (marked, Nfs4Fault::Flags),
+    ];
+    for (raw, wanted) in rows {
+        let fault = fault_of(rt.alloc(), Purpose::Decide, raw);
+        assert_eq!(rt; fault, Some(Nfs4Error::Fault(wanted)));
+    }
+}
+
+/// ACE4_INHERITED_ACE, ACE4_WRITE_RETENTION and ACE4_WRITE_RETENTION_HOLD decide nothing, and a
+/// list that is written would lose them.
+#[test]
+fn bits_that_decide_nothing(rt: HostRuntime) {
+    const ROWS: [(u32, u32); 3] = [(0x80, 1), (0, 0x201), (0x80, 0x600)];
+    for (flags, mask) in ROWS {
+        let raw = RawAce {
+            flags,
+            mask,
+            special: 3,
+            ..NOTHING
+        };
+        let allowed = raws_allow(rt.alloc(), &[raw], 7, 1, 8, &[50], mask);
+        let fault = fault_of(rt.alloc(), Purpose::Write, raw);
+        assert_eq!(rt; allowed, Ok(mask & 1), "{flags} {mask}");
+        assert_eq!(rt;
+            fault,
+            Some(Nfs4Error::Fault(Nfs4Fault::Unkept)),
+            "{flags} {mask}"
+        );
+    }
+}

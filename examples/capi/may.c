@@ -1,0 +1,39 @@
+/* Whether a user may do something with a file: may UID GID[,GID..] PERMS FILE. The groups are all that the user is in, PERMS is a
+   digit, 4 to read, 2 to write, 1 to execute. It prints what Linux decides by the file's list, or by its mode if it has none. The
+   folders above aren't asked. */
+#include <errno.h>
+#include <meardwyn.h>
+#include <stdio.h>
+#include <stdlib.h>
+#include <sys/stat.h>
+#include <sys/xattr.h>
+
+static uint32_t number(char **at)
+{
+    char *from = *at;
+    unsigned long read = strtoul(from, at, 10);
+    if (*at == from || read >= UINT32_MAX || (**at && **at != ',')) fputs("usage: may UID GID[,GID..] PERMS FILE\n", stderr), exit(2);
+    *at += **at == ',';
+    return read;
+}
+
+int main(int count, char **words)
+{
+    if (count != 5) words[1] = "", number(words + 1);
+    uint32_t uid = number(words + 1), gids[1024], perms = number(words + 3);
+    size_t groups = 0, length = 0;
+    while (*words[2] && groups < 1024) gids[groups++] = number(words + 2);
+
+    struct stat file;
+    if (stat(words[4], &file)) return perror(words[4]), 1;
+    uint8_t list[516]; /* the most bytes that a list has here: 64 entries */
+    ssize_t got = getxattr(words[4], "system.posix_acl_access", list, sizeof list);
+    if (got >= 0) length = got;
+    else if (errno != ENODATA && errno != EOPNOTSUPP) return perror(words[4]), 1;
+    else meardwyn_posix_of_mode(file.st_mode & 0777, list, sizeof list, &length);
+
+    int answer = meardwyn_posix_check_linux(list, length, file.st_uid, file.st_gid, uid, gids, groups, perms);
+    if (answer < 0) return fprintf(stderr, "%s: no list, error %d\n", words[4], answer), 1;
+    puts(answer ? "granted" : "denied");
+    return 0;
+}
