@@ -61,7 +61,7 @@ fn who_of_a_listing_under_a_refused_growth(rt: HostRuntime) -> Result<(), Fail> 
 }
 
 #[test]
-fn who_by_reach_under_a_refused_growth(rt: HostRuntime) -> Result<(), Fail> {
+fn who_of_a_listing_by_reach_under_a_refused_growth(rt: HostRuntime) -> Result<(), Fail> {
     let words = [
         "who",
         "--setup",
