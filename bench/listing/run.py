@@ -36,7 +36,7 @@ OPEN = "# owner: 0\n# group: 50\nuser::rwx\ngroup::r-x\nother::r-x\n\n"
 def setup_of(users):
     """Who there is, and a root that no question here asks about."""
     groups = "".join(f'[[group]]\nname = "g{50 + it}"\ngid = {50 + it}\n' for it in range(GROUPS))
-    member = lambda it: f'"g{50 + it % GROUPS}", "g{50 + (it * 7 + 10) % GROUPS}"'
+    member = lambda it: f'"g{50 + it % GROUPS}", "g{50 + (it + 13) % GROUPS}"'
     return HEAD + groups + "".join(f'[[user]]\nname = "u{1000 + it}"\nuid = {1000 + it}\ngroups = [{member(it)}]\n' for it in range(users))
 
 
@@ -103,7 +103,7 @@ def main():
             "the same, `--reach --perms w`": (None, *who(one, "--reach", "--perms", "w"), shared),
             "one user: each file with a list of its own, letters": (listed, *who(one), each),
             f"{USERS} users: files of a folder with one list, `--perms w`": (None, *who(many, "--perms", "w"), shared),
-            "the same, `--reach --perms w`": (None, *who(many, "--reach", "--perms", "w"), shared),
+            f"{USERS} users: the same, `--reach --perms w`": (None, *who(many, "--reach", "--perms", "w"), shared),
             f"{USERS} users: each file with a list of its own, `--perms w`": (None, *who(many, "--perms", "w"), each),
             f"`impact` of two listings, {changed} files changed, one user": (changed, "impact", "--setup", one, "--listing", shared, later),
         }
