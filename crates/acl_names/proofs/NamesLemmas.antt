@@ -28,19 +28,31 @@ named_front id_of text name id rest cut shaped found =
       says = ap (option_and_then (id_of_written id_of)) (written_name name shaped) ∙ sym found;
     }
 
--- the digits of a decimal are a field
-pub digits_field : (digits : List ℕ) (number : ℕ) → decimal_value digits ≡ Some number → IsField digits × (0 < length digits)
-digits_field digits number writes = go (is_decimal digits) refl writes
+-- a decimal is digits, of which there is one at least
+record IsDigits (text : List ℕ) : Type 0 where
+  pub all : list_all is_ascii_digit text ≡ true
+  pub some : 0 < length text
+
+digits_of : (text : List ℕ) (number : ℕ) → decimal_value text ≡ Some number → IsDigits text
+digits_of text number writes = go (is_decimal text) refl writes
   where
-    go : (b : Bool) → is_decimal digits ≡ b → cond b (Some (digits_value 10 digits)) None ≡ Some number → IsField digits × (0 < length digits)
+    go : (b : Bool) → is_decimal text ≡ b → cond b (Some (digits_value 10 text)) None ≡ Some number → IsDigits text
     go false is e = absurd (cc)
     go true is e =
-        let bytes = and_first (list_all is_ascii_digit digits && nat_le 1 (length digits)) _ (and_first _ _ is) in
-        let all : list_all is_ascii_digit digits ≡ true = and_first (list_all is_ascii_digit digits) _ bytes in
-        let some : nat_le 1 (length digits) ≡ true = and_second (list_all is_ascii_digit digits) _ bytes in (
-          All-weaker (λ byte. is_ascii_digit byte ≡ true) (λ byte. is_field_byte byte ≡ true) digit_in_field digits (AllPass-from_list_all is_ascii_digit digits all),
-          grind (arith, nat_tests),
-        )
+        let bytes = and_first (list_all is_ascii_digit text && nat_le 1 (length text)) _ (and_first _ _ is) in
+        let some : nat_le 1 (length text) ≡ true = and_second (list_all is_ascii_digit text) _ bytes in
+        record { all = and_first (list_all is_ascii_digit text) _ bytes; some = grind (arith, nat_tests) }
+
+pub are_digits : (text : List ℕ) (number : ℕ) → decimal_value text ≡ Some number → list_all is_ascii_digit text ≡ true
+are_digits text number writes = (digits_of text number writes).all
+
+-- the digits are a field
+pub digits_field : (digits : List ℕ) (number : ℕ) → decimal_value digits ≡ Some number → IsField digits × (0 < length digits)
+digits_field digits number writes =
+    let are = digits_of digits number writes in (
+      All-weaker (λ byte. is_ascii_digit byte ≡ true) (λ byte. is_field_byte byte ≡ true) digit_in_field digits (AllPass-from_list_all is_ascii_digit digits are.all),
+      are.some,
+    )
 
 -- and it writes its number, if that is an id
 pub decimal_front : (id_of : List ℕ → Option ℕ) (text : List ℕ) (number id : ℕ) (rest : List ℕ) → BeginsWithDecimal colon text number rest

@@ -1,12 +1,11 @@
-use Rattle.std.proofs.Common.{◌≡◌, ◌++◌, take, length}
+use Rattle.std.proofs.Common.{◌≡◌, ◌++◌, length}
 use Rattle.acl_accounts.specs.Names.{unquoted}
-use Rattle.acl_accounts.proofs.quoting.push_unquoted.Given as goal
+use Rattle.acl_accounts.proofs.quoting.unquote.Given as goal
 
 -- what was read, and what the rest says, is what the text says
 abbrev pub invariant-loop-byte : goal.invariant-loop-byte
 invariant-loop-byte l = record {
-  text : l.out.items ++ unquoted l.rest ≡ l.fn.out.items ++ unquoted l.text;
-  kept : take (length l.fn.out.items) l.out.items ≡ l.fn.out.items;
+  text : l.room.items ++ unquoted l.rest ≡ unquoted l.text;
 }
 
 abbrev pub decreases-loop-byte : goal.decreases-loop-byte
