@@ -1,6 +1,7 @@
 pub mod Lines
 pub mod Listing
 pub mod Header
+pub mod Rules
 pub mod Access
 pub mod Block
 pub mod Faults
