@@ -6,7 +6,7 @@ use Rattle.clap.specs.declared.error.Error.{Error}
 use Rattle.clap.specs.declared.error.kind.ErrorKind.TheVariants.{OutOfMemory}
 use Rattle.acl_cli.specs.Failures.{AsksForHelp, BecomesFailure, Explains, IsRefusal, is_help, status_of}
 use Rattle.acl_cli.specs.declared.failure.Failure.{Failure}
-use Rattle.acl_cli.specs.declared.failure.Failure.TheVariants.{BadWords, CannotRead, Field, InputTwice, Lacks, LineTooLong, NoCommand, TooManyWords, Unread, Usage}
+use Rattle.acl_cli.specs.declared.failure.Failure.TheVariants.{Accounts, BadWords, CannotRead, Field, InputTwice, Lacks, LineTooLong, Mismatch, NoCommand, Setup, TooManySessions, TooManyWords, Unread, Usage}
 use Rattle.acl_cli.specs.declared.field_fault.FieldFault.{FieldFault}
 use Rattle.acl_cli.specs.declared.run_fault.RunFault.TheVariants.{Memory, NoThread, Output, Stopped}
 
@@ -20,6 +20,10 @@ Explains-as reading other turned (Lacks Stopped) is = absurd is
 Explains-as reading other turned (Lacks NoThread) is = absurd is
 Explains-as reading other turned (Usage error) is = absurd is
 Explains-as reading other turned InputTwice is = absurd is
+Explains-as reading other turned (Mismatch mismatch) is = absurd is
+Explains-as reading other turned TooManySessions is = absurd is
+Explains-as reading other turned (Setup error) is = absurd is
+Explains-as reading other turned (Accounts name fault) is = absurd is
 Explains-as reading other turned (CannotRead name reason) is = absurd is
 Explains-as reading other turned LineTooLong is = absurd is
 Explains-as reading other turned (Unread name) is = absurd is
@@ -33,6 +37,10 @@ bounds (Field fault) = (omega arith, omega arith)
 bounds (Lacks lack) = (omega arith, omega arith)
 bounds (Usage error) = (omega arith, omega arith)
 bounds InputTwice = (omega arith, omega arith)
+bounds (Mismatch mismatch) = (omega arith, omega arith)
+bounds TooManySessions = (omega arith, omega arith)
+bounds (Setup error) = (omega arith, omega arith)
+bounds (Accounts name fault) = (omega arith, omega arith)
 bounds (CannotRead name reason) = (omega arith, omega arith)
 bounds LineTooLong = (omega arith, omega arith)
 bounds (Unread name) = (omega arith, omega arith)
@@ -61,6 +69,10 @@ refusal_of helps kinds error (Lacks Stopped) has no_help becomes = absurd become
 refusal_of helps kinds error (Lacks NoThread) has no_help becomes = absurd becomes
 refusal_of helps kinds error (Field fault) has no_help becomes = absurd becomes
 refusal_of helps kinds error InputTwice has no_help becomes = absurd becomes
+refusal_of helps kinds error (Mismatch mismatch) has no_help becomes = absurd becomes
+refusal_of helps kinds error TooManySessions has no_help becomes = absurd becomes
+refusal_of helps kinds error (Setup fault) has no_help becomes = absurd becomes
+refusal_of helps kinds error (Accounts name fault) has no_help becomes = absurd becomes
 refusal_of helps kinds error (CannotRead name reason) has no_help becomes = absurd becomes
 refusal_of helps kinds error LineTooLong has no_help becomes = absurd becomes
 refusal_of helps kinds error (Unread name) has no_help becomes = absurd becomes
