@@ -1,0 +1,4 @@
+//! Questions of listings of real files, as administrators ask them: of the users of a host, with
+//! no setup, in answers that scripts can trust.
+#![tactic(auto)]
+
