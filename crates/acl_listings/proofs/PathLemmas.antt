@@ -1,5 +1,5 @@
 -- A block that says something of a file has the file's path.
-use Rattle.std.proofs.Common.{◌≡◌, ◌∙◌, ◌≤◌, ℕ, Bool, true, false, cond, nat_le, List, [], length, length-take, Option, Some, None, Result, Ok, Err, ap, arith, option_and_then, refl, subst, sym}
+use Rattle.std.proofs.Common.{◌≡◌, ◌∙◌, ◌≤◌, ℕ, true, cond, nat_le, List, length, length-take, Option, Some, None, Result, Ok, Err, ap, arith, option_and_then}
 use Rattle.std.proofs.lemmas.Bool.Decides.{nat_tests}
 use Rattle.acl_names.specs.Names.{Names}
 use Rattle.acl_names.specs.Steps.{or_fault}

@@ -39,7 +39,7 @@ use Rattle.acl_listings.specs.Header.{Header, after_prefix, as_header, header_of
 use Rattle.acl_listings.specs.Lines.{after_line, first_line}
 use Rattle.acl_listings.specs.Listing.{blocks_from}
 use Rattle.acl_listings.specs.Printed.{IsPrintable, block_text, line_text, listing_text}
-use Rattle.acl_listings.specs.declared.fault.BlockFault.TheVariants.{TooLong, BadHeader, UnknownOwner, UnknownGroup, Acl}
+use Rattle.acl_listings.specs.declared.fault.BlockFault.TheVariants.{TooLong, BadHeader, Acl}
 use Rattle.acl_listings.specs.declared.limits.TheConstants.{MAX_BLOCK}
 use Rattle.acl_listings.proofs.AccessLemmas.{ended, line_pieces, pieces-whole}
 use Rattle.acl_listings.proofs.ExtentLemmas.{LacksNewline, full-append, full-line, is_newline}

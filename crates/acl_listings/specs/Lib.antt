@@ -13,3 +13,5 @@ pub mod Cursor
 pub mod Steps
 pub mod Printed
 pub mod Way
+pub mod Shown
+pub mod Guess
