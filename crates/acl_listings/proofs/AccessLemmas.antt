@@ -74,7 +74,7 @@ nothing_passed_over (line ∷ lines) none = by_first (is_default line) none (not
 pub pieces-whole : (list : List ℕ) → list_any is_default (parts newline list) ≡ false → pieces list ≡ access_pieces list
 pieces-whole list none = ap (flat_map line_pieces) (sym (nothing_passed_over (parts newline list) none))
 
-abbrev LacksNewline : List ℕ → Type 0
+abbrev pub LacksNewline : List ℕ → Type 0
 LacksNewline line = All (λ byte. (byte == newline) ≡ false) line
 
 -- no part has a newline

@@ -21,9 +21,12 @@ abbrev pub is_default : List ℕ → Bool
 is_default line = bytes_eq (codes "default:") (take 8 line)
 
 -- the pieces of the other lines
+abbrev pub pieces_in : List (List ℕ) → List (List ℕ)
+pieces_in lines = flat_map (λ line. pieces_of_content (content line))
+    (filter (λ line. not (is_default line)) lines)
+
 abbrev pub access_pieces : List ℕ → List (List ℕ)
-access_pieces list = flat_map (λ line. pieces_of_content (content line))
-    (filter (λ line. not (is_default line)) (parts newline list))
+access_pieces list = pieces_in (parts newline list)
 
 -- the list of these entries, if they are one
 abbrev pub list_of : Option Invalid → List EntryValue → Result (List EntryValue) BlockFault

@@ -15,3 +15,4 @@ pub mod Printed
 pub mod Way
 pub mod Shown
 pub mod Guess
+pub mod FaultyLine

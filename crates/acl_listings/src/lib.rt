@@ -6,6 +6,7 @@ mod access;
 mod blocks;
 mod extent;
 mod fault;
+mod faulty;
 mod file;
 mod guess;
 mod header;
@@ -20,6 +21,7 @@ mod window;
 
 pub use blocks::Blocks;
 pub use fault::{BlockFault, FileFault};
+pub use faulty::faulty_line;
 pub use file::{File, lines_behind, path_of, read_file};
 pub use guess::Guess;
 pub use laws::{handed_blocks_tell_the_same, printed_files_are_read_again};
