@@ -1,6 +1,7 @@
 -- Which line of a block is at fault.
-use Rattle.std.specs.Prelude.{◌≡◌, ℕ, zero, suc, ◌+◌, ◌-◌, nat_le, Bool, true, false, ◌&&◌, List, codes}
-use Rattle.std.specs.Prelude.{length, take, Option, Some, None, is_none, is_ok, is_some, if◌then◌else◌}
+use Rattle.std.specs.Prelude.{◌≡◌, ℕ, zero, suc, ◌+◌, ◌-◌, nat_le, Bool, true, false, ◌&&◌}
+use Rattle.std.specs.Prelude.{List, length, take, codes, Option, Some, None, is_none, is_some}
+use Rattle.std.specs.Prelude.{is_ok, if◌then◌else◌}
 use Rattle.std.specs.List.{list_all}
 use Rattle.std.specs.Option.{option_and_then}
 use Rattle.acl_names.specs.Bytes.{newline}
