@@ -24,7 +24,9 @@ pub use fault::{BlockFault, FileFault};
 pub use faulty::faulty_line;
 pub use file::{File, lines_behind, path_of, read_file};
 pub use guess::Guess;
-pub use laws::{handed_blocks_tell_the_same, printed_files_are_read_again};
+pub use laws::{
+    handed_blocks_tell_the_same, printed_files_are_read_again, refused_entries_stand_in_lines,
+};
 pub use limits::{MAX_BLOCK, MAX_SHOWN, limits_in_numbers};
 pub use rule::Rule;
 pub use shown::push_shown;
