@@ -2,3 +2,5 @@
 //! no setup, in answers that scripts can trust.
 #![tactic(auto)]
 
+mod host;
+mod options;
