@@ -2,5 +2,9 @@
 //! no setup, in answers that scripts can trust.
 #![tactic(auto)]
 
+mod everyone;
 mod host;
 mod options;
+mod people;
+mod person;
+mod written;

@@ -2,7 +2,8 @@
 ghost use Rattle.std.specs.Prelude.{◌≡◌, ◌∷◌, [], IfErr, IfOk, IfSome};
 ghost use Rattle.acl_listing_queries.specs.Host.{ReadsAsAccounts, groups_file, own_text};
 ghost use Rattle.acl_listing_queries.specs.Host.{users_file};
-ghost use Rattle.acl_listing_queries.specs.HostFailures.{IsAccountsFailure, IsTextFailure, own_files};
+ghost use Rattle.acl_listing_queries.specs.HostFailures.{IsAccountsFailure, IsTextFailure};
+ghost use Rattle.acl_listing_queries.specs.HostFailures.{own_files};
 
 use acl_accounts::{Accounts, AccountsFault, MAX_ACCOUNTS_TEXT};
 use acl_cli::{CapFault, Failure, OpenFiles, Reason, RunFault, read_capped};
