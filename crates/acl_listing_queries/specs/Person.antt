@@ -20,5 +20,6 @@ stranger uid = record { name = decimal uid; who = record { uid = uid; gids = [] 
 abbrev pub is_root : Person → Bool
 is_root one = one.who.uid == 0
 
+-- all the others, in their order
 abbrev pub without_root : List Person → List Person
 without_root all = filter (λ one. not (is_root one)) all

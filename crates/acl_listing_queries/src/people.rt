@@ -1,6 +1,6 @@
 //! Who is asked about.
-ghost use Rattle.std.specs.Prelude.{◌≡◌, ◌+◌, ◌++◌, ◌∷◌, [], IfErr, IfOk, List, Ok, OnOk, map, take};
-ghost use Rattle.std.specs.Prelude.{codes, option_map};
+ghost use Rattle.std.specs.Prelude.{◌≡◌, ◌+◌, ◌++◌, ◌∷◌, [], IfErr, IfOk, List, Ok, OnOk, codes};
+ghost use Rattle.std.specs.Prelude.{map, option_map, take};
 ghost use Rattle.clap.specs.Words.{all_of, found_of, rows_of};
 ghost use Rattle.acl_cli.specs.Failures.{Explains};
 ghost use Rattle.acl_names.specs.ReadList.{each_read};

@@ -1,5 +1,5 @@
 //! Users as they are written: by a name, or by an id.
-ghost use Rattle.std.specs.Prelude.{◌≡◌, IfErr, IfOk, None, Ok, Option, option_and_then, option_map};
+ghost use Rattle.std.specs.Prelude.{◌≡◌, IfErr, IfOk, None, Ok, option_and_then, option_map};
 ghost use Rattle.acl_accounts.specs.Names.{written_account};
 ghost use Rattle.acl_accounts.specs.Views.{view_written};
 ghost use Rattle.acl_cli.specs.Failures.{Explains};
