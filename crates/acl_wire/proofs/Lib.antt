@@ -1,5 +1,6 @@
 pub mod GivesLemmas
 pub mod EntriesLoop
+pub mod MemoryLemmas
 pub mod WritingLemmas
 pub mod AcesLoop
 pub mod NumberLemmas
