@@ -113,6 +113,12 @@ IsReadFailure name (CannotRead refused reason) = refused.now ≡ name
 IsReadFailure name (Lacks Memory) = ⊤
 IsReadFailure name _ = ⊥
 
+-- what has one of these names can't be read, and the reason isn't told; or memory ran out
+abbrev pub IsUnexplained : (List ℕ → Type 0) → Failure → Type 0
+IsUnexplained IsName (CannotRead refused reason) = IsName refused.now × (reason ≡ Unknown)
+IsUnexplained IsName (Lacks Memory) = ⊤
+IsUnexplained IsName _ = ⊥
+
 -- the parser wasn't given what it wants, but asked for help, or for the version
 abbrev pub is_help : ErrorKind → Bool
 is_help DisplayHelp = true

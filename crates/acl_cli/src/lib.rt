@@ -20,6 +20,7 @@ mod pieces;
 mod query_fault;
 mod reason;
 mod run_fault;
+pub mod session_files;
 mod telling;
 mod usage;
 mod words;

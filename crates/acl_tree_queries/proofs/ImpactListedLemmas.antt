@@ -8,7 +8,7 @@ use Rattle.acl_audit.specs.Impact.{requesters_of}
 use Rattle.acl_listings.specs.Cursor.{blocks_to_come, as_handed_out}
 use Rattle.acl_listings.specs.Listing.{Block, blocks_of}
 use Rattle.acl_listings.proofs.HandedLemmas.{file-handed, path-handed}
-use Rattle.acl_service.specs.RunWords.{input_count}
+use Rattle.acl_cli.specs.SessionFiles.{input_count}
 use Rattle.acl_service.specs.declared.files.fault.FilesFault.TheVariants.{SessionCount, InputTwice, CannotRead, Memory}
 use Rattle.acl_tree_queries.specs.ChangeSteps.{TellsOfKnown}
 use Rattle.acl_tree_queries.specs.ImpactAnswer.{asks_impact}

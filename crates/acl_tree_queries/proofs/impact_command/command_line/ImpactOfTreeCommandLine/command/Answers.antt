@@ -4,7 +4,7 @@ use Rattle.clap.specs.Words.{app_of, new_app}
 use Rattle.clap.specs.Simple.{app_of_fields}
 use Rattle.acl_cli.proofs.CommandLemmas.{app_of-arg}
 use Rattle.acl_tree_queries.specs.ImpactLine.{impact_line}
-use Rattle.acl_tree_queries.proofs.impact_command.question.ImpactQuestionCommandLine.command.Goals as goal
+use Rattle.acl_tree_queries.proofs.impact_command.command_line.ImpactOfTreeCommandLine.command.Goals as goal
 
 pub returns : goal.returns
 unfolding impact_line

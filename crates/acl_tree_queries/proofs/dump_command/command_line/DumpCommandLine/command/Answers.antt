@@ -4,7 +4,7 @@ use Rattle.clap.specs.Words.{app_of, new_app}
 use Rattle.clap.specs.Simple.{app_of_fields}
 use Rattle.acl_cli.proofs.CommandLemmas.{app_of-arg}
 use Rattle.acl_tree_queries.specs.DumpLine.{dump_line}
-use Rattle.acl_tree_queries.proofs.dump_command.question.DumpQuestionCommandLine.command.Goals as goal
+use Rattle.acl_tree_queries.proofs.dump_command.command_line.DumpCommandLine.command.Goals as goal
 
 pub returns : goal.returns
 unfolding dump_line
