@@ -1,5 +1,6 @@
 /* Checks from the bytes of an extended attribute, beside libacl and a check written by hand, in one run and in turn. */
 #include <stdio.h>
+#include <string.h>
 #include "../../include/meardwyn.h"
 #include "../allocations.h"
 #include "hand.h"
@@ -49,18 +50,76 @@ static void times(int n)
     acl_free(text), acl_free(acl);
 }
 
+/* A list of so many users as an array of entries. */
+static void translation(int n)
+{
+    static struct bytes b;
+    static struct meardwyn_ace out[128];
+    plain_list(&b, n);
+    size_t needed;
+    int rounds = 400000 / (n + 10);
+    double ours = 1e18;
+    IN_TURNS LEAST(ours, rounds, for (int i = 0; i < rounds; i++) sink += meardwyn_posix_to_nfs4(b.at, b.length, out, 128, &needed));
+    printf("| %d | %zu | %.1f |\n", n, needed, ours);
+}
+
+/* Does one work over and over, for callgrind: `ours` and `hand` (checked and decided) of a check, `nfs4` of a translation. */
+static void work(const char *what, int n, int rounds)
+{
+    static struct bytes b;
+    static struct meardwyn_ace out[128];
+    size_t needed;
+    uint32_t gids[2] = {50, 60};
+    int uids = n + 5, ours = !strcmp(what, "ours"), nfs4 = !strcmp(what, "nfs4");
+    plain_list(&b, n);
+    for (int i = 0; i < rounds; i++) {
+        if (nfs4) sink += meardwyn_posix_to_nfs4(b.at, b.length, out, 128, &needed);
+        else if (ours) sink += meardwyn_posix_check(b.at, b.length, 1, 2, 3000 + i % uids, gids, 2, 4);
+        else sink += hand_valid(b.at, b.length) == 0 && hand_permission(b.at, b.length, 1, 2, 3000 + i % uids, gids, 2, 4);
+    }
+}
+
+/* How many instructions callgrind counts of this program in some rounds of a work. */
+static double counted(const char *program, const char *what, int n, int rounds)
+{
+    char command[512], line[512];
+    double count = 0;
+    snprintf(command, sizeof command, "valgrind --tool=callgrind --callgrind-out-file=/dev/null '%s' %s %d %d 2>&1", program, what, n, rounds);
+    FILE *told = popen(command, "r");
+    while (told && fgets(line, sizeof line, told)) {
+        char *collected = strstr(line, "Collected : ");
+        if (collected) count = strtod(collected + strlen("Collected : "), NULL);
+    }
+    if (!told || pclose(told) || !count) { puts("callgrind failed"); exit(1); }
+    return count;
+}
+
+/* Instructions of one call, by the difference of two runs. */
+static double instructions(const char *program, const char *what, int n)
+{
+    enum { ROUNDS = 10000 };
+    return (counted(program, what, n, 2 * ROUNDS) - counted(program, what, n, ROUNDS)) / ROUNDS;
+}
+
 int main(int count, char **words)
 {
-    if (count > 1) {
-        static struct bytes b;
-        int n = atoi(words[1]);
-        uint32_t gids[2] = {50, 60};
-        plain_list(&b, n);
-        for (int i = 0, rounds = count > 2 ? atoi(words[2]) : 3000000; i < rounds; i++) sink += meardwyn_posix_check(b.at, b.length, 1, 2, 3000 + i % (n + 5), gids, 2, 4);
+    if (count == 4) {
+        work(words[1], atoi(words[2]), atoi(words[3]));
         return 0;
     }
     printf("| entries | ours, from bytes ns | by hand, validated ns | by hand, trusted ns | acl_copy_int, acl_valid, check ns | acl_from_text, acl_valid, check ns | check of an acl_t kept ns |\n"
            "|---|---|---|---|---|---|---|\n");
     times(3), times(5), times(8), times(9), times(16), times(64);
+    printf("\n| entries translated | entries put | ours, from bytes ns |\n|---|---|---|\n");
+    translation(3), translation(8), translation(64);
+    if (system("valgrind --version > /dev/null 2>&1")) {
+        puts("\nno valgrind: instructions aren't counted");
+        return 0;
+    }
+    printf("\n| entries | ours, instructions | by hand, validated, instructions | translated, instructions |\n|---|---|---|---|\n");
+    for (int i = 0; i < 3; i++) {
+        int n = (int[]){3, 8, 64}[i];
+        printf("| %d | %.0f | %.0f | %.0f |\n", n, instructions(words[0], "ours", n), instructions(words[0], "hand", n), instructions(words[0], "nfs4", n));
+    }
     return 0;
 }

@@ -27,7 +27,7 @@ static void add(struct bytes *b, int tag, uint32_t id, int perms)
 }
 
 /* A valid list in canonical order, of n entries: 3, or at least 5. Ids are below 3 * n + 1. */
-static void random_list(struct bytes *b, int n)
+static inline void random_list(struct bytes *b, int n)
 {
     uint32_t none = UINT32_MAX, id = 0;
     int named = n > 4 ? n - 4 : 0, users = named ? (int)below(named + 1) : 0;
@@ -49,7 +49,7 @@ static void swap_entries(struct bytes *b, int i, int j)
     memcpy(b->at + 4 + 8 * j, kept, 8);
 }
 
-static void shuffle(struct bytes *b)
+static inline void shuffle(struct bytes *b)
 {
     int n = (b->length - 4) / 8;
     for (int i = n - 1; i > 0; i--) swap_entries(b, i, below(i + 1));

@@ -12,11 +12,15 @@ from pathlib import Path
 from small_checkout import TOP, VERSION, SmallCheckout
 
 NAME = f"aclctl-{VERSION}-x86_64-linux"
+LIBRARY = f"meardwyn-{VERSION}-x86_64-linux"
 # The time of the commit, which is none of those at which files are made.
 SECONDS = 1_700_000_000
 PLACES = ("bin/aclctl", "bin/aclctl-host-setup", "share/man/man1/aclctl.1")
 PLACES += ("share/bash-completion/completions/aclctl", "share/zsh/site-functions/_aclctl")
 BESIDE = ("LICENSE-APACHE", "LICENSE-MIT", "README.md")
+# Of the C library, without the manual pages of its calls.
+PARTS = ("include/meardwyn.h", "lib/libmeardwyn.a", "lib/libmeardwyn.so.1")
+PARTS += ("lib/pkgconfig/meardwyn.pc", "share/man/man3/meardwyn.3")
 
 
 class Release(unittest.TestCase):
@@ -53,7 +57,8 @@ class Release(unittest.TestCase):
         self.assertEqual([*self.out.glob("*.tar.gz"), *self.out.glob("SHA256SUMS")], [])
 
     def test_the_archive_has_what_is_installed_and_a_checksum(self):
-        made = [str(self.out / it) for it in (f"{NAME}.tar.gz", "SHA256SUMS")]
+        made = [f"{NAME}.tar.gz", f"{LIBRARY}.tar.gz", "SHA256SUMS"]
+        made = [str(self.out / it) for it in made]
         self.assertEqual(self.release(), (0, made, []))
         with tarfile.open(made[0]) as tar:
             entries = tar.getmembers()
@@ -69,20 +74,41 @@ class Release(unittest.TestCase):
             self.assertEqual((it.uid, it.gid, it.uname, it.gname), (0, 0, "root", "root"))
             self.assertEqual(it.mtime, SECONDS)
         ran = self.checkout.run("sh", "-c", "cd out && sha256sum -c SHA256SUMS")
-        self.assertEqual((ran.returncode, ran.stdout), (0, f"{NAME}.tar.gz: OK\n"))
+        sums = "".join(f"{it}.tar.gz: OK\n" for it in (NAME, LIBRARY))
+        self.assertEqual((ran.returncode, ran.stdout), (0, sums))
+
+    def test_the_librarys_archive_may_be_unpacked_anywhere(self):
+        self.assertEqual(self.release()[0], 0)
+        with tarfile.open(self.out / f"{LIBRARY}.tar.gz") as tar:
+            entries = {it.name.removeprefix(f"{LIBRARY}/"): it for it in tar.getmembers()}
+            config = tar.extractfile(f"{LIBRARY}/lib/pkgconfig/meardwyn.pc").read().decode()
+        files = {it for it in entries if entries[it].isfile() and "/meardwyn_" not in it}
+        self.assertEqual(files, {*PARTS, *BESIDE})
+        self.assertTrue(entries["share/man/man3/meardwyn_posix_check.3"].isfile())
+        link = entries["lib/libmeardwyn.so"]
+        self.assertEqual((link.issym(), link.linkname), (True, "libmeardwyn.so.1"))
+        self.assertEqual(config.splitlines()[0], "prefix=${pcfiledir}/../..")
+        self.assertNotIn(str(self.room), config)
+
+    def test_a_library_that_cannot_be_built_is_not_released(self):
+        (self.checkout.top / "scripts/build-capi").write_text("#!/bin/sh\nexit 1\n")
+        self.commit()
+        self.refused("scripts/release: there is nothing to release")
 
     def test_the_bytes_are_the_same_each_time(self):
         self.release()
-        first = (self.out / f"{NAME}.tar.gz").read_bytes()
+        archives = [self.out / f"{it}.tar.gz" for it in (NAME, LIBRARY)]
+        first = [it.read_bytes() for it in archives]
         shutil.rmtree(self.out)
         shutil.rmtree(self.checkout.program.parent)
         later = self.checkout.top / "docs/aclctl.1"
         later.touch()
         self.assertEqual(self.release()[0], 0)
-        second = (self.out / f"{NAME}.tar.gz").read_bytes()
-        self.assertEqual(hashlib.sha256(first).hexdigest(), hashlib.sha256(second).hexdigest())
-        # No name and no time in the head of the compressed file.
-        self.assertEqual(first[3:8], bytes(5))
+        for before, path in zip(first, archives):
+            now = path.read_bytes()
+            self.assertEqual(hashlib.sha256(before).hexdigest(), hashlib.sha256(now).hexdigest())
+            # No name and no time in the head of the compressed file.
+            self.assertEqual(before[3:8], bytes(5))
 
     def test_a_checkout_that_is_not_its_commit_is_refused(self):
         for name in ("README.md", "crates/aclctl/src/more.rt"):

@@ -5,3 +5,4 @@ pub mod RangeLemmas
 pub mod FirstLemmas
 pub mod ResultLemmas
 pub mod PlaceLemmas
+pub mod FrontLemmas

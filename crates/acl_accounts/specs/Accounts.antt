@@ -8,8 +8,10 @@ use Rattle.std.specs.Ordering.{nat_cmp}
 use Rattle.acl_names.specs.Ascending.{IsAscending}
 use Rattle.acl_names.specs.Bytes.{comma}
 use Rattle.acl_names.specs.Ids.{Written, Number, Name}
+use Rattle.acl_names.specs.Names.{Names}
 use Rattle.acl_names.specs.Pieces.{parts}
 use Rattle.acl_names.specs.Requester.{Identity}
+use Rattle.acl_accounts.specs.Names.{written_account}
 use Rattle.acl_accounts.specs.Rows.{Rows, UserRow, GroupRow, rows_of}
 use Rattle.acl_accounts.specs.declared.fault.AccountsFault.{AccountsFault}
 use Rattle.acl_accounts.specs.declared.fault.AccountsFault.TheVariants.{TooMany}
@@ -88,6 +90,11 @@ uid_of accounts name = option_map (λ user. user.uid) (account_named accounts na
 
 abbrev pub gid_of : KnownAccounts → List ℕ → Option ℕ
 gid_of accounts name = option_map (λ group. group.gid) (group_named accounts name)
+
+-- how getfacl writes them, and who is meant
+abbrev pub names_of : KnownAccounts → Names
+names_of accounts =
+    record { written = written_account; uid = uid_of accounts; gid = gid_of accounts }
 
 -- the names of ids: of those who share one, the first in the order of names
 abbrev pub user_name : KnownAccounts → ℕ → Option (List ℕ)

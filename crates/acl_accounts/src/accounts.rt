@@ -25,7 +25,8 @@ use crate::places::{find_by_id, places_by_id};
 use crate::requesters::requesters_of;
 use crate::rows::{GroupRow, Rows, UserRow, read_rows};
 use crate::written::WrittenAccount;
-use acl_names::{Gid, Requester, Uid};
+use acl_names::{Gid, NameFault, Requester, ResolveNames, Uid, read_decimal_until};
+use arrayvec::ArrayVec;
 use std::alloc::{AllocError, Global};
 use std::collections::HashMap;
 use std::marker::Model;
@@ -232,6 +233,37 @@ impl Accounts {
             Some(group) => Some(group.name()),
             None => None,
         }
+    }
+}
+
+/// By names as getfacl writes them.
+impl ResolveNames for Accounts {
+    ghost use Rattle.acl_accounts.specs.Accounts.{names_of};
+
+    ghost names = { names_of };
+
+    fn uid_written(&self, text: &[u8]) -> Result<Uid, NameFault> {
+        let mut room = ArrayVec::new();
+        let written = WrittenAccount::read(text, &mut room).ok_or(NameFault::Malformed)?;
+        self.uid(written).ok_or(NameFault::Unknown)
+    }
+
+    fn gid_written(&self, text: &[u8]) -> Result<Gid, NameFault> {
+        let mut room = ArrayVec::new();
+        let written = WrittenAccount::read(text, &mut room).ok_or(NameFault::Malformed)?;
+        self.gid(written).ok_or(NameFault::Unknown)
+    }
+
+    fn uid_in_front<'t>(&self, text: &'t [u8]) -> Option<(Uid, &'t [u8])> {
+        let (number, rest) = read_decimal_until(b':', text)?;
+        let uid = Uid::new(number)?;
+        Some((uid, rest))
+    }
+
+    fn gid_in_front<'t>(&self, text: &'t [u8]) -> Option<(Gid, &'t [u8])> {
+        let (number, rest) = read_decimal_until(b':', text)?;
+        let gid = Gid::new(number)?;
+        Some((gid, rest))
     }
 }
 

@@ -2,6 +2,7 @@
 
 ghost use Rattle.std.specs.Prelude.{◌≡◌, ◌<◌, ◌∷◌, [], false, length, option_map};
 ghost use Rattle.std.specs.Prelude.{MatchOption, IsTrue, IfSome, if◌then◌else◌};
+ghost use Rattle.std.specs.Bool.{MatchBool};
 ghost use Rattle.std.specs.Char.{is_ascii_digit};
 ghost use Rattle.std.specs.List.{list_all, list_any};
 ghost use Rattle.acl_names.specs.Ids.{Number, decimal_value};
@@ -9,7 +10,10 @@ ghost use Rattle.acl_names.specs.Pushing.{Pushes};
 ghost use Rattle.acl_accounts.specs.Names.{backslash, is_octal, is_quoted, named, octal};
 ghost use Rattle.acl_accounts.specs.Names.{octal_value, quoted, quoted_byte, splits, unquoted};
 ghost use Rattle.acl_accounts.specs.Names.{written_account};
+ghost use Rattle.acl_accounts.specs.declared.limits.TheConstants.{MAX_ACCOUNT_NAME};
 
+use crate::limits::MAX_ACCOUNT_NAME;
+use arrayvec::ArrayVec;
 use std::alloc::AllocError;
 
 /// Appends a name as getfacl writes it: a blank, a tab, a newline, a carriage return, `:`, `,` and
@@ -65,17 +69,21 @@ pub fn octal(byte: u8) -> [u8; 4]
     ]
 }
 
-/// Appends what a text writes, which is undone of its octal digits. If memory runs out, what `out`
-/// held still stands in front.
-pub(crate) fn push_unquoted(text: &[u8], out: &mut Vec<u8>) -> Result<(), AllocError>
-    ensures { Pushes (unquoted text.now) result out.old out.new }
+/// Puts what a text writes, which is undone of its octal digits, in place of what stood in `room`.
+/// False if it has more bytes than a name.
+pub(crate) fn unquote(text: &[u8], room: &mut ArrayVec<u8, MAX_ACCOUNT_NAME>) -> bool
+    ensures { MatchBool result (room.new.items ≡ unquoted text.now)
+        (MAX_ACCOUNT_NAME < length (unquoted text.now)) }
 {
+    room.clear();
     let mut rest = text;
     while let Some((byte, behind)) = first_unquoted(rest) {
-        out.push(byte)?;
+        if room.try_push(byte).is_err() {
+            return false;
+        }
         rest = behind;
     }
-    Ok(())
+    true
 }
 
 /// The first byte that a text writes, and what stands behind it.

@@ -1,6 +1,6 @@
 //! Accounts as they are written: by an id, or by a name.
 
-ghost use Rattle.std.specs.Prelude.{◌≡◌, ◌==◌, ◌||◌, false, IfOk, IsOk, option_map};
+ghost use Rattle.std.specs.Prelude.{◌≡◌, ◌==◌, ◌||◌, option_map};
 ghost use Rattle.std.specs.Bool.{OnFalse};
 ghost use Rattle.std.specs.List.{list_all, list_any};
 ghost use Rattle.std.specs.Char.{is_ascii_digit};
@@ -10,9 +10,9 @@ ghost use Rattle.acl_names.specs.Bytes.{colon, newline};
 ghost use Rattle.acl_accounts.specs.Views.{view_written};
 
 use crate::limits::MAX_ACCOUNT_NAME;
-use crate::quoting::push_unquoted;
+use crate::quoting::unquote;
 use acl_names::read_decimal;
-use std::alloc::AllocError;
+use arrayvec::ArrayVec;
 
 /// A user or a group as it is written, whether or not there is one.
 #[derive(Clone, Copy, Debug)]
@@ -26,28 +26,27 @@ pub enum WrittenAccount<'a> {
 impl<'a> WrittenAccount<'a> {
     /// What a text writes: all digits an id, if it is one, and anything else a name, in which `\`
     /// and three octal digits are a byte. `None` if the id is out of range, or the name has no
-    /// byte, more than `MAX_ACCOUNT_NAME`, or a `:` or a newline. A text without `\` takes no
-    /// memory; what another writes goes into `room`, in place of what stood there.
+    /// byte, more than `MAX_ACCOUNT_NAME`, or a `:` or a newline. A name that is written with a
+    /// `\` stands in `room`, in place of what stood there.
     pub fn read(
         text: &'a [u8],
-        room: &'a mut Vec<u8>,
-    ) -> Result<Option<WrittenAccount<'a>>, AllocError>
-        ensures written { IfOk result (λ read. option_map view_written read
-            ≡ written_account text.now) }
-        ensures plain { list_any (λ byte. byte == backslash) text.now ≡ false → IsOk result }
+        room: &'a mut ArrayVec<u8, MAX_ACCOUNT_NAME>,
+    ) -> Option<WrittenAccount<'a>>
+        ensures { option_map view_written result ≡ written_account text.now }
     {
         if are_digits(text) {
             return match read_decimal(text) {
-                Some(number) => Ok(Some(WrittenAccount::Number(number))),
-                None => Ok(None),
+                Some(number) => Some(WrittenAccount::Number(number)),
+                None => None,
             };
         }
         if !has_backslash(text) {
-            return Ok(read_name(text));
+            return read_name(text);
         }
-        room.clear();
-        push_unquoted(text, room)?;
-        Ok(read_name(room.as_slice()))
+        if !unquote(text, room) {
+            return None;
+        }
+        read_name(room.as_slice())
     }
 }
 

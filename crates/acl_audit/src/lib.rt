@@ -19,8 +19,11 @@ pub use impact::{Impact, impact_at, impact_of, impact_on, requesters_of};
 pub use laws::{dump_laws, impact_laws, letter_laws, saved_laws};
 pub use letters::effective;
 pub use reach::{
-    both, letters_of_each, places_of_those_who_may, push_letters_of_each, push_those_at, reaches,
-    way_in, which_may,
+    both, is_set, letters_at, letters_of_each, places_of_those_who_may, push_letters_of_each,
+    push_those_at, reaches, way_in, which_may,
 };
 pub use saved::push_saved;
-pub use who::{push_letters, push_letters_on, push_those_on, push_those_who_may};
+pub use who::{
+    push_letters, push_letters_line, push_letters_on, push_may_line, push_those_on,
+    push_those_who_may,
+};

@@ -101,14 +101,14 @@ fn mark_in_both(mark: bool, other: &[bool], place: usize) -> bool
 }
 
 /// Whether the place is set.
-fn is_set(marks: &[bool], place: usize) -> bool
+pub fn is_set(marks: &[bool], place: usize) -> bool
     ensures { result ≡ is_set marks.now place }
 {
     marks.get(place).copied().unwrap_or(false)
 }
 
 /// The letters at a place, if it is one of those that are set.
-fn letters_at(letters: &[Perms], reach: &[bool], place: usize) -> Perms
+pub fn letters_at(letters: &[Perms], reach: &[bool], place: usize) -> Perms
     ensures { bits_of result ≡ letters_at (map bits_of letters.now) reach.now place }
 {
     if is_set(reach, place) {
@@ -132,7 +132,7 @@ pub fn push_letters_of_each(
 {
     for (place, user) in users.iter().enumerate() {
         let perms = letters_at(letters, reach, place);
-        push_letters_line(path, user.name.as_str(), perms, out)?;
+        push_letters_line(path, user.name.as_bytes(), perms, out)?;
     }
     Ok(())
 }
@@ -152,7 +152,7 @@ fn push_may_line_at(
         return Ok(());
     }
     match users.get(place) {
-        Some(user) => push_may_line(path, user.name.as_str(), out),
+        Some(user) => push_may_line(path, user.name.as_bytes(), out),
         None => Ok(()),
     }
 }

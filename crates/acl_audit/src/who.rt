@@ -17,9 +17,9 @@ use bitflags::Flags;
 use std::alloc::{AllocError, Global};
 
 /// Appends the line that says which letters a user has.
-pub(crate) fn push_letters_line(
+pub fn push_letters_line(
     path: &[u8],
-    name: &str,
+    name: &[u8],
     perms: Perms,
     out: &mut Vec<u8>,
 ) -> Result<(), AllocError>
@@ -28,7 +28,7 @@ pub(crate) fn push_letters_line(
 {
     push_perms(perms, out)?;
     out.push(b' ')?;
-    out.extend_from_slice(name.as_bytes())?;
+    out.extend_from_slice(name)?;
     out.push(b' ')?;
     out.extend_from_slice(path)?;
     out.push(b'\n')?;
@@ -36,10 +36,10 @@ pub(crate) fn push_letters_line(
 }
 
 /// Appends the line that says that a user may.
-pub(crate) fn push_may_line(path: &[u8], name: &str, out: &mut Vec<u8>) -> Result<(), AllocError>
+pub fn push_may_line(path: &[u8], name: &[u8], out: &mut Vec<u8>) -> Result<(), AllocError>
     ensures { OnOk result (out.new.items ≡ out.old.items ++ may_line path.now name.now) }
 {
-    out.extend_from_slice(name.as_bytes())?;
+    out.extend_from_slice(name)?;
     out.push(b' ')?;
     out.extend_from_slice(path)?;
     out.push(b'\n')?;
@@ -81,7 +81,7 @@ pub fn push_letters(
 {
     for user in users {
         let perms = letters_of(alloc, directory, node, user.uid);
-        push_letters_line(path, user.name.as_str(), perms, out)?;
+        push_letters_line(path, user.name.as_bytes(), perms, out)?;
     }
     Ok(())
 }
@@ -102,7 +102,7 @@ pub fn push_those_who_may(
 {
     for user in users {
         if user_may(alloc, directory, node, user.uid, perms) {
-            push_may_line(path, user.name.as_str(), out)?;
+            push_may_line(path, user.name.as_bytes(), out)?;
         }
     }
     Ok(())
@@ -149,7 +149,7 @@ pub fn push_letters_on(
 {
     for user in users {
         let perms = letters_on(alloc, directory, way, node, user.uid);
-        push_letters_line(path, user.name.as_str(), perms, out)?;
+        push_letters_line(path, user.name.as_bytes(), perms, out)?;
     }
     Ok(())
 }
@@ -174,7 +174,7 @@ pub fn push_those_on(
         if user_may(alloc, directory, node, user.uid, perms)
             && user_reaches(alloc, directory, way, user.uid)
         {
-            push_may_line(path, user.name.as_str(), out)?;
+            push_may_line(path, user.name.as_bytes(), out)?;
         }
     }
     Ok(())

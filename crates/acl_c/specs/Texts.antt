@@ -1,5 +1,5 @@
 -- What calls put for a text.
-use Rattle.std.specs.Prelude.{◌≡◌, ◌⊎◌, ℕ, ℤ, List, Err, Ok}
+use Rattle.std.specs.Prelude.{◌≡◌, ◌⊎◌, ℕ, ℤ, List}
 use Rattle.acl_names.specs.Directory.{Known}
 use Rattle.acl_names.specs.ListText.{Spells}
 use Rattle.acl_names.specs.Pieces.{pieces}
@@ -9,14 +9,12 @@ use Rattle.acl_nfs4.specs.ReadFault.{IsTextFault}
 use Rattle.acl_nfs4.specs.declared.acl.AceFault.{AceFault}
 use Rattle.acl_nfs4.specs.declared.limits.TheConstants.{MAX_ACES}
 use Rattle.acl_posix.specs.AclText.{acl_of}
-use Rattle.acl_posix.specs.Entry.{EntryValue}
-use Rattle.acl_posix.specs.declared.acl_text.AclFault.{AclFault}
 use Rattle.acl_wire.specs.RawAcesWriting.{raws_of}
 use Rattle.acl_wire.specs.Text.{IsNobody}
 use Rattle.acl_wire.specs.Xattr.{xattr_of}
 use Rattle.acl_wire.specs.declared.raw_ace.RawAce.{RawAce}
 use Rattle.acl_c.specs.Answers.{Puts, PutsAnswer, PutsNothing}
-use Rattle.acl_c.specs.Status.{ace_fault_number, out_of_memory, text_number}
+use Rattle.acl_c.specs.Status.{ace_fault_number, text_number}
 
 abbrev pub itself : List ℕ → List ℕ
 itself text = text

@@ -1,6 +1,10 @@
 //! Lists compared for everybody.
 
+ghost use Rattle.std.specs.Prelude.{◌≢◌, ◌≤◌, length};
 ghost use Rattle.acl_c.specs.Compared.{TellsDifference, TellsUnlike};
+ghost use Rattle.acl_c.specs.Status.{out_of_memory};
+ghost use Rattle.acl_nfs4.specs.declared.limits.TheConstants.{INLINE_ACES};
+ghost use Rattle.acl_wire.specs.Posix.{IsShort};
 
 use crate::status::{nfs4_error_number, posix_error_number};
 use acl_wire::{RawAce, RawAsker, RawDifference, raws_difference, xattr_difference};
@@ -20,8 +24,9 @@ pub extern "C" fn meardwyn_posix_compare(
     request: u32,
     who: &mut RawAsker,
 ) -> i32
-    ensures { TellsUnlike first.now owner group second.now other_owner other_group request result
-        who.old who.new }
+    ensures value { TellsUnlike first.now owner group second.now other_owner other_group request
+        result who.old who.new }
+    ensures short { IsShort first.now → IsShort second.now → result ≢ out_of_memory }
 {
     match xattr_difference(
         alloc,
@@ -55,8 +60,10 @@ pub extern "C" fn meardwyn_nfs4_compare(
     bits: u32,
     difference: &mut RawDifference,
 ) -> i32
-    ensures { TellsDifference first.now owner group second.now other_owner other_group bits result
-        difference.old difference.new }
+    ensures value { TellsDifference first.now owner group second.now other_owner other_group bits
+        result difference.old difference.new }
+    ensures short { length first.now ≤ INLINE_ACES → length second.now ≤ INLINE_ACES
+        → result ≢ out_of_memory }
 {
     match raws_difference(
         alloc,

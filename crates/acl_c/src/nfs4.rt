@@ -1,6 +1,6 @@
 //! Calls on NFSv4 lists, as entries of numbers.
 
-ghost use Rattle.std.specs.Prelude.{◌≢◌, ◌≤◌, length};
+ghost use Rattle.std.specs.Prelude.{◌≢◌, ◌≤◌, IfOk, length};
 ghost use Rattle.acl_c.specs.Answers.{PutsAnswer, Tells, TellsAllowed, TellsWhether};
 ghost use Rattle.acl_c.specs.Answers.{mode_number, zero_number};
 ghost use Rattle.acl_c.specs.Status.{nfs4_number, out_of_memory};
@@ -10,7 +10,7 @@ ghost use Rattle.acl_nfs4.specs.declared.limits.TheConstants.{INLINE_ACES};
 ghost use Rattle.acl_wire.specs.Nfs4.{asked, chmod_of, inherited_of};
 ghost use Rattle.acl_wire.specs.RawAces.{list_of};
 ghost use Rattle.acl_wire.specs.RawAcesWriting.{raws_of};
-ghost use Rattle.acl_wire.specs.Xdr.{xdr_list_of};
+ghost use Rattle.acl_wire.specs.Xdr.{AnnouncesFew, xdr_list_of};
 ghost use Rattle.acl_wire.specs.XdrWriting.{raws_xdr_of};
 ghost use Rattle.acl_c.specs.Texts.{itself};
 
@@ -102,8 +102,11 @@ pub extern "C" fn meardwyn_nfs4_chmod(
     out: &mut [RawAce],
     needed: &mut usize,
 ) -> i32
-    ensures { PutsAnswer nfs4_number raws_of (chmod_of aces.now mode) result out.old out.new
+    ensures value { PutsAnswer nfs4_number raws_of (chmod_of aces.now mode) result out.old out.new
         needed.old needed.new }
+    ensures short { length aces.now ≤ INLINE_ACES
+        → IfOk (chmod_of aces.now mode) (λ list. length list ≤ INLINE_ACES)
+        → result ≢ out_of_memory }
 {
     match raws_with_mode(alloc, aces, mode) {
         Ok(acl) => put_raw_aces(&acl, out, needed),
@@ -120,8 +123,9 @@ pub extern "C" fn meardwyn_nfs4_inherit(
     out: &mut [RawAce],
     needed: &mut usize,
 ) -> i32
-    ensures { PutsAnswer nfs4_number raws_of (inherited_of aces.now is_dir) result out.old out.new
-        needed.old needed.new }
+    ensures value { PutsAnswer nfs4_number raws_of (inherited_of aces.now is_dir) result out.old
+        out.new needed.old needed.new }
+    ensures short { length aces.now ≤ INLINE_ACES → result ≢ out_of_memory }
 {
     match raws_inherited(alloc, aces, is_dir) {
         Ok(acl) => put_raw_aces(&acl, out, needed),
@@ -137,8 +141,9 @@ pub extern "C" fn meardwyn_nfs4_from_xdr(
     out: &mut [RawAce],
     needed: &mut usize,
 ) -> i32
-    ensures { PutsAnswer nfs4_number raws_of (xdr_list_of xdr.now) result out.old out.new needed.old
-        needed.new }
+    ensures value { PutsAnswer nfs4_number raws_of (xdr_list_of xdr.now) result out.old out.new
+        needed.old needed.new }
+    ensures short { AnnouncesFew xdr.now → result ≢ out_of_memory }
 {
     match acl4_of_xdr(alloc, xdr) {
         Ok(acl) => put_raw_aces(&acl, out, needed),

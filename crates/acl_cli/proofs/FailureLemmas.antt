@@ -1,12 +1,13 @@
 -- Failures, by their kinds.
-use Rattle.std.proofs.Common.{◌≡◌, ◌≤◌, ◌∙◌, ◌&&◌, Bool, false, true, ap, Result, Err, arith, inl, inr, subst, sym}
+use Rattle.std.proofs.Common.{◌≡◌, ◌≢◌, ◌≤◌, ◌⊎◌, ◌∙◌, ◌&&◌, [], ℕ, Bool, false, true, ap, List, Result, Err, arith, inl, inr, refl, subst, sym}
 use Rattle.std.proofs.lemmas.Bool.{true≢false}
 use Rattle.clap.specs.Words.{HasKind, IsAmong, Kinds, kind_of}
 use Rattle.clap.specs.declared.error.Error.{Error}
+use Rattle.clap.specs.declared.error.kind.ErrorKind.{ErrorKind}
 use Rattle.clap.specs.declared.error.kind.ErrorKind.TheVariants.{OutOfMemory}
-use Rattle.acl_cli.specs.Failures.{AsksForHelp, BecomesFailure, Explains, IsRefusal, is_help, status_of}
+use Rattle.acl_cli.specs.Failures.{AsksForHelp, BecomesFailure, Explains, IsRefusal, IsUnexplained, is_help, status_of}
 use Rattle.acl_cli.specs.declared.failure.Failure.{Failure}
-use Rattle.acl_cli.specs.declared.failure.Failure.TheVariants.{BadWords, CannotRead, Field, InputTwice, Lacks, LineTooLong, NoCommand, TooManyWords, Unread, Usage}
+use Rattle.acl_cli.specs.declared.failure.Failure.TheVariants.{Accounts, BadWords, CannotRead, Field, InputTwice, Lacks, LineTooLong, Mismatch, NoCommand, Setup, TooManySessions, TooManyWords, Unread, Usage}
 use Rattle.acl_cli.specs.declared.field_fault.FieldFault.{FieldFault}
 use Rattle.acl_cli.specs.declared.run_fault.RunFault.TheVariants.{Memory, NoThread, Output, Stopped}
 
@@ -20,6 +21,10 @@ Explains-as reading other turned (Lacks Stopped) is = absurd is
 Explains-as reading other turned (Lacks NoThread) is = absurd is
 Explains-as reading other turned (Usage error) is = absurd is
 Explains-as reading other turned InputTwice is = absurd is
+Explains-as reading other turned (Mismatch mismatch) is = absurd is
+Explains-as reading other turned TooManySessions is = absurd is
+Explains-as reading other turned (Setup error) is = absurd is
+Explains-as reading other turned (Accounts name fault) is = absurd is
 Explains-as reading other turned (CannotRead name reason) is = absurd is
 Explains-as reading other turned LineTooLong is = absurd is
 Explains-as reading other turned (Unread name) is = absurd is
@@ -33,6 +38,10 @@ bounds (Field fault) = (omega arith, omega arith)
 bounds (Lacks lack) = (omega arith, omega arith)
 bounds (Usage error) = (omega arith, omega arith)
 bounds InputTwice = (omega arith, omega arith)
+bounds (Mismatch mismatch) = (omega arith, omega arith)
+bounds TooManySessions = (omega arith, omega arith)
+bounds (Setup error) = (omega arith, omega arith)
+bounds (Accounts name fault) = (omega arith, omega arith)
 bounds (CannotRead name reason) = (omega arith, omega arith)
 bounds LineTooLong = (omega arith, omega arith)
 bounds (Unread name) = (omega arith, omega arith)
@@ -61,9 +70,76 @@ refusal_of helps kinds error (Lacks Stopped) has no_help becomes = absurd become
 refusal_of helps kinds error (Lacks NoThread) has no_help becomes = absurd becomes
 refusal_of helps kinds error (Field fault) has no_help becomes = absurd becomes
 refusal_of helps kinds error InputTwice has no_help becomes = absurd becomes
+refusal_of helps kinds error (Mismatch mismatch) has no_help becomes = absurd becomes
+refusal_of helps kinds error TooManySessions has no_help becomes = absurd becomes
+refusal_of helps kinds error (Setup fault) has no_help becomes = absurd becomes
+refusal_of helps kinds error (Accounts name fault) has no_help becomes = absurd becomes
 refusal_of helps kinds error (CannotRead name reason) has no_help becomes = absurd becomes
 refusal_of helps kinds error LineTooLong has no_help becomes = absurd becomes
 refusal_of helps kinds error (Unread name) has no_help becomes = absurd becomes
 refusal_of helps kinds error NoCommand has no_help becomes = absurd becomes
 refusal_of helps kinds error BadWords has no_help becomes = absurd becomes
 refusal_of helps kinds error TooManyWords has no_help becomes = absurd becomes
+
+-- what can't be read for one name can't be for another that it is
+pub IsUnexplained-as : (IsName IsOther : List ℕ → Type 0) → ((name : List ℕ) → IsName name → IsOther name) → (failure : Failure) → IsUnexplained IsName failure → IsUnexplained IsOther failure
+IsUnexplained-as IsName IsOther as_other (CannotRead refused reason) (is, unknown) = (as_other refused.now is, unknown)
+IsUnexplained-as IsName IsOther as_other (Lacks Memory) is = tt
+IsUnexplained-as IsName IsOther as_other (Lacks Output) is = absurd is
+IsUnexplained-as IsName IsOther as_other (Lacks Stopped) is = absurd is
+IsUnexplained-as IsName IsOther as_other (Lacks NoThread) is = absurd is
+IsUnexplained-as IsName IsOther as_other (Usage error) is = absurd is
+IsUnexplained-as IsName IsOther as_other (Field fault) is = absurd is
+IsUnexplained-as IsName IsOther as_other (Mismatch mismatch) is = absurd is
+IsUnexplained-as IsName IsOther as_other InputTwice is = absurd is
+IsUnexplained-as IsName IsOther as_other TooManySessions is = absurd is
+IsUnexplained-as IsName IsOther as_other (Setup error) is = absurd is
+IsUnexplained-as IsName IsOther as_other (Accounts name fault) is = absurd is
+IsUnexplained-as IsName IsOther as_other LineTooLong is = absurd is
+IsUnexplained-as IsName IsOther as_other (Unread name) is = absurd is
+IsUnexplained-as IsName IsOther as_other NoCommand is = absurd is
+IsUnexplained-as IsName IsOther as_other BadWords is = absurd is
+IsUnexplained-as IsName IsOther as_other TooManyWords is = absurd is
+
+-- what can't be read isn't wrong usage
+pub unexplained_not_two : (IsName : List ℕ → Type 0) (failure : Failure) → IsUnexplained IsName failure → status_of failure ≢ 2
+unexplained_not_two IsName (Usage error) is two = absurd is
+unexplained_not_two IsName (Field fault) is two = absurd is
+unexplained_not_two IsName (Mismatch mismatch) is two = absurd is
+unexplained_not_two IsName InputTwice is two = absurd is
+unexplained_not_two IsName TooManySessions is two = absurd is
+unexplained_not_two IsName (CannotRead name reason) is two = absurd (omega (arith, two))
+unexplained_not_two IsName (Setup error) is two = absurd is
+unexplained_not_two IsName (Accounts name fault) is two = absurd is
+unexplained_not_two IsName LineTooLong is two = absurd is
+unexplained_not_two IsName (Unread name) is two = absurd is
+unexplained_not_two IsName (Lacks Memory) is two = absurd (omega (arith, two))
+unexplained_not_two IsName (Lacks Output) is two = absurd is
+unexplained_not_two IsName (Lacks Stopped) is two = absurd is
+unexplained_not_two IsName (Lacks NoThread) is two = absurd is
+unexplained_not_two IsName NoCommand is two = absurd is
+unexplained_not_two IsName BadWords is two = absurd is
+unexplained_not_two IsName TooManyWords is two = absurd is
+
+not_among : (kinds : Kinds) (kind : ErrorKind) → IsAmong kind kinds → ¬ (kinds ≡ [])
+not_among kinds kind among none = subst (IsAmong kind) none among
+
+-- a refusal of the words is wrong usage, of words that aren't taken, or a lack
+pub refusal_status : (helps : Bool) (kinds : Kinds) (failure : Failure) → IsRefusal helps kinds failure → (status_of failure ≡ 3) ⊎ ((status_of failure ≡ 2) × (¬ (kinds ≡ [])))
+refusal_status helps kinds (Usage error) (among, other) = inr (refl, not_among kinds (kind_of error) among)
+refusal_status helps kinds (Field fault) is = absurd is
+refusal_status helps kinds (Mismatch mismatch) is = absurd is
+refusal_status helps kinds InputTwice is = absurd is
+refusal_status helps kinds TooManySessions is = absurd is
+refusal_status helps kinds (CannotRead name reason) is = absurd is
+refusal_status helps kinds (Setup error) is = absurd is
+refusal_status helps kinds (Accounts name fault) is = absurd is
+refusal_status helps kinds LineTooLong is = absurd is
+refusal_status helps kinds (Unread name) is = absurd is
+refusal_status helps kinds (Lacks Memory) is = inl refl
+refusal_status helps kinds (Lacks Output) is = inl refl
+refusal_status helps kinds (Lacks Stopped) is = absurd is
+refusal_status helps kinds (Lacks NoThread) is = absurd is
+refusal_status helps kinds NoCommand is = absurd is
+refusal_status helps kinds BadWords is = absurd is
+refusal_status helps kinds TooManyWords is = absurd is

@@ -4,6 +4,7 @@ pub mod LineLemmas
 pub mod CommandLemmas
 pub mod MeaningLemmas
 pub mod FailureLemmas
+pub mod SessionFileLemmas
 pub mod PiecesLemmas
 pub mod TellingLemmas
 pub mod CommandsLemmas

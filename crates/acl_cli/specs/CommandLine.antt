@@ -1,7 +1,7 @@
 -- The rules of command lines, and which words a line takes.
 use Rattle.std.specs.Prelude.{◌≡◌, List, [], Some, true}
 use Rattle.clap.specs.Words.{App, Rule, Text, fault_of, new_rule}
-use Rattle.clap.specs.declared.builder.action.ArgAction.TheVariants.{SetTrue}
+use Rattle.clap.specs.declared.builder.action.ArgAction.TheVariants.{Append, SetTrue}
 
 -- `--name VALUE`, which may be given; and which must be
 abbrev pub optional_option : Text → Rule
@@ -9,6 +9,10 @@ optional_option name = record (new_rule name) { long = Some name; value_names = 
 
 abbrev pub required_option : Text → Rule
 required_option name = record (optional_option name) { required = true }
+
+-- the same, which may be given any number of times
+abbrev pub repeated_option : Text → Rule
+repeated_option name = record (optional_option name) { action = Some Append }
 
 -- `--name` alone, which may be given
 abbrev pub flag : Text → Rule

@@ -6,6 +6,7 @@ pub mod RunFaults
 pub mod Faults
 pub mod Failures
 pub mod Fields
+pub mod SessionFiles
 pub mod Meaning
 pub mod Commands
 pub mod Telling

@@ -1,8 +1,9 @@
 //! Standard error: where faults are told.
 ghost use Rattle.std.specs.Prelude.{◌≡◌, ◌++◌, false};
-ghost use Rattle.acl_cli.specs.ErrorOutput.{Tells, line_of_words};
+ghost use Rattle.acl_cli.specs.ErrorOutput.{Tells, line_of_words, placed_words};
 
 use super::output::write_text;
+use itoa::Buffer;
 use std::fmt::Display;
 use std::io::Write;
 use std::marker::Model;
@@ -71,6 +72,19 @@ impl<W: Write + Drop> ErrorOutput<W> {
         self.write_text(words.as_bytes());
         self.write_text(name.as_bytes());
         self.write_text(reason.as_bytes());
+        self.write_text(b"\n");
+    }
+
+    /// Writes the line of a fault at a line of what has this name.
+    pub fn write_placed(&mut self, name: &str, line: usize, words: &str)
+        ensures { Tells (line_of_words (name.now ++ placed_words line words.now)) self.old self.new }
+    {
+        self.write_text(b"aclctl: ");
+        self.write_text(name.as_bytes());
+        self.write_text(b":");
+        self.write_text(Buffer::new().format(line).as_bytes());
+        self.write_text(b": ");
+        self.write_text(words.as_bytes());
         self.write_text(b"\n");
     }
 

@@ -17,6 +17,10 @@ pub enum FieldFault {
     BadStyle,
     /// An entry has an effect neither where it stands nor below.
     InheritOnly,
+    /// No user has this name.
+    UnknownUser,
+    /// uid 0 isn't asked about.
+    RootUser,
 }
 
 impl FieldFault {
@@ -33,6 +37,8 @@ impl FieldFault {
             FieldFault::Acl(fault) => fault.word(),
             FieldFault::BadStyle => "bad-style",
             FieldFault::InheritOnly => "inherit-only",
+            FieldFault::UnknownUser => "unknown-name",
+            FieldFault::RootUser => "root",
         }
     }
 }

@@ -1,8 +1,8 @@
 //! The bytes of a reader, up to a limit.
-ghost use Rattle.std.specs.Prelude.{◌≡◌, ◌+◌, ◌<◌, ◌≤◌, length, vec_len, IfErr, IfOk, IfSome};
+ghost use Rattle.std.specs.Prelude.{◌≡◌, ◌≢◌, ◌+◌, ◌<◌, ◌≤◌, length, vec_len, IfErr, IfOk, IfSome};
 ghost use Rattle.std.specs.Prelude.{IsErrOf, OnOk};
 ghost use Rattle.std.specs.Io.KnownBytes.{IsAtEnd};
-ghost use Rattle.acl_cli.specs.Failures.{IsReadFailure};
+ghost use Rattle.acl_cli.specs.Failures.{IsReadFailure, IsUnexplained, status_of};
 ghost use Rattle.acl_cli.specs.Input.{ConsumesAtMost};
 
 use crate::{Failure, OpenFiles, Reason, RunFault};
@@ -68,7 +68,9 @@ pub fn read_named<'a, R: Read>(
     ensures capped { IfOk result (λ bytes. vec_len bytes ≤ cap) }
     ensures whole { IfOk result (λ bytes. IfSome (R.remaining reader.old)
         (λ told. bytes.items ≡ told)) }
+    ensures usage { IfErr result (λ failure. status_of failure ≢ 2) }
     ensures refused { IfErr result (IsReadFailure name.entry.now) }
+    ensures unexplained { IfErr result (IsUnexplained (λ refused. refused ≡ name.entry.now)) }
 {
     match read_capped(alloc, reader, cap) {
         Ok(bytes) => Ok(bytes),

@@ -2,7 +2,7 @@
 ghost use Rattle.std.specs.Prelude.{◌≡◌, codes, false};
 ghost use Rattle.clap.specs.Words.{rule_of};
 ghost use Rattle.acl_cli.specs.CommandLine.{flag, optional_option, required_option};
-ghost use Rattle.acl_cli.specs.CommandLine.{optional_word, required_word};
+ghost use Rattle.acl_cli.specs.CommandLine.{optional_word, repeated_option, required_word};
 
 use clap::{Arg, ArgAction};
 use std::alloc::Global;
@@ -89,6 +89,14 @@ pub fn optional_option<'a>(alloc: Global, name: &'a str, value: &'a str, help: &
         .long(name)
         .value_name(value)
         .help(help)
+}
+
+/// An option that may be given any number of times, with what help calls its value.
+pub fn repeated_option<'a>(alloc: Global, name: &'a str, value: &'a str, help: &'a str) -> Arg<'a>
+    ensures rule { rule_of result ≡ repeated_option name.entry.now }
+    ensures local { result.global ≡ false }
+{
+    optional_option(alloc, name, value, help).action(ArgAction::Append)
 }
 
 /// An option without a value.

@@ -6,6 +6,7 @@ ghost use Rattle.acl_cli.specs.ErrorOutput.{Tells as GoesTo};
 ghost use Rattle.acl_cli.specs.Failures.{failed_write};
 ghost use Rattle.acl_cli.specs.Output.{AppendsFront};
 ghost use Rattle.acl_cli.specs.Telling.{LeadsOn};
+ghost use Rattle.acl_cli.specs.declared.command.Ending.{Ending};
 ghost use Rattle.acl_cli.specs.declared.failure.Failure.{Failure as FailureValue};
 
 use crate::{ErrorOutput, Failure, RunFault, send_full, write_text};
@@ -20,6 +21,9 @@ pub trait Telling<'n> {
     /// The texts are what is told of the first things from here on.
     ghost Begins: { Self → List ℕ → List ℕ → Type 0 };
 
+    /// What is told from here on ends so.
+    ghost Ends: { Self → Ending → Type 0 };
+
     /// It may fail so.
     ghost Fails: { Self → FailureValue → Type 0 };
 
@@ -30,6 +34,7 @@ pub trait Telling<'n> {
         out: &mut Vec<u8>,
         beside: &mut Vec<u8>,
     ) -> Result<bool, Failure<'n>>
+        requires { Begins self.old [] [] }
         ensures told { IfOk result (λ some. MatchBool some
             ((more : List ℕ) × (others : List ℕ) × (out.new.items ≡ out.old.items ++ more)
             × (beside.new.items ≡ beside.old.items ++ others)
@@ -37,6 +42,8 @@ pub trait Telling<'n> {
             × LeadsOn (Begins self.old) (Begins self.new) more others × Begins self.new [] [])
             ((out.new.items ≡ out.old.items) × (beside.new.items ≡ beside.old.items)
             × Tells self.old [] [])) }
+        ensures ends { OnOk result ((ending : Ending) → Ends self.new ending
+            → Ends self.old ending) }
         ensures failed { IfErr result (Fails self.old) }
         ensures stays { (failure : FailureValue) → Fails self.new failure → Fails self.old failure };
 }
@@ -56,6 +63,9 @@ pub fn tell_each<'n, T: Telling<'n>, W: Write, E: Write + Drop>(
     ensures cut { OnErr result ((text : List ℕ) × (said : List ℕ) × T.Begins telling.old text said
         × AppendsFront (W.contents out.old) (W.contents out.new) text
         × GoesTo said err.old err.new) }
+    // How it ends is seen where it has ended.
+    ensures ends { OnOk result ((ending : Ending) → T.Ends telling.new ending
+        → T.Ends telling.old ending) }
     ensures failed { IfErr result (λ failure. T.Fails telling.old failure
         ⊎ (failure ≡ failed_write)) }
 {

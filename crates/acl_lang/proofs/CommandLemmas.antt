@@ -11,6 +11,7 @@ use Rattle.acl_names.specs.Bytes.{digit_0, newline, space}
 use Rattle.acl_names.specs.Directory.{Known, uid_of}
 use Rattle.acl_names.specs.Letters.{letters_text, HasBitsOf}
 use Rattle.acl_names.specs.ListText.{Spells}
+use Rattle.acl_names.specs.Names.{names_of}
 use Rattle.acl_names.specs.Pieces.{after_word, first_word, lines_of, parts, pieces, trim, without_empty_last}
 use Rattle.acl_names.specs.Steps.{or_fault}
 use Rattle.acl_names.specs.declared.limits.TheConstants.{MAX_ID}
@@ -29,7 +30,7 @@ use Rattle.acl_nfs4.proofs.RoundTrip as aces_again
 use Rattle.acl_posix.specs.AclText.{SpellsAcl}
 use Rattle.acl_posix.specs.Canonical.{IsAcl}
 use Rattle.acl_posix.specs.Entry.{EntryValue}
-use Rattle.acl_posix.specs.EntryText.{entry_of}
+use Rattle.acl_posix.specs.EntryText.{entry_by, entry_of}
 use Rattle.acl_posix.specs.Mode.{Classes, AreClasses}
 use Rattle.acl_posix.specs.ModeText.{is_octal}
 use Rattle.acl_posix.specs.Perms.{bits_of, IsPermissions}
@@ -84,7 +85,7 @@ mask_field-again : (mask : Mask) → HasBitsOf mask_table (mask_bits mask) → m
 mask_field-again mask has = rw (letters_again mask_table (mask_bits mask) mask_table_is has) refl
 
 acl_again : (known : Known) (acl : List EntryValue) → IsAcl acl → NameIds acl → SpellsAcl known (short_text acl) acl
-acl_again known acl is ids = spells_itself known (short_text acl) acl is (short_spells known acl ids is.permissions is.within)
+acl_again known acl is ids = spells_itself (names_of known) (short_text acl) acl is (short_spells known acl ids is.permissions is.within)
 
 aces_field-again : (known : Known) (aces : List Nfsace4) → AreAces aces → NameIdsOfAces aces → Spells (piece_value known) MAX_ACES (aces_field aces) aces
 aces_field-again known [] are ids = record { said = refl; within = are.within }
@@ -92,7 +93,7 @@ aces_field-again known (ace ∷ more) are ids = aces_again.short_spells known (a
 
 -- `none` is no list
 none_is_none : (known : Known) (acl : List EntryValue) → Spells (entry_of known) MAX_ENTRIES (codes "none") acl → ⊥
-unfolding entry_of
+unfolding entry_by
 none_is_none known [] spells = let said : map (entry_of known) (pieces (codes "none")) ≡ [] = spells.said in cc
 none_is_none known (entry ∷ more) spells = let said : map (entry_of known) (pieces (codes "none")) ≡ map Ok (entry ∷ more) = spells.said in cc
 

@@ -5,6 +5,7 @@ use Rattle.acl_names.proofs.ReadListLemmas.{spelt-read}
 use Rattle.acl_names.proofs.StepLemmas.{bind_ok, if_then, map_fault-ok}
 use Rattle.acl_names.specs.Directory.{Known}
 use Rattle.acl_names.specs.ListText.{Spells}
+use Rattle.acl_names.specs.Names.{names_of}
 use Rattle.acl_names.specs.Pieces.{after_word, first_word, pieces}
 use Rattle.acl_names.specs.Steps.{◌>>=◌, map_fault}
 use Rattle.acl_nfs4.specs.Ace.{Nfsace4}
@@ -59,10 +60,10 @@ module _ (known : Known) where
       spelt-read (piece_value known) (λ piece. as_ace (piece_value known piece)) TooMany MAX_ACES text (λ piece ace. as_ace-ok (piece_value known piece) ace)
 
   acl_of-ok : (text : List ℕ) (acl : List EntryValue) → acl_of known text ≡ Ok acl → SpellsAcl known text acl
-  acl_of-ok text acl is = posix.acl_of-ok known text acl (map_fault-ok acl_line_fault (posix_acl_of known (pieces text)) acl is)
+  acl_of-ok text acl is = posix.acl_of-ok (names_of known) text acl (map_fault-ok acl_line_fault (posix_acl_of known (pieces text)) acl is)
 
   acl_of-spelt : (text : List ℕ) (acl : List EntryValue) → SpellsAcl known text acl → acl_of known text ≡ Ok acl
-  acl_of-spelt text acl spells = ap (map_fault acl_line_fault) (posix.acl_of-spelt known text acl spells)
+  acl_of-spelt text acl spells = ap (map_fault acl_line_fault) (posix.acl_of-spelt (names_of known) text acl spells)
 
   default_of-ok : (text : List ℕ) (default : Option (List EntryValue)) → default_of known text ≡ Ok default → SpellsDefault known text default
   default_of-ok text default is =

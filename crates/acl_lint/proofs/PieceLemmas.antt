@@ -178,13 +178,13 @@ module _ (known : Known) (kind text : List ℕ) (fault : LineFault) where
 
     -- the entries that the text spells, as the line has them
     abbrev entries_read : Asked (List EntryValue)
-    entries_read = map_fault acl_line_fault (entries_of known (pieces text))
+    entries_read = map_fault acl_line_fault (entries_of (entry_of known) (pieces text))
 
     -- a fault of a piece comes of the pieces
     of_entries : bytes_eq kind (codes "nfs4") ≡ false → entries_read ≡ Err fault → IsSomeAnd (unread_of_kind known kind text) (IsFirstAtFault known kind text fault)
     of_entries posix is =
         let told : at_most_read TooMany MAX_ENTRIES (λ piece. as_entry (entry_of known piece)) (pieces text) ≡ Err fault =
-        sym (at_most_read-map_fault acl_line_fault (entry_in known) acl.TooMany MAX_ENTRIES (pieces text)) ∙ is in
+        sym (at_most_read-map_fault acl_line_fault (entry_in (entry_of known)) acl.TooMany MAX_ENTRIES (pieces text)) ∙ is in
         let most = most_fault (entry_of known) as_entry entry_oks entry_errs MAX_ENTRIES (pieces text) fault told (other TooMany refl) in
         subst (λ (b : Bool). IsSomeAnd (cond b (unread_in (piece_value known) MAX_ACES text) (unread_in (entry_of known) MAX_ENTRIES text)) (IsFirstAtFault known kind text fault))
         (sym posix)
@@ -217,7 +217,7 @@ module _ (known : Known) (kind text : List ℕ) (fault : LineFault) where
 
         of_path : (b : Bool) → request_of (cond b (Ok path) (Err BadPath) >>= (λ path. acl_of known text >>= (λ acl. Ok (SetAccess path acl)))) ≡ Bad fault
             → entries_read ≡ Err fault
-        of_path true is = accepted_fault (entries_of known (pieces text)) (of_acl (acl_of known text) is)
+        of_path true is = accepted_fault (entries_of (entry_of known) (pieces text)) (of_acl (acl_of known text) is)
         of_path false is = absurd (other BadPath refl (cc))
 
     default_fault : (path : List ℕ) → request_of (set_default known path text) ≡ Bad fault → entries_read ≡ Err fault
@@ -234,7 +234,7 @@ module _ (known : Known) (kind text : List ℕ) (fault : LineFault) where
 
         of_none : (b : Bool) → cond b (Ok None) (acl_of known text >>= (λ acl. Ok (Some acl))) ≡ Err fault → entries_read ≡ Err fault
         of_none true is = cc
-        of_none false is = accepted_fault (entries_of known (pieces text)) (of_acl (acl_of known text) is)
+        of_none false is = accepted_fault (entries_of (entry_of known) (pieces text)) (of_acl (acl_of known text) is)
 
         of_path : (b : Bool) → request_of (cond b (Ok path) (Err BadPath) >>= (λ path. default_of known text >>= (λ default. Ok (SetDefault path default)))) ≡ Bad fault
             → entries_read ≡ Err fault

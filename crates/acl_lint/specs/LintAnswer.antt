@@ -10,8 +10,9 @@ use Rattle.acl_cli.specs.CommandLine.{Takes}
 use Rattle.acl_cli.specs.ErrorOutput.{SaysFault}
 use Rattle.acl_cli.specs.Meaning.{Meaning}
 use Rattle.acl_setup.specs.Opened.{Opens}
-use Rattle.acl_service.specs.RunWords.{CanRun, HasBytes, HaveBytes, input_count, sessions_in}
-use Rattle.acl_service.specs.RunWords.{setup_in}
+use Rattle.acl_service.specs.RunWords.{CanRun, sessions_in}
+use Rattle.acl_cli.specs.SessionFiles.{HasBytes, HaveBytes, input_count}
+use Rattle.acl_cli.specs.SessionFiles.{setup_in}
 use Rattle.acl_setup.specs.SetupFaults.{setup_error_words}
 use Rattle.acl_setup.specs.Opened.{IsRefusedBy}
 use Rattle.acl_setup.specs.declared.fault.SetupError.{SetupError}

@@ -8,7 +8,8 @@ use Rattle.acl_cli.specs.RunFaults.{run_line, run_status}
 use Rattle.acl_cli.specs.declared.run_fault.RunFault.{RunFault}
 use Rattle.acl_cli.specs.declared.run_fault.RunFault.TheVariants as run
 use Rattle.acl_service.specs.FilesFaults.{IsFilesFault, files_line, files_status}
-use Rattle.acl_service.specs.RunWords.{CanRun, sessions_in, setup_in}
+use Rattle.acl_service.specs.RunWords.{CanRun, sessions_in}
+use Rattle.acl_cli.specs.SessionFiles.{setup_in}
 use Rattle.acl_service.specs.declared.files.fault.FilesFault.{FilesFault}
 use Rattle.acl_lint.specs.LintLine.{lint_line}
 use Rattle.acl_lint.specs.declared.fault.LintFault.{LintFault}

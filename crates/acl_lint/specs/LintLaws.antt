@@ -8,6 +8,7 @@ use Rattle.acl_names.specs.Pieces.{after_word, first_word, pieces, trim}
 use Rattle.acl_names.specs.Steps.{map_fault}
 use Rattle.acl_nfs4.specs.AceText.{piece_value}
 use Rattle.acl_posix.specs.AclText.{entry_in}
+use Rattle.acl_posix.specs.EntryText.{entry_of}
 use Rattle.acl_lang.specs.Fields.{as_ace}
 use Rattle.acl_lang.specs.Lines.{line_of}
 use Rattle.acl_lang.specs.Refusals.{Asked, acl_line_fault}
@@ -52,7 +53,7 @@ fault_of (Err fault) = Some fault
 abbrev pub fault_of_piece : Known → List ℕ → List ℕ → Option LineFault
 fault_of_piece known kind piece = if bytes_eq kind (codes "nfs4")
     then fault_of (as_ace (piece_value known piece))
-    else fault_of (map_fault acl_line_fault (entry_in known piece))
+    else fault_of (map_fault acl_line_fault (entry_in (entry_of known) piece))
 
 -- a piece of TEXT has the fault, and those before it read
 pub record IsFirstAtFault (known : Known) (kind text : List ℕ) (fault : LineFault) (piece : Piece) :

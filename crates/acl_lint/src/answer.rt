@@ -5,7 +5,8 @@ ghost use Rattle.std.specs.Io.KnownBytes.{Appends, Keeps};
 ghost use Rattle.clap.specs.Words.{found_of, rows_of};
 ghost use Rattle.acl_lang.specs.declared.limits.TheConstants.{MAX_TEXT_LEN};
 ghost use Rattle.acl_cli.specs.Output.{AppendsFront};
-ghost use Rattle.acl_service.specs.RunWords.{input_count, sessions_in};
+ghost use Rattle.acl_service.specs.RunWords.{sessions_in};
+ghost use Rattle.acl_cli.specs.SessionFiles.{input_count};
 ghost use Rattle.acl_lint.specs.LintAnswer.{AnswersRows, IsLint};
 ghost use Rattle.acl_lint.specs.LintFaults.{IsLack, IsRowsFault, lint_status};
 

@@ -48,7 +48,7 @@ fn unread_of_kind<'t>(directory: &Directory, kind: &[u8], text: &'t [u8]) -> Opt
     if kind == b"nfs4".as_slice() {
         first_unread(&AceReader { directory }, MAX_ACES as u32, text)
     } else {
-        first_unread(&EntryReader { directory }, MAX_ENTRIES as u32, text)
+        first_unread(&EntryReader { names: directory }, MAX_ENTRIES as u32, text)
     }
 }
 

@@ -3,22 +3,56 @@ use Rattle.std.proofs.Common.{◌≡◌, ℕ, ◌==◌, ◌||◌, Bool, true, fa
 use Rattle.std.specs.List.{All, list_any, onto_first}
 use Rattle.std.proofs.lemmas.List.Elements.{All-nil, All-cons, All-head, All-tail}
 use Rattle.std.proofs.lemmas.List.Splits.{slice_split_at}
-use Rattle.std.specs.Prelude.{Result}
+use Rattle.std.specs.Prelude.{Ok, Option, Some}
 use Rattle.acl_names.specs.Bytes.{newline}
 use Rattle.acl_names.specs.Pieces.{content, parts, pieces, pieces_of_content}
-use Rattle.acl_names.specs.Steps.{map_fault}
-use Rattle.acl_posix.specs.AclText as posix
-use Rattle.acl_posix.specs.declared.acl_text.AclFault.{AclFault}
-use Rattle.acl_posix.specs.declared.acl_text.ReadAclFault.{ReadAclFault}
-use Rattle.acl_posix.specs.declared.acl_text.ReadAclFault.TheVariants as read
-use Rattle.acl_listings.specs.Access.{access_pieces, is_default}
-use Rattle.acl_listings.specs.Faults.{ReadsAs, acl_fault}
+use Rattle.acl_names.specs.ListText.{Spells}
+use Rattle.acl_names.specs.Names.{Names}
+use Rattle.acl_names.specs.Steps.{◌>>=◌, map_fault}
+use Rattle.acl_names.proofs.ReadListLemmas.{read-fault, read-many}
+use Rattle.acl_posix.specs.AclText.{entry_in, piece_fault}
+use Rattle.acl_posix.specs.Entry.{EntryValue}
+use Rattle.acl_posix.specs.EntryText.{entry_by}
+use Rattle.acl_posix.specs.ReadFault.{IsFaultBy}
+use Rattle.acl_posix.specs.Validity.{IsRefusedFor, fault_of}
+use Rattle.acl_posix.specs.declared.acl.Invalid.{Invalid}
+use Rattle.acl_posix.specs.declared.acl.Invalid.TheVariants as invalid
+use Rattle.acl_posix.specs.declared.acl_text.AclFault.TheVariants.{TooMany}
+use Rattle.acl_posix.specs.declared.entries.TextFault.{TextFault}
+use Rattle.acl_posix.specs.declared.entries.TextFault.TheVariants as text
+use Rattle.acl_posix.specs.declared.limits.TheConstants.{MAX_ENTRIES}
+use Rattle.acl_posix.proofs.AclTextLemmas.{entries_of-spelt}
+use Rattle.acl_listings.specs.Access.{access_pieces, acl_by, is_default, list_of}
+use Rattle.acl_listings.specs.Faults.{ReadsAs, entries_fault, fault_of_entries}
+use Rattle.acl_listings.specs.Rules.{missing_of}
 use Rattle.acl_listings.specs.declared.fault.BlockFault.TheVariants.{Acl}
 
--- a call that reads no list refuses the block for what it tells of the text
-pub Reads-acl : {A : Type 0} (spelt : Result A AclFault) (fault : ReadAclFault) → posix.ReadsAs spelt (Err fault) → ReadsAs (map_fault (λ fault. Acl fault) spelt) (Err (acl_fault fault))
-Reads-acl spelt (read.Acl fault) is = ap (map_fault (λ fault. Acl fault)) is
-Reads-acl spelt read.Memory is = tt
+entry_said : (names : Names) (piece : List ℕ) (entry : EntryValue) → entry_by names piece ≡ Ok entry → entry_in (entry_by names) piece ≡ Ok entry
+entry_said names piece entry is = ap (map_fault piece_fault) is
+
+-- a text whose entries are refused is refused for them
+pub unread : (names : Names) (words : List ℕ) (fault : TextFault) → IsFaultBy names words fault → ReadsAs (acl_by names (pieces words)) (Err (entries_fault fault))
+unread names words text.Syntax is =
+    rw (read-fault (entry_by names) (entry_in (entry_by names)) TooMany MAX_ENTRIES words (entry_said names) _ _ is (λ piece is. ap (map_fault piece_fault) is)) refl
+unread names words text.UnknownName is =
+    rw (read-fault (entry_by names) (entry_in (entry_by names)) TooMany MAX_ENTRIES words (entry_said names) _ _ is (λ piece is. ap (map_fault piece_fault) is)) refl
+unread names words text.TooMany is = rw (read-many (entry_by names) (entry_in (entry_by names)) TooMany MAX_ENTRIES words (entry_said names) is) refl
+unread names words text.Memory is = tt
+
+-- what is read of a text whose entries are read: their list, if they are one
+pub listed : (names : Names) (words : List ℕ) (entries : List EntryValue) (fault : Option Invalid) → Spells (entry_by names) MAX_ENTRIES words entries → fault_of entries ≡ fault
+    → acl_by names (pieces words) ≡ list_of fault entries
+listed names words entries fault spelt is =
+    ap (λ found. map_fault (λ fault. Acl fault) found >>= (λ entries. list_of (fault_of entries) entries)) (entries_of-spelt names words entries spelt)
+    ∙ ap (λ fault. list_of fault entries) is
+
+-- and else the rule that they break
+pub unlisted : (names : Names) (words : List ℕ) (entries : List EntryValue) → Spells (entry_by names) MAX_ENTRIES words entries
+    → (fault : Invalid) → IsRefusedFor entries fault → ReadsAs (acl_by names (pieces words)) (Err (fault_of_entries (missing_of entries) fault))
+unlisted names words entries spelt invalid.Missing is = listed names words entries (Some invalid.Missing) spelt is
+unlisted names words entries spelt invalid.Repeated is = listed names words entries (Some invalid.Repeated) spelt is
+unlisted names words entries spelt invalid.NoMask is = listed names words entries (Some invalid.NoMask) spelt is
+unlisted names words entries spelt invalid.Memory is = tt
 
 -- the pieces of a line
 abbrev pub line_pieces : List ℕ → List (List ℕ)
@@ -40,7 +74,7 @@ nothing_passed_over (line ∷ lines) none = by_first (is_default line) none (not
 pub pieces-whole : (list : List ℕ) → list_any is_default (parts newline list) ≡ false → pieces list ≡ access_pieces list
 pieces-whole list none = ap (flat_map line_pieces) (sym (nothing_passed_over (parts newline list) none))
 
-abbrev LacksNewline : List ℕ → Type 0
+abbrev pub LacksNewline : List ℕ → Type 0
 LacksNewline line = All (λ byte. (byte == newline) ≡ false) line
 
 -- no part has a newline

@@ -1,18 +1,17 @@
 -- Two blocks that are alike behind their first lines say files that are alike but for their paths.
 use Rattle.std.proofs.Common.{◌≡◌, ◌∙◌, ◌≤◌, ℕ, Bool, true, false, cond, nat_le, List, length, Option, Some, None, Result, Ok, Err, ap, arith, codes, option_and_then, sym}
 use Rattle.std.proofs.lemmas.Bool.Decides.{nat_tests}
-use Rattle.acl_names.specs.Directory.{Known, gid_of, uid_of}
-use Rattle.acl_names.specs.Ids.{Written, id_of_written}
+use Rattle.acl_names.specs.Names.{Names}
 use Rattle.acl_names.specs.Steps.{◌>>=◌, or_fault}
 use Rattle.acl_names.proofs.StepLemmas.{bind_ok, given, some_from_cond}
-use Rattle.acl_listings.specs.Access.{access_of}
-use Rattle.acl_listings.specs.Block.{FileValue, file_of, path_of, within_limit}
-use Rattle.acl_listings.specs.Header.{Header, as_header, header_of, id_of, path_in}
+use Rattle.acl_listings.specs.Access.{access_by}
+use Rattle.acl_listings.specs.Block.{FileValue, file_by, owners_by, path_of, within_limit}
+use Rattle.acl_listings.specs.Header.{Header, after_prefix, as_header, header_of, path_in}
 use Rattle.acl_listings.specs.Lines.{after_line, first_line}
 use Rattle.acl_listings.specs.declared.fault.BlockFault.{BlockFault}
-use Rattle.acl_listings.specs.declared.fault.BlockFault.TheVariants.{TooLong, BadHeader, UnknownOwner, UnknownGroup}
+use Rattle.acl_listings.specs.declared.fault.BlockFault.TheVariants.{TooLong, BadHeader}
 use Rattle.acl_listings.specs.declared.limits.TheConstants.{MAX_BLOCK}
-use Rattle.acl_listings.proofs.HandedLemmas.{from_access, from_block, from_group, from_header, from_owner}
+use Rattle.acl_listings.proofs.HandedLemmas.{from_access, from_block, from_header, from_ids}
 
 abbrev header_at : List ℕ → Header → Header
 header_at path header = record { path = path; owner = header.owner; group = header.group; list = header.list }
@@ -28,7 +27,7 @@ abbrev said_at : List ℕ → Result FileValue BlockFault → Result FileValue B
 said_at path (Ok file) = Ok (file_at path file)
 said_at path (Err fault) = Err fault
 
-other_path : (path : Option (List ℕ)) (other : List ℕ) (owner group : Option Written) (list : List ℕ) (header : Header) → as_header path owner group list ≡ Some header
+other_path : (path : Option (List ℕ)) (other : List ℕ) (owner group : Option (List ℕ)) (list : List ℕ) (header : Header) → as_header path owner group list ≡ Some header
     → as_header (Some other) owner group list ≡ Some (header_at other header)
 other_path (Some path) other (Some owner) (Some group) list header is = ap (found_at other) is
 other_path (Some path) other (Some owner) None list header is = cc
@@ -40,7 +39,7 @@ other_path None other None None list header is = cc
 
 -- the header that lines behind the first make with a path
 abbrev behind : Option (List ℕ) → List ℕ → Option Header
-behind path lines = as_header path (id_of (codes "# owner: ") (first_line lines)) (id_of (codes "# group: ") (first_line (after_line lines))) (after_line (after_line lines))
+behind path lines = as_header path (after_prefix (codes "# owner: ") (first_line lines)) (after_prefix (codes "# group: ") (first_line (after_line lines))) (after_line (after_line lines))
 
 path_read : (text path : List ℕ) → path_of text ≡ Some path → path_in (first_line text) ≡ Some path
 path_read text path is = by (nat_le (length (first_line text)) MAX_BLOCK) is
@@ -49,23 +48,21 @@ path_read text path is = by (nat_le (length (first_line text)) MAX_BLOCK) is
     by true is = is
     by false is = cc
 
-pub file_of-alike : (known : Known) (one other : List ℕ) (file : FileValue) (path : List ℕ) → after_line one ≡ after_line other → length other ≤ MAX_BLOCK → path_of other ≡ Some path
-    → file_of known one ≡ Ok file → file_of known other ≡ Ok (file_at path file)
-file_of-alike known one other file path same short is_at is =
-    let (block, taken, of_block) = bind_ok (or_fault TooLong (within_limit one)) (from_block known) file is in
+pub file_of-alike : (names : Names) (one other : List ℕ) (file : FileValue) (path : List ℕ) → after_line one ≡ after_line other → length other ≤ MAX_BLOCK → path_of other ≡ Some path
+    → file_by names one ≡ Ok file → file_by names other ≡ Ok (file_at path file)
+file_of-alike names one other file path same short is_at is =
+    let (block, taken, of_block) = bind_ok (or_fault TooLong (within_limit one)) (from_block names) file is in
     let (_, own) = some_from_cond (nat_le (length one) MAX_BLOCK) one block (given TooLong (within_limit one) block taken) in
-    let (header, read, of_header) = bind_ok (or_fault BadHeader (header_of block)) (from_header known) file of_block in
-    let (owner, its, of_owner) = bind_ok (or_fault UnknownOwner (id_of_written (uid_of known) header.owner)) (from_owner known header) file of_header in
-    let (group, theirs, of_group) = bind_ok (or_fault UnknownGroup (id_of_written (gid_of known) header.group)) (from_group known header owner) file of_owner in
-    let (access, listed, made) = bind_ok (access_of known header.list) (from_access header owner group) file of_group in
+    let (header, read, of_header) = bind_ok (or_fault BadHeader (header_of block)) (from_header names) file of_block in
+    let (ids, its, of_ids) = bind_ok (owners_by names header) (from_ids names header) file of_header in
+    let (access, listed, made) = bind_ok (access_by names header.list) (from_access header ids) file of_ids in
     let header_is : header_of one ≡ Some header = ap header_of own ∙ given BadHeader (header_of block) header read in
     let lines_is : behind (path_in (first_line one)) (after_line other) ≡ Some header = ap (behind (path_in (first_line one))) (sym same) ∙ header_is in
     let other_is : header_of other ≡ Some (header_at path header) =
     ap (λ found. behind found (after_line other)) (path_read other path is_at) ∙ other_path (path_in (first_line one)) path _ _ _ header lines_is in
     let fits : nat_le (length other) MAX_BLOCK ≡ true = grind (arith, nat_tests) in
-    ap (λ b. or_fault TooLong (cond b (Some other) None) >>= from_block known) fits
-    ∙ ap (λ found. or_fault BadHeader found >>= from_header known) other_is
-    ∙ ap (λ id. id >>= from_owner known (header_at path header)) its
-    ∙ ap (λ id. id >>= from_group known (header_at path header) owner) theirs
-    ∙ ap (λ list. list >>= from_access (header_at path header) owner group) listed
+    ap (λ b. or_fault TooLong (cond b (Some other) None) >>= from_block names) fits
+    ∙ ap (λ found. or_fault BadHeader found >>= from_header names) other_is
+    ∙ ap (λ ids. ids >>= from_ids names (header_at path header)) its
+    ∙ ap (λ list. list >>= from_access (header_at path header) ids) listed
     ∙ ap (said_at path) made

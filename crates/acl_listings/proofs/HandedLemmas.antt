@@ -3,15 +3,14 @@ use Rattle.std.proofs.Common.{◌≡◌, ℕ, ◌+◌, ◌<◌, false, cond, nat
 use Rattle.std.proofs.lemmas.Bool.{cases_lt}
 use Rattle.std.proofs.lemmas.Bool.Decides.{nat_tests}
 use Rattle.std.proofs.lemmas.List.{take_all}
-use Rattle.acl_names.specs.Directory.{Known, gid_of, uid_of}
-use Rattle.acl_names.specs.Ids.{id_of_written}
+use Rattle.acl_names.specs.Names.{Names}
 use Rattle.acl_names.specs.Steps.{◌>>=◌, or_fault}
 use Rattle.acl_posix.specs.Entry.{EntryValue}
-use Rattle.acl_listings.specs.Access.{access_of}
-use Rattle.acl_listings.specs.Block.{FileValue, file_of, path_of, within_limit}
+use Rattle.acl_listings.specs.Access.{access_by}
+use Rattle.acl_listings.specs.Block.{FileValue, file_by, owners_by, path_of, within_limit}
 use Rattle.acl_listings.specs.Header.{Header, header_of, path_in}
 use Rattle.acl_listings.specs.declared.fault.BlockFault.{BlockFault}
-use Rattle.acl_listings.specs.declared.fault.BlockFault.TheVariants.{TooLong, BadHeader, UnknownOwner, UnknownGroup}
+use Rattle.acl_listings.specs.declared.fault.BlockFault.TheVariants.{TooLong, BadHeader}
 use Rattle.acl_listings.specs.Lines.{first_line}
 use Rattle.acl_listings.specs.declared.limits.TheConstants.{MAX_BLOCK}
 use Rattle.acl_listings.proofs.LineLemmas.{first-front}
@@ -36,20 +35,17 @@ path-handed text =
 
 -- the steps of reading a block, each with what is known before it
 
-abbrev pub from_access : Header → ℕ → ℕ → List EntryValue → Result FileValue BlockFault
-from_access header owner group access = Ok (record { path = header.path; owner = owner; group = group; access = access })
+abbrev pub from_access : Header → ℕ × ℕ → List EntryValue → Result FileValue BlockFault
+from_access header ids access = Ok (record { path = header.path; owner = ids.0; group = ids.1; access = access })
 
-abbrev pub from_group : Known → Header → ℕ → ℕ → Result FileValue BlockFault
-from_group known header owner group = access_of known header.list >>= from_access header owner group
+abbrev pub from_ids : Names → Header → ℕ × ℕ → Result FileValue BlockFault
+from_ids names header ids = access_by names header.list >>= from_access header ids
 
-abbrev pub from_owner : Known → Header → ℕ → Result FileValue BlockFault
-from_owner known header owner = or_fault UnknownGroup (id_of_written (gid_of known) header.group) >>= from_group known header owner
+abbrev pub from_header : Names → Header → Result FileValue BlockFault
+from_header names header = owners_by names header >>= from_ids names header
 
-abbrev pub from_header : Known → Header → Result FileValue BlockFault
-from_header known header = or_fault UnknownOwner (id_of_written (uid_of known) header.owner) >>= from_owner known header
+abbrev pub from_block : Names → List ℕ → Result FileValue BlockFault
+from_block names block = or_fault BadHeader (header_of block) >>= from_header names
 
-abbrev pub from_block : Known → List ℕ → Result FileValue BlockFault
-from_block known block = or_fault BadHeader (header_of block) >>= from_header known
-
-pub file-handed : (known : Known) (text : List ℕ) → file_of known (take (MAX_BLOCK + 1) text) ≡ file_of known text
-file-handed known text = ap (λ limited. or_fault TooLong limited >>= from_block known) (limit-front text)
+pub file-handed : (names : Names) (text : List ℕ) → file_by names (take (MAX_BLOCK + 1) text) ≡ file_by names text
+file-handed names text = ap (λ limited. or_fault TooLong limited >>= from_block names) (limit-front text)

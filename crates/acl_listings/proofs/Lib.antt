@@ -10,3 +10,4 @@ pub mod PathLemmas
 pub mod PrintedLemmas
 pub mod AlikeLemmas
 pub mod WayLemmas
+pub mod FaultyLemmas

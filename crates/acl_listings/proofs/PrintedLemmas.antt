@@ -17,7 +17,13 @@ use Rattle.acl_names.proofs.AnyLemmas.{flat_map-append}
 use Rattle.acl_names.proofs.Fields.{field_plain, id_field}
 use Rattle.acl_names.proofs.IdTexts.{id_again}
 use Rattle.acl_names.proofs.PlainLines.{mark_lacks_newline, plain_lacks_newline}
-use Rattle.acl_posix.proofs.AclTextLemmas.{acl_of-again}
+use Rattle.acl_posix.proofs.AclTextLemmas.{entries_of-spelt}
+use Rattle.acl_posix.proofs.InOrderLemmas.{in_order-acl}
+use Rattle.acl_posix.proofs.ValidityLemmas.{valid_iff}
+use Rattle.acl_posix.specs.Validity.{fault_of}
+use Rattle.std.proofs.lemmas.List.Sorted.{IsPermutation-refl}
+use Rattle.acl_names.specs.Names.{names_of, resolved}
+use Rattle.acl_names.specs.declared.directory.resolve.NameFault.TheVariants.{Malformed, Unknown}
 use Rattle.acl_posix.proofs.RoundTrip.{IsLine, line_is, text_spells}
 use Rattle.acl_posix.specs.Canonical.{IsAcl}
 use Rattle.acl_posix.specs.Entry.{EntryValue, perms_of}
@@ -26,18 +32,18 @@ use Rattle.acl_posix.specs.PermsText.{perms_text}
 use Rattle.acl_posix.specs.declared.entry.Tag.{Tag}
 use Rattle.acl_posix.specs.declared.entry.Tag.TheVariants.{UserObj, User, GroupObj, Group, Mask, Other}
 use Rattle.acl_names.specs.Bytes.{colon}
-use Rattle.acl_listings.specs.Access.{access_of, access_pieces, acl_of, is_default}
-use Rattle.acl_listings.specs.Block.{FileValue, file_of, within_limit}
+use Rattle.acl_listings.specs.Access.{access_by, access_pieces, acl_by, is_default, list_of}
+use Rattle.acl_listings.specs.Block.{FileValue, file_of, owners_of, within_limit}
 use Rattle.acl_listings.specs.Extent.{HasFullLines, newlines_in}
-use Rattle.acl_listings.specs.Header.{Header, as_header, header_of, id_of, path_in}
+use Rattle.acl_listings.specs.Header.{Header, after_prefix, as_header, header_of, path_in}
 use Rattle.acl_listings.specs.Lines.{after_line, first_line}
 use Rattle.acl_listings.specs.Listing.{blocks_from}
 use Rattle.acl_listings.specs.Printed.{IsPrintable, block_text, line_text, listing_text}
-use Rattle.acl_listings.specs.declared.fault.BlockFault.TheVariants.{TooLong, BadHeader, UnknownOwner, UnknownGroup, Acl}
+use Rattle.acl_listings.specs.declared.fault.BlockFault.TheVariants.{TooLong, BadHeader, Acl}
 use Rattle.acl_listings.specs.declared.limits.TheConstants.{MAX_BLOCK}
 use Rattle.acl_listings.proofs.AccessLemmas.{ended, line_pieces, pieces-whole}
 use Rattle.acl_listings.proofs.ExtentLemmas.{LacksNewline, full-append, full-line, is_newline}
-use Rattle.acl_listings.proofs.HandedLemmas.{from_access, from_block, from_group, from_header, from_owner}
+use Rattle.acl_listings.proofs.HandedLemmas.{from_access, from_block, from_header, from_ids}
 use Rattle.acl_listings.proofs.LineLemmas.{after-of, first-of}
 use Rattle.acl_listings.proofs.ListingLemmas.{blocks-empty_line, blocks-first, parts-append}
 
@@ -125,7 +131,7 @@ no_default_line known mask (entry ∷ entries) =
 
 -- the access list of a block
 access_again : (known : Known) (mask : Option ℕ) (first : EntryValue) (more : List EntryValue) → NamesReadBack known → IsAcl (first ∷ more) → HaveIds (first ∷ more)
-    → access_of known (joined (map (entry_line known mask) (first ∷ more))) ≡ Ok (first ∷ more)
+    → access_by (names_of known) (joined (map (entry_line known mask) (first ∷ more))) ≡ Ok (first ∷ more)
 access_again known mask first more names is ids =
     let acl = first ∷ more in
     let lines = map (entry_line known mask) more in
@@ -135,24 +141,23 @@ access_again known mask first more names is ids =
     let same_pieces : access_pieces list ≡ pieces (effective_text known mask acl) =
     sym (pieces-whole list none) ∙ sym (pieces-ended list)
     ∙ ap pieces (sym (effective_lines known mask acl ∙ ended-joined (entry_line known mask first) lines)) in
-    ap (acl_of known) same_pieces
-    ∙ ap (map_fault (λ fault. Acl fault)) (acl_of-again known (effective_text known mask acl) acl is (text_spells known mask acl names ids is.permissions is.within))
+    let spelt = text_spells known mask acl names ids is.permissions is.within in
+    ap (acl_by (names_of known)) same_pieces
+    ∙ ap (λ found. map_fault (λ fault. Acl fault) found >>= (λ entries. list_of (fault_of entries) entries))
+    (entries_of-spelt (names_of known) (effective_text known mask acl) acl spelt)
+    ∙ ap (λ fault. list_of fault acl) ((valid_iff acl).0 is.valid)
+    ∙ ap Ok (in_order-acl acl acl is (IsPermutation-refl acl))
 
 -- the header of a block
 
--- what a text writes, and the id that this is
-record HasWritten (id_of_name : List ℕ → Option ℕ) (text : List ℕ) (id : ℕ) : Type 0 where
-  pub written : Written
-  pub is : written_id text ≡ Some written
-  pub names : id_of_written id_of_name written ≡ Some id
+-- what is printed of an id is resolved to that id
+resolved_by : (id_of : List ℕ → Option ℕ) (id : ℕ) (written : Option Written) → option_and_then (id_of_written id_of) written ≡ Some id
+    → (or_fault Malformed written >>= (λ w. or_fault Unknown (id_of_written id_of w))) ≡ Ok id
+resolved_by id_of id None is = cc
+resolved_by id_of id (Some written) is = ap (or_fault Unknown) is
 
-written_by : (id_of_name : List ℕ → Option ℕ) (text : List ℕ) (id : ℕ) (found : Option Written) → written_id text ≡ found → option_and_then (id_of_written id_of_name) found ≡ Some id
-    → HasWritten id_of_name text id
-written_by id_of_name text id None is names = cc
-written_by id_of_name text id (Some written) is names = record { written = written; is = is; names = names }
-
-has_written : (id_of_name : List ℕ → Option ℕ) (name_of : ℕ → Option (List ℕ)) (id : ℕ) → ReadBack id_of_name name_of → id ≤ MAX_ID → HasWritten id_of_name (id_text name_of id) id
-has_written id_of_name name_of id back small = written_by id_of_name (id_text name_of id) id (written_id (id_text name_of id)) refl (id_again id_of_name name_of id back small)
+resolved_again : (id_of : List ℕ → Option ℕ) (name_of : ℕ → Option (List ℕ)) (id : ℕ) → ReadBack id_of name_of → id ≤ MAX_ID → resolved written_id id_of (id_text name_of id) ≡ Ok id
+resolved_again id_of name_of id back small = resolved_by id_of id (written_id (id_text name_of id)) (id_again id_of name_of id back small)
 
 abbrev file_word : List ℕ
 file_word = codes "# file: "
@@ -167,30 +172,24 @@ path_again : (path : List ℕ) → 0 < length path → path_in (file_word ++ pat
 path_again [] some = absurd (omega arith)
 path_again (byte ∷ bytes) some = refl
 
-owner_again : (text : List ℕ) → id_of owner_word (owner_word ++ text) ≡ written_id text
-owner_again text = refl
-
-group_again : (text : List ℕ) → id_of group_word (group_word ++ text) ≡ written_id text
-group_again text = refl
-
 -- three lines, and a list behind them
 abbrev headed : List ℕ → List ℕ → List ℕ → List ℕ → List ℕ
 headed first second third list = first ++ newline ∷ (second ++ newline ∷ (third ++ newline ∷ list))
 
 header-headed : (first second third list : List ℕ) → LacksNewline first → LacksNewline second → LacksNewline third
-    → header_of (headed first second third list) ≡ as_header (path_in first) (id_of owner_word second) (id_of group_word third) list
+    → header_of (headed first second third list) ≡ as_header (path_in first) (after_prefix owner_word second) (after_prefix group_word third) list
 header-headed first second third list one two three =
     let rest = third ++ newline ∷ list in
     let behind = second ++ newline ∷ rest in
     let text = first ++ newline ∷ behind in
-    ap (λ line. as_header (path_in line) (id_of owner_word (first_line (after_line text)))
-    (id_of group_word (first_line (after_line (after_line text))))
+    ap (λ line. as_header (path_in line) (after_prefix owner_word (first_line (after_line text)))
+    (after_prefix group_word (first_line (after_line (after_line text))))
     (after_line (after_line (after_line text)))) (first-of first behind one)
-    ∙ ap (λ more. as_header (path_in first) (id_of owner_word (first_line more)) (id_of group_word (first_line (after_line more))) (after_line (after_line more))) (after-of first behind one)
-    ∙ ap (λ line. as_header (path_in first) (id_of owner_word line) (id_of group_word (first_line (after_line behind))) (after_line (after_line behind))) (first-of second rest two)
-    ∙ ap (λ more. as_header (path_in first) (id_of owner_word second) (id_of group_word (first_line more)) (after_line more)) (after-of second rest two)
-    ∙ ap (λ line. as_header (path_in first) (id_of owner_word second) (id_of group_word line) (after_line rest)) (first-of third list three)
-    ∙ ap (λ more. as_header (path_in first) (id_of owner_word second) (id_of group_word third) more) (after-of third list three)
+    ∙ ap (λ more. as_header (path_in first) (after_prefix owner_word (first_line more)) (after_prefix group_word (first_line (after_line more))) (after_line (after_line more))) (after-of first behind one)
+    ∙ ap (λ line. as_header (path_in first) (after_prefix owner_word line) (after_prefix group_word (first_line (after_line behind))) (after_line (after_line behind))) (first-of second rest two)
+    ∙ ap (λ more. as_header (path_in first) (after_prefix owner_word second) (after_prefix group_word (first_line more)) (after_line more)) (after-of second rest two)
+    ∙ ap (λ line. as_header (path_in first) (after_prefix owner_word second) (after_prefix group_word line) (after_line rest)) (first-of third list three)
+    ∙ ap (λ more. as_header (path_in first) (after_prefix owner_word second) (after_prefix group_word third) more) (after-of third list three)
 
 and_parts : (a b : Bool) → (a && b) ≡ true → (a ≡ true) × (b ≡ true)
 and_parts true b e = (refl, e)
@@ -283,28 +282,26 @@ module _ (known : Known) (names : NamesReadBack known) (path : List ℕ) (owner 
         let short : length body ≤ MAX_BLOCK = omega (arith, is.short, ap length printed_cut, length-append body (newline ∷ newline ∷ []), two) in
         ap (λ b. cond b (Some body) None) (at_most (length body) MAX_BLOCK short)
 
-    owner_has : HasWritten (uid_of known) (id_text (user_name known) owner) owner
-    owner_has = has_written (uid_of known) (user_name known) owner names.users is.owner
+    owner_again : resolved written_id (uid_of known) (id_text (user_name known) owner) ≡ Ok owner
+    owner_again = resolved_again (uid_of known) (user_name known) owner names.users is.owner
 
-    group_has : HasWritten (gid_of known) (id_text (group_name known) group) group
-    group_has = has_written (gid_of known) (group_name known) group names.groups is.group
+    group_again : resolved written_id (gid_of known) (id_text (group_name known) group) ≡ Ok group
+    group_again = resolved_again (gid_of known) (group_name known) group names.groups is.group
 
     abbrev header : Header
-    header = record { path = path; owner = owner_has.written; group = group_has.written; list = joined list_lines }
+    header = record { path = path; owner = id_text (user_name known) owner; group = id_text (group_name known) group; list = joined list_lines }
 
     header_is : header_of body ≡ Some header
     header_is =
         header-headed file_line owner_line group_line (joined list_lines) file_is.lacks owner_is.lacks group_is.lacks
-        ∙ ap (λ p. as_header p (written_id (id_text (user_name known) owner)) (written_id (id_text (group_name known) group)) (joined list_lines)) (path_again path is.path)
-        ∙ ap₂ (λ o g. as_header (Some path) o g (joined list_lines)) owner_has.is group_has.is
+        ∙ ap (λ p. as_header p (Some (id_text (user_name known) owner)) (Some (id_text (group_name known) group)) (joined list_lines)) (path_again path is.path)
 
     printed_says : file_of known body ≡ Ok file
     printed_says =
-        ap (λ limited. or_fault TooLong limited >>= from_block known) within
-        ∙ ap (λ found. or_fault BadHeader found >>= from_header known) header_is
-        ∙ ap (λ id. or_fault UnknownOwner id >>= from_owner known header) owner_has.names
-        ∙ ap (λ id. or_fault UnknownGroup id >>= from_group known header owner) group_has.names
-        ∙ ap (λ access. access >>= from_access header owner group) (access_again known mask first more names is.access is.ids)
+        ap (λ limited. or_fault TooLong limited >>= from_block (names_of known)) within
+        ∙ ap (λ found. or_fault BadHeader found >>= from_header (names_of known)) header_is
+        ∙ ap₂ (λ o g. owners_of o g >>= from_ids (names_of known) header) owner_again group_again
+        ∙ ap (λ access. access >>= from_access header (owner, group)) (access_again known mask first more names is.access is.ids)
 
     printed_block : IsBlockOf known file
     printed_block = record { block = body; cut = printed_cut; full = full-joined file_line (owner_line ∷ group_line ∷ list_lines) each_is; says = printed_says }

@@ -1,13 +1,15 @@
 -- What a block says of a file, and what is told of one that says nothing.
-use Rattle.std.specs.Prelude.{ℕ, nat_le, List, length, Option, Some, None, Result, Ok}
+use Rattle.std.specs.Prelude.{ℕ, nat_le, List, length, Option, Some, None, Result, Ok, Err}
 use Rattle.std.specs.Prelude.{if◌then◌else◌}
 use Rattle.std.specs.Option.{option_and_then}
-use Rattle.acl_names.specs.Directory.{Known, gid_of, uid_of}
-use Rattle.acl_names.specs.Ids.{id_of_written}
+use Rattle.acl_names.specs.Directory.{Known}
+use Rattle.acl_names.specs.Names.{Names, names_of, resolved}
 use Rattle.acl_names.specs.Steps.{◌>>=◌, or_fault}
+use Rattle.acl_names.specs.declared.directory.resolve.NameFault.{NameFault}
+use Rattle.acl_names.specs.declared.directory.resolve.NameFault.TheVariants.{Malformed, Unknown}
 use Rattle.acl_posix.specs.Entry.{EntryValue}
-use Rattle.acl_listings.specs.Access.{access_of}
-use Rattle.acl_listings.specs.Header.{header_of, path_in}
+use Rattle.acl_listings.specs.Access.{access_by}
+use Rattle.acl_listings.specs.Header.{Header, header_of, path_in}
 use Rattle.acl_listings.specs.Lines.{first_line}
 use Rattle.acl_listings.specs.declared.fault.BlockFault.{BlockFault}
 use Rattle.acl_listings.specs.declared.fault.BlockFault.TheVariants.{TooLong, BadHeader}
@@ -24,15 +26,32 @@ pub record FileValue : Type 0 where
 abbrev pub within_limit : List ℕ → Option (List ℕ)
 within_limit text = if nat_le (length text) MAX_BLOCK then Some text else None
 
+-- The ids of an owner and a group: if one of them is neither an id nor a name, these aren't the
+-- lines of a header; else somebody is unknown, or they are these.
+abbrev pub owners_of : Result ℕ NameFault → Result ℕ NameFault → Result (ℕ × ℕ) BlockFault
+owners_of (Ok owner) (Ok group) = Ok (owner, group)
+owners_of (Ok owner) (Err Malformed) = Err BadHeader
+owners_of (Ok owner) (Err Unknown) = Err UnknownGroup
+owners_of (Err Malformed) group = Err BadHeader
+owners_of (Err Unknown) (Err Malformed) = Err BadHeader
+owners_of (Err Unknown) group = Err UnknownOwner
+
+abbrev pub owners_by : Names → Header → Result (ℕ × ℕ) BlockFault
+owners_by names header = owners_of (resolved names.written names.uid header.owner)
+    (resolved names.written names.gid header.group)
+
 -- the file of which a block speaks, or the first thing that is wrong with the block
-abbrev pub file_of : Known → List ℕ → Result FileValue BlockFault
-file_of known text = do
+abbrev pub file_by : Names → List ℕ → Result FileValue BlockFault
+file_by names text = do
   block ← or_fault TooLong (within_limit text)
   header ← or_fault BadHeader (header_of block)
-  owner ← or_fault UnknownOwner (id_of_written (uid_of known) header.owner)
-  group ← or_fault UnknownGroup (id_of_written (gid_of known) header.group)
-  access ← access_of known header.list
-  Ok (record { path = header.path; owner = owner; group = group; access = access })
+  ids ← owners_by names header
+  access ← access_by names header.list
+  Ok (record { path = header.path; owner = ids.0; group = ids.1; access = access })
+
+-- by the names of a directory
+abbrev pub file_of : Known → List ℕ → Result FileValue BlockFault
+file_of known = file_by (names_of known)
 
 -- the path by which a fault of the block is told: that of its first line
 abbrev pub path_of : List ℕ → Option (List ℕ)

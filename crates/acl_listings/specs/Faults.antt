@@ -1,14 +1,19 @@
 -- Why a block gives no file, and the words that tell it.
 use Rattle.std.specs.Prelude.{◌≡◌, ℕ, List, Result, Ok, Err, codes}
 use Rattle.acl_posix.specs.AclText as posix
-use Rattle.acl_posix.specs.declared.acl_text.ReadAclFault.{ReadAclFault}
-use Rattle.acl_posix.specs.declared.acl_text.ReadAclFault.TheVariants as read
+use Rattle.acl_posix.specs.declared.acl.Invalid.{Invalid}
+use Rattle.acl_posix.specs.declared.acl.Invalid.TheVariants as invalid
+use Rattle.acl_posix.specs.declared.acl_text.AclFault.TheVariants.{BadAcl, UnknownName, TooMany}
+use Rattle.acl_posix.specs.declared.entries.TextFault.{TextFault}
+use Rattle.acl_posix.specs.declared.entries.TextFault.TheVariants as text
 use Rattle.acl_listings.specs.declared.fault.BlockFault.{BlockFault}
 use Rattle.acl_listings.specs.declared.fault.BlockFault.TheVariants.{TooLong, BadHeader}
 use Rattle.acl_listings.specs.declared.fault.BlockFault.TheVariants.{RepeatedPath}
 use Rattle.acl_listings.specs.declared.fault.BlockFault.TheVariants.{UnknownOwner, UnknownGroup}
-use Rattle.acl_listings.specs.declared.fault.BlockFault.TheVariants.{Acl, UnknownWay}
+use Rattle.acl_listings.specs.declared.fault.BlockFault.TheVariants.{Acl, InvalidAcl, UnknownWay}
 use Rattle.acl_listings.specs.declared.fault.FileFault.{FileFault}
+use Rattle.acl_listings.specs.declared.rule.Rule.{Rule}
+use Rattle.acl_listings.specs.declared.rule.Rule.TheVariants.{Twice, NoMask}
 use Rattle.acl_listings.specs.declared.fault.FileFault.TheVariants.{Block, Memory}
 
 abbrev pub fault_word : BlockFault → List ℕ
@@ -18,6 +23,7 @@ fault_word RepeatedPath = codes "repeated-path"
 fault_word UnknownOwner = codes "unknown-name"
 fault_word UnknownGroup = codes "unknown-name"
 fault_word (Acl fault) = posix.fault_word fault
+fault_word (InvalidAcl rule) = codes "invalid-acl"
 fault_word UnknownWay = codes "unknown-way"
 
 -- a call's fault is what is wrong with what it reads; out of memory says nothing of that
@@ -33,7 +39,16 @@ ReadsAs reading (Err fault) = IsFaultOf reading fault
 abbrev pub out_of_memory : FileFault
 out_of_memory = Memory
 
--- why a list is not read, as the fault of the block
-abbrev pub acl_fault : ReadAclFault → FileFault
-acl_fault (read.Acl fault) = Block (Acl fault)
-acl_fault read.Memory = Memory
+-- why entries are not read, as the fault of the block
+abbrev pub entries_fault : TextFault → FileFault
+entries_fault text.Syntax = Block (Acl BadAcl)
+entries_fault text.UnknownName = Block (Acl UnknownName)
+entries_fault text.TooMany = Block (Acl TooMany)
+entries_fault text.Memory = Memory
+
+-- why entries are no list, of which this is missing if one is
+abbrev pub fault_of_entries : Rule → Invalid → FileFault
+fault_of_entries missing invalid.Missing = Block (InvalidAcl missing)
+fault_of_entries missing invalid.Repeated = Block (InvalidAcl Twice)
+fault_of_entries missing invalid.NoMask = Block (InvalidAcl NoMask)
+fault_of_entries missing invalid.Memory = Memory

@@ -2,14 +2,14 @@
 use Rattle.std.specs.Prelude.{ℕ, List, [], ◌∷◌, length, drop, take, Option, Some, None, codes}
 use Rattle.std.specs.Prelude.{if◌then◌else◌, bytes_eq}
 use Rattle.std.specs.Option.{option_and_then}
-use Rattle.acl_names.specs.Ids.{Written, written_id}
 use Rattle.acl_listings.specs.Lines.{after_line, first_line}
 
 -- what a block's first three lines say, and its other lines as a text
 pub record Header : Type 0 where
   pub path : List ℕ
-  pub owner : Written
-  pub group : Written
+  -- how its owner and its group are written
+  pub owner : List ℕ
+  pub group : List ℕ
   pub list : List ℕ
 
 -- what stands behind a word, if the line begins with it
@@ -25,11 +25,8 @@ one_byte_at_least (byte ∷ bytes) = Some (byte ∷ bytes)
 abbrev pub path_in : List ℕ → Option (List ℕ)
 path_in line = option_and_then one_byte_at_least (after_prefix (codes "# file: ") line)
 
--- a word, and an id: a decimal, or a name
-abbrev pub id_of : List ℕ → List ℕ → Option Written
-id_of word line = option_and_then written_id (after_prefix word line)
-
-abbrev pub as_header : Option (List ℕ) → Option Written → Option Written → List ℕ → Option Header
+abbrev pub as_header : Option (List ℕ) → Option (List ℕ) → Option (List ℕ) → List ℕ
+    → Option Header
 as_header (Some path) (Some owner) (Some group) list =
     Some (record { path = path; owner = owner; group = group; list = list })
 as_header _ _ _ list = None
@@ -39,5 +36,5 @@ abbrev pub header_of : List ℕ → Option Header
 header_of text =
     let second = after_line text in
     let third = after_line second in
-    as_header (path_in (first_line text)) (id_of (codes "# owner: ") (first_line second))
-    (id_of (codes "# group: ") (first_line third)) (after_line third)
+    as_header (path_in (first_line text)) (after_prefix (codes "# owner: ") (first_line second))
+    (after_prefix (codes "# group: ") (first_line third)) (after_line third)

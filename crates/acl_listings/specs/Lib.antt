@@ -1,6 +1,7 @@
 pub mod Lines
 pub mod Listing
 pub mod Header
+pub mod Rules
 pub mod Access
 pub mod Block
 pub mod Faults
@@ -12,3 +13,6 @@ pub mod Cursor
 pub mod Steps
 pub mod Printed
 pub mod Way
+pub mod Shown
+pub mod Guess
+pub mod FaultyLine

@@ -1,5 +1,4 @@
 -- What contracts see of the types of this crate: without where the bytes lie in memory.
-use Rattle.acl_names.specs.Views.{view_written}
 use Rattle.acl_listings.specs.Block.{FileValue}
 use Rattle.acl_listings.specs.Header as text
 use Rattle.acl_listings.specs.declared.file.File.{File}
@@ -16,7 +15,7 @@ view_file file = record {
 abbrev pub view_header : Header → text.Header
 view_header header = record {
   path = header.path.now;
-  owner = view_written header.owner;
-  group = view_written header.group;
+  owner = header.owner.now;
+  group = header.group.now;
   list = header.list.now;
 }

@@ -1,10 +1,11 @@
 //! Why a block is no file.
 
 ghost use Rattle.std.specs.Prelude.{◌≡◌};
-ghost use Rattle.acl_listings.specs.Faults.{acl_fault, out_of_memory};
+ghost use Rattle.acl_listings.specs.Faults.{entries_fault, out_of_memory};
 ghost use Rattle.acl_listings.specs.declared.fault.FileFault.TheVariants.{Block};
 
-use acl_posix::{AclFault, ReadAclFault};
+use crate::rule::Rule;
+use acl_posix::{AclFault, TextFault};
 use std::alloc::AllocError;
 
 /// What is wrong with a block, in the order in which it is told.
@@ -16,12 +17,14 @@ pub enum BlockFault {
     BadHeader,
     /// A block before it has its path, where a path counts once.
     RepeatedPath,
-    /// The owner's name is one that the directory lacks.
+    /// The owner's name is one that nobody has.
     UnknownOwner,
-    /// The group's name is one that the directory lacks.
+    /// The group's name is one that no group has.
     UnknownGroup,
-    /// Its other lines spell no access list.
+    /// Its other lines spell no entries.
     Acl(AclFault),
+    /// Its entries are no access control list: they break this rule.
+    InvalidAcl(Rule),
     /// It reads, but a folder above it doesn't, or isn't there.
     UnknownWay,
 }
@@ -40,6 +43,7 @@ impl BlockFault {
             BlockFault::UnknownOwner => "unknown-name",
             BlockFault::UnknownGroup => "unknown-name",
             BlockFault::Acl(fault) => fault.word(),
+            BlockFault::InvalidAcl(_) => "invalid-acl",
             BlockFault::UnknownWay => "unknown-way",
         }
     }
@@ -70,13 +74,15 @@ impl From<BlockFault> for FileFault {
     }
 }
 
-impl From<ReadAclFault> for FileFault {
-    ghost from_gives = { λ error fault. fault ≡ acl_fault error };
+impl From<TextFault> for FileFault {
+    ghost from_gives = { λ error fault. fault ≡ entries_fault error };
 
-    fn from(error: ReadAclFault) -> FileFault {
+    fn from(error: TextFault) -> FileFault {
         match error {
-            ReadAclFault::Acl(fault) => FileFault::Block(BlockFault::Acl(fault)),
-            ReadAclFault::Memory => FileFault::Memory,
+            TextFault::Syntax => FileFault::Block(BlockFault::Acl(AclFault::BadAcl)),
+            TextFault::UnknownName => FileFault::Block(BlockFault::Acl(AclFault::UnknownName)),
+            TextFault::TooMany => FileFault::Block(BlockFault::Acl(AclFault::TooMany)),
+            TextFault::Memory => FileFault::Memory,
         }
     }
 }

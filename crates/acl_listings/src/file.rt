@@ -1,16 +1,16 @@
 //! What a block says of a file.
 
 ghost use Rattle.std.specs.Prelude.{◌≡◌, Ok, IfErr, IfOk, option_map};
-ghost use Rattle.acl_listings.specs.Block.{file_of, path_of};
+ghost use Rattle.acl_listings.specs.Block.{file_by, owners_by, path_of};
 ghost use Rattle.acl_listings.specs.Faults.{IsFaultOf};
 ghost use Rattle.acl_listings.specs.Lines.{after_line};
-ghost use Rattle.acl_listings.specs.Views.{view_file};
+ghost use Rattle.acl_listings.specs.Views.{view_file, view_header};
 
 use crate::access::read_access;
 use crate::fault::{BlockFault, FileFault};
-use crate::header::{read_header, read_path, split_line};
+use crate::header::{Header, read_header, read_path, split_line};
 use crate::limits::MAX_BLOCK;
-use acl_names::{Directory, Gid, Uid};
+use acl_names::{Gid, NameFault, ResolveNames, Uid};
 use acl_posix::Acl;
 use std::alloc::Global;
 
@@ -25,24 +25,40 @@ pub struct File<'t> {
     pub access: Acl,
 }
 
-/// The file of which a block speaks, for a directory that knows the names in it. A block without a
-/// file is refused for the first thing that is wrong with it; `Memory` comes only if memory runs
-/// out.
-pub fn read_file<'t>(
+/// The owner and the group that a header names.
+fn read_owners<N: ResolveNames>(names: &N, header: &Header<'_>) -> Result<(Uid, Gid), BlockFault>
+    ensures { result ≡ owners_by (N.names names.now) (view_header header.now) }
+{
+    match (
+        names.uid_written(header.owner),
+        names.gid_written(header.group),
+    ) {
+        (Ok(owner), Ok(group)) => Ok((owner, group)),
+        (Ok(_), Err(NameFault::Malformed)) => Err(BlockFault::BadHeader),
+        (Ok(_), Err(NameFault::Unknown)) => Err(BlockFault::UnknownGroup),
+        (Err(NameFault::Malformed), _) => Err(BlockFault::BadHeader),
+        (Err(NameFault::Unknown), Err(NameFault::Malformed)) => Err(BlockFault::BadHeader),
+        (Err(NameFault::Unknown), _) => Err(BlockFault::UnknownOwner),
+    }
+}
+
+/// The file of which a block speaks, by these names. A block without a file is refused for the
+/// first thing that is wrong with it; `Memory` comes only if memory runs out.
+pub fn read_file<'t, N: ResolveNames>(
     alloc: Global,
     text: &'t [u8],
-    directory: &Directory,
+    names: &N,
 ) -> Result<File<'t>, FileFault>
-    ensures read { IfOk result (λ file. file_of directory.now text.now ≡ Ok (view_file file)) }
-    ensures refused { IfErr result (IsFaultOf (file_of directory.now text.now)) }
+    ensures read { IfOk result (λ file. file_by (N.names names.now) text.now
+        ≡ Ok (view_file file)) }
+    ensures refused { IfErr result (IsFaultOf (file_by (N.names names.now) text.now)) }
 {
     if text.len() > MAX_BLOCK {
         return Err(FileFault::Block(BlockFault::TooLong));
     }
     let header = read_header(text).ok_or(BlockFault::BadHeader)?;
-    let owner = directory.uid(header.owner).ok_or(BlockFault::UnknownOwner)?;
-    let group = directory.gid(header.group).ok_or(BlockFault::UnknownGroup)?;
-    let access = read_access(alloc, header.list, directory)?;
+    let (owner, group) = read_owners(names, &header)?;
+    let access = read_access(alloc, header.list, names)?;
     Ok(File {
         path: header.path,
         owner,

@@ -1,19 +1,19 @@
 //! The lines at the front of a block: those of the file, its owner and its group.
 
 ghost use Rattle.std.specs.Prelude.{◌≡◌, option_map};
-ghost use Rattle.acl_listings.specs.Header.{after_prefix, header_of, id_of, path_in};
+ghost use Rattle.acl_listings.specs.Header.{after_prefix, header_of, path_in};
 ghost use Rattle.acl_listings.specs.Lines.{after_line, first_line};
 ghost use Rattle.acl_listings.specs.Views.{view_header};
-ghost use Rattle.acl_names.specs.Views.{view_written};
 
-use acl_names::{WrittenId, before_byte};
+use acl_names::before_byte;
 
 /// What stands at the front of a block, and its list.
 #[derive(Clone, Copy, Debug)]
 pub(crate) struct Header<'t> {
     pub path: &'t [u8],
-    pub owner: WrittenId<'t>,
-    pub group: WrittenId<'t>,
+    /// How its owner is written, and its group.
+    pub owner: &'t [u8],
+    pub group: &'t [u8],
     /// The lines behind the group's.
     pub list: &'t [u8],
 }
@@ -28,8 +28,8 @@ pub(crate) fn read_header(text: &[u8]) -> Option<Header<'_>>
     let (group_line, list) = split_line(behind_owner);
     match (
         read_path(file_line),
-        read_id(b"# owner: ", owner_line),
-        read_id(b"# group: ", group_line),
+        after_prefix(b"# owner: ", owner_line),
+        after_prefix(b"# group: ", group_line),
     ) {
         (Some(path), Some(owner), Some(group)) => Some(Header {
             path,
@@ -48,16 +48,6 @@ pub(crate) fn read_path(line: &[u8]) -> Option<&[u8]>
     match after_prefix(b"# file: ", line) {
         Some([]) | None => None,
         Some(path) => Some(path),
-    }
-}
-
-/// The id that is written behind a word, if the line begins with it.
-fn read_id<'t>(word: &[u8], line: &'t [u8]) -> Option<WrittenId<'t>>
-    ensures { option_map view_written result ≡ id_of word.now line.now }
-{
-    match after_prefix(word, line) {
-        Some(text) => WrittenId::read(text),
-        None => None,
     }
 }
 

@@ -1,11 +1,15 @@
 //! Laws of the definitions.
 
-ghost use Rattle.std.specs.Prelude.{◌≡◌, List, All, Ok, map};
+ghost use Rattle.std.specs.Prelude.{◌≡◌, ℕ, List, All, Ok, Err, false, map};
 ghost use Rattle.acl_names.specs.Directory.{Known, NamesReadBack};
-ghost use Rattle.acl_listings.specs.Block.{file_of, FileValue, path_of};
+ghost use Rattle.acl_names.specs.Names.{Names};
+ghost use Rattle.acl_posix.specs.declared.acl_text.AclFault.{AclFault};
+ghost use Rattle.acl_listings.specs.Block.{file_by, file_of, FileValue, path_of};
 ghost use Rattle.acl_listings.specs.Cursor.{as_handed_out};
 ghost use Rattle.acl_listings.specs.Listing.{Block, blocks_of};
+ghost use Rattle.acl_listings.specs.FaultyLine.{list_lines, lines_read};
 ghost use Rattle.acl_listings.specs.Printed.{listing_text, IsPrintable};
+ghost use Rattle.acl_listings.specs.declared.fault.BlockFault.TheVariants.{Acl};
 
 /// What is handed out of a block says the same file as the block, or is refused for the same, and
 /// its path is the same. There is nothing to run here: a proof cites the contract.
@@ -23,4 +27,11 @@ pub fn printed_files_are_read_again()
         → All (IsPrintable known) files
         → map (λ block. file_of known block.text) (blocks_of (listing_text known files))
         ≡ map Ok files }
+{}
+
+/// If a block is refused for its entries, those of its list's lines don't read: so there is a line
+/// at fault. There is nothing to run here: a proof cites the contract.
+pub fn refused_entries_stand_in_lines()
+    ensures { (names : Names) (text : List ℕ) (fault : AclFault)
+        → file_by names text ≡ Err (Acl fault) → lines_read names (list_lines text) ≡ false }
 {}

@@ -6,10 +6,14 @@ mod access;
 mod blocks;
 mod extent;
 mod fault;
+mod faulty;
 mod file;
+mod guess;
 mod header;
 mod laws;
 mod limits;
+mod rule;
+mod shown;
 mod source;
 mod steps;
 mod way;
@@ -17,8 +21,14 @@ mod window;
 
 pub use blocks::Blocks;
 pub use fault::{BlockFault, FileFault};
+pub use faulty::faulty_line;
 pub use file::{File, lines_behind, path_of, read_file};
-pub use laws::{handed_blocks_tell_the_same, printed_files_are_read_again};
-pub use limits::{MAX_BLOCK, limits_in_numbers};
+pub use guess::Guess;
+pub use laws::{
+    handed_blocks_tell_the_same, printed_files_are_read_again, refused_entries_stand_in_lines,
+};
+pub use limits::{MAX_BLOCK, MAX_SHOWN, limits_in_numbers};
+pub use rule::Rule;
+pub use shown::push_shown;
 pub use way::{Place, place_below};
 pub use window::ReadFault;

@@ -24,3 +24,4 @@ pub mod PlainJoined
 pub mod DecimalIds
 mod PlainCounts
 pub mod LettersInTurn
+pub mod NamesLemmas

@@ -21,7 +21,7 @@ apart_at xs front n x is_front within is =
     ∙ ap (λ before. before ++ x ∷ drop (suc n) xs) (sym is_front)
 
 module _ {A F : Type 0} (read : List ℕ → Result A F) where
-  each_read-said : (texts : List (List ℕ)) (values : List A) → PiecesSay read texts values → each_read read texts ≡ Ok values
+  pub each_read-said : (texts : List (List ℕ)) (values : List A) → PiecesSay read texts values → each_read read texts ≡ Ok values
   each_read-said [] [] said = refl
   each_read-said [] (value ∷ values) said = cc
   each_read-said (text ∷ texts) [] said = cc
@@ -40,7 +40,7 @@ module _ {A F : Type 0} (read : List ℕ → Result A F) where
       let all : one.0 ∷ more.0 ≡ values = cc in
       subst (PiecesSay read (text ∷ texts)) all (ap₂ (λ first rest. first ∷ rest) one.1 said)
 
-  each_read-fault : (front : List (List ℕ)) (values : List A) (text : List ℕ) (rest : List (List ℕ)) (fault : F)
+  pub each_read-fault : (front : List (List ℕ)) (values : List A) (text : List ℕ) (rest : List (List ℕ)) (fault : F)
       → PiecesSay read front values → read text ≡ Err fault → each_read read (front ++ text ∷ rest) ≡ Err fault
   each_read-fault [] values text rest fault said is = rw is refl
   each_read-fault (other ∷ front) [] text rest fault said is = cc

@@ -15,3 +15,4 @@ pub mod ReadList
 pub mod Digits
 pub mod Plain
 pub mod Pushing
+pub mod Names

@@ -4,10 +4,11 @@ use Rattle.std.proofs.lemmas.Slice.Eq.{bytes_eq-Decides}
 use Rattle.acl_names.specs.declared.limits.TheConstants.{MAX_ID}
 use Rattle.acl_names.specs.Directory.{Known, uid_of, gid_of, fault_of}
 use Rattle.acl_names.specs.Ids.{Written, Number, Name, written_id, number_or_name, decimal_value, has_name_shape, has_domain_shape, id_of_written}
+use Rattle.acl_names.specs.Names.{names_of}
 use Rattle.acl_names.specs.Steps.{◌>>=◌, or_fault}
 use Rattle.acl_names.proofs.StepLemmas.{given, some_from_cond}
 use Rattle.acl_posix.specs.Entry.{EntryValue}
-use Rattle.acl_posix.specs.EntryText.{Fields, fields_of, tag_word, tag_of, tag_with_id, entry_of}
+use Rattle.acl_posix.specs.EntryText.{Fields, fields_of, tag_word, tag_of, tag_with_id, entry_by, entry_of}
 use Rattle.acl_posix.specs.Faults.{IsEntry, HasUnknownName, HasNoShape}
 use Rattle.acl_posix.specs.PermsText.{perms_of_text}
 use Rattle.acl_posix.specs.declared.entry.Tag.{Tag}
@@ -36,7 +37,7 @@ apart_back e = apart (sym e)
 found_is_shaped : (tag : ℕ → Tag) (found : Option ℕ) → (or_fault UnknownName found >>= (λ id. Ok (tag id))) ≢ Err Syntax
 found_is_shaped tag found = λ e. other_fault UnknownName Syntax apart_back found (fault_before Syntax (or_fault UnknownName found) tag e)
 
-qualified_misshapen : (tag : ℕ → Tag) (id_of other_of : List ℕ → Option ℕ) (text : List ℕ) → tag_with_id tag id_of text ≡ Err Syntax → tag_with_id tag other_of text ≡ Err Syntax
+qualified_misshapen : (tag : ℕ → Tag) (id_of other_of : List ℕ → Option ℕ) (text : List ℕ) → tag_with_id written_id tag id_of text ≡ Err Syntax → tag_with_id written_id tag other_of text ≡ Err Syntax
 qualified_misshapen tag id_of other_of text =
     same_fault Syntax (or_fault Syntax (written_id text)) _ _ (λ w e. absurd (found_is_shaped tag (id_of_written id_of w) e))
 
@@ -65,7 +66,7 @@ abbrev after_fields : Known → Fields → Result EntryValue PieceFault
 after_fields known fields = or_fault Syntax (tag_word fields.tag) >>= after_word known fields
 
 misshapen_anywhere : (known other : Known) (piece : List ℕ) → entry_of known piece ≡ Err Syntax → entry_of other piece ≡ Err Syntax
-unfolding entry_of
+unfolding entry_by
 misshapen_anywhere known other piece =
     same_fault Syntax (or_fault Syntax (fields_of piece)) (after_fields known) (after_fields other)
     (λ fields. same_fault Syntax (or_fault Syntax (tag_word fields.tag)) (after_word known fields) (after_word other fields)
@@ -102,8 +103,8 @@ unfound_name id_of text w e lost = go (decimal_value text) refl e
     go None is e = let choice = some_from_cond (has_name_shape text) (Name text) w e in (choice.0, sym choice.1)
 
 -- a qualifier whose name is unknown is one where the name is known
-qualified_elsewhere : (tag : ℕ → Tag) (id_of other_of : List ℕ → Option ℕ) (text : List ℕ) → tag_with_id tag id_of text ≡ Err UnknownName → other_of text ≡ Some 0
-    → (has_name_shape text ≡ true) × (tag_with_id tag other_of text ≡ Ok (tag 0))
+qualified_elsewhere : (tag : ℕ → Tag) (id_of other_of : List ℕ → Option ℕ) (text : List ℕ) → tag_with_id written_id tag id_of text ≡ Err UnknownName → other_of text ≡ Some 0
+    → (has_name_shape text ≡ true) × (tag_with_id written_id tag other_of text ≡ Ok (tag 0))
 qualified_elsewhere tag id_of other_of text e found =
     let written = fault_behind UnknownName (or_fault Syntax (written_id text)) _ (other_fault Syntax UnknownName apart (written_id text)) e in
     let is : written_id text ≡ Some written.0 = given Syntax (written_id text) written.0 written.1 in
@@ -141,7 +142,7 @@ tag_elsewhere known word.Other (Some []) e = cc
 tag_elsewhere known word.Other (Some (b ∷ bs)) e = cc
 
 entry_elsewhere : (known : Known) (piece : List ℕ) → entry_of known piece ≡ Err UnknownName → (other : Known) × (fault_of other ≡ None) × IsEntry other piece
-unfolding entry_of
+unfolding entry_by
 entry_elsewhere known piece e =
     let fields = fault_behind UnknownName (or_fault Syntax (fields_of piece)) (after_fields known) (other_fault Syntax UnknownName apart (fields_of piece)) e in
     let word = fault_behind UnknownName (or_fault Syntax (tag_word fields.0.tag)) (after_word known fields.0) (other_fault Syntax UnknownName apart (tag_word fields.0.tag)) fields.2 in
@@ -153,7 +154,7 @@ entry_elsewhere known piece e =
     let cut = given Syntax (fields_of piece) fields.0 fields.1 in
     let named = given Syntax (tag_word fields.0.tag) word.0 word.1 in
     let allowed = given Syntax (perms_of_text fields.0.perms) perms.0 perms.1 in
-    (says.known, says.faultless, (end says.tag, shape_of_read says.known piece (end says.tag) (read_parts says.known piece fields.0 word.0 perms.0 says.tag cut named allowed says.said)))
+    (says.known, says.faultless, (end says.tag, shape_of_read says.known piece (end says.tag) (read_parts (names_of says.known) piece fields.0 word.0 perms.0 says.tag cut named allowed says.said)))
 
 -- ---- the laws
 

@@ -12,6 +12,7 @@ use Rattle.acl_names.specs.Directory.{Known, NamesReadBack, uid_of, gid_of, user
 use Rattle.acl_names.specs.Pieces.{pieces}
 use Rattle.acl_names.specs.ListText.{PiecesSay, Spells}
 use Rattle.acl_names.proofs.IdTexts.{id_again}
+use Rattle.acl_names.specs.Names.{Names, names_of}
 use Rattle.acl_names.specs.Plain.{is_field_byte, IsField}
 use Rattle.acl_names.proofs.Fields.{id_field, fields_again, joined_plain, tested_field}
 use Rattle.acl_names.specs.Plain.{IsPlain, is_plain}
@@ -27,7 +28,7 @@ use Rattle.acl_posix.specs.PermsText.{perms_of_text, perms_text, three_letters}
 use Rattle.acl_posix.specs.Access.{is_under_mask}
 use Rattle.acl_posix.specs.Perms.{IsPermissions}
 use Rattle.acl_names.specs.Bits.{◌∩◌, has_all}
-use Rattle.acl_posix.specs.EntryText.{Fields, as_fields, fields_of, tag_word, tag_of, tag_with_id, entry_of}
+use Rattle.acl_posix.specs.EntryText.{Fields, as_fields, fields_of, tag_word, tag_by, tag_of, tag_with_id, entry_by, entry_of}
 use Rattle.acl_names.specs.Steps.{or_fault, ◌>>=◌}
 use Rattle.acl_posix.specs.PrintedText.{word_text, qualifier_text, entry_text, effective_mark, effective_text, HasId, HaveIds}
 
@@ -98,16 +99,16 @@ qualified_by tag id_of id None e = cc
 qualified_by tag id_of id (Some w) e = ap (λ found. or_fault UnknownName found >>= (λ n. Ok (tag n))) e
 
 qualified_again : (tag : ℕ → Tag) (id_of : List ℕ → Option ℕ) (name_of : ℕ → Option (List ℕ)) (id : ℕ) → ReadBack id_of name_of → id ≤ MAX_ID
-    → tag_with_id tag id_of (id_text name_of id) ≡ Ok (tag id)
+    → tag_with_id written_id tag id_of (id_text name_of id) ≡ Ok (tag id)
 qualified_again tag id_of name_of id back small = qualified_by tag id_of id (written_id (id_text name_of id)) (id_again id_of name_of id back small)
 
-pub user_tag : (known : Known) (text : List ℕ) → 0 < length text → tag_of known word.User (Some text) ≡ tag_with_id (λ uid. User uid) (uid_of known) text
-user_tag known [] some = absurd (omega arith)
-user_tag known (byte ∷ bytes) some = refl
+pub user_tag : (names : Names) (text : List ℕ) → 0 < length text → tag_by names word.User (Some text) ≡ tag_with_id names.written (λ uid. User uid) names.uid text
+user_tag names [] some = absurd (omega arith)
+user_tag names (byte ∷ bytes) some = refl
 
-pub group_tag : (known : Known) (text : List ℕ) → 0 < length text → tag_of known word.Group (Some text) ≡ tag_with_id (λ gid. Group gid) (gid_of known) text
-group_tag known [] some = absurd (omega arith)
-group_tag known (byte ∷ bytes) some = refl
+pub group_tag : (names : Names) (text : List ℕ) → 0 < length text → tag_by names word.Group (Some text) ≡ tag_with_id names.written (λ gid. Group gid) names.gid text
+group_tag names [] some = absurd (omega arith)
+group_tag names (byte ∷ bytes) some = refl
 
 tag_again : (known : Known) (tag : Tag) → NamesReadBack known → HasId tag → tag_of known (word_of tag) (Some (qualifier_text known tag)) ≡ Ok tag
 unfolding word_of
@@ -116,18 +117,18 @@ tag_again known GroupObj is has = refl
 tag_again known Mask is has = refl
 tag_again known Other is has = refl
 tag_again known (User uid) is has =
-    user_tag known (id_text (user_name known) uid) (id_field (uid_of known) (user_name known) uid is.users has).1 ∙ qualified_again (λ uid. User uid) (uid_of known) (user_name known) uid is.users has
+    user_tag (names_of known) (id_text (user_name known) uid) (id_field (uid_of known) (user_name known) uid is.users has).1 ∙ qualified_again (λ uid. User uid) (uid_of known) (user_name known) uid is.users has
 tag_again known (Group gid) is has =
-    group_tag known (id_text (group_name known) gid) (id_field (gid_of known)
+    group_tag (names_of known) (id_text (group_name known) gid) (id_field (gid_of known)
     (group_name known) gid is.groups has).1 ∙ qualified_again (λ gid. Group gid) (gid_of known)
     (group_name known) gid is.groups has
 
 -- a piece whose parts are read is read
-pub read_parts : (known : Known) (piece : List ℕ) (fields : Fields) (word : TagWord) (perms : ℕ) (tag : Tag)
-    → fields_of piece ≡ Some fields → tag_word fields.tag ≡ Some word → perms_of_text fields.perms ≡ Some perms → tag_of known word fields.qualifier ≡ Ok tag
-    → entry_of known piece ≡ Ok (record { tag = tag; perms = perms })
-unfolding entry_of
-read_parts known piece fields word perms tag cut said allowed tagged = rw (cut, said, allowed, tagged) refl
+pub read_parts : (names : Names) (piece : List ℕ) (fields : Fields) (word : TagWord) (perms : ℕ) (tag : Tag)
+    → fields_of piece ≡ Some fields → tag_word fields.tag ≡ Some word → perms_of_text fields.perms ≡ Some perms → tag_by names word fields.qualifier ≡ Ok tag
+    → entry_by names piece ≡ Ok (record { tag = tag; perms = perms })
+unfolding entry_by
+read_parts names piece fields word perms tag cut said allowed tagged = rw (cut, said, allowed, tagged) refl
 
 -- an entry is read again
 pub entry_again : (known : Known) (entry : EntryValue) → NamesReadBack known → HasId entry.tag → IsPermissions entry.perms → entry_of known (entry_text known entry) ≡ Ok entry
@@ -136,7 +137,7 @@ entry_again known entry is has allowed =
     let cut : fields_of (entry_text known entry) ≡ Some fields = ap as_fields
     (fields_again (word_text entry.tag) (qualifier_text known entry.tag ∷ perms_text entry.perms ∷ [])
     (fields_are known entry is has)) in
-    read_parts known (entry_text known entry) fields (word_of entry.tag) entry.perms entry.tag cut (word_again entry.tag)
+    read_parts (names_of known) (entry_text known entry) fields (word_of entry.tag) entry.perms entry.tag cut (word_again entry.tag)
     (perms_again entry.perms allowed) (tag_again known entry.tag is has)
 
 marked_three_pass : (read write execute : Bool) → list_all is_plain (codes "effective:" ++ three_letters read write execute) ≡ true

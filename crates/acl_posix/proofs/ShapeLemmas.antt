@@ -10,12 +10,13 @@ use Rattle.std.proofs.lemmas.Slice.Eq.{bytes_eq-Decides}
 use Rattle.acl_names.specs.declared.limits.TheConstants.{MAX_DIGITS, MAX_ID}
 use Rattle.acl_names.specs.Directory.{Known, uid_of, gid_of}
 use Rattle.acl_names.specs.Ids.{is_decimal, written_id, number_or_name, decimal_value, has_name_shape, id_of_written}
+use Rattle.acl_names.specs.Names.{names_of}
 use Rattle.acl_names.proofs.IdTexts.{and_second, written_name}
 use Rattle.acl_names.proofs.StepLemmas.{bind_ok, given, some_from_cond, written_by}
 use Rattle.acl_posix.proofs.RoundTrip.{qualified_by, user_tag, group_tag, read_parts}
 use Rattle.acl_names.specs.Steps.{◌>>=◌, or_fault}
 use Rattle.acl_posix.specs.PermsText.{perms_of_text}
-use Rattle.acl_posix.specs.EntryText.{Fields, fields_of, is_word, tag_word, tag_of, tag_with_id, entry_of}
+use Rattle.acl_posix.specs.EntryText.{Fields, fields_of, is_word, tag_word, tag_of, tag_with_id, entry_by, entry_of}
 use Rattle.acl_posix.specs.Shapes.{IsWord, WritesId, IsTagged, HasShape}
 use Rattle.acl_posix.specs.Entry.{EntryValue}
 use Rattle.acl_posix.specs.declared.entry.Tag.{Tag}
@@ -41,7 +42,7 @@ or_cases : (a b : Bool) → (a || b) ≡ true → (a ≡ true) ⊎ (b ≡ true)
 or_cases true b e = inl refl
 or_cases false b e = inr e
 
-qualified_says : (tag : ℕ → Tag) (id_of : List ℕ → Option ℕ) (text : List ℕ) (t : Tag) → tag_with_id tag id_of text ≡ Ok t → (id : ℕ) × WritesId id_of text id × (tag id ≡ t)
+qualified_says : (tag : ℕ → Tag) (id_of : List ℕ → Option ℕ) (text : List ℕ) (t : Tag) → tag_with_id written_id tag id_of text ≡ Ok t → (id : ℕ) × WritesId id_of text id × (tag id ≡ t)
 qualified_says tag id_of text t e =
     let first = bind_ok (or_fault Syntax (written_id text)) (λ w. or_fault UnknownName (id_of_written id_of w) >>= (λ id. Ok (tag id))) t e in
     let second = bind_ok (or_fault UnknownName (id_of_written id_of first.0)) (λ id. Ok (tag id)) t first.2 in (
@@ -108,7 +109,7 @@ tag_says known text word.Other (Some (b ∷ bs)) tag is e = cc
 
 -- what is read has a shape
 pub shape_of_read : (known : Known) (piece : List ℕ) (entry : EntryValue) → entry_of known piece ≡ Ok entry → HasShape known piece entry
-unfolding entry_of
+unfolding entry_by
 shape_of_read known piece entry e =
     let end : ℕ → Tag → Result EntryValue PieceFault = λ p t. Ok (record { tag = t; perms = p }) in
     let with_perms : Fields → TagWord → ℕ → Result EntryValue PieceFault = λ f w p. tag_of known w f.qualifier >>= end p in
@@ -152,7 +153,7 @@ id_some id_of [] id (inl e) = cc
 id_some id_of [] id (inr is) = let e : has_name_shape [] ≡ true = is.0 in cc
 id_some id_of (b ∷ bs) id writes = omega arith
 
-qualified_read : (tag : ℕ → Tag) (id_of : List ℕ → Option ℕ) (text : List ℕ) (id : ℕ) → WritesId id_of text id → tag_with_id tag id_of text ≡ Ok (tag id)
+qualified_read : (tag : ℕ → Tag) (id_of : List ℕ → Option ℕ) (text : List ℕ) (id : ℕ) → WritesId id_of text id → tag_with_id written_id tag id_of text ≡ Ok (tag id)
 qualified_read tag id_of text id writes = qualified_by tag id_of id (written_id text) (id_read id_of text id writes)
 
 -- a piece of a shape is read
@@ -160,13 +161,13 @@ pub read_of_shape : (known : Known) (piece : List ℕ) (entry : EntryValue) → 
 read_of_shape known piece entry shape = by_tag entry.tag shape.tagged
   where
     by_tag : (tag : Tag) → IsTagged known shape.fields.tag shape.fields.qualifier tag → entry_of known piece ≡ Ok (record { tag = tag; perms = entry.perms })
-    by_tag UserObj is = read_parts known piece shape.fields word.User entry.perms UserObj shape.cut (word_read shape.fields.tag word.User is.0) shape.allowed (ap (tag_of known word.User) is.1)
-    by_tag GroupObj is = read_parts known piece shape.fields word.Group entry.perms GroupObj shape.cut (word_read shape.fields.tag word.Group is.0) shape.allowed (ap (tag_of known word.Group) is.1)
-    by_tag (User uid) is = read_parts known piece shape.fields word.User entry.perms (User uid) shape.cut (word_read shape.fields.tag word.User is.0) shape.allowed
-        (ap (tag_of known word.User) is.1.1 ∙ user_tag known is.1.0 (id_some (uid_of known) is.1.0 uid is.1.2) ∙ qualified_read (λ uid. User uid) (uid_of known) is.1.0 uid is.1.2)
-    by_tag (Group gid) is = read_parts known piece shape.fields word.Group entry.perms (Group gid) shape.cut (word_read shape.fields.tag word.Group is.0) shape.allowed
-        (ap (tag_of known word.Group) is.1.1 ∙ group_tag known is.1.0 (id_some (gid_of known) is.1.0 gid is.1.2) ∙ qualified_read (λ gid. Group gid) (gid_of known) is.1.0 gid is.1.2)
-    by_tag Mask is = read_parts known piece shape.fields word.Mask entry.perms Mask shape.cut (word_read shape.fields.tag word.Mask is.0) shape.allowed
+    by_tag UserObj is = read_parts (names_of known) piece shape.fields word.User entry.perms UserObj shape.cut (word_read shape.fields.tag word.User is.0) shape.allowed (ap (tag_of known word.User) is.1)
+    by_tag GroupObj is = read_parts (names_of known) piece shape.fields word.Group entry.perms GroupObj shape.cut (word_read shape.fields.tag word.Group is.0) shape.allowed (ap (tag_of known word.Group) is.1)
+    by_tag (User uid) is = read_parts (names_of known) piece shape.fields word.User entry.perms (User uid) shape.cut (word_read shape.fields.tag word.User is.0) shape.allowed
+        (ap (tag_of known word.User) is.1.1 ∙ user_tag (names_of known) is.1.0 (id_some (uid_of known) is.1.0 uid is.1.2) ∙ qualified_read (λ uid. User uid) (uid_of known) is.1.0 uid is.1.2)
+    by_tag (Group gid) is = read_parts (names_of known) piece shape.fields word.Group entry.perms (Group gid) shape.cut (word_read shape.fields.tag word.Group is.0) shape.allowed
+        (ap (tag_of known word.Group) is.1.1 ∙ group_tag (names_of known) is.1.0 (id_some (gid_of known) is.1.0 gid is.1.2) ∙ qualified_read (λ gid. Group gid) (gid_of known) is.1.0 gid is.1.2)
+    by_tag Mask is = read_parts (names_of known) piece shape.fields word.Mask entry.perms Mask shape.cut (word_read shape.fields.tag word.Mask is.0) shape.allowed
         (elim is.1 [ inl e ↦ ap (tag_of known word.Mask) e | inr e ↦ ap (tag_of known word.Mask) e ])
-    by_tag Other is = read_parts known piece shape.fields word.Other entry.perms Other shape.cut (word_read shape.fields.tag word.Other is.0) shape.allowed
+    by_tag Other is = read_parts (names_of known) piece shape.fields word.Other entry.perms Other shape.cut (word_read shape.fields.tag word.Other is.0) shape.allowed
         (elim is.1 [ inl e ↦ ap (tag_of known word.Other) e | inr e ↦ ap (tag_of known word.Other) e ])

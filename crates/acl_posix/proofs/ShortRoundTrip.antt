@@ -5,6 +5,7 @@ use Rattle.std.proofs.lemmas.List.Elements.{All-nil, All-head, All-tail, All-con
 use Rattle.acl_names.specs.Bytes.{colon}
 use Rattle.acl_names.specs.Directory.{Known, uid_of, gid_of}
 use Rattle.acl_names.specs.Ids.{written_id}
+use Rattle.acl_names.specs.Names.{names_of}
 use Rattle.acl_names.specs.ListText.{PiecesSay, Spells}
 use Rattle.acl_names.specs.Plain.{is_field_byte, IsField}
 use Rattle.acl_names.proofs.DecimalIds.{decimal_again, decimal_field}
@@ -55,9 +56,9 @@ number_again known GroupObj has = refl
 number_again known Mask has = refl
 number_again known Other has = refl
 number_again known (User uid) has =
-    user_tag known (decimal uid) (decimal_field uid has).1 ∙ qualified_by (λ uid. User uid) (uid_of known) uid (written_id (decimal uid)) (decimal_again (uid_of known) uid has)
+    user_tag (names_of known) (decimal uid) (decimal_field uid has).1 ∙ qualified_by (λ uid. User uid) (uid_of known) uid (written_id (decimal uid)) (decimal_again (uid_of known) uid has)
 number_again known (Group gid) has =
-    group_tag known (decimal gid) (decimal_field gid has).1 ∙ qualified_by (λ gid. Group gid) (gid_of known) gid (written_id (decimal gid)) (decimal_again (gid_of known) gid has)
+    group_tag (names_of known) (decimal gid) (decimal_field gid has).1 ∙ qualified_by (λ gid. Group gid) (gid_of known) gid (written_id (decimal gid)) (decimal_again (gid_of known) gid has)
 
 fields_are : (entry : EntryValue) → HasId entry.tag → AllByRecursion IsField (letter_text entry.tag ∷ number_text entry.tag ∷ perms_text entry.perms ∷ [])
 fields_are entry has = (letter_field entry.tag, (number_field entry.tag has, (perms_field entry.perms, tt)))
@@ -67,7 +68,7 @@ short_again : (known : Known) (entry : EntryValue) → HasId entry.tag → IsPer
 short_again known entry has allowed =
     let fields : Fields = record { tag = letter_text entry.tag; qualifier = Some (number_text entry.tag); perms = perms_text entry.perms } in
     let cut : fields_of (short_entry entry) ≡ Some fields = ap as_fields (fields_again (letter_text entry.tag) (number_text entry.tag ∷ perms_text entry.perms ∷ []) (fields_are entry has)) in
-    read_parts known (short_entry entry) fields (word_of entry.tag) entry.perms entry.tag cut (letter_again entry.tag) (perms_again entry.perms allowed) (number_again known entry.tag has)
+    read_parts (names_of known) (short_entry entry) fields (word_of entry.tag) entry.perms entry.tag cut (letter_again entry.tag) (perms_again entry.perms allowed) (number_again known entry.tag has)
 
 -- and is a plain piece
 short_piece : (entry : EntryValue) → HasId entry.tag → IsPlainPiece (short_entry entry)

@@ -2,10 +2,11 @@
 use Rattle.std.specs.Prelude.{◌≡◌, ℕ, List, Result, Ok, Err, codes, is_none, if◌then◌else◌}
 use Rattle.acl_names.specs.Directory.{Known}
 use Rattle.acl_names.specs.ListText.{Spells}
+use Rattle.acl_names.specs.Names.{Names, names_of}
 use Rattle.acl_names.specs.ReadList.{at_most_read}
 use Rattle.acl_names.specs.Steps.{◌>>=◌, map_fault}
 use Rattle.acl_posix.specs.Entry.{EntryValue}
-use Rattle.acl_posix.specs.EntryText.{entry_of}
+use Rattle.acl_posix.specs.EntryText.{entry_by}
 use Rattle.acl_posix.specs.InOrder.{in_order}
 use Rattle.acl_posix.specs.Validity.{IsValid, fault_of}
 use Rattle.acl_posix.specs.declared.acl.Invalid.{Invalid}
@@ -27,28 +28,37 @@ piece_fault piece.Syntax = BadAcl
 piece_fault piece.UnknownName = UnknownName
 
 -- the entry that a piece says
-abbrev pub entry_in : Known → List ℕ → Result EntryValue AclFault
-entry_in known piece = map_fault piece_fault (entry_of known piece)
+abbrev pub entry_in : (List ℕ → Result EntryValue PieceFault) → List ℕ
+    → Result EntryValue AclFault
+entry_in said piece = map_fault piece_fault (said piece)
 
 -- the entries that pieces say, at most 64
-abbrev pub entries_of : Known → List (List ℕ) → Result (List EntryValue) AclFault
-entries_of known pieces = at_most_read TooMany MAX_ENTRIES (entry_in known) pieces
+abbrev pub entries_of : (List ℕ → Result EntryValue PieceFault) → List (List ℕ)
+    → Result (List EntryValue) AclFault
+entries_of said pieces = at_most_read TooMany MAX_ENTRIES (entry_in said) pieces
 
 -- the access control list of these entries
 abbrev pub acl_of_entries : List EntryValue → Result (List EntryValue) AclFault
 acl_of_entries entries =
     if is_none (fault_of entries) then Ok (in_order entries) else Err InvalidAcl
 
--- the access control list that pieces say
+-- the access control list that pieces say, by these names
+abbrev pub acl_by : Names → List (List ℕ) → Result (List EntryValue) AclFault
+acl_by names pieces = entries_of (entry_by names) pieces >>= acl_of_entries
+
+-- by those of a directory
 abbrev pub acl_of : Known → List (List ℕ) → Result (List EntryValue) AclFault
-acl_of known pieces = entries_of known pieces >>= acl_of_entries
+acl_of known = acl_by (names_of known)
 
 -- the text spells valid entries, and this is the list of these in canonical order
-pub record SpellsAcl (known : Known) (text : List ℕ) (acl : List EntryValue) : Type 0 where
+pub record SpellsBy (names : Names) (text : List ℕ) (acl : List EntryValue) : Type 0 where
   pub entries : List EntryValue
-  pub spelt : Spells (entry_of known) MAX_ENTRIES text entries
+  pub spelt : Spells (entry_by names) MAX_ENTRIES text entries
   pub valid : IsValid entries
   pub in_order_is : in_order entries ≡ acl
+
+abbrev pub SpellsAcl : Known → List ℕ → List EntryValue → Type 0
+SpellsAcl known = SpellsBy (names_of known)
 
 -- the word that tells a fault
 abbrev pub fault_word : AclFault → List ℕ

@@ -3,8 +3,9 @@ use Rattle.std.specs.Prelude.{ℕ, List, [], ◌∷◌, Bool, ◌||◌, Option, 
 use Rattle.std.specs.Prelude.{codes, if◌then◌else◌}
 use Rattle.std.specs.Str.{bytes_eq}
 use Rattle.acl_names.specs.Bytes.{colon}
-use Rattle.acl_names.specs.Directory.{Known, uid_of, gid_of}
-use Rattle.acl_names.specs.Ids.{written_id, id_of_written}
+use Rattle.acl_names.specs.Directory.{Known}
+use Rattle.acl_names.specs.Ids.{Written, id_of_written}
+use Rattle.acl_names.specs.Names.{Names, names_of}
 use Rattle.acl_names.specs.Pieces.{trimmed_parts}
 use Rattle.acl_names.specs.Steps.{◌>>=◌, or_fault}
 use Rattle.acl_posix.specs.PermsText.{perms_of_text}
@@ -45,34 +46,43 @@ tag_word text =
     else (if is_word (codes "other") (codes "o") text then Some word.Other else None)))
 
 -- the tag for the id that is written, by the look-up of names
-abbrev pub tag_with_id : (ℕ → Tag) → (List ℕ → Option ℕ) → List ℕ → Result Tag PieceFault
-tag_with_id tag id_of text = do
-  written ← or_fault Syntax (written_id text)
+abbrev pub tag_with_id : (List ℕ → Option Written) → (ℕ → Tag) → (List ℕ → Option ℕ) → List ℕ
+    → Result Tag PieceFault
+tag_with_id written_in tag id_of text = do
+  written ← or_fault Syntax (written_in text)
   id ← or_fault UnknownName (id_of_written id_of written)
   Ok (tag id)
 
 -- the tag that a word and a qualifier say
+abbrev pub tag_by : Names → TagWord → Option (List ℕ) → Result Tag PieceFault
+tag_by names word.User None = Err Syntax
+tag_by names word.User (Some []) = Ok UserObj
+tag_by names word.User (Some (byte ∷ bytes)) =
+    tag_with_id names.written (λ uid. User uid) names.uid (byte ∷ bytes)
+tag_by names word.Group None = Err Syntax
+tag_by names word.Group (Some []) = Ok GroupObj
+tag_by names word.Group (Some (byte ∷ bytes)) =
+    tag_with_id names.written (λ gid. Group gid) names.gid (byte ∷ bytes)
+tag_by names word.Mask None = Ok Mask
+tag_by names word.Mask (Some []) = Ok Mask
+tag_by names word.Mask (Some (byte ∷ bytes)) = Err Syntax
+tag_by names word.Other None = Ok Other
+tag_by names word.Other (Some []) = Ok Other
+tag_by names word.Other (Some (byte ∷ bytes)) = Err Syntax
+
+-- by the names of a directory
 abbrev pub tag_of : Known → TagWord → Option (List ℕ) → Result Tag PieceFault
-tag_of known word.User None = Err Syntax
-tag_of known word.User (Some []) = Ok UserObj
-tag_of known word.User (Some (byte ∷ bytes)) =
-    tag_with_id (λ uid. User uid) (uid_of known) (byte ∷ bytes)
-tag_of known word.Group None = Err Syntax
-tag_of known word.Group (Some []) = Ok GroupObj
-tag_of known word.Group (Some (byte ∷ bytes)) =
-    tag_with_id (λ gid. Group gid) (gid_of known) (byte ∷ bytes)
-tag_of known word.Mask None = Ok Mask
-tag_of known word.Mask (Some []) = Ok Mask
-tag_of known word.Mask (Some (byte ∷ bytes)) = Err Syntax
-tag_of known word.Other None = Ok Other
-tag_of known word.Other (Some []) = Ok Other
-tag_of known word.Other (Some (byte ∷ bytes)) = Err Syntax
+tag_of known = tag_by (names_of known)
 
 -- what a piece of a text says: an entry, or what is wrong with it
-unfoldable pub entry_of : Known → List ℕ → Result EntryValue PieceFault
-entry_of known piece = do
+unfoldable pub entry_by : Names → List ℕ → Result EntryValue PieceFault
+entry_by names piece = do
   fields ← or_fault Syntax (fields_of piece)
   word ← or_fault Syntax (tag_word fields.tag)
   perms ← or_fault Syntax (perms_of_text fields.perms)
-  tag ← tag_of known word fields.qualifier
+  tag ← tag_by names word fields.qualifier
   Ok (record { tag = tag; perms = perms })
+
+-- by the names of a directory
+abbrev pub entry_of : Known → List ℕ → Result EntryValue PieceFault
+entry_of known = entry_by (names_of known)

@@ -2,9 +2,9 @@
 -- qualifier and its permissions.
 use Rattle.std.specs.Prelude.{◌≡◌, ℕ, Bool, List, ◌∷◌, ◌++◌, Some, Ok}
 use Rattle.acl_names.specs.Bytes.{colon}
-use Rattle.acl_names.specs.Directory.{Known}
+use Rattle.acl_names.specs.Names.{Names}
 use Rattle.acl_names.specs.Plain.{IsField}
-use Rattle.acl_posix.specs.EntryText.{tag_of, tag_word}
+use Rattle.acl_posix.specs.EntryText.{tag_by, tag_word}
 use Rattle.acl_posix.specs.PermsText.{perms_with, three_letters}
 use Rattle.acl_posix.specs.declared.entry.Tag.{Tag}
 use Rattle.acl_posix.specs.declared.reading.TagWord.{TagWord}
@@ -17,12 +17,12 @@ pub record BeginsWithWord (text : List ℕ) (word : TagWord) (rest : List ℕ) :
   pub says : tag_word written ≡ Some word
 
 -- the text after the word begins with a qualifier and a colon, and they say the tag
-pub record BeginsWithTag (known : Known) (text : List ℕ) (word : TagWord) (tag : Tag)
+pub record BeginsWithTag (names : Names) (text : List ℕ) (word : TagWord) (tag : Tag)
     (rest : List ℕ) : Type 0 where
   pub qualifier : List ℕ
   pub cut : text ≡ qualifier ++ colon ∷ rest
   pub field : IsField qualifier
-  pub says : tag_of known word (Some qualifier) ≡ Ok tag
+  pub says : tag_by names word (Some qualifier) ≡ Ok tag
 
 -- the text begins with three characters of permissions
 pub record BeginsWithPerms (text : List ℕ) (perms : ℕ) (rest : List ℕ) : Type 0 where

@@ -2,12 +2,12 @@
 
 ghost use Rattle.std.specs.Prelude.{◌≡◌, ◌≢◌, ◌≤◌, length, IfErr, IfOk};
 ghost use Rattle.acl_names.specs.Pieces.{pieces};
-ghost use Rattle.acl_posix.specs.AclText.{ReadsAs, SpellsAcl, acl_of, entries_fault};
+ghost use Rattle.acl_posix.specs.AclText.{ReadsAs, SpellsBy, acl_by, entries_fault};
 ghost use Rattle.acl_posix.specs.AclText.{text_fault};
 ghost use Rattle.acl_posix.specs.declared.limits.TheConstants.{INLINE_ENTRIES};
 
 use crate::{Acl, Invalid, TextFault, read_entries};
-use acl_names::Directory;
+use acl_names::ResolveNames;
 use std::alloc::Global;
 
 /// Why a text gives no access control list.
@@ -15,7 +15,7 @@ use std::alloc::Global;
 pub enum AclFault {
     /// A piece has none of the shapes of entries.
     BadAcl,
-    /// An entry names someone whom the directory lacks.
+    /// An entry names someone whom nobody knows.
     UnknownName,
     /// There are more than 64 entries.
     TooMany,
@@ -77,12 +77,12 @@ impl From<Invalid> for ReadAclFault {
 /// The access control list that the text spells: entries, as `read_entries` reads them, that are an
 /// access control list. The text is refused for its first piece that is no entry or one too many,
 /// and else for what its entries are.
-pub fn read_acl(alloc: Global, text: &[u8], directory: &Directory) -> Result<Acl, ReadAclFault>
-    ensures value { ReadsAs (acl_of directory.now (pieces text.now)) result }
-    ensures spelt { IfOk result (SpellsAcl directory.now text.now) }
+pub fn read_acl<N: ResolveNames>(alloc: Global, text: &[u8], names: &N) -> Result<Acl, ReadAclFault>
+    ensures value { ReadsAs (acl_by (N.names names.now) (pieces text.now)) result }
+    ensures spelt { IfOk result (SpellsBy (N.names names.now) text.now) }
     ensures short { length (pieces text.now) ≤ INLINE_ENTRIES
         → IfErr result (λ fault. fault ≢ ReadAclFault.Memory) }
 {
-    let entries = read_entries(alloc, text, directory)?;
+    let entries = read_entries(alloc, text, names)?;
     Ok(Acl::new(entries)?)
 }

@@ -1,14 +1,13 @@
 //! The entry that a text begins with, where it stands plainly: with no blank and no comment.
 
-ghost use Rattle.std.specs.Prelude.{IfSome, Some, [], ◌++◌, ◌≡◌, List, ℕ, Ok};
-ghost use Rattle.acl_names.specs.Directory.{Known};
-ghost use Rattle.acl_names.specs.Ids.{decimal_value};
-ghost use Rattle.acl_posix.specs.EntryText.{tag_of};
+ghost use Rattle.std.specs.Prelude.{IfSome, Some, [], ◌++◌, ◌≡◌, Ok};
+ghost use Rattle.acl_names.specs.Names.{Names};
+ghost use Rattle.acl_posix.specs.EntryText.{tag_by};
 ghost use Rattle.acl_posix.specs.Front.{BeginsWithTag, BeginsWithWord};
 
 use crate::Tag;
 use crate::reading::TagWord;
-use acl_names::{Directory, Gid, Uid, read_decimal_until, split_name};
+use acl_names::ResolveNames;
 
 /// The word that the text begins with, and what stands after its colon.
 pub(crate) fn read_word_front(text: &[u8]) -> Option<(TagWord, &[u8])>
@@ -51,76 +50,52 @@ fn after_prefix<'t>(front: &[u8], text: &'t [u8]) -> Option<&'t [u8]>
 
 /// The tag that the word and a qualifier say: none, a decimal, or a name; and what stands after its
 /// colon.
-pub(crate) fn read_tag_front<'t>(
-    directory: &Directory,
+pub(crate) fn read_tag_front<'t, N: ResolveNames>(
+    names: &N,
     word: TagWord,
     text: &'t [u8],
 ) -> Option<(Tag, &'t [u8])>
-    ensures { IfSome result (λ front. BeginsWithTag directory.now text.now word front.0 front.1.now) }
+    ensures { IfSome result (λ front. BeginsWithTag (N.names names.now) text.now word front.0
+        front.1.now) }
 {
     if let [b':', rest @ ..] = text {
         return Some((tag_of_word(word), rest));
     }
-    let Some((id, rest)) = read_decimal_until(b':', text) else {
-        return read_name_front(directory, word, text);
-    };
-    let tag = named_tag(word, id)?;
-    Some((tag, rest))
-}
-
-/// The tag that the word and a name say, and what stands after its colon.
-fn read_name_front<'t>(
-    directory: &Directory,
-    word: TagWord,
-    text: &'t [u8],
-) -> Option<(Tag, &'t [u8])>
-    ensures { IfSome result (λ front. BeginsWithTag directory.now text.now word front.0 front.1.now) }
-{
     match word {
-        TagWord::User => read_user_front(directory, text),
-        TagWord::Group => read_group_front(directory, text),
+        TagWord::User => read_user_front(names, text),
+        TagWord::Group => read_group_front(names, text),
         TagWord::Mask | TagWord::Other => None,
     }
 }
 
-fn read_user_front<'t>(directory: &Directory, text: &'t [u8]) -> Option<(Tag, &'t [u8])>
-    ensures { IfSome result (λ front. BeginsWithTag directory.now text.now TagWord.User front.0
-        front.1.now) }
+fn read_user_front<'t, N: ResolveNames>(names: &N, text: &'t [u8]) -> Option<(Tag, &'t [u8])>
+    ensures { IfSome result (λ front. BeginsWithTag (N.names names.now) text.now TagWord.User
+        front.0 front.1.now) }
 {
-    let (name, hash, rest) = split_name(b':', text)?;
-    let uid = directory.uid_by_hash(hash, name)?;
-    Some((Tag::User(uid), rest))
+    match names.uid_in_front(text) {
+        Some((uid, rest)) => Some((Tag::User(uid), rest)),
+        None => None,
+    }
 }
 
-fn read_group_front<'t>(directory: &Directory, text: &'t [u8]) -> Option<(Tag, &'t [u8])>
-    ensures { IfSome result (λ front. BeginsWithTag directory.now text.now TagWord.Group front.0
-        front.1.now) }
+fn read_group_front<'t, N: ResolveNames>(names: &N, text: &'t [u8]) -> Option<(Tag, &'t [u8])>
+    ensures { IfSome result (λ front. BeginsWithTag (N.names names.now) text.now TagWord.Group
+        front.0 front.1.now) }
 {
-    let (name, hash, rest) = split_name(b':', text)?;
-    let gid = directory.gid_by_hash(hash, name)?;
-    Some((Tag::Group(gid), rest))
+    match names.gid_in_front(text) {
+        Some((gid, rest)) => Some((Tag::Group(gid), rest)),
+        None => None,
+    }
 }
 
 /// The tag of an entry that names no one.
 fn tag_of_word(word: TagWord) -> Tag
-    ensures { (known : Known) → tag_of known word (Some []) ≡ Ok result }
+    ensures { (names : Names) → tag_by names word (Some []) ≡ Ok result }
 {
     match word {
         TagWord::User => Tag::UserObj,
         TagWord::Group => Tag::GroupObj,
         TagWord::Mask => Tag::Mask,
         TagWord::Other => Tag::Other,
-    }
-}
-
-/// The tag of an entry for the user or the group with this id.
-fn named_tag(word: TagWord, id: u32) -> Option<Tag>
-    ensures { IfSome result (λ tag. (known : Known) (text : List ℕ) → decimal_value text ≡ Some id
-        → tag_of known word (Some text) ≡ Ok tag) }
-{
-    match word {
-        TagWord::User => Some(Tag::User(Uid::new(id)?)),
-        TagWord::Group => Some(Tag::Group(Gid::new(id)?)),
-        TagWord::Mask | TagWord::Other => None,
     }
 }

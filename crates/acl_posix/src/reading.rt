@@ -2,12 +2,11 @@
 
 ghost use Rattle.std.specs.Prelude.{◌≡◌, ◌≢◌, ◌≤◌, List, length, option_map};
 ghost use Rattle.std.specs.Prelude.{IfOk, IfErr, MatchResult};
-ghost use Rattle.acl_names.specs.Directory.{uid_of, gid_of};
 ghost use Rattle.acl_names.specs.ListText.{Spells};
 ghost use Rattle.acl_names.specs.Pieces.{pieces};
 ghost use Rattle.acl_posix.specs.Entry.{EntryValue};
-ghost use Rattle.acl_posix.specs.EntryText.{entry_of, fields_of, tag_of, tag_word, tag_with_id};
-ghost use Rattle.acl_posix.specs.ReadFault.{IsTextFault, list_fault};
+ghost use Rattle.acl_posix.specs.EntryText.{entry_by, fields_of, tag_by, tag_word, tag_with_id};
+ghost use Rattle.acl_posix.specs.ReadFault.{IsFaultBy, fault_of_name, list_fault};
 ghost use Rattle.acl_posix.specs.Views.{view_fields};
 ghost use Rattle.acl_posix.specs.declared.limits.TheConstants.{INLINE_ENTRIES};
 
@@ -15,7 +14,7 @@ use crate::front::{read_tag_front, read_word_front};
 use crate::limits::MAX_ENTRIES;
 use crate::perms::{read_perms, read_perms_front};
 use crate::{Entries, Entry, Tag, TextFault};
-use acl_names::{Directory, ListFault, Parts, PieceReader, WrittenId, read_list, trim_blanks};
+use acl_names::{ListFault, NameFault, Parts, PieceReader, ResolveNames, read_list, trim_blanks};
 use std::alloc::Global;
 
 /// The word that an entry begins with.
@@ -40,29 +39,40 @@ struct Fields<'a> {
 pub enum PieceFault {
     /// It has none of the shapes of entries.
     Syntax,
-    /// It has the shape of one, with a well-shaped name that the directory lacks.
+    /// It has the shape of one, with a name that nobody has.
     UnknownName,
 }
 
-/// Reads entries whose names a directory knows.
-#[derive(Drop)]
-pub struct EntryReader<'a> {
-    pub directory: &'a Directory,
+impl From<NameFault> for PieceFault {
+    ghost from_gives = { λ fault becomes. becomes ≡ fault_of_name fault };
+
+    fn from(fault: NameFault) -> PieceFault {
+        match fault {
+            NameFault::Malformed => PieceFault::Syntax,
+            NameFault::Unknown => PieceFault::UnknownName,
+        }
+    }
 }
 
-impl<'a> PieceReader for EntryReader<'a> {
+/// Reads entries by these names.
+#[derive(Drop)]
+pub struct EntryReader<'a, N: ResolveNames> {
+    pub names: &'a N,
+}
+
+impl<'a, N: ResolveNames> PieceReader for EntryReader<'a, N> {
     type Value = Entry;
 
     type Fault = PieceFault;
 
-    ghost value_of = { λ reader. entry_of reader.directory.now };
+    ghost value_of = { λ reader. entry_by (N.names reader.names.now) };
 
-    #[tactic(auto, unfolding(crate::specs::EntryText::entry_of))]
+    #[tactic(auto, unfolding(crate::specs::EntryText::entry_by))]
     fn read(&self, piece: &[u8]) -> Result<Entry, PieceFault> {
         let fields = read_fields(piece).ok_or(PieceFault::Syntax)?;
         let word = read_tag_word(fields.tag).ok_or(PieceFault::Syntax)?;
         let perms = read_perms(fields.perms).ok_or(PieceFault::Syntax)?;
-        let tag = read_tag(self.directory, word, fields.qualifier)?;
+        let tag = read_tag(self.names, word, fields.qualifier)?;
         Ok(Entry { tag, perms })
     }
 
@@ -70,7 +80,7 @@ impl<'a> PieceReader for EntryReader<'a> {
         let Some((word, behind_word)) = read_word_front(text) else {
             return None;
         };
-        let Some((tag, behind_tag)) = read_tag_front(self.directory, word, behind_word) else {
+        let Some((tag, behind_tag)) = read_tag_front(self.names, word, behind_word) else {
             return None;
         };
         let Some((perms, rest)) = read_perms_front(behind_tag) else {
@@ -87,18 +97,22 @@ impl<'a> PieceReader for EntryReader<'a> {
 /// It refuses a text for its first piece that is no entry, `Syntax` or `UnknownName`, or that is
 /// one too many, before that piece is read; and if memory runs out, even if a fault further on
 /// isn't yet found. A text of no entries is none.
-pub fn read_entries(alloc: Global, text: &[u8], directory: &Directory) -> Result<Entries, TextFault>
-    ensures read { IfOk result (λ entries. Spells (entry_of directory.now) MAX_ENTRIES text.now
-        entries) }
-    ensures fault { IfErr result (IsTextFault directory.now text.now) }
+pub fn read_entries<N: ResolveNames>(
+    alloc: Global,
+    text: &[u8],
+    names: &N,
+) -> Result<Entries, TextFault>
+    ensures read { IfOk result (λ entries. Spells (entry_by (N.names names.now)) MAX_ENTRIES
+        text.now entries) }
+    ensures fault { IfErr result (IsFaultBy (N.names names.now) text.now) }
     // What is spelt is read, unless memory runs out; so a text spells at most one list.
     ensures only { (entries : List EntryValue)
-        → Spells (entry_of directory.now) MAX_ENTRIES text.now entries
+        → Spells (entry_by (N.names names.now)) MAX_ENTRIES text.now entries
         → MatchResult result (λ read. read ≡ entries) (λ fault. fault ≡ TextFault.Memory) }
     ensures short { length (pieces text.now) ≤ INLINE_ENTRIES
         → IfErr result (λ fault. fault ≢ TextFault.Memory) }
 {
-    match read_list(alloc, &EntryReader { directory }, MAX_ENTRIES, text) {
+    match read_list(alloc, &EntryReader { names }, MAX_ENTRIES, text) {
         Ok(items) => match Entries::of_items(items) {
             Ok(entries) => Ok(entries),
             Err(_) => Err(TextFault::Memory),
@@ -149,36 +163,37 @@ fn read_tag_word(text: &[u8]) -> Option<TagWord>
     }
 }
 
-fn read_tag(
-    directory: &Directory,
+fn read_tag<N: ResolveNames>(
+    names: &N,
     word: TagWord,
     qualifier: Option<&[u8]>,
 ) -> Result<Tag, PieceFault>
-    ensures { result ≡ tag_of directory.now word (option_map (λ text. text.now) qualifier.entry) }
+    ensures { result ≡ tag_by (N.names names.now) word
+        (option_map (λ text. text.now) qualifier.entry) }
 {
     match (word, qualifier) {
         (TagWord::User, Some([])) => Ok(Tag::UserObj),
-        (TagWord::User, Some(name)) => read_user(directory, name),
+        (TagWord::User, Some(name)) => read_user(names, name),
         (TagWord::Group, Some([])) => Ok(Tag::GroupObj),
-        (TagWord::Group, Some(name)) => read_group(directory, name),
+        (TagWord::Group, Some(name)) => read_group(names, name),
         (TagWord::Mask, None | Some([])) => Ok(Tag::Mask),
         (TagWord::Other, None | Some([])) => Ok(Tag::Other),
         _ => Err(PieceFault::Syntax),
     }
 }
 
-fn read_user(directory: &Directory, text: &[u8]) -> Result<Tag, PieceFault>
-    ensures { result ≡ tag_with_id (λ uid. Tag.User uid) (uid_of directory.now) text.now }
+fn read_user<N: ResolveNames>(names: &N, text: &[u8]) -> Result<Tag, PieceFault>
+    ensures { result ≡ tag_with_id (N.names names.now).written (λ uid. Tag.User uid)
+        (N.names names.now).uid text.now }
 {
-    let written = WrittenId::read(text).ok_or(PieceFault::Syntax)?;
-    let uid = directory.uid(written).ok_or(PieceFault::UnknownName)?;
+    let uid = names.uid_written(text)?;
     Ok(Tag::User(uid))
 }
 
-fn read_group(directory: &Directory, text: &[u8]) -> Result<Tag, PieceFault>
-    ensures { result ≡ tag_with_id (λ gid. Tag.Group gid) (gid_of directory.now) text.now }
+fn read_group<N: ResolveNames>(names: &N, text: &[u8]) -> Result<Tag, PieceFault>
+    ensures { result ≡ tag_with_id (N.names names.now).written (λ gid. Tag.Group gid)
+        (N.names names.now).gid text.now }
 {
-    let written = WrittenId::read(text).ok_or(PieceFault::Syntax)?;
-    let gid = directory.gid(written).ok_or(PieceFault::UnknownName)?;
+    let gid = names.gid_written(text)?;
     Ok(Tag::Group(gid))
 }

@@ -5,6 +5,7 @@ use Rattle.clap.specs.Words.{Row, Text, first_of, matches_of}
 use Rattle.acl_names.specs.Bytes.{comma}
 use Rattle.acl_names.specs.Ids.{decimal_value}
 use Rattle.acl_names.specs.ListText.{PiecesSay}
+use Rattle.acl_names.specs.Names.{names_of}
 use Rattle.acl_names.specs.Pieces.{parts, pieces}
 use Rattle.acl_names.specs.Steps.{map_fault, or_fault}
 use Rattle.acl_names.proofs.ReadListLemmas.{at_most_read-all, at_most_read-said}
@@ -62,7 +63,7 @@ module _ (words : List Text) where
   perms_in-given perms (text, given, is) = rw (given, is) refl
 
   acl_in-given : (acl : List EntryValue) → GiveAcl words acl → acl_in rows ≡ Ok acl
-  acl_in-given acl (text, given, spells) = rw given (ap (map_fault (λ fault. Acl fault)) (acl_of-spelt nobody text acl spells))
+  acl_in-given acl (text, given, spells) = rw given (ap (map_fault (λ fault. Acl fault)) (acl_of-spelt (names_of nobody) text acl spells))
 
   -- a field that reads is given
   GiveId-read : (name : Text) (id : ℕ) → id_in name rows ≡ Ok id → GiveId words name id
@@ -85,7 +86,7 @@ module _ (words : List Text) where
   GiveAcl-read acl is =
       let text = bind_ok (or_fault (Acl cause.BadAcl) (first_of (codes "text") rows)) acl_of acl is in
       let spelt = map_fault-ok (λ fault. Acl fault) (posix.acl_of nobody (pieces text.0)) acl text.2 in
-      (text.0, given (Acl cause.BadAcl) _ _ text.1, acl_of-ok nobody text.0 acl spelt)
+      (text.0, given (Acl cause.BadAcl) _ _ text.1, acl_of-ok (names_of nobody) text.0 acl spelt)
 
   -- a flag is set exactly if it is given
   flag_of-given : (value : Option Text) → (flag_of value ≡ true) ↔ (value ≡ Some (codes "true"))

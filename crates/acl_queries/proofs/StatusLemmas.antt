@@ -7,7 +7,7 @@ use Rattle.acl_cli.specs.ErrorOutput.{ErrorText}
 use Rattle.acl_cli.specs.Failures.{IsRefusal, is_help, status_of}
 use Rattle.acl_cli.specs.declared.command.Ending.{Ending}
 use Rattle.acl_cli.specs.declared.failure.Failure.{Failure}
-use Rattle.acl_cli.specs.declared.failure.Failure.TheVariants.{BadWords, CannotRead, Field, InputTwice, Lacks, LineTooLong, NoCommand, TooManyWords, Unread, Usage}
+use Rattle.acl_cli.specs.declared.failure.Failure.TheVariants.{Accounts, BadWords, CannotRead, Field, InputTwice, Lacks, LineTooLong, Mismatch, NoCommand, Setup, TooManySessions, TooManyWords, Unread, Usage}
 use Rattle.acl_cli.specs.declared.field_fault.FieldFault.{FieldFault}
 use Rattle.acl_queries.specs.Queries.{FailsFor, query_meaning}
 use Rattle.acl_queries.specs.QueryLaws.{HasTheStatusOfItsWords, IsStatusOf, status_of_kind, status_of_reading}
@@ -23,6 +23,10 @@ module _ {A : Type 0} (helps : Bool) (kinds : Kinds) (reading : Result A FieldFa
   of_refusal (Lacks lack) is ended = absurd (ended refl)
   of_refusal (Field fault) is ended = absurd is
   of_refusal InputTwice is ended = absurd is
+  of_refusal (Mismatch mismatch) is ended = absurd is
+  of_refusal TooManySessions is ended = absurd is
+  of_refusal (Setup error) is ended = absurd is
+  of_refusal (Accounts name fault) is ended = absurd is
   of_refusal (CannotRead name reason) is ended = absurd is
   of_refusal LineTooLong is ended = absurd is
   of_refusal (Unread name) is ended = absurd is
@@ -36,6 +40,10 @@ module _ {A : Type 0} (helps : Bool) (kinds : Kinds) (reading : Result A FieldFa
   of_fields (Lacks lack) none is ended = absurd (ended refl)
   of_fields (Usage error) none is ended = absurd is
   of_fields InputTwice none is ended = absurd is
+  of_fields (Mismatch mismatch) none is ended = absurd is
+  of_fields TooManySessions none is ended = absurd is
+  of_fields (Setup error) none is ended = absurd is
+  of_fields (Accounts name fault) none is ended = absurd is
   of_fields (CannotRead name reason) none is ended = absurd is
   of_fields LineTooLong none is ended = absurd is
   of_fields (Unread name) none is ended = absurd is

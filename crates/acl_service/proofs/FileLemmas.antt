@@ -10,7 +10,8 @@ use Rattle.std.specs.declared.vec.Vec.{Vec}
 use Rattle.std.specs.declared.alloc.Global.{Global}
 use Rattle.clap.specs.Words.{Text}
 use Rattle.acl_service.specs.FilesFaults.{IsFilesFault, IsReadFault, IsReadFaultAmong}
-use Rattle.acl_service.specs.RunWords.{CanRun, HasBytes, HaveBytes, bytes_of_session, input_count}
+use Rattle.acl_service.specs.RunWords.{CanRun}
+use Rattle.acl_cli.specs.SessionFiles.{HasBytes, HaveBytes, bytes_of_session, input_count}
 use Rattle.acl_service.specs.declared.files.fault.FilesFault.{FilesFault}
 use Rattle.acl_service.specs.declared.files.fault.FilesFault.TheVariants.{SessionCount, InputTwice, CannotRead, Memory}
 

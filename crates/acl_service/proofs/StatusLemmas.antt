@@ -12,7 +12,8 @@ use Rattle.acl_service.specs.FilesFaults.{IsFilesFault, SaysRun, files_status}
 use Rattle.acl_service.specs.RunLaws.{CannotRun, StatusesTellTheWords}
 use Rattle.acl_service.specs.RunLine.{run_line}
 use Rattle.acl_service.specs.RunMeaning.{run_meaning}
-use Rattle.acl_service.specs.RunWords.{CanRun, sessions_in, setup_in}
+use Rattle.acl_service.specs.RunWords.{CanRun, sessions_in}
+use Rattle.acl_cli.specs.SessionFiles.{setup_in}
 use Rattle.acl_service.specs.TextsFaults.{IsTextsFault, texts_status}
 use Rattle.acl_service.specs.declared.files.fault.FilesFault.{FilesFault}
 use Rattle.acl_service.specs.declared.files.fault.FilesFault.TheVariants.{SessionCount, InputTwice, CannotRead, Memory}

@@ -9,7 +9,8 @@ use Rattle.acl_cli.specs.Faults.{SaysUsage}
 use Rattle.acl_cli.specs.RunFaults.{run_fault_words}
 use Rattle.acl_cli.specs.declared.run_fault.RunFault.TheVariants as run
 use Rattle.acl_service.specs.RunLine.{run_line}
-use Rattle.acl_service.specs.RunWords.{CanRun, HasBytes, input_count, sessions_in, setup_in}
+use Rattle.acl_service.specs.RunWords.{CanRun, sessions_in}
+use Rattle.acl_cli.specs.SessionFiles.{HasBytes, input_count, setup_in}
 use Rattle.acl_service.specs.TextsFaults.{SaysTexts, too_many_sessions}
 use Rattle.acl_service.specs.declared.files.fault.FilesFault.{FilesFault}
 use Rattle.acl_service.specs.declared.files.fault.FilesFault.TheVariants.{SessionCount}

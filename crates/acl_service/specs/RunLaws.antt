@@ -7,7 +7,8 @@ use Rattle.acl_cli.specs.ErrorOutput.{ErrorText}
 use Rattle.acl_cli.specs.Meaning.{Ends}
 use Rattle.acl_service.specs.RunLine.{run_line}
 use Rattle.acl_service.specs.RunMeaning.{run_meaning}
-use Rattle.acl_service.specs.RunWords.{CanRun, input_count, sessions_in}
+use Rattle.acl_service.specs.RunWords.{CanRun, sessions_in}
+use Rattle.acl_cli.specs.SessionFiles.{input_count}
 
 -- sessions of these names can't run together: there are none, or too many, or standard input is two
 abbrev pub CannotRun : List Text → Type 0

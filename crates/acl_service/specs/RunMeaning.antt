@@ -6,7 +6,8 @@ use Rattle.acl_cli.specs.Meaning.{Meaning}
 use Rattle.acl_service.specs.FilesFaults.{SaysFiles, SaysRun}
 use Rattle.acl_service.specs.RunLine.{run_line}
 use Rattle.acl_service.specs.RunTexts.{RunsTexts}
-use Rattle.acl_service.specs.RunWords.{RunsRows, RunsWords, input_count, sessions_in}
+use Rattle.acl_service.specs.RunWords.{RunsRows, RunsWords, sessions_in}
+use Rattle.acl_cli.specs.SessionFiles.{input_count}
 use Rattle.acl_service.specs.TextsFaults.{SaysTexts}
 
 -- sessions with these texts over what the setup opens, with the journal and an error limit if they

@@ -1,27 +1,19 @@
 -- Which files the fields of `run` name, and what comes of them.
-use Rattle.std.specs.Prelude.{◌≡◌, ⊤, ℕ, ◌+◌, ◌^◌, ◌<◌, ◌≤◌, length, List, [], ◌∷◌, Option}
-use Rattle.std.specs.Prelude.{Some, None, codes, IfSome, unwrap_or, Vec, if◌then◌else◌, bytes_eq}
+use Rattle.std.specs.Prelude.{◌≡◌, ℕ, ◌^◌, ◌<◌, ◌≤◌, length, List, [], Option, Some, None, Vec}
+use Rattle.std.specs.Prelude.{codes, unwrap_or}
 use Rattle.std.specs.Str.Parse.{IsNumeral, digits_value, without_leading_plus}
 use Rattle.std.specs.declared.alloc.Global.{Global}
 use Rattle.clap.specs.Words.{Row, Text, all_of, first_of, matches_of}
 use Rattle.acl_broker.specs.declared.limits.TheConstants.{SESSIONS}
 use Rattle.acl_cli.specs.Fields.{flag_in}
 use Rattle.acl_cli.specs.CommandLine.{Takes}
+use Rattle.acl_cli.specs.SessionFiles.{HasBytes, HaveBytes, input_count, setup_in}
 use Rattle.acl_service.specs.RunLine.{run_line}
 use Rattle.acl_service.specs.RunTexts.{RunsTexts}
 
--- the names of the files that the words give
-unfoldable pub setup_in : List Row → Text
-setup_in rows = unwrap_or (first_of (codes "setup") rows) []
-
+-- the names of the sessions that the words give
 unfoldable pub sessions_in : List Row → List Text
 sessions_in rows = unwrap_or (all_of (codes "session") rows) []
-
--- how many sessions of these names are standard input
-abbrev pub input_count : List Text → ℕ
-input_count [] = 0
-input_count (name ∷ names) = if bytes_eq name (codes "-") then 1 + input_count names
-    else input_count names
 
 -- sessions of these names may run together: there are some, not too many, and standard input is one
 -- of them at the most
@@ -41,23 +33,6 @@ IsLimit (Some text) (Some errors) = errors ≡ digits_value 10 (without_leading_
 
 abbrev pub HasLimit : List Row → Option ℕ → Type 0
 HasLimit rows limit = IsLimit (first_of (codes "max-errors") rows) limit
-
--- the bytes are the known ones, if any are known
-abbrev pub HasBytes : Option (List ℕ) → List ℕ → Type 0
-HasBytes known bytes = IfSome known (λ those. bytes ≡ those)
-
--- the bytes of a session's text, if they are known: `-` is standard input
-abbrev pub bytes_of_session : (Text → Option (List ℕ)) → Option (List ℕ) → Text → Option (List ℕ)
-bytes_of_session bytes_of input name = if bytes_eq name (codes "-") then input else bytes_of name
-
--- a text for each name, of its bytes
-abbrev pub HaveBytes : (Text → Option (List ℕ)) → Option (List ℕ) → List Text → List (Vec ℕ Global)
-    → Type 0
-HaveBytes bytes_of input [] [] = ⊤
-HaveBytes bytes_of input (name ∷ names) (text ∷ texts) =
-    HasBytes (bytes_of_session bytes_of input name) text.items
-    × HaveBytes bytes_of input names texts
-HaveBytes bytes_of input _ _ = ⊥
 
 -- what the files print that the fields name went out so: all of it, or a front
 pub record RunsRows (bytes_of : Text → Option (List ℕ)) (input : Option (List ℕ)) (rows : List Row)

@@ -4,8 +4,9 @@ ghost use Rattle.std.specs.Prelude.{bytes_eq, codes, false, length, map};
 ghost use Rattle.acl_lang.specs.declared.limits.TheConstants.{MAX_TEXT_LEN};
 ghost use Rattle.acl_service.specs.FilesFaults.{IsFilesFault, IsReadFault, IsReadFaultAmong};
 ghost use Rattle.acl_service.specs.FilesFaults.{files_status};
-ghost use Rattle.acl_service.specs.RunWords.{CanRun, HasBytes, HaveBytes, bytes_of_session};
-ghost use Rattle.acl_service.specs.RunWords.{input_count};
+ghost use Rattle.acl_service.specs.RunWords.{CanRun};
+ghost use Rattle.acl_cli.specs.SessionFiles.{HasBytes, HaveBytes, bytes_of_session};
+ghost use Rattle.acl_cli.specs.SessionFiles.{input_count};
 
 pub(crate) mod fault;
 

@@ -10,6 +10,7 @@ mod run_command;
 mod served;
 mod sessions;
 
+pub use acl_cli::session_files::setup_field;
 pub use acl_cli::{
     CapFault, CommandFault, ErrorOutput, RunFault, WordsFault, read_capped, report, words_of,
     write_text,
@@ -21,7 +22,7 @@ pub use laws::{
     journal_explains_every_answer, one_session_is_served_as_alone, run_statuses_tell_the_words,
 };
 pub use one::{OneFault, apply_text, run_one};
-pub use run_command::{run, run_texts, session_fields, session_words, setup_field};
+pub use run_command::{run, run_texts, session_fields, session_words};
 pub use served::Served;
 pub(crate) use served::ServedInPrint;
 pub use sessions::{Report, serve, serve_rounds};

@@ -13,11 +13,12 @@ mod texts;
 
 use crate::files::{FilesFault, OpenFiles, read_texts};
 use acl_cli::fields::flag_field;
+use acl_cli::session_files::setup_field;
 use acl_cli::{ErrorOutput, parse, report};
 use acl_runs::{Gate, OpenGate};
 use clap::ArgMatches;
 use command_line::{RunLine, limit_field};
-pub use command_line::{session_fields, session_words, setup_field};
+pub use command_line::{session_fields, session_words};
 use std::alloc::Global;
 use std::convert::AsStr;
 use std::io::{Read, Write};

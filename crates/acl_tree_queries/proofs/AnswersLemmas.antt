@@ -6,6 +6,7 @@ use Rattle.std.specs.declared.alloc.Global.{Global}
 use Rattle.std.proofs.lemmas.List.{get_or-set_same}
 use Rattle.std.proofs.lemmas.Slice.Eq.{bytes_eq-Decides}
 use Rattle.acl_names.specs.Directory.{Known}
+use Rattle.acl_names.specs.Names.{names_of}
 use Rattle.acl_audit.specs.Answers.{letters_lines, may_lines}
 use Rattle.acl_audit.specs.Impact.{requesters_of}
 use Rattle.acl_audit.specs.Reach.{reaches}
@@ -68,7 +69,7 @@ same_lines answers place text lines path right lines_are short path_is holds =
     let alike : after_line is.text ≡ after_line text = is.lines ∙ same ∙ lines_are in
     let own = is.answers in (
       file_at path is.file,
-      file_of-alike answers.users.directory.now is.text text is.file path alike short path_is is.reads,
+      file_of-alike (names_of answers.users.directory.now) is.text text is.file path alike short path_is is.reads,
       record { kept = kept; there = there; are = record { granted = own.granted; search = own.search } },
     )
 

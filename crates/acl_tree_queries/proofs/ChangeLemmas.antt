@@ -13,6 +13,7 @@ use Rattle.std.proofs.lemmas.List.{map-append}
 use Rattle.std.proofs.lemmas.Slice.Eq.{bytes_eq-Decides}
 use Rattle.acl_names.proofs.AnyLemmas.{list_any-map}
 use Rattle.acl_names.specs.Directory.{Known}
+use Rattle.acl_names.specs.Names.{names_of}
 use Rattle.acl_names.specs.Requester.{Identity}
 use Rattle.acl_audit.specs.Changes as access
 use Rattle.acl_audit.specs.Impact.{IsImpact, requesters_of}
@@ -21,7 +22,7 @@ use Rattle.acl_tree.specs.declared.node.Node.{Node}
 use Rattle.acl_listings.specs.Block.{FileValue, file_of, path_of}
 use Rattle.acl_listings.specs.Listing.{Block}
 use Rattle.acl_listings.specs.declared.fault.BlockFault.{BlockFault}
-use Rattle.acl_listings.specs.declared.fault.BlockFault.TheVariants.{TooLong, BadHeader, RepeatedPath, UnknownOwner, UnknownGroup, Acl, UnknownWay}
+use Rattle.acl_listings.specs.declared.fault.BlockFault.TheVariants.{TooLong, BadHeader, RepeatedPath, UnknownOwner, UnknownGroup, Acl, InvalidAcl, UnknownWay}
 use Rattle.acl_listings.proofs.PathLemmas.{path_of-file}
 use Rattle.acl_cli.specs.Output.{AppendsFront}
 use Rattle.acl_tree_queries.specs.ChangeSteps.{AreMet, TellsFaultOf, TellsFile, TellsFound, TellsGoneOf, TellsNext, TellsOfKnown, is_marked, read_placed}
@@ -50,6 +51,7 @@ said_once true (Err RepeatedPath) file is = cc
 said_once true (Err UnknownOwner) file is = cc
 said_once true (Err UnknownGroup) file is = cc
 said_once true (Err (Acl fault)) file is = cc
+said_once true (Err (InvalidAcl rule)) file is = cc
 said_once true (Err UnknownWay) file is = cc
 
 module _ (known : Known) (before : List Block) where
@@ -58,7 +60,7 @@ module _ (known : Known) (before : List Block) where
       → file_before (read_placed known item) ≡ Ok file → first_place (has_path file.path) before ≡ Some (length item.earlier)
   first_of_file item rest whole file is =
       let (once, said) = said_once (repeats (read_placed known item)) (file_of known item.here.text) file is in
-      let path : path_of item.here.text ≡ Some file.path = path_of-file known item.here.text file said in
+      let path : path_of item.here.text ≡ Some file.path = path_of-file (names_of known) item.here.text file said in
       let none : is_among file.path (each (reading_of known) item.earlier) ≡ false =
       sym (ap (λ own. option_map_or (λ path. is_among path (each (reading_of known) item.earlier)) own false) path) ∙ once in
       let lacks : list_any (has_path file.path) item.earlier ≡ false = sym (list_any-map (is_at file.path) (reading_of known) item.earlier) ∙ none in
@@ -230,7 +232,7 @@ module _ (teller : ChangeText) (seen : List Block) (are : AreMet teller.before.n
   by_said (Ok file) is text tells =
       let (once, said) = said_once (repeats_one_of (each (reading_of (directory teller)) teller.before.now) here) (file_of (directory teller) block.text) file is in
       subst (λ earlier. TellsChange (directory teller) (asking teller) earlier file text)
-      (find_found (directory teller) teller.before.now file.path block.text (path_of-file (directory teller) block.text file said)) tells
+      (find_found (directory teller) teller.before.now file.path block.text (path_of-file (names_of (directory teller)) block.text file said)) tells
 
   -- it is told by its place and its mark
   pub tells_next : (text : List ℕ) → TellsFound teller found (reading_of (directory teller) block) (unless_repeated (is_marked teller.met.items found) (file_of (directory teller) block.text)) text

@@ -1,5 +1,5 @@
 -- The lines of a dump, one more at a time.
-use Rattle.std.proofs.Common.{◌≡◌, ◌∙◌, ◌<◌, ◌≤◌, ◌+◌, ◌++◌, ℕ, zero, suc, List, [], ◌∷◌, Result, Err, IfErr}
+use Rattle.std.proofs.Common.{◌≡◌, ◌∙◌, ◌<◌, ◌≤◌, ◌+◌, ◌++◌, ℕ, zero, suc, List, [], ◌∷◌, Result, Err, IfErr, inl, inr}
 use Rattle.std.proofs.Common.{ap, append_assoc, append-nil, arith, get_or, length, length-append, map as each}
 use Rattle.std.proofs.Common.{refl, subst, sym, take}
 use Rattle.std.specs.List.{flat_map}
@@ -12,10 +12,9 @@ use Rattle.acl_tree.specs.Entries.{Entry}
 use Rattle.acl_tree.specs.declared.request.Request.{Request}
 use Rattle.acl_lang.specs.CommandText.{command_text, session_text}
 use Rattle.acl_lang.specs.declared.limits.TheConstants.{MAX_LINE_LEN}
-use Rattle.acl_tree_queries.specs.AnswerFaults.{IsAnswerFault}
+use Rattle.acl_tree_queries.specs.TreeQuestions.{IsAnswerFailure}
 use Rattle.acl_tree_queries.specs.DumpText.{AddsLines, HasLongLine, IsDumped, SaysAgain}
-use Rattle.acl_tree_queries.specs.declared.question.answer_fault.AnswerFault.{AnswerFault}
-use Rattle.acl_tree_queries.specs.declared.question.answer_fault.AnswerFault.TheVariants.{LineTooLong, Run}
+use Rattle.acl_cli.specs.declared.failure.Failure.{Failure}
 
 -- ---- what was added
 
@@ -52,12 +51,12 @@ pub long_behind : (first second : List Request) → HasLongLine second → HasLo
 long_behind first second (request, among, long) = (request, Contains-append_right first second request among, long)
 
 -- the fault of a part is that of the whole
-pub fault_weaker : (P Q : Type 0) → (P → Q) → (fault : AnswerFault) → IsAnswerFault P fault → IsAnswerFault Q fault
-fault_weaker P Q then LineTooLong is = then is
-fault_weaker P Q then (Run fault) is = is
+pub fault_weaker : (P Q : Type 0) → (P → Q) → (failure : Failure) → IsAnswerFailure P failure → IsAnswerFailure Q failure
+fault_weaker P Q then failure (inl (is, refused)) = inl (is, then refused)
+fault_weaker P Q then failure (inr lack) = inr lack
 
-pub refused_weaker : {T : Type 0} (result : Result T AnswerFault) (P Q : Type 0) → (P → Q) → IfErr result (IsAnswerFault P) → IfErr result (IsAnswerFault Q)
-refused_weaker result P Q then = IfErr-weaker result (IsAnswerFault P) (IsAnswerFault Q) (fault_weaker P Q then)
+pub refused_weaker : {T : Type 0} (result : Result T Failure) (P Q : Type 0) → (P → Q) → IfErr result (IsAnswerFailure P) → IfErr result (IsAnswerFailure Q)
+refused_weaker result P Q then = IfErr-weaker result (IsAnswerFailure P) (IsAnswerFailure Q) (fault_weaker P Q then)
 
 -- what holds of the fault that a result has
 pub of_fault : {T E : Type 0} (result : Result T E) (fault : E) (P : E → Type 0) → result ≡ Err fault → P fault → IfErr result P

@@ -14,7 +14,7 @@ use Rattle.acl_names.specs.Pieces.{lines_of, trim}
 use Rattle.acl_names.proofs.PlainLines.{Lacks}
 use Rattle.acl_names.specs.ReadList.{at_most_read}
 use Rattle.acl_posix.specs.Entry.{EntryValue}
-use Rattle.acl_posix.specs.EntryText.{entry_of}
+use Rattle.acl_posix.specs.EntryText.{entry_by}
 use Rattle.acl_posix.specs.PermsText.{perms_of_text}
 use Rattle.acl_tree.specs.Apply.{next}
 use Rattle.acl_tree.specs.Entries.{Entry}
@@ -177,7 +177,7 @@ making_names_paths known tree made names =
 
 -- the first line, in another way to write it than that of the others, closes the root
 closing_again : (known : Known) → line_of known closing_line ≡ Command close_command
-unfolding command set_access at_most_read entry_of perms_of_text
+unfolding command set_access at_most_read entry_by perms_of_text
 closing_again known = refl
 
 lacks_newline : (text : List ℕ) → list_all (λ byte. not (byte == newline)) text ≡ true → Lacks newline text

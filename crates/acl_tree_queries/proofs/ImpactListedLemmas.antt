@@ -4,11 +4,12 @@ use Rattle.std.specs.Borrow.{Bor}
 use Rattle.std.specs.Prelude.{IfSome}
 use Rattle.clap.specs.Words.{Row, Text, matches_of}
 use Rattle.acl_names.specs.Directory.{Known}
+use Rattle.acl_names.specs.Names.{names_of}
 use Rattle.acl_audit.specs.Impact.{requesters_of}
 use Rattle.acl_listings.specs.Cursor.{blocks_to_come, as_handed_out}
 use Rattle.acl_listings.specs.Listing.{Block, blocks_of}
 use Rattle.acl_listings.proofs.HandedLemmas.{file-handed, path-handed}
-use Rattle.acl_service.specs.RunWords.{input_count}
+use Rattle.acl_cli.specs.SessionFiles.{input_count}
 use Rattle.acl_service.specs.declared.files.fault.FilesFault.TheVariants.{SessionCount, InputTwice, CannotRead, Memory}
 use Rattle.acl_tree_queries.specs.ChangeSteps.{TellsOfKnown}
 use Rattle.acl_tree_queries.specs.ImpactAnswer.{asks_impact}
@@ -25,7 +26,7 @@ use Rattle.acl_tree_queries.specs.declared.question.fault.QuestionFault.TheVaria
 
 -- a block comes to the same as what is handed out of it
 reading-handed : (known : Known) (block : Block) → reading_of known (as_handed_out block) ≡ reading_of known block
-reading-handed known block = λ i. record { line = block.line; path = path-handed block.text i; file = file-handed known block.text i }
+reading-handed known block = λ i. record { line = block.line; path = path-handed block.text i; file = file-handed (names_of known) block.text i }
 
 pub readings-handed : (known : Known) (blocks : List Block) → each (reading_of known) (each as_handed_out blocks) ≡ each (reading_of known) blocks
 readings-handed known [] = refl

@@ -14,5 +14,6 @@ pub mod ChangeLemmas
 pub mod ListingWordsLemmas
 pub mod NodesLemmas
 pub mod OpenedLemmas
+pub mod TreeQuestionsLemmas
 pub mod QuestionsLemmas
 pub mod TreesLemmas

@@ -19,7 +19,7 @@ use Rattle.acl_listings.specs.declared.fault.BlockFault.{BlockFault}
 use Rattle.acl_posix.specs.Perms.{bits_of}
 use Rattle.acl_cli.specs.Output.{AppendsFront}
 use Rattle.acl_setup.specs.Opened.{Opens}
-use Rattle.acl_service.specs.RunWords.{HasBytes, setup_in}
+use Rattle.acl_cli.specs.SessionFiles.{HasBytes, setup_in}
 use Rattle.acl_tree.specs.Tree.{NodesUnderUmask}
 use Rattle.acl_tree_queries.specs.ChangeSteps.{read_placed}
 use Rattle.acl_tree_queries.specs.Listings.{SaysWhoThereIs}

@@ -2,7 +2,7 @@
 use Rattle.std.proofs.Common.{◌≡◌, ◌≢◌, ◌∙◌, ◌+◌, ℕ, suc, Bool, true, false, cond, Contains, List, ◌∷◌, Option, Ok, Result, IsOk, ap, arith, bytes_eq, codes, refl, subst, sym}
 use Rattle.clap.specs.Words.{App, Row, Text, matches_of}
 use Rattle.acl_cli.specs.declared.field_fault.FieldFault.{FieldFault}
-use Rattle.acl_service.specs.RunWords.{input_count, setup_in}
+use Rattle.acl_cli.specs.SessionFiles.{input_count, setup_in}
 use Rattle.acl_service.specs.declared.files.fault.FilesFault.TheVariants.{SessionCount, InputTwice, CannotRead, Memory}
 use Rattle.acl_tree_queries.specs.AnswerFaults.{IsLack}
 use Rattle.acl_tree_queries.specs.ListingFaults.{IsDirectoryFault, IsListingFault, IsNamedFault}

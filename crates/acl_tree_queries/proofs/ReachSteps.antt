@@ -4,6 +4,7 @@ use Rattle.std.specs.Prelude.{is_none}
 use Rattle.std.specs.List.{filter, fold, list_all, list_any}
 use Rattle.std.proofs.lemmas.Bool.{or_parts}
 use Rattle.acl_names.specs.Directory.{Known}
+use Rattle.acl_names.specs.Names.{names_of}
 use Rattle.acl_names.specs.Requester.{Identity}
 use Rattle.acl_audit.specs.Answers.{both}
 use Rattle.acl_audit.specs.Impact.{requesters_of}
@@ -193,7 +194,7 @@ pub pathless : (known : Known) (perms : Option ℕ) (block : Block) → path_of 
 pathless known perms block none way other = by (file_of known block.text) refl
   where
     by : (said : Result FileValue BlockFault) → file_of known block.text ≡ said → text_by_way known perms (reading_of known block) said way ≡ text_by_way known perms (reading_of known block) said other
-    by (Ok file) is = absurd (never (sym none ∙ path_of-file known block.text file is))
+    by (Ok file) is = absurd (never (sym none ∙ path_of-file (names_of known) block.text file is))
       where
         never : {path : List ℕ} → None ≡ Some path → ⊥
         never is = cc

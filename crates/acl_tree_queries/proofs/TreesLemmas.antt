@@ -1,37 +1,34 @@
 -- The files that the words name.
-use Rattle.std.proofs.Common.{◌≡◌, ◌≤◌, ◌+◌, ◌++◌, ◌∷◌, [], ℕ, zero, suc, Bool, true, false, cond, List, Option, Vec, Global, arith, bytes_eq, codes, refl, subst, sym}
+use Rattle.std.proofs.Common.{◌≡◌, ◌∙◌, ◌≤◌, ◌+◌, ◌++◌, ◌∷◌, [], ℕ, zero, suc, Bool, true, false, cond, Contains, List, Option, Vec, Global, arith, bytes_eq, codes, inr, refl, subst, sym}
 use Rattle.std.proofs.lemmas.List.Elements.{Contains-append_left, Contains-append_right}
 use Rattle.clap.specs.Words.{Row, Text}
-use Rattle.acl_service.specs.FilesFaults.{IsReadFault, IsReadFaultAmong}
-use Rattle.acl_service.specs.RunWords.{HasBytes, HaveBytes, input_count, setup_in}
-use Rattle.acl_service.specs.declared.files.fault.FilesFault.{FilesFault}
-use Rattle.acl_service.specs.declared.files.fault.FilesFault.TheVariants.{SessionCount, InputTwice, CannotRead, Memory}
-use Rattle.acl_tree_queries.specs.QuestionFaults.{IsNamesFault}
+use Rattle.acl_cli.specs.SessionFiles.{HasBytes, HaveBytes, input_count, setup_in}
+use Rattle.acl_cli.specs.Failures.{IsUnexplained}
+use Rattle.acl_cli.specs.declared.failure.Failure.{Failure}
+use Rattle.acl_cli.proofs.FailureLemmas.{IsUnexplained-as}
+use Rattle.acl_tree_queries.specs.TreeQuestions.{IsNamesFailure}
 use Rattle.acl_tree_queries.specs.Trees.{after_in, before_in}
 
--- what is refused for one of the files is refused for the names
+-- what can't be read for one of the files can't be for the names
 module _ (rows : List Row) where
-  pub refused_for_setup : (fault : FilesFault) → IsReadFault (setup_in rows) fault → IsNamesFault rows fault
-  refused_for_setup (CannotRead refused) is = (0, omega arith, sym is)
-  refused_for_setup Memory is = tt
-  refused_for_setup SessionCount is = absurd is
-  refused_for_setup InputTwice is = absurd is
+  abbrev all_names_in : List Text
+  all_names_in = setup_in rows ∷ (before_in rows ++ after_in rows)
 
-  pub refused_before : (fault : FilesFault) → IsReadFaultAmong (before_in rows) fault → IsNamesFault rows fault
-  refused_before (CannotRead refused) is =
-      Contains-append_right (setup_in rows ∷ []) (before_in rows ++ after_in rows) refused.now
-      (Contains-append_left (before_in rows) (after_in rows) refused.now is)
-  refused_before Memory is = tt
-  refused_before SessionCount is = absurd is
-  refused_before InputTwice is = absurd is
+  pub refused_for_setup : (name : Text) → name ≡ setup_in rows → (failure : Failure) → IsUnexplained (λ refused. refused ≡ name) failure → IsNamesFailure rows failure
+  refused_for_setup name same failure is =
+      inr (IsUnexplained-as (λ refused. refused ≡ name) (Contains all_names_in) (λ refused of_name. (0, omega arith, sym (of_name ∙ same))) failure is)
 
-  pub refused_after : (fault : FilesFault) → IsReadFaultAmong (after_in rows) fault → IsNamesFault rows fault
-  refused_after (CannotRead refused) is =
-      Contains-append_right (setup_in rows ∷ []) (before_in rows ++ after_in rows) refused.now
-      (Contains-append_right (before_in rows) (after_in rows) refused.now is)
-  refused_after Memory is = tt
-  refused_after SessionCount is = absurd is
-  refused_after InputTwice is = absurd is
+  pub refused_before : (names : List Text) → names ≡ before_in rows → (failure : Failure) → IsUnexplained (Contains names) failure → IsNamesFailure rows failure
+  refused_before names same failure is =
+      inr (IsUnexplained-as (Contains names) (Contains all_names_in) (λ refused among.
+      Contains-append_right (setup_in rows ∷ []) (before_in rows ++ after_in rows) refused
+      (Contains-append_left (before_in rows) (after_in rows) refused (subst (λ (those : List Text). Contains those refused) same among))) failure is)
+
+  pub refused_after : (names : List Text) → names ≡ after_in rows → (failure : Failure) → IsUnexplained (Contains names) failure → IsNamesFailure rows failure
+  refused_after names same failure is =
+      inr (IsUnexplained-as (Contains names) (Contains all_names_in) (λ refused among.
+      Contains-append_right (setup_in rows ∷ []) (before_in rows ++ after_in rows) refused
+      (Contains-append_right (before_in rows) (after_in rows) refused (subst (λ (those : List Text). Contains those refused) same among))) failure is)
 
 module _ (bytes_of : Text → Option (List ℕ)) (start later : Option (List ℕ)) where
   -- of sessions none of which is standard input, it is told alike by any input

@@ -2,11 +2,10 @@
 use Rattle.std.specs.Prelude.{◌≡◌, ℕ, List, All, Option, Result, Ok}
 use Rattle.clap.specs.Words.{Row, Text}
 use Rattle.acl_audit.specs.Dump.{make_commands}
-use Rattle.acl_cli.specs.Meaning.{Meaning}
+use Rattle.acl_cli.specs.Commands.{Meaning}
 use Rattle.acl_cli.specs.declared.field_fault.FieldFault.{FieldFault}
-use Rattle.acl_tree_queries.specs.DumpLine.{dump_line}
 use Rattle.acl_tree_queries.specs.DumpText.{HasLongLine, IsDumped, dump_text}
-use Rattle.acl_tree_queries.specs.QuestionMeaning.{tree_meaning}
+use Rattle.acl_tree_queries.specs.TreeQuestions.{tree_meaning}
 use Rattle.acl_tree_queries.specs.declared.dump_command.question.DumpQuestion.{DumpQuestion}
 use Rattle.acl_tree_queries.specs.declared.trees.Trees.{Trees}
 
@@ -27,6 +26,6 @@ HasNoDump question trees = HasLongLine (make_commands trees.after)
 abbrev pub asks_dump : List Row → Result DumpQuestion FieldFault
 asks_dump rows = Ok (record {})
 
--- what the words of `dump` mean
-abbrev pub dump_meaning : (Text → Option (List ℕ)) → Option (List ℕ) → List Text → Meaning
-dump_meaning = tree_meaning dump_line asks_dump IsDump IsDumpBegun HasNoDump
+-- what the fields of `dump` mean
+abbrev pub dump_meaning : (Text → Option (List ℕ)) → Option (List ℕ) → List Row → Meaning
+dump_meaning = tree_meaning asks_dump IsDump IsDumpBegun HasNoDump

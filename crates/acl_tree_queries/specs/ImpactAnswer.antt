@@ -8,13 +8,11 @@ use Rattle.acl_tree.specs.Entries.{Entry}
 use Rattle.acl_tree.specs.Tree.{NodesUnderUmask}
 use Rattle.acl_audit.specs.Impact.{IsImpactOn, requesters_of}
 use Rattle.acl_audit.specs.declared.impact.Impact.{Impact}
-use Rattle.acl_cli.specs.Meaning.{Meaning}
+use Rattle.acl_cli.specs.Commands.{Meaning}
 use Rattle.acl_cli.specs.declared.field_fault.FieldFault.{FieldFault}
 use Rattle.acl_tree_queries.specs.ImpactText.{impact_text}
-use Rattle.acl_tree_queries.specs.ImpactLine.{impact_line}
 use Rattle.acl_tree_queries.specs.Nodes.{TellsOfEach, TellsOfFirst}
-use Rattle.acl_tree_queries.specs.QuestionFaults.{IsNeverRefused}
-use Rattle.acl_tree_queries.specs.QuestionMeaning.{tree_meaning}
+use Rattle.acl_tree_queries.specs.TreeQuestions.{IsNeverRefused, tree_meaning}
 use Rattle.acl_tree_queries.specs.declared.impact_command.question.ImpactQuestion.{ImpactQuestion}
 use Rattle.acl_tree_queries.specs.declared.trees.Trees.{Trees}
 
@@ -43,6 +41,6 @@ IsImpactBegun question trees text =
 abbrev pub asks_impact : List Row → Result ImpactQuestion FieldFault
 asks_impact rows = Ok (record {})
 
--- what the words of `impact` mean that ask of a tree
-abbrev pub impact_of_tree : (Text → Option (List ℕ)) → Option (List ℕ) → List Text → Meaning
-impact_of_tree = tree_meaning impact_line asks_impact IsImpactAnswer IsImpactBegun IsNeverRefused
+-- what the fields of `impact` mean that ask of a tree
+abbrev pub impact_of_tree : (Text → Option (List ℕ)) → Option (List ℕ) → List Row → Meaning
+impact_of_tree = tree_meaning asks_impact IsImpactAnswer IsImpactBegun IsNeverRefused

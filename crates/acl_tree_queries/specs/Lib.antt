@@ -1,4 +1,5 @@
 pub mod Trees
+pub mod TreeQuestions
 pub mod Questions
 pub mod AnswerFaults
 pub mod QuestionFaults

@@ -9,7 +9,7 @@ use Rattle.acl_cli.specs.declared.field_fault.FieldFault.{FieldFault}
 use Rattle.acl_cli.specs.declared.run_fault.RunFault.{RunFault}
 use Rattle.acl_cli.specs.declared.run_fault.RunFault.TheVariants as run
 use Rattle.acl_service.specs.FilesFaults.{IsReadFault}
-use Rattle.acl_service.specs.RunWords.{HasBytes, input_count, setup_in}
+use Rattle.acl_cli.specs.SessionFiles.{HasBytes, input_count, setup_in}
 use Rattle.acl_setup.specs.Opened.{IsRefusedBy}
 use Rattle.acl_service.specs.declared.files.fault.FilesFault.{FilesFault}
 use Rattle.acl_service.specs.declared.files.fault.FilesFault.TheVariants as files

@@ -9,7 +9,7 @@ use Rattle.acl_names.specs.Ascending.{IsAscending}
 use Rattle.acl_names.specs.Directory.{Known}
 use Rattle.acl_tree.specs.Tree.{NodesUnderUmask}
 use Rattle.acl_setup.specs.Opened.{Opens}
-use Rattle.acl_service.specs.RunWords.{HasBytes, bytes_of_session, setup_in}
+use Rattle.acl_cli.specs.SessionFiles.{HasBytes, bytes_of_session, setup_in}
 
 -- the option that asks of a listing: `--listing NAME` or `--listing=NAME`
 abbrev pub is_listing_option : Text → Bool

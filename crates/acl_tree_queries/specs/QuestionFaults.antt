@@ -1,11 +1,11 @@
 -- The lines and the exit statuses of questions of trees that have no answer, or not all of it.
-use Rattle.std.specs.Prelude.{◌≡◌, ◌<◌, ◌++◌, ◌∷◌, ⊤, ℕ, List, Option, Some, Result, Ok}
+use Rattle.std.specs.Prelude.{◌≡◌, ◌<◌, ◌++◌, ◌∷◌, ⊤, ℕ, List, Option, Some, Result}
 use Rattle.std.specs.Prelude.{Contains, IsOk, codes}
-use Rattle.clap.specs.Words.{App, Row, Text, fault_of, matches_of}
+use Rattle.clap.specs.Words.{App, Row, Text, matches_of}
 use Rattle.clap.specs.declared.error.Error.{Error}
 use Rattle.acl_cli.specs.CommandLine.{Takes}
 use Rattle.acl_cli.specs.ErrorOutput.{line_of_words}
-use Rattle.acl_cli.specs.Faults.{IsRefusedFor, fault_line, status_of}
+use Rattle.acl_cli.specs.Faults.{fault_line, status_of}
 use Rattle.acl_cli.specs.RunFaults.{run_fault_line}
 use Rattle.acl_cli.specs.declared.field_fault.FieldFault.{FieldFault}
 use Rattle.acl_cli.specs.declared.query_fault.QueryFault.{QueryFault}
@@ -13,22 +13,18 @@ use Rattle.acl_cli.specs.declared.query_fault.QueryFault.TheVariants as query
 use Rattle.acl_cli.specs.declared.run_fault.RunFault.TheVariants as run
 use Rattle.acl_service.specs.FilesFaults.{files_line, files_status}
 use Rattle.acl_setup.specs.Opened.{IsRefusedBy}
-use Rattle.acl_service.specs.RunWords.{HasBytes, setup_in}
+use Rattle.acl_cli.specs.SessionFiles.{HasBytes, setup_in}
 use Rattle.acl_setup.specs.SetupFaults.{setup_error_words}
 use Rattle.acl_service.specs.declared.files.fault.FilesFault.{FilesFault}
 use Rattle.acl_service.specs.declared.files.fault.FilesFault.TheVariants as files
 use Rattle.acl_setup.specs.declared.fault.SetupError.{SetupError}
 use Rattle.acl_setup.specs.declared.fault.SetupError.TheVariants as setup
-use Rattle.acl_tree_queries.specs.AnswerFaults.{IsLack}
-use Rattle.acl_tree_queries.specs.Trees.{AreTreesOf, after_in, before_in, inputs_in}
-use Rattle.acl_tree_queries.specs.declared.question.answer_fault.AnswerFault.{AnswerFault}
-use Rattle.acl_tree_queries.specs.declared.question.answer_fault.AnswerFault.TheVariants as answer
+use Rattle.acl_tree_queries.specs.Trees.{after_in, before_in, inputs_in}
 use Rattle.acl_tree_queries.specs.declared.question.fault.QuestionFault.{QuestionFault}
 use Rattle.acl_tree_queries.specs.declared.question.fault.QuestionFault.TheVariants.{Words, Files}
 use Rattle.acl_tree_queries.specs.declared.question.fault.QuestionFault.TheVariants.{Setup, Run}
 use Rattle.acl_tree_queries.specs.declared.question.fault.QuestionFault.TheVariants.{LineTooLong}
 use Rattle.acl_tree_queries.specs.declared.question.fault.QuestionFault.TheVariants.{Unread}
-use Rattle.acl_tree_queries.specs.declared.trees.Trees.{Trees}
 
 -- the exit status of a fault
 abbrev pub question_status : QuestionFault → ℕ
@@ -53,11 +49,6 @@ out_of_memory = Run run.Memory
 
 abbrev pub fault_of_files : FilesFault → QuestionFault
 fault_of_files fault = Files fault
-
--- what stopped an answer
-abbrev pub fault_of_answer : AnswerFault → QuestionFault
-fault_of_answer answer.LineTooLong = LineTooLong
-fault_of_answer (answer.Run fault) = Run fault
 
 abbrev pub fault_of_field : FieldFault → QuestionFault
 fault_of_field fault = Words (query.Field fault)
@@ -96,35 +87,3 @@ pub record AsksQuestion {Q : Type 0} (line : App) (asked_in : List Row → Resul
     (words : List Text) : Type 0 where
   pub taken : Takes line words
   pub read : IsOk (asked_in (matches_of line words))
-
--- the words ask a question, and the files give trees of which it can't be answered
-pub record IsRefusedOfTrees {Q : Type 0} (line : App) (asked_in : List Row → Result Q FieldFault)
-    (IsRefused : Q → Trees → Type 0) (bytes_of : Text → Option (List ℕ)) (input : Option (List ℕ))
-    (words : List Text) : Type 0 where
-  pub taken : Takes line words
-  pub question : Q
-  pub asked : asked_in (matches_of line words) ≡ Ok question
-  pub trees : Trees
-  pub trees_are : AreTreesOf bytes_of input (matches_of line words) trees
-  pub refused : IsRefused question trees
-
--- the words have no answer for this: they are refused, or they ask, and the files give no trees, or
--- trees of which the question can't be answered, or something lacks
-abbrev pub IsQuestionFault : {Q : Type 0} → App → (List Row → Result Q FieldFault)
-    → (Q → Trees → Type 0) → (Text → Option (List ℕ)) → Option (List ℕ) → List Text
-    → QuestionFault → Type 0
-IsQuestionFault line asked_in IsRefused bytes_of input words (Words fault) =
-    IsRefusedFor (fault_of line words) (asked_in (matches_of line words)) fault
-IsQuestionFault line asked_in IsRefused bytes_of input words (Files fault) =
-    AsksQuestion line asked_in words × IsNamesFault (matches_of line words) fault
-IsQuestionFault line asked_in IsRefused bytes_of input words (Setup error) =
-    AsksQuestion line asked_in words × IsTreesFault bytes_of (matches_of line words) (Setup error)
-IsQuestionFault line asked_in IsRefused bytes_of input words LineTooLong =
-    IsRefusedOfTrees line asked_in IsRefused bytes_of input words
-IsQuestionFault line asked_in IsRefused bytes_of input words (Unread name) = ⊥
-IsQuestionFault line asked_in IsRefused bytes_of input words (Run fault) =
-    AsksQuestion line asked_in words × IsLack fault
-
--- no question is refused
-abbrev pub IsNeverRefused : {Q : Type 0} → Q → Trees → Type 0
-IsNeverRefused question trees = ⊥

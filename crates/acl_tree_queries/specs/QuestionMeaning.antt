@@ -1,30 +1,16 @@
--- What words mean that ask of trees, and of listings.
+-- What words mean that ask of listings.
 use Rattle.std.specs.Prelude.{ℕ, List, Option, Result}
 use Rattle.clap.specs.Words.{App, Row, Text, matches_of}
 use Rattle.acl_cli.specs.ErrorOutput.{SaysFault}
 use Rattle.acl_cli.specs.Meaning.{Meaning}
 use Rattle.acl_cli.specs.declared.field_fault.FieldFault.{FieldFault}
-use Rattle.acl_service.specs.RunWords.{input_count}
+use Rattle.acl_cli.specs.SessionFiles.{input_count}
 use Rattle.acl_tree_queries.specs.ListingFaults.{IsListingFault}
-use Rattle.acl_tree_queries.specs.QuestionFaults.{IsQuestionFault, question_line, question_status}
+use Rattle.acl_tree_queries.specs.QuestionFaults.{question_line, question_status}
 use Rattle.acl_tree_queries.specs.Questions.{AnswersQuestion}
-use Rattle.acl_tree_queries.specs.Trees.{AreTreesOf, inputs_in}
-use Rattle.acl_tree_queries.specs.declared.trees.Trees.{Trees}
 
--- by a command's line, by what its fields ask, by what answers that of trees, or of the first nodes
--- of them, and by the trees of which it can't be answered
-abbrev pub tree_meaning : {Q : Type 0} → App → (List Row → Result Q FieldFault)
-    → (Q → Trees → List ℕ → Type 0) → (Q → Trees → List ℕ → Type 0) → (Q → Trees → Type 0)
-    → (Text → Option (List ℕ)) → Option (List ℕ) → List Text → Meaning
-tree_meaning line asked_in IsAnswer IsBegun IsRefused bytes_of input words = record {
-  Answers = AnswersQuestion line asked_in AreTreesOf IsAnswer bytes_of input words;
-  Begins = AnswersQuestion line asked_in AreTreesOf IsBegun bytes_of input words;
-  Says = SaysFault question_status question_line
-      (IsQuestionFault line asked_in IsRefused bytes_of input words);
-  inputs = inputs_in (matches_of line words);
-}
-
--- and of listings, by which of its fields name them, and by what the files that they name give
+-- by a command's line, by which of its fields name listings, and by what the files that they name
+-- give
 abbrev pub listing_meaning : {Q L : Type 0} → (List Row → List Text) → App
     → (List Row → Result Q FieldFault)
     → ((Text → Option (List ℕ)) → Option (List ℕ) → List Row → L → Type 0)

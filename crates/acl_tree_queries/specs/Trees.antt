@@ -1,31 +1,17 @@
 -- The trees that a question is about.
-use Rattle.std.specs.Borrow.{Bor}
-use Rattle.std.specs.Prelude.{◌≡◌, ℕ, ◌+◌, List, [], ◌∷◌, Option, Vec, codes, map}
-use Rattle.std.specs.Prelude.{unwrap_or}
+use Rattle.std.specs.Prelude.{◌≡◌, ℕ, ◌+◌, List, [], ◌∷◌, Option, Vec, codes}
 use Rattle.std.specs.Cmp.Lexicographic.{slice_cmp}
 use Rattle.std.specs.Ordering.{nat_cmp}
 use Rattle.std.specs.declared.alloc.Global.{Global}
-use Rattle.clap.specs.Words.{Row, Text, all_of}
+use Rattle.clap.specs.Words.{Row, Text}
 use Rattle.acl_names.specs.Ascending.{IsAscending}
 use Rattle.acl_names.specs.Directory.{Known}
 use Rattle.acl_tree.specs.Tree.{NodesUnderUmask}
 use Rattle.acl_lang.specs.Texts.{requests_of}
 use Rattle.acl_setup.specs.Opened.{Opens}
 use Rattle.acl_service.specs.Runs.{tree_after}
-use Rattle.acl_service.specs.RunWords.{HasBytes, HaveBytes, input_count, setup_in}
+use Rattle.acl_cli.specs.SessionFiles.{HasBytes, HaveBytes, input_count, names_in, setup_in}
 use Rattle.acl_tree_queries.specs.declared.trees.Trees.{Trees}
-
--- the names that there are, if any
-abbrev pub all_names : Option (List Text) → List Text
-all_names names = unwrap_or names []
-
--- the names themselves, where they are lent
-abbrev pub shown_names : Bor (List (Bor (List ℕ))) → List Text
-shown_names names = map (λ name. name.now) names.now
-
--- the names of files that the words give for an option or a word
-abbrev pub names_in : Text → List Row → List Text
-names_in name rows = all_names (all_of name rows)
 
 -- those of the sessions that come before, and of those after
 abbrev pub before_in : List Row → List Text

@@ -1,19 +1,17 @@
 -- What `who` asks of a tree, and what it answers.
 use Rattle.std.specs.Prelude.{◌≡◌, ℕ, Bool, true, false, List, Option, Some, None}
 use Rattle.std.specs.FinMap as map
-use Rattle.clap.specs.Words.{Text}
+use Rattle.clap.specs.Words.{Row, Text}
 use Rattle.acl_names.specs.Directory.{Known}
 use Rattle.acl_tree.specs.Entries.{Entry}
 use Rattle.acl_tree.specs.Tree.{NodesUnderUmask}
 use Rattle.acl_tree.specs.declared.node.Node.{Node}
 use Rattle.acl_audit.specs.Reach.{node_lines_on, node_lines_on_of_those_who_may, way_in}
 use Rattle.acl_audit.specs.Who.{node_lines, node_lines_of_those_who_may}
-use Rattle.acl_cli.specs.Meaning.{Meaning}
+use Rattle.acl_cli.specs.Commands.{Meaning}
 use Rattle.acl_tree_queries.specs.Nodes.{TellsOfEach, TellsOfFirst}
-use Rattle.acl_tree_queries.specs.QuestionFaults.{IsNeverRefused}
-use Rattle.acl_tree_queries.specs.QuestionMeaning.{tree_meaning}
+use Rattle.acl_tree_queries.specs.TreeQuestions.{IsNeverRefused, tree_meaning}
 use Rattle.acl_tree_queries.specs.WhoAsked.{WhoAsked, who_asked_in}
-use Rattle.acl_tree_queries.specs.WhoLine.{who_line}
 use Rattle.acl_tree_queries.specs.declared.trees.Trees.{Trees}
 
 -- what is told of a node: each user's letters, or those users who are granted the permissions
@@ -53,6 +51,6 @@ IsWhoBegun asked trees text =
     TellsOfFirst (TellsNode trees.directory asked.perms trees.after asked.reach)
     (map.entries trees.after.nodes) text
 
--- what the words of `who` mean that ask of a tree
-abbrev pub who_of_tree : (Text → Option (List ℕ)) → Option (List ℕ) → List Text → Meaning
-who_of_tree = tree_meaning who_line who_asked_in IsWho IsWhoBegun IsNeverRefused
+-- what the fields of `who` mean that ask of a tree
+abbrev pub who_of_tree : (Text → Option (List ℕ)) → Option (List ℕ) → List Row → Meaning
+who_of_tree = tree_meaning who_asked_in IsWho IsWhoBegun IsNeverRefused

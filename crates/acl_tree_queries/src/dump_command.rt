@@ -1,18 +1,15 @@
 //! The command `dump`.
-ghost use Rattle.std.specs.Prelude.{map};
-ghost use Rattle.acl_cli.specs.Meaning.{EndsWithInput};
-ghost use Rattle.acl_tree_queries.specs.DumpAnswer.{dump_meaning};
 
+mod command_line;
 mod lines;
 mod question;
 mod text;
 
-use crate::question::ask;
-use acl_cli::ErrorOutput;
-use acl_service::OpenFiles;
+use crate::question::answer_question;
+use acl_cli::{Command, Ending, ErrorOutput, Failure, OpenFiles};
+use clap::ArgMatches;
 use question::DumpQuestion;
 use std::alloc::Global;
-use std::convert::AsStr;
 use std::io::{Read, Write};
 
 /// Prints a tree as a session that makes it again over the same setup. The words are those of the
@@ -26,27 +23,33 @@ use std::io::{Read, Write};
 /// default list, or `set PATH nfs4 TEXT`. Ids are decimal, and lists are in the short text form.
 /// What is wrong goes to `err`, and so does help; a fault while writing there changes nothing.
 ///
-/// It returns the exit status: 0 with the session; 1 if a file can't be opened or read or is too
+/// The exit status is 0 with the session; 1 if a file can't be opened or read or is too
 /// long, the setup is refused, or a line would be longer than 1024 bytes; 2 if the parser of
 /// command lines refuses the words; and 3 if memory runs out or `out` can't be written. At 1 and 2
 /// nothing was written, and at 3 nothing or a front of the session.
-pub fn dump<F, S, I, W, E>(
-    alloc: Global,
-    files: &F,
-    words: &[S],
-    input: &mut I,
-    out: &mut W,
-    err: &mut ErrorOutput<E>,
-) -> u8
-where
-    F: OpenFiles,
-    S: AsStr,
-    I: Read,
-    W: Write,
-    E: Write + Drop,
-    ensures { EndsWithInput (dump_meaning (F.bytes_of files.now) (I.remaining input.old)
-        (map S.text words.now)) result (W.contents out.old) (W.contents out.new) err.old err.new
-        input.old input.new }
-{
-    ask::<DumpQuestion, F, S, I, W, E>(alloc, files, words, input, out, err)
+pub struct Dump;
+
+impl Command for Dump {
+    ghost use Rattle.std.specs.Prelude.{false};
+    ghost use Rattle.acl_tree_queries.specs.DumpAnswer.{dump_meaning};
+
+    ghost meaning = { dump_meaning };
+
+    ghost helps = { false };
+
+    fn answers_help() -> bool {
+        false
+    }
+
+    fn answer<'a, F: OpenFiles, I: Read, W: Write, E: Write + Drop>(
+        &self,
+        alloc: Global,
+        files: &F,
+        matches: &ArgMatches<'a>,
+        input: &mut I,
+        out: &mut W,
+        err: &mut ErrorOutput<E>,
+    ) -> Result<Ending, Failure<'a>> {
+        answer_question::<DumpQuestion, F, I, W, E>(alloc, files, matches, input, out, err)
+    }
 }

@@ -5,22 +5,22 @@ ghost use Rattle.acl_tree_queries.specs.ImpactWords.{impact_meaning};
 
 mod before;
 mod changes;
+mod command_line;
 mod kept;
 mod listed;
 mod listing;
 mod marks;
 mod question;
 mod text;
+mod tree;
 
 use crate::listing::asks_of_listing;
-use crate::question::ask;
-use acl_cli::ErrorOutput;
-use acl_service::OpenFiles;
+use acl_cli::{ErrorOutput, OpenFiles, run_command};
 use listing::ask_of_listings;
-use question::ImpactQuestion;
 use std::alloc::Global;
 use std::convert::AsStr;
 use std::io::{Read, Write};
+pub use tree::ImpactOfTree;
 
 /// Tells what a session changes, for anybody at all, or what changed between two listings of files.
 /// The words are those of the command, its name first: `impact --setup FILE [--before SESSION]
@@ -69,6 +69,6 @@ where
     if asks_of_listing(words) {
         ask_of_listings(alloc, files, words, input, out, err)
     } else {
-        ask::<ImpactQuestion, F, S, I, W, E>(alloc, files, words, input, out, err)
+        run_command(&ImpactOfTree, alloc, files, words, input, out, err)
     }
 }

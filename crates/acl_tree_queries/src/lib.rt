@@ -14,7 +14,7 @@ mod question;
 mod trees;
 mod who_command;
 
-pub use dump_command::dump;
-pub use impact_command::impact;
+pub use dump_command::Dump;
+pub use impact_command::{ImpactOfTree, impact};
 pub use laws::{dump_laws, way_laws};
-pub use who_command::who;
+pub use who_command::{WhoOfTree, who};

@@ -10,7 +10,7 @@ ghost use Rattle.acl_listings.specs.Cursor.{blocks_to_come};
 ghost use Rattle.acl_listings.specs.Listing.{Block as BlockValue};
 ghost use Rattle.acl_cli.specs.Output.{AppendsFront};
 ghost use Rattle.acl_setup.specs.Opened.{Opens};
-ghost use Rattle.acl_service.specs.RunWords.{HasBytes, bytes_of_session};
+ghost use Rattle.acl_cli.specs.SessionFiles.{HasBytes, bytes_of_session};
 ghost use Rattle.acl_tree.specs.Tree.{NodesUnderUmask};
 ghost use Rattle.acl_tree_queries.specs.Listings.{asks_of_listing, is_listing_option, listing_in};
 ghost use Rattle.acl_tree_queries.specs.ListingFaults.{IsDirectoryFault, IsNamedFault};

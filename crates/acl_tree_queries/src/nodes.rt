@@ -5,9 +5,9 @@ ghost use Rattle.std.specs.Io.KnownBytes.{Appends};
 ghost use Rattle.acl_cli.specs.Output.{AppendsFront};
 ghost use Rattle.acl_tree.specs.Entries.{Entry};
 ghost use Rattle.acl_tree_queries.specs.Nodes.{TellsOfEach, TellsOfFirst};
-ghost use Rattle.acl_tree_queries.specs.AnswerFaults.{IsLack};
+ghost use Rattle.acl_tree_queries.specs.TreeQuestions.{IsAnswerLack};
 
-use acl_cli::{RunFault, send_full, write_text};
+use acl_cli::{ErrorOutput, Failure, Telling, tell_each};
 use acl_tree::{Node, Tree};
 use std::alloc::{AllocError, Global};
 use std::io::Write;
@@ -29,28 +29,68 @@ pub(crate) trait NodeText {
             × (out.new.items ≡ out.old.items ++ text)) };
 }
 
+/// The nodes of a tree, of which those from a place on are still to come.
+#[derive(Drop)]
+struct EachNode<'t, T> {
+    teller: &'t T,
+    entries: &'t [(&'t [u8], &'t Node)],
+    at: usize,
+}
+
+impl<'n, 't, T: NodeText> Telling<'n> for EachNode<'t, T> {
+    ghost use Rattle.acl_cli.specs.Failures.{out_of_memory};
+    ghost use Rattle.acl_cli.specs.declared.command.Ending.TheVariants.{Answered};
+    ghost use Rattle.acl_tree_queries.specs.Nodes.{BeginsOfNodes, TellsOfNodes};
+
+    ghost Tells = { λ telling.
+        TellsOfNodes (T.Tells telling.teller.now) telling.entries.now telling.at };
+
+    ghost Begins = { λ telling.
+        BeginsOfNodes (T.Tells telling.teller.now) telling.entries.now telling.at };
+
+    ghost Ends = { λ telling ending. ending ≡ Answered };
+
+    ghost Fails = { λ telling failure. failure ≡ out_of_memory };
+
+    fn tell_next(
+        &mut self,
+        alloc: Global,
+        out: &mut Vec<u8>,
+        _beside: &mut Vec<u8>,
+    ) -> Result<bool, Failure<'n>> {
+        if self.at >= self.entries.len() {
+            return Ok(false);
+        }
+        let (path, node) = self.entries[self.at];
+        self.teller.push(alloc, path, node, out)?;
+        self.at += 1;
+        Ok(true)
+    }
+}
+
 /// Writes what is told of each node of the tree, in the order of their paths, in pieces of some 64
 /// KiB. If memory runs out or a write fails, a front of what is told of the first nodes went out.
-pub(crate) fn write_nodes<T: NodeText, W: Write>(
+pub(crate) fn write_nodes<'n, T: NodeText, W: Write, E: Write + Drop>(
     alloc: Global,
     teller: &T,
     tree: &Tree,
     out: &mut W,
-) -> Result<(), RunFault>
+    err: &mut ErrorOutput<E>,
+) -> Result<(), Failure<'n>>
     ensures written { OnOk result ((text : List ℕ)
         × TellsOfEach (T.Tells teller.now) (map.entries tree.now.nodes) text
         × Appends (W.contents out.old) (W.contents out.new) text) }
     ensures cut { OnErr result ((text : List ℕ)
         × TellsOfFirst (T.Tells teller.now) (map.entries tree.now.nodes) text
         × AppendsFront (W.contents out.old) (W.contents out.new) text) }
-    ensures lack { IfErr result IsLack }
+    ensures lack { IfErr result IsAnswerLack }
+    ensures quiet { err.new ≡ err.old }
 {
     let entries = tree.entries(alloc)?;
-    let mut text = Vec::new(alloc);
-    for (path, node) in entries.as_slice() {
-        teller.push(alloc, path, node, &mut text)?;
-        send_full(&mut text, out)?;
-    }
-    write_text(text.as_slice(), out)?;
-    Ok(())
+    let mut telling = EachNode {
+        teller,
+        entries: entries.as_slice(),
+        at: 0,
+    };
+    tell_each(alloc, &mut telling, out, err)
 }

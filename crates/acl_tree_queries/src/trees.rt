@@ -1,22 +1,25 @@
 //! The trees that a question is about.
-ghost use Rattle.std.specs.Prelude.{◌≡◌, ◌≤◌, All, IfErr, IfOk, OnOk, length, option_map};
+ghost use Rattle.std.specs.Prelude.{◌≡◌, ◌≢◌, ◌≤◌, All, Contains, IfErr, IfOk, OnOk, length};
+ghost use Rattle.std.specs.Prelude.{option_map};
 ghost use Rattle.std.specs.Cmp.Lexicographic.{slice_cmp};
 ghost use Rattle.std.specs.Ordering.{nat_cmp};
-ghost use Rattle.clap.specs.Words.{all_of, found_of, rows_of};
+ghost use Rattle.clap.specs.Words.{found_of, rows_of};
 ghost use Rattle.acl_names.specs.Ascending.{IsAscending};
 ghost use Rattle.acl_lang.specs.declared.limits.TheConstants.{MAX_TEXT_LEN};
-ghost use Rattle.acl_service.specs.FilesFaults.{IsReadFaultAmong, files_status};
-ghost use Rattle.acl_service.specs.RunWords.{HasBytes, HaveBytes, input_count, setup_in};
-ghost use Rattle.acl_tree_queries.specs.QuestionFaults.{IsNamesFault, IsTreesFault};
-ghost use Rattle.acl_tree_queries.specs.QuestionFaults.{question_status};
+ghost use Rattle.acl_cli.specs.Failures.{IsUnexplained, status_of};
+ghost use Rattle.acl_cli.specs.SessionFiles.{HasBytes, HaveBytes, all_names, input_count, setup_in};
+ghost use Rattle.acl_cli.specs.SessionFiles.{shown_names};
+ghost use Rattle.acl_tree_queries.specs.TreeQuestions.{IsNamesFailure, IsTreesFailure};
 ghost use Rattle.acl_tree_queries.specs.Trees.{AreTreesOf, after_in, before_in, inputs_in};
-ghost use Rattle.acl_tree_queries.specs.Trees.{all_names, shown_names, tree_left};
+ghost use Rattle.acl_tree_queries.specs.Trees.{tree_left};
 
-use crate::question::QuestionFault;
-use acl_names::Directory;
-use acl_service::{
-    FilesFault, OpenFiles, apply_text, count_inputs, read_file, read_sessions, setup_field,
+use acl_cli::session_files::{
+    count_inputs, names_field, read_sessions, read_unexplained, setup_field,
 };
+use acl_cli::{Failure, OpenFiles};
+use acl_lang::MAX_TEXT_LEN;
+use acl_names::Directory;
+use acl_service::apply_text;
 use acl_setup::read_setup;
 use acl_tree::Tree;
 use clap::ArgMatches;
@@ -40,13 +43,6 @@ struct Texts {
     after: Vec<Vec<u8>>,
 }
 
-/// The names of files that the words give for an option or a word, if they give any.
-fn names_field<'m, 'a>(matches: &'m ArgMatches<'a>, name: &str) -> Option<&'m [&'a str]>
-    ensures { option_map shown_names result ≡ all_of name.now (rows_of (found_of matches.now)) }
-{
-    matches.get_strs(name)
-}
-
 /// How many of the names are that of standard input, if there are names.
 fn inputs_among(names: Option<&[&str]>) -> usize
     ensures { result ≡ input_count (all_names (option_map shown_names names.entry)) }
@@ -58,12 +54,12 @@ fn inputs_among(names: Option<&[&str]>) -> usize
 }
 
 /// The texts of the sessions of these names, if there are names.
-fn read_named<'a, F: OpenFiles, I: Read>(
+fn read_any<'a, F: OpenFiles, I: Read>(
     alloc: Global,
     files: &F,
     input: &mut I,
     names: Option<&[&'a str]>,
-) -> Result<Vec<Vec<u8>>, FilesFault<'a>>
+) -> Result<Vec<Vec<u8>>, Failure<'a>>
     requires { input_count (all_names (option_map shown_names names)) ≤ 1 }
     ensures short { IfOk result (λ texts. All (λ text. length text.items ≤ MAX_TEXT_LEN)
         texts.items) }
@@ -71,11 +67,12 @@ fn read_named<'a, F: OpenFiles, I: Read>(
         (all_names (option_map shown_names names.entry)) texts.items) }
     ensures untouched { input_count (all_names (option_map shown_names names.entry)) ≡ 0
         → input.new ≡ input.old }
-    ensures refused { IfErr result
-        (IsReadFaultAmong (all_names (option_map shown_names names.entry))) }
+    ensures usage { IfErr result (λ failure. status_of failure ≢ 2) }
+    ensures refused { IfErr result (IsUnexplained
+        (Contains (all_names (option_map shown_names names.entry)))) }
 {
     match names {
-        Some(names) => read_sessions(alloc, files, input, names),
+        Some(names) => read_sessions(alloc, files, input, names, MAX_TEXT_LEN),
         None => Ok(Vec::new(alloc)),
     }
 }
@@ -87,7 +84,7 @@ fn read_texts<'a, F: OpenFiles, I: Read>(
     files: &F,
     matches: &ArgMatches<'a>,
     input: &mut I,
-) -> Result<Texts, FilesFault<'a>>
+) -> Result<Texts, Failure<'a>>
     ensures short_before { IfOk result (λ texts. All (λ text. length text.items ≤ MAX_TEXT_LEN)
         texts.before.items) }
     ensures short_after { IfOk result (λ texts. All (λ text. length text.items ≤ MAX_TEXT_LEN)
@@ -100,17 +97,17 @@ fn read_texts<'a, F: OpenFiles, I: Read>(
     ensures after { IfOk result (λ texts. HaveBytes (F.bytes_of files.now) (I.remaining input.old)
         (after_in (rows_of (found_of matches.now))) texts.after.items) }
     ensures untouched { inputs_in (rows_of (found_of matches.now)) ≡ 0 → input.new ≡ input.old }
-    ensures unread { IfErr result (λ fault. files_status fault ≡ 2 → input.new ≡ input.old) }
-    ensures refused { IfErr result (IsNamesFault (rows_of (found_of matches.now))) }
+    ensures unread { IfErr result (λ failure. status_of failure ≡ 2 → input.new ≡ input.old) }
+    ensures refused { IfErr result (IsNamesFailure (rows_of (found_of matches.now))) }
 {
     let before = names_field(matches, "before");
     let after = names_field(matches, "session");
     if inputs_among(before).saturating_add(inputs_among(after)) > 1 {
-        return Err(FilesFault::InputTwice);
+        return Err(Failure::InputTwice);
     }
-    let setup = read_file(alloc, files, setup_field(matches))?;
-    let before = read_named(alloc, files, input, before)?;
-    let after = read_named(alloc, files, input, after)?;
+    let setup = read_unexplained(alloc, files, setup_field(matches), MAX_TEXT_LEN)?;
+    let before = read_any(alloc, files, input, before)?;
+    let after = read_any(alloc, files, input, after)?;
     Ok(Texts {
         setup,
         before,
@@ -170,12 +167,12 @@ pub(crate) fn open_trees<'a, F: OpenFiles, I: Read>(
     files: &F,
     matches: &ArgMatches<'a>,
     input: &mut I,
-) -> Result<Trees, QuestionFault<'a>>
+) -> Result<Trees, Failure<'a>>
     ensures opened { IfOk result (AreTreesOf (F.bytes_of files.now) (I.remaining input.old)
         (rows_of (found_of matches.now))) }
     ensures untouched { inputs_in (rows_of (found_of matches.now)) ≡ 0 → input.new ≡ input.old }
-    ensures unread { IfErr result (λ fault. question_status fault ≡ 2 → input.new ≡ input.old) }
-    ensures refused { IfErr result (IsTreesFault (F.bytes_of files.now)
+    ensures unread { IfErr result (λ failure. status_of failure ≡ 2 → input.new ≡ input.old) }
+    ensures refused { IfErr result (IsTreesFailure (F.bytes_of files.now)
         (rows_of (found_of matches.now))) }
 {
     let texts = read_texts(alloc, files, matches, input)?;

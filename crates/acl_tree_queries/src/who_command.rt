@@ -4,22 +4,22 @@ ghost use Rattle.acl_cli.specs.Meaning.{EndsWithInput};
 ghost use Rattle.acl_tree_queries.specs.WhoWords.{who_meaning};
 
 mod answers;
+mod command_line;
 mod listed;
 mod listing;
 mod question;
 mod reach;
 mod text;
+mod tree;
 mod way;
 
 use crate::listing::asks_of_listing;
-use crate::question::ask;
-use acl_cli::ErrorOutput;
-use acl_service::OpenFiles;
+use acl_cli::{ErrorOutput, OpenFiles, run_command};
 use listing::ask_of_listing;
-use question::WhoQuestion;
 use std::alloc::Global;
 use std::convert::AsStr;
 use std::io::{Read, Write};
+pub use tree::WhoOfTree;
 
 /// Tells who may do what with each node of a tree, or with each file of a listing. The words are
 /// those of the command, its name first: `who --setup FILE [--perms P] [--reach] [SESSION]`, or
@@ -65,6 +65,6 @@ where
     if asks_of_listing(words) {
         ask_of_listing(alloc, files, words, input, out, err)
     } else {
-        ask::<WhoQuestion, F, S, I, W, E>(alloc, files, words, input, out, err)
+        run_command(&WhoOfTree, alloc, files, words, input, out, err)
     }
 }

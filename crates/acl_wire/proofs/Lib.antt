@@ -1,5 +1,9 @@
 pub mod GivesLemmas
 pub mod EntriesLoop
+pub mod MemoryLemmas
+pub mod OnePassLemmas
+pub mod OnePassAnswers
+pub mod OnePassLoop
 pub mod WritingLemmas
 pub mod AcesLoop
 pub mod NumberLemmas

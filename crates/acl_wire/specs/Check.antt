@@ -23,6 +23,11 @@ abbrev pub answer_of : Rules → List EntryValue → ℕ → ℕ → Identity �
 answer_of rules entries owner group requester request = acl_of_entries entries
     >>= λ acl. Ok (grants (looked_at rules acl) owner group requester request)
 
+-- the same of the list of bytes
+abbrev pub answer_in : Rules → List ℕ → ℕ → ℕ → Identity → ℕ → Result Bool PosixFault
+answer_in rules bytes owner group requester request = acl_of bytes
+    >>= λ acl. Ok (grants (looked_at rules acl) owner group requester request)
+
 -- whether the numbers of a check are ids, and permissions
 abbrev pub are_check : ℕ → ℕ → ℕ → ℕ → Bool
 are_check owner group uid request = nat_le owner MAX_ID && nat_le group MAX_ID
@@ -32,5 +37,5 @@ are_check owner group uid request = nat_le owner MAX_ID && nat_le group MAX_ID
 unfoldable pub check_of : Rules → List ℕ → ℕ → ℕ → Identity → ℕ → Result Bool PosixFault
 check_of rules bytes owner group requester request =
     if are_check owner group requester.uid request
-    then (acl_of bytes >>= λ acl. Ok (grants (looked_at rules acl) owner group requester request))
+    then answer_in rules bytes owner group requester request
     else Err faults.Argument

@@ -4,6 +4,7 @@ pub mod Xattr
 pub mod XattrReading
 pub mod Posix
 pub mod Check
+pub mod OnePass
 pub mod RawAces
 pub mod RawAcesWriting
 pub mod Nfs4

@@ -1,14 +1,14 @@
 -- NFSv4 lists in XDR (RFC 4506): a count, and for each entry its type, its flags, its mask and its
 -- who, a string. Numbers have four bytes, the highest first.
-use Rattle.std.specs.Prelude.{ℕ, zero, suc, ◌+◌, ◌*◌, ◌/◌, ◌==◌, List, [], ◌∷◌, length, take}
-use Rattle.std.specs.Prelude.{drop, Result, Ok, Err, nat_lt, nat_le, codes, option_map}
+use Rattle.std.specs.Prelude.{ℕ, zero, suc, ◌+◌, ◌*◌, ◌/◌, ◌≤◌, ◌==◌, List, [], ◌∷◌, length, take}
+use Rattle.std.specs.Prelude.{drop, Result, Ok, Err, nat_lt, nat_le, codes, option_map, IfOk}
 use Rattle.std.specs.Prelude.{if◌then◌else◌}
 use Rattle.std.specs.Int.{w32, from_be_bytes}
 use Rattle.std.specs.Str.{bytes_eq}
 use Rattle.acl_names.specs.Ids.{decimal_value}
 use Rattle.acl_names.specs.Steps.{◌>>=◌, or_fault}
 use Rattle.acl_nfs4.specs.Ace.{Nfsace4}
-use Rattle.acl_nfs4.specs.declared.limits.TheConstants.{MAX_ACES}
+use Rattle.acl_nfs4.specs.declared.limits.TheConstants.{INLINE_ACES, MAX_ACES}
 use Rattle.acl_wire.specs.RawAces.{ace_of_raw, effective}
 use Rattle.acl_wire.specs.declared.fault.Nfs4Fault.{Nfs4Fault}
 use Rattle.acl_wire.specs.declared.fault.Nfs4Fault.TheVariants as faults
@@ -65,3 +65,7 @@ unfoldable pub xdr_list_of : List ℕ → Result (List Nfsace4) Nfs4Fault
 xdr_list_of bytes = do
   count ← number_at bytes
   if nat_le count.0 MAX_ACES then all_of count.0 count.1 else Err faults.TooMany
+
+-- the count says no more entries than are stored inline
+abbrev pub AnnouncesFew : List ℕ → Type 0
+AnnouncesFew bytes = IfOk (number_at bytes) (λ count. count.0 ≤ INLINE_ACES)

@@ -4,8 +4,9 @@ ghost use Rattle.std.specs.Prelude.{◌≡◌};
 ghost use Rattle.acl_posix.specs.Access.{grants};
 ghost use Rattle.acl_posix.specs.Checked.{checked};
 ghost use Rattle.acl_posix.specs.Perms.{bits_of};
-ghost use Rattle.acl_wire.specs.Check.{answer_of, check_of, looked_at};
+ghost use Rattle.acl_wire.specs.Check.{answer_in, answer_of, check_of, looked_at};
 
+use crate::one_pass::in_order_grants;
 use crate::posix::refused;
 use crate::xattr_reading::entries_of;
 use crate::{Caller, PosixFault};
@@ -59,11 +60,31 @@ fn decide_or_refuse(
     }
 }
 
+/// The same of bytes, whose entries may stand in any order. It is never inlined: the entries have
+/// their room in its frame, and `xattr_grants` seldom needs it.
+#[inline(never)]
+#[tactic(auto, unfolding(crate::specs::Posix::acl_of))]
+fn any_order_grants(
+    rules: Rules,
+    bytes: &[u8],
+    owner: Uid,
+    group: Gid,
+    caller: &Caller<'_>,
+    request: Perms,
+) -> Result<bool, PosixFault>
+    ensures { result ≡ answer_in rules bytes.now owner group
+        (record { uid = caller.now.uid; gids = caller.now.gids.now }) (bits_of request) }
+{
+    let mut entries = entries_of(bytes)?;
+    decide_or_refuse(entries.as_mut_slice(), rules, owner, group, caller, request)
+}
+
 /// Whether the POSIX list of the bytes grants a user who is in these groups all of the request, for
 /// a file of this owner and this group. The request has the bits of permissions: 4 to read, 2 to
 /// write, 1 to execute. An id that is none, or another bit, is the fault `Argument`, before all
 /// others. It takes no memory.
-#[tactic(auto, unfolding(crate::specs::Check::check_of, crate::specs::Posix::acl_of))]
+#[inline(always)]
+#[tactic(auto, unfolding(crate::specs::Check::check_of))]
 pub fn xattr_grants(
     rules: Rules,
     bytes: &[u8],
@@ -83,15 +104,10 @@ pub fn xattr_grants(
     if request >= 8 {
         return Err(PosixFault::Argument);
     }
-    let mut entries = entries_of(bytes)?;
     let request = Perms::from_bits_retain(request as u8);
     let caller = Caller { uid, gids };
-    decide_or_refuse(
-        entries.as_mut_slice(),
-        rules,
-        owner,
-        group,
-        &caller,
-        request,
-    )
+    match in_order_grants(rules, bytes, owner, group, &caller, request) {
+        Some(granted) => Ok(granted),
+        None => any_order_grants(rules, bytes, owner, group, &caller, request),
+    }
 }

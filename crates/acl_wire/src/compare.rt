@@ -1,12 +1,14 @@
 //! Lists compared for everybody.
 
-ghost use Rattle.std.specs.Prelude.{◌≡◌, option_to_list};
+ghost use Rattle.std.specs.Prelude.{◌≡◌, ◌≢◌, ◌≤◌, IfErr, length, option_to_list};
 ghost use Rattle.acl_names.specs.Asker.{identity_of};
 ghost use Rattle.acl_nfs4.specs.Mask.{mask_bits};
 ghost use Rattle.acl_wire.specs.Compare.{DiffersFrom, UnlikeFor, aces_compared, gids_of};
 ghost use Rattle.acl_wire.specs.Compare.{identity_in};
 ghost use Rattle.acl_wire.specs.Compare.{AreUnlike, Differ, lists_compared, owners_in};
+ghost use Rattle.acl_nfs4.specs.declared.limits.TheConstants.{INLINE_ACES};
 ghost use Rattle.acl_posix.specs.Perms.{bits_of};
+ghost use Rattle.acl_wire.specs.Posix.{IsShort};
 
 use crate::{
     Nfs4Error, Nfs4Fault, PosixError, PosixFault, Purpose, RawAce, acl_of_xattr, read_raw_aces,
@@ -125,7 +127,8 @@ fn difference(
 /// Somebody to whom two POSIX lists grant the whole request differently, each for a file of its own
 /// owner and group: none exactly if they grant it to the same requesters, of whatever uid and
 /// groups. An id that is none, or a request above 7, is the fault `Argument`, before all others;
-/// then the faults of the first list come, and then those of the second.
+/// then the faults of the first list come, and then those of the second. Memory runs out only if
+/// one of them has more than `INLINE_ENTRIES` entries.
 #[tactic(auto, unfolding(crate::specs::Compare::lists_compared))]
 pub fn xattr_difference(
     alloc: Global,
@@ -137,7 +140,10 @@ pub fn xattr_difference(
     other_group: u32,
     request: u32,
 ) -> Result<Option<RawUnlike>, PosixError>
-    ensures { UnlikeFor first.now owner group second.now other_owner other_group request result }
+    ensures value { UnlikeFor first.now owner group second.now other_owner other_group request
+        result }
+    ensures short { IsShort first.now → IsShort second.now
+        → IfErr result (λ error. error ≢ PosixError.Memory) }
 {
     let owners = owners_of(owner, group).ok_or(PosixFault::Argument)?;
     let others = owners_of(other_owner, other_group).ok_or(PosixFault::Argument)?;
@@ -153,7 +159,8 @@ pub fn xattr_difference(
 /// Somebody for whom two NFSv4 lists decide some of these bits differently, each for a file of its
 /// own owner and group: none exactly if they decide each of them alike for every requester, of
 /// whatever uid and groups. An id that is none is the fault `Argument`, before all others; then the
-/// faults of the first list come, and then those of the second.
+/// faults of the first list come, and then those of the second. Memory runs out only if one of them
+/// has more than `INLINE_ACES` entries.
 #[tactic(auto, unfolding(crate::specs::Compare::aces_compared))]
 pub fn raws_difference(
     alloc: Global,
@@ -165,7 +172,10 @@ pub fn raws_difference(
     other_group: u32,
     bits: u32,
 ) -> Result<Option<RawDifference>, Nfs4Error>
-    ensures { DiffersFrom first.now owner group second.now other_owner other_group bits result }
+    ensures value { DiffersFrom first.now owner group second.now other_owner other_group bits
+        result }
+    ensures short { length first.now ≤ INLINE_ACES → length second.now ≤ INLINE_ACES
+        → IfErr result (λ error. error ≢ Nfs4Error.Memory) }
 {
     let owners = owners_of(owner, group).ok_or(Nfs4Fault::Argument)?;
     let others = owners_of(other_owner, other_group).ok_or(Nfs4Fault::Argument)?;

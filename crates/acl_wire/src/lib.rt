@@ -9,6 +9,7 @@ mod fault;
 mod laws;
 mod nfs4;
 mod numbers;
+mod one_pass;
 mod posix;
 mod raw_ace;
 mod raw_writing;

@@ -1,6 +1,6 @@
 //! Questions of NFSv4 lists as numbers.
 
-ghost use Rattle.std.specs.Prelude.{◌≡◌, ◌≢◌, ◌≤◌, IfErr, length};
+ghost use Rattle.std.specs.Prelude.{◌≡◌, ◌≢◌, ◌≤◌, IfErr, IfOk, length};
 ghost use Rattle.acl_nfs4.specs.declared.limits.TheConstants.{INLINE_ACES};
 ghost use Rattle.acl_wire.specs.Nfs4.{AllowsOf, GrantsOf, chmod_of, classes_in, inherited_of};
 ghost use Rattle.acl_wire.specs.RawAces.{Answers};
@@ -78,9 +78,14 @@ fn mode_of_number(mode: u32) -> Result<Mode, Nfs4Fault>
 
 /// The list with a mode set (within RFC 8881, section 6.4.1.1). A mode above octal 777 is the fault
 /// `Argument`, before all others, and a list that would have more than 128 entries is `TooMany`.
+/// Memory runs out only if the list, or the one that it becomes, has more than `INLINE_ACES`
+/// entries.
 #[tactic(auto, unfolding(crate::specs::Nfs4::chmod_of))]
 pub fn raws_with_mode(alloc: Global, raws: &[RawAce], mode: u32) -> Result<Acl4, Nfs4Error>
-    ensures { Answers (λ aces. aces) result (chmod_of raws.now mode) }
+    ensures value { Answers (λ aces. aces) result (chmod_of raws.now mode) }
+    ensures short { length raws.now ≤ INLINE_ACES
+        → IfOk (chmod_of raws.now mode) (λ aces. length aces ≤ INLINE_ACES)
+        → IfErr result (λ error. error ≢ Nfs4Error.Memory) }
 {
     let mode = mode_of_number(mode)?;
     let mut acl = read_raw_aces(alloc, Purpose::Write, raws)?;
@@ -95,7 +100,9 @@ pub fn raws_with_mode(alloc: Global, raws: &[RawAce], mode: u32) -> Result<Acl4,
 /// Memory runs out for more than `INLINE_ACES` entries alone.
 #[tactic(auto, unfolding(crate::specs::Nfs4::inherited_of))]
 pub fn raws_inherited(alloc: Global, raws: &[RawAce], is_dir: bool) -> Result<Acl4, Nfs4Error>
-    ensures { Answers (λ aces. aces) result (inherited_of raws.now is_dir) }
+    ensures value { Answers (λ aces. aces) result (inherited_of raws.now is_dir) }
+    ensures short { length raws.now ≤ INLINE_ACES
+        → IfErr result (λ error. error ≢ Nfs4Error.Memory) }
 {
     let acl = read_raw_aces(alloc, Purpose::Write, raws)?;
     let kind = if is_dir { Kind::Dir } else { Kind::File };

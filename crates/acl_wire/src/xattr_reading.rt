@@ -41,9 +41,9 @@ fn tag_of(number: u16, id: u32) -> Result<Tag, PosixFault>
 /// What an entry's bytes are.
 #[derive(Clone, Copy)]
 pub(crate) struct Fields {
-    tag: u16,
-    perms: u16,
-    id: u32,
+    pub tag: u16,
+    pub perms: u16,
+    pub id: u32,
 }
 
 /// The entry of these fields.
@@ -64,7 +64,7 @@ fn entry_of(fields: Fields) -> Result<Entry, PosixFault>
 /// The fields that the bytes begin with, and what stands behind them. One test of the length serves
 /// all three.
 #[tactic(auto, unfolding(crate::specs::XattrReading::fields_at))]
-fn fields_at(bytes: &[u8]) -> Result<(Fields, &[u8]), PosixFault>
+pub(crate) fn fields_at(bytes: &[u8]) -> Result<(Fields, &[u8]), PosixFault>
     ensures { Reads (λ x. (x.0, x.1.now)) result (fields_at bytes.now) }
 {
     if bytes.len() < 8 {

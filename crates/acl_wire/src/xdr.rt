@@ -1,11 +1,11 @@
 //! NFSv4 lists in XDR (RFC 4506): the bytes of the extended attribute `system.nfs4_acl`.
 
-ghost use Rattle.std.specs.Prelude.{◌≡◌, ◌≤◌};
-ghost use Rattle.acl_nfs4.specs.declared.limits.TheConstants.{MAX_ACES};
+ghost use Rattle.std.specs.Prelude.{◌≡◌, ◌≢◌, ◌≤◌, IfErr};
+ghost use Rattle.acl_nfs4.specs.declared.limits.TheConstants.{INLINE_ACES, MAX_ACES};
 ghost use Rattle.acl_wire.specs.Numbers.{Reads};
 ghost use Rattle.acl_wire.specs.RawAces.{Answers};
 ghost use Rattle.acl_wire.specs.Xdr.{all_of, number_at, padded, raw_at, text_at, who_in};
-ghost use Rattle.acl_wire.specs.Xdr.{xdr_list_of};
+ghost use Rattle.acl_wire.specs.Xdr.{AnnouncesFew, xdr_list_of};
 
 use crate::raw_ace::{ace_of_raw, push};
 use crate::{Nfs4Error, Nfs4Fault, RawAce};
@@ -90,7 +90,8 @@ fn raw_at(bytes: &[u8]) -> Result<(RawAce, &[u8]), Nfs4Fault>
 /// So many entries, which are all of the bytes.
 fn all_of(alloc: Global, count: u32, bytes: &[u8]) -> Result<Acl4, Nfs4Error>
     requires { count ≤ MAX_ACES }
-    ensures { Answers (λ aces. aces) result (all_of count bytes.now) }
+    ensures value { Answers (λ aces. aces) result (all_of count bytes.now) }
+    ensures short { count ≤ INLINE_ACES → IfErr result (λ error. error ≢ Nfs4Error.Memory) }
 {
     let mut aces = Acl4::empty(alloc);
     let mut rest = bytes;
@@ -110,7 +111,8 @@ fn all_of(alloc: Global, count: u32, bytes: &[u8]) -> Result<Acl4, Nfs4Error>
 /// decimal. Memory runs out for more than `INLINE_ACES` entries alone.
 #[tactic(auto, unfolding(crate::specs::Xdr::xdr_list_of))]
 pub fn acl4_of_xdr(alloc: Global, bytes: &[u8]) -> Result<Acl4, Nfs4Error>
-    ensures { Answers (λ aces. aces) result (xdr_list_of bytes.now) }
+    ensures value { Answers (λ aces. aces) result (xdr_list_of bytes.now) }
+    ensures short { AnnouncesFew bytes.now → IfErr result (λ error. error ≢ Nfs4Error.Memory) }
 {
     let (count, rest) = number_at(bytes)?;
     if count > MAX_ACES as u32 {

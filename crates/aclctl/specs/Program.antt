@@ -18,6 +18,7 @@ use Rattle.acl_queries.specs.ExplainLine.{explain_line}
 use Rattle.acl_queries.specs.ExplainText.{explain_meaning}
 use Rattle.acl_service.specs.RunMeaning.{run_meaning}
 use Rattle.acl_tree_queries.specs.DumpAnswer.{dump_meaning}
+use Rattle.acl_tree_queries.specs.DumpLine.{dump_line}
 use Rattle.acl_tree_queries.specs.ImpactWords.{impact_meaning}
 use Rattle.acl_tree_queries.specs.WhoWords.{who_meaning}
 use Rattle.aclctl.specs.Fault.{fault_line, program_line, status_of}
@@ -103,7 +104,8 @@ command_meaning files input (Some Compare) words =
 command_meaning files input (Some Run) words = run_meaning files input words
 command_meaning files input (Some Who) words = who_meaning files input words
 command_meaning files input (Some Impact) words = impact_meaning files input words
-command_meaning files input (Some Dump) words = dump_meaning files input words
+command_meaning files input (Some Dump) words =
+    by_text (of_words dump_line false (dump_meaning files input) words)
 command_meaning files input (Some Lint) words = lint_meaning files input words
 command_meaning files input (Some Help) words = text_meaning HELP.now
 command_meaning files input (Some Version) words = text_meaning version_text

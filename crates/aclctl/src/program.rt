@@ -9,7 +9,7 @@ use crate::input::command_words;
 use acl_lint::lint;
 use acl_queries::{Compare, Decide, Explain};
 use acl_service::{ErrorOutput, OpenFiles, report};
-use acl_tree_queries::{dump, impact, who};
+use acl_tree_queries::{Dump, impact, who};
 use std::alloc::Global;
 use std::convert::AsStr;
 use std::io::{Read, Write};
@@ -59,7 +59,9 @@ where
         Some(first) if first.as_str() == "impact" => {
             impact(alloc, files, words, input, out, err)
         }
-        Some(first) if first.as_str() == "dump" => dump(alloc, files, words, input, out, err),
+        Some(first) if first.as_str() == "dump" => {
+            acl_cli::run_command(&Dump, alloc, files, words, input, out, err)
+        }
         Some(first) if first.as_str() == "lint" => lint(alloc, files, words, input, out, err),
         Some(first) if first.as_str() == "--help" => print_help(out, err),
         Some(first) if first.as_str() == "--version" => print_version(out, err),

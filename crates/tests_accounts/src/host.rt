@@ -1,6 +1,7 @@
 //! What is known of a host, by what `getent passwd` and `getent group` print of it.
 use acl_accounts::{Account, AccountGroup, Accounts, WrittenAccount};
 use acl_names::{Gid, Requester, Uid};
+use arrayvec::ArrayVec;
 use std::alloc::Global;
 
 /// A host with a directory service: names with a domain, blanks and an `@`, two users of one uid,
@@ -106,8 +107,8 @@ fn groups_of_a_host(rt: HostRuntime) {
 /// The numbers of what a text names: as a user, and as a group.
 fn numbers_of(alloc: Global, text: &str) -> Option<(Option<u32>, Option<u32>)> {
     let accounts = Accounts::read(alloc, HOST).ok()?;
-    let mut room = Vec::new(alloc);
-    let written = WrittenAccount::read(text.as_bytes(), &mut room).ok()??;
+    let mut room = ArrayVec::new();
+    let written = WrittenAccount::read(text.as_bytes(), &mut room)?;
     let uid = accounts.uid(written).map(Uid::value);
     let gid = accounts.gid(written).map(Gid::value);
     Some((uid, gid))
@@ -136,8 +137,8 @@ fn ids_of_what_is_written(rt: HostRuntime) {
 
 fn place_of(alloc: Global, text: &str) -> Option<Option<usize>> {
     let accounts = Accounts::read(alloc, HOST).ok()?;
-    let mut room = Vec::new(alloc);
-    let written = WrittenAccount::read(text.as_bytes(), &mut room).ok()??;
+    let mut room = ArrayVec::new();
+    let written = WrittenAccount::read(text.as_bytes(), &mut room)?;
     Some(accounts.user_place(written))
 }
 

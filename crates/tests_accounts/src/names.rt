@@ -1,5 +1,6 @@
 //! Names as `getfacl` writes them.
 use acl_accounts::{WrittenAccount, is_account_name, octal, push_name};
+use arrayvec::ArrayVec;
 use std::alloc::Global;
 
 /// What a text writes.
@@ -10,15 +11,15 @@ enum Wanted {
     Nothing,
 }
 
-fn is_read(alloc: Global, text: &str, wanted: &Wanted) -> Option<bool> {
-    let mut room = Vec::new(alloc);
-    let read = WrittenAccount::read(text.as_bytes(), &mut room).ok()?;
-    Some(match (read, wanted) {
+fn is_read(text: &str, wanted: &Wanted) -> bool {
+    let mut room = ArrayVec::new();
+    let read = WrittenAccount::read(text.as_bytes(), &mut room);
+    match (read, wanted) {
         (Some(WrittenAccount::Name(name)), Wanted::Name(bytes)) => name == *bytes,
         (Some(WrittenAccount::Number(number)), Wanted::Number(id)) => number == *id,
         (None, Wanted::Nothing) => true,
         _ => false,
-    })
+    }
 }
 
 /// `\` and three octal digits are that byte, any other byte is itself; all digits are an id.
@@ -45,7 +46,7 @@ fn what_texts_write(rt: HostRuntime) {
         ("a\\072b", Wanted::Nothing),
     ];
     for (text, wanted) in ROWS {
-        assert_eq!(rt; is_read(rt.alloc(), text, &wanted), Some(true), "{text}");
+        assert!(rt; is_read(text, &wanted), "{text}");
     }
 }
 

@@ -6,6 +6,7 @@
 //! asks for, and none from then on.
 use crate::host::HOST;
 use acl_accounts::{Accounts, AccountsFault, WrittenAccount, push_name};
+use arrayvec::ArrayVec;
 use std::alloc::Global;
 use std::test::Fail;
 use tests_common::Refusals;
@@ -32,8 +33,8 @@ fn accounts_under_a_refused_growth(rt: HostRuntime) -> Result<(), Fail> {
 /// Whether a name is read from its octal digits, and printed by them again.
 fn reads_and_prints(alloc: Global) -> Option<bool> {
     const TEXT: &[u8] = b"CORP\\134domain\\040users\\040with\\040a\\040long\\040name";
-    let mut room = Vec::new(alloc);
-    let Some(WrittenAccount::Name(name)) = WrittenAccount::read(TEXT, &mut room).ok()? else {
+    let mut room = ArrayVec::new();
+    let Some(WrittenAccount::Name(name)) = WrittenAccount::read(TEXT, &mut room) else {
         return Some(false);
     };
     let mut out = Vec::new(alloc);

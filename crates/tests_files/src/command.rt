@@ -1,6 +1,6 @@
 //! Commands over files at hand, and how they end.
 use crate::sheet::Sheet;
-use acl_service::ErrorOutput;
+use acl_cli::ErrorOutput;
 use std::alloc::Global;
 use std::io::{Read, Write};
 

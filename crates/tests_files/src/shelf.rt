@@ -1,6 +1,6 @@
 //! Files at hand, by their names.
 use crate::sheet::Sheet;
-use acl_service::OpenFiles;
+use acl_cli::OpenFiles;
 use std::io;
 
 /// The files of a table, which has the name of each and its text.

@@ -11,9 +11,15 @@ mod faults;
 #[cfg(test)]
 mod files;
 #[cfg(test)]
+mod guesses;
+#[cfg(test)]
+mod lines;
+#[cfg(test)]
 mod readers;
 #[cfg(test)]
 mod refused_growths;
+#[cfg(test)]
+mod shown;
 #[cfg(test)]
 mod sizes;
 #[cfg(test)]

@@ -4,7 +4,7 @@
 //! `rt try --test --fail-alloc N` refuses the growth N of a test. Each test here passes whichever
 //! growth that is, and prints how many refusals it was told of: one up to the last growth that it
 //! asks for, and none from then on.
-use acl_listings::{Blocks, ReadFault, read_file};
+use acl_listings::{Blocks, ReadFault, push_shown, read_file};
 use std::alloc::Global;
 use std::test::Fail;
 use tests_common::{Refusals, directory};
@@ -66,6 +66,23 @@ fn blocks_under_a_refused_growth(rt: HostRuntime) -> Result<(), Fail> {
     let mut refusals = Refusals::new();
     let count = refusals.again(|| blocks_of(alloc));
     assert_eq!(rt; count, Some(1));
+    println!(rt; "refusals: {}", refusals.told())?;
+    Ok(())
+}
+
+fn shown_of(alloc: Global) -> Option<usize> {
+    let mut out = Vec::new(alloc);
+    push_shown(LONG, &mut out).ok()?;
+    Some(out.len())
+}
+
+#[test]
+fn push_shown_under_a_refused_growth(rt: HostRuntime) -> Result<(), Fail> {
+    let alloc = rt.alloc();
+    let mut refusals = Refusals::new();
+    let len = refusals.again(|| shown_of(alloc));
+    // It has 190 bytes, of which 16 are newlines.
+    assert_eq!(rt; len, Some(238));
     println!(rt; "refusals: {}", refusals.told())?;
     Ok(())
 }

@@ -1,6 +1,6 @@
 //! What queries of trees are refused for, and what they lack.
 use crate::fixture::Query;
-use acl_service::ErrorOutput;
+use acl_cli::ErrorOutput;
 use std::alloc::Global;
 use std::test::Fail;
 use tests_files::{Command, Sheet};

@@ -1,6 +1,6 @@
 //! The office of the examples and its sessions, as files at hand.
-use acl_service::ErrorOutput;
-use acl_tree_queries::{dump, impact, who};
+use acl_cli::{ErrorOutput, run_command};
+use acl_tree_queries::{Dump, impact, who};
 use std::alloc::Global;
 use std::io::{Read, Write};
 use tests_files::{Command, Shelf};
@@ -110,7 +110,9 @@ impl Command for Query {
         let files = Shelf::new(FILES);
         match words.first() {
             Some(first) if *first == "impact" => impact(alloc, &files, words, input, out, err),
-            Some(first) if *first == "dump" => dump(alloc, &files, words, input, out, err),
+            Some(first) if *first == "dump" => {
+                run_command(&Dump, alloc, &files, words, input, out, err)
+            }
             _ => who(alloc, &files, words, input, out, err),
         }
     }

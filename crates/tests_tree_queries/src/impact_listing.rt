@@ -1,6 +1,6 @@
 //! Tests of `impact` of a listing that becomes another.
 use crate::fixture::{NEWER, OFFICE, OLDER, Query, SINCE_OLDER};
-use acl_service::ErrorOutput;
+use acl_cli::ErrorOutput;
 use acl_tree_queries::impact;
 use std::alloc::Global;
 use tests_files::{Broken, Command, Sheet, Shelf};

@@ -2,7 +2,7 @@
 ghost use Rattle.std.specs.Prelude.{◌≡◌, ◌≢◌, Some, codes, false, map, option_map};
 ghost use Rattle.clap.specs.Words.{all_of, found_of, rows_of, rule_of};
 ghost use Rattle.acl_service.specs.RunLine.{limit_option, session_words};
-ghost use Rattle.acl_service.specs.RunWords.{HasLimit, IsLimit, setup_in};
+ghost use Rattle.acl_service.specs.RunWords.{HasLimit, IsLimit};
 
 use acl_cli::CommandLine;
 use acl_cli::fields::text_field;
@@ -67,14 +67,6 @@ pub fn session_words<'a>(alloc: Global) -> Arg<'a>
 {
     let help = "A file with a session's commands, or - for standard input; at most 64";
     required_word(alloc, "session", "SESSION", help).num_args(1usize..)
-}
-
-/// The name of the setup's file.
-#[tactic(auto, unfolding(crate::specs::RunWords::setup_in))]
-pub fn setup_field<'a>(matches: &ArgMatches<'a>) -> &'a str
-    ensures { result.now ≡ setup_in (rows_of (found_of matches.now)) }
-{
-    text_field(matches, "setup").unwrap_or("")
 }
 
 /// The names of the sessions' files, if the words give any.

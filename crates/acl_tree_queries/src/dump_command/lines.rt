@@ -7,10 +7,10 @@ ghost use Rattle.acl_tree.specs.declared.request.Request.TheVariants.{SetDefault
 ghost use Rattle.acl_audit.specs.Dump.{creation, no_mode, set_default, set_lists};
 ghost use Rattle.acl_lang.specs.CommandText.{command_text};
 ghost use Rattle.acl_lang.specs.declared.limits.TheConstants.{MAX_LINE_LEN};
-ghost use Rattle.acl_tree_queries.specs.AnswerFaults.{IsAnswerFault};
+ghost use Rattle.acl_tree_queries.specs.TreeQuestions.{IsAnswerFailure};
 ghost use Rattle.acl_tree_queries.specs.DumpText.{AddsLines, HasLongLine, SaysAgain};
 
-use crate::question::AnswerFault;
+use acl_cli::Failure;
 use acl_lang::MAX_LINE_LEN;
 use acl_names::{Uid, push_decimal};
 use acl_nfs4::{Acl4, Kind};
@@ -19,14 +19,14 @@ use acl_tree::{Node, NodeAcl};
 use std::alloc::AllocError;
 
 /// Ends the line that began at the place, unless it is longer than lines may be.
-fn end_line(start: usize, out: &mut Vec<u8>) -> Result<(), AnswerFault>
+fn end_line<'n>(start: usize, out: &mut Vec<u8>) -> Result<(), Failure<'n>>
     requires { start ≤ length out.now.items }
     ensures ended { OnOk result (out.new.items ≡ out.old.items ++ newline ∷ []) }
     ensures short { OnOk result (length out.old.items ≤ start + MAX_LINE_LEN) }
-    ensures refused { IfErr result (IsAnswerFault (start + MAX_LINE_LEN < length out.old.items)) }
+    ensures refused { IfErr result (IsAnswerFailure (start + MAX_LINE_LEN < length out.old.items)) }
 {
     if out.len() - start > MAX_LINE_LEN {
-        return Err(AnswerFault::LineTooLong);
+        return Err(Failure::LineTooLong);
     }
     out.extend_from_slice(b"\n")?;
     Ok(())
@@ -102,10 +102,10 @@ fn push_nfs4(path: &[u8], acl: &Acl4, out: &mut Vec<u8>) -> Result<(), AllocErro
 }
 
 /// Appends the line that sets the access list.
-fn push_access_line(path: &[u8], access: &Acl, out: &mut Vec<u8>) -> Result<(), AnswerFault>
+fn push_access_line<'n>(path: &[u8], access: &Acl, out: &mut Vec<u8>) -> Result<(), Failure<'n>>
     ensures lines { OnOk result (AddsLines (SetAccess path.now access.now ∷ []) out.old.items
         out.new.items) }
-    ensures refused { IfErr result (IsAnswerFault
+    ensures refused { IfErr result (IsAnswerFailure
         (HasLongLine (SetAccess path.now access.now ∷ []))) }
 {
     let start = out.len();
@@ -114,10 +114,10 @@ fn push_access_line(path: &[u8], access: &Acl, out: &mut Vec<u8>) -> Result<(), 
 }
 
 /// Appends the line that sets the default list.
-fn push_default_line(path: &[u8], default: &Acl, out: &mut Vec<u8>) -> Result<(), AnswerFault>
+fn push_default_line<'n>(path: &[u8], default: &Acl, out: &mut Vec<u8>) -> Result<(), Failure<'n>>
     ensures lines { OnOk result (AddsLines (SetDefault path.now (Some default.now) ∷ [])
         out.old.items out.new.items) }
-    ensures refused { IfErr result (IsAnswerFault
+    ensures refused { IfErr result (IsAnswerFailure
         (HasLongLine (SetDefault path.now (Some default.now) ∷ []))) }
 {
     let start = out.len();
@@ -126,14 +126,14 @@ fn push_default_line(path: &[u8], default: &Acl, out: &mut Vec<u8>) -> Result<()
 }
 
 /// Appends the line that sets the default list, if there is one.
-fn push_any_default_line(
+fn push_any_default_line<'n>(
     path: &[u8],
     default: &Option<Acl>,
     out: &mut Vec<u8>,
-) -> Result<(), AnswerFault>
+) -> Result<(), Failure<'n>>
     ensures lines { OnOk result (AddsLines (set_default path.now default.now) out.old.items
         out.new.items) }
-    ensures refused { IfErr result (IsAnswerFault
+    ensures refused { IfErr result (IsAnswerFailure
         (HasLongLine (set_default path.now default.now))) }
 {
     match default {
@@ -143,10 +143,10 @@ fn push_any_default_line(
 }
 
 /// Appends the line that sets the NFSv4 list.
-fn push_nfs4_line(path: &[u8], acl: &Acl4, out: &mut Vec<u8>) -> Result<(), AnswerFault>
+fn push_nfs4_line<'n>(path: &[u8], acl: &Acl4, out: &mut Vec<u8>) -> Result<(), Failure<'n>>
     ensures lines { OnOk result (AddsLines (SetNfs4 path.now acl.now ∷ []) out.old.items
         out.new.items) }
-    ensures refused { IfErr result (IsAnswerFault (HasLongLine (SetNfs4 path.now acl.now ∷ []))) }
+    ensures refused { IfErr result (IsAnswerFailure (HasLongLine (SetNfs4 path.now acl.now ∷ []))) }
 {
     let start = out.len();
     push_nfs4(path, acl, out)?;
@@ -154,15 +154,15 @@ fn push_nfs4_line(path: &[u8], acl: &Acl4, out: &mut Vec<u8>) -> Result<(), Answ
 }
 
 /// Appends the line that creates a node at the path, of which nobody may do anything yet.
-fn push_create_line(
+fn push_create_line<'n>(
     kind: Kind,
     path: &[u8],
     owner: Uid,
     out: &mut Vec<u8>,
-) -> Result<(), AnswerFault>
+) -> Result<(), Failure<'n>>
     ensures lines { OnOk result (AddsLines (Create kind path.now owner no_mode ∷ []) out.old.items
         out.new.items) }
-    ensures refused { IfErr result (IsAnswerFault
+    ensures refused { IfErr result (IsAnswerFailure
         (HasLongLine (Create kind path.now owner no_mode ∷ []))) }
 {
     let start = out.len();
@@ -171,10 +171,14 @@ fn push_create_line(
 }
 
 /// Appends the line that creates the node at the path; none for the root, which is there.
-pub(super) fn push_creation(path: &[u8], node: &Node, out: &mut Vec<u8>) -> Result<(), AnswerFault>
+pub(super) fn push_creation<'n>(
+    path: &[u8],
+    node: &Node,
+    out: &mut Vec<u8>,
+) -> Result<(), Failure<'n>>
     ensures lines { OnOk result (AddsLines (creation (path.now, node.now)) out.old.items
         out.new.items) }
-    ensures refused { IfErr result (IsAnswerFault (HasLongLine (creation (path.now, node.now)))) }
+    ensures refused { IfErr result (IsAnswerFailure (HasLongLine (creation (path.now, node.now)))) }
 {
     if path == b"/".as_slice() {
         return Ok(());
@@ -184,10 +188,14 @@ pub(super) fn push_creation(path: &[u8], node: &Node, out: &mut Vec<u8>) -> Resu
 
 /// Appends the lines that give a node that was just created at the path the lists that this one
 /// has.
-pub(super) fn push_lists(path: &[u8], acl: &NodeAcl, out: &mut Vec<u8>) -> Result<(), AnswerFault>
+pub(super) fn push_lists<'n>(
+    path: &[u8],
+    acl: &NodeAcl,
+    out: &mut Vec<u8>,
+) -> Result<(), Failure<'n>>
     ensures lines { OnOk result (AddsLines (set_lists path.now acl.now) out.old.items
         out.new.items) }
-    ensures refused { IfErr result (IsAnswerFault (HasLongLine (set_lists path.now acl.now))) }
+    ensures refused { IfErr result (IsAnswerFailure (HasLongLine (set_lists path.now acl.now))) }
 {
     match acl {
         NodeAcl::Posix { access, default } => {

@@ -1,49 +1,16 @@
 //! What the words of `dump` ask.
 
 use super::text::push_dump;
-use crate::question::{AnswerFault, Question};
+use crate::question::Question;
 use crate::trees::Trees;
-use acl_cli::options::{optional_word, setup_option};
-use acl_cli::{CommandLine, FieldFault, write_text};
-use clap::{ArgMatches, Command};
-use std::alloc::{AllocError, Global};
+use acl_cli::{ErrorOutput, Failure, FieldFault, write_text};
+use clap::ArgMatches;
+use std::alloc::Global;
 use std::io::Write;
-
-/// What is told, and what the exit statuses are.
-const ANSWERS: &str = "The session closes the root, creates each file in the order of the paths, \
-and gives each its lists.
-Run over the same setup, it makes the same tree. Ids are decimal.
-Exit status: 0 with an answer; 1 if a file doesn't read or a line would be too long; 2 if the \
-words are wrong, and
-with this help; 3 if memory runs out or the answer can't be written.";
 
 /// The session that makes a tree again: the files that the words name say which tree.
 #[derive(Clone, Copy, Drop)]
 pub(super) struct DumpQuestion;
-
-impl CommandLine for DumpQuestion {
-    ghost use Rattle.acl_tree_queries.specs.DumpLine.{dump_line, dump_line-free, dump_line-simple};
-
-    ghost line = { dump_line };
-
-    ghost line_simple = { dump_line-simple };
-
-    ghost line_free = { dump_line-free };
-
-    fn command<'a>(alloc: Global) -> Result<Command<'a>, AllocError> {
-        Command::new(alloc, "dump")
-            .bin_name("aclctl dump")?
-            .about("Prints a tree as a session that makes it again.")
-            .after_help(ANSWERS)
-            .arg(setup_option(alloc))?
-            .arg(optional_word(
-                alloc,
-                "session",
-                "SESSION",
-                "A file with a session's commands, which come first, or - for standard input",
-            ))
-    }
-}
 
 impl Question for DumpQuestion {
     ghost use Rattle.acl_tree_queries.specs.DumpAnswer.{HasNoDump, IsDump, IsDumpBegun, asks_dump};
@@ -60,12 +27,13 @@ impl Question for DumpQuestion {
         Ok(DumpQuestion)
     }
 
-    fn write<W: Write>(
+    fn write<'n, W: Write, E: Write + Drop>(
         &self,
         alloc: Global,
         trees: &Trees,
         out: &mut W,
-    ) -> Result<(), AnswerFault> {
+        _err: &mut ErrorOutput<E>,
+    ) -> Result<(), Failure<'n>> {
         let mut text = Vec::new(alloc);
         push_dump(alloc, &trees.after, &mut text)?;
         Ok(write_text(text.as_slice(), out)?)

@@ -6,7 +6,7 @@ ghost use Rattle.clap.specs.Words.{found_of, matches_of, rows_of};
 ghost use Rattle.acl_listings.specs.Cursor.{blocks_to_come};
 ghost use Rattle.acl_cli.specs.Meaning.{EndsWithInput};
 ghost use Rattle.acl_cli.specs.Output.{AppendsFront};
-ghost use Rattle.acl_service.specs.RunWords.{bytes_of_session, input_count};
+ghost use Rattle.acl_cli.specs.SessionFiles.{bytes_of_session, input_count};
 ghost use Rattle.acl_tree_queries.specs.ChangeSteps.{TellsOfKnown};
 ghost use Rattle.acl_tree_queries.specs.ImpactAnswer.{asks_impact};
 ghost use Rattle.acl_tree_queries.specs.ImpactListing.{impact_of_listings};

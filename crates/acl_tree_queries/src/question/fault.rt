@@ -1,7 +1,6 @@
 //! Why a question of trees gives no answer.
 ghost use Rattle.std.specs.Prelude.{◌≡◌};
 
-use super::AnswerFault;
 use acl_cli::{CommandFault, ErrorOutput, FieldFault, QueryFault, RunFault};
 use acl_service::FilesFault;
 use acl_setup::SetupError;
@@ -94,19 +93,6 @@ impl<'a> From<SetupError> for QuestionFault<'a> {
         match error {
             SetupError::Memory => QuestionFault::Run(RunFault::Memory),
             _ => QuestionFault::Setup(error),
-        }
-    }
-}
-
-impl<'a> From<AnswerFault> for QuestionFault<'a> {
-    ghost use Rattle.acl_tree_queries.specs.QuestionFaults.{fault_of_answer};
-
-    ghost from_gives = { λ fault becomes. becomes ≡ fault_of_answer fault };
-
-    fn from(fault: AnswerFault) -> QuestionFault<'a> {
-        match fault {
-            AnswerFault::LineTooLong => QuestionFault::LineTooLong,
-            AnswerFault::Run(fault) => QuestionFault::Run(fault),
         }
     }
 }

@@ -66,6 +66,7 @@ loop-preserved g c =
     let Begins = g.T.Telling.Begins in
     let last = g.W.Write.contents c.send_full.new.out in
     let sent = c.in_ok-send_full.ensures.sent in
+    let ends = c.in_ok-tell_next.ensures.ends in
     let said : c.as_slice-in-loop.result.now ≡ others = c.as_slice-in-loop.ensures.value ∙ is_beside ∙ ap (λ bytes. bytes ++ others) was.empty in
     let beside : GoesTo others c.loop.err c.write_text-in-loop.new.self = subst (λ (bytes : List ℕ). GoesTo bytes c.loop.err c.write_text-in-loop.new.self) said c.write_text-in-loop.ensures in
     record {
@@ -77,6 +78,7 @@ loop-preserved g c =
       all = LeadsOn-more (Tells c.args.telling.now) (Tells c.loop.telling) (Tells c.tell_next.new.self) was.told more was.said others was.all all;
       first = LeadsOn-more (Begins c.args.telling.now) (Begins c.loop.telling) (Begins c.tell_next.new.self) was.told more was.said others was.first first;
       begun = begun;
+      ends = λ ending is. was.ends ending (ends ending is);
       fails = λ failure is. was.fails failure (c.tell_next.ensures.stays failure is);
     }
 

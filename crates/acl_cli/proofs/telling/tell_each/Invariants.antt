@@ -1,6 +1,7 @@
 use Rattle.std.proofs.Common.{◌≡◌, ℕ, List, []}
 use Rattle.acl_cli.specs.ErrorOutput.{Tells}
 use Rattle.acl_cli.specs.Telling.{LeadsOn}
+use Rattle.acl_cli.specs.declared.command.Ending.{Ending}
 use Rattle.acl_cli.specs.declared.failure.Failure.{Failure}
 use Rattle.acl_cli.proofs.PiecesLemmas.{WentOut}
 use Rattle.acl_cli.proofs.telling.tell_each.Given as goal
@@ -16,5 +17,6 @@ invariant-loop g l = record {
   all : LeadsOn (g.T.Telling.Tells l.initial.telling) (g.T.Telling.Tells l.telling) told said;
   first : LeadsOn (g.T.Telling.Begins l.initial.telling) (g.T.Telling.Begins l.telling) told said;
   begun : g.T.Telling.Begins l.telling [] [];
+  ends : (ending : Ending) → g.T.Telling.Ends l.telling ending → g.T.Telling.Ends l.initial.telling ending;
   fails : (failure : Failure) → g.T.Telling.Fails l.telling failure → g.T.Telling.Fails l.initial.telling failure;
 }

@@ -2,7 +2,7 @@ use Rattle.std.proofs.Common.{rules, ◌≡◌, ◌≤◌, ◌+◌, ◌++◌, �
 use Rattle.clap.specs.Words.{Text}
 use Rattle.acl_lang.specs.declared.limits.TheConstants.{MAX_TEXT_LEN}
 use Rattle.acl_service.specs.FilesFaults.{IsReadFaultAmong}
-use Rattle.acl_service.specs.RunWords.{HaveBytes, input_count}
+use Rattle.acl_cli.specs.SessionFiles.{HaveBytes, input_count}
 use Rattle.acl_service.proofs.FileLemmas.{HaveBytes-more, input_count-next, input_count-take, map-take_more, none_so_far, refused_among, shown, told_before}
 use Rattle.acl_runs.proofs.PlaceLemmas.{each_after_push}
 use Rattle.acl_service.proofs.files.read_sessions.Goals as goal

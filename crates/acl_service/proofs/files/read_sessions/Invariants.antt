@@ -1,6 +1,6 @@
 use Rattle.std.proofs.Common.{◌≡◌, ◌≤◌, All, length, map, take}
 use Rattle.acl_lang.specs.declared.limits.TheConstants.{MAX_TEXT_LEN}
-use Rattle.acl_service.specs.RunWords.{HaveBytes, input_count}
+use Rattle.acl_cli.specs.SessionFiles.{HaveBytes, input_count}
 use Rattle.acl_service.proofs.files.read_sessions.Given as goal
 
 -- there is a text for each name so far, of the bytes that are told of it; and standard input is as it was, unless one was it

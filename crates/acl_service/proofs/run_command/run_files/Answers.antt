@@ -7,7 +7,8 @@ use Rattle.acl_cli.proofs.MeaningLemmas.{Ends-map, Ends-unread}
 use Rattle.acl_service.specs.FilesFaults.{IsFilesFault, SaysFiles}
 use Rattle.acl_service.specs.RunMeaning.{files_meaning, texts_meaning}
 use Rattle.acl_service.specs.RunTexts.{RunsTexts}
-use Rattle.acl_service.specs.RunWords.{CanRun, HasBytes, HaveBytes, RunsRows, input_count, sessions_in, setup_in}
+use Rattle.acl_service.specs.RunWords.{CanRun, RunsRows, sessions_in}
+use Rattle.acl_cli.specs.SessionFiles.{HasBytes, HaveBytes, input_count, setup_in}
 use Rattle.acl_service.specs.TextsFaults.{SaysTexts}
 use Rattle.acl_service.specs.declared.files.fault.FilesFault.TheVariants.{SessionCount}
 use Rattle.acl_service.proofs.FaultLemmas.{Ends-files}

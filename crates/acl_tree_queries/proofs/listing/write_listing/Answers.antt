@@ -3,7 +3,7 @@ use Rattle.std.specs.Io.KnownBytes.{Keeps}
 use Rattle.acl_listings.specs.Cursor.{blocks_to_come}
 use Rattle.acl_listings.specs.Listing.{Block}
 use Rattle.acl_cli.proofs.OutputLemmas.{front_of_none}
-use Rattle.acl_service.specs.RunWords.{bytes_of_session}
+use Rattle.acl_cli.specs.SessionFiles.{bytes_of_session}
 use Rattle.acl_tree_queries.proofs.BlocksLemmas.{cut_among_blocks, splits_begun}
 use Rattle.acl_tree_queries.proofs.listing.write_listing.Goals as goal
 

@@ -15,6 +15,9 @@ use Rattle.acl_queries.specs.ExplainLine.{explain_line}
 use Rattle.acl_queries.specs.ExplainText.{IsExplanation}
 use Rattle.acl_queries.specs.Explained.{explained_in}
 use Rattle.acl_queries.proofs.QueryLemmas.{answers_by_text}
+use Rattle.acl_tree_queries.specs.DumpAnswer.{HasNoDump, IsDump, IsDumpBegun, asks_dump}
+use Rattle.acl_tree_queries.specs.DumpLine.{dump_line}
+use Rattle.acl_tree_queries.proofs.TreeQuestionsLemmas.{answers_by_text as of_trees}
 use Rattle.aclctl.specs.Fault.{status_of}
 use Rattle.aclctl.specs.Program.{Command, Files, SaysNoCommand, command_in, command_meaning, meaning_of, no_command}
 use Rattle.aclctl.specs.Program.Command.{Compare, Decide, Dump, Explain, Help, Impact, Lint, Run, Version, Who}
@@ -92,13 +95,15 @@ returns-in-Some-6 g c =
     ends_as (g.F.OpenFiles.bytes_of c.args.files.now) (g.I.Read.remaining c.args.input.now) (map g.S.AsStr.text c.args.words.now) (Some Impact)
     (named-Impact g c) _ _ _ _ _ _ _ c.impact.ensures
 
-named-Dump : (g : given.Over) (c : goal.After-dump g) → command_in (map g.S.AsStr.text c.args.words.now) ≡ Some Dump
+named-Dump : (g : given.Over) (c : goal.After-run_command-in-Some-7 g) → command_in (map g.S.AsStr.text c.args.words.now) ≡ Some Dump
 named-Dump g c = grind (arith, common_steps)
 
 pub returns-in-Some-7 : goal.returns-in-Some-7
 returns-in-Some-7 g c =
     ends_as (g.F.OpenFiles.bytes_of c.args.files.now) (g.I.Read.remaining c.args.input.now) (map g.S.AsStr.text c.args.words.now) (Some Dump)
-    (named-Dump g c) _ _ _ _ _ _ _ c.dump.ensures
+    (named-Dump g c) _ _ _ _ _ _ _
+    (Ends-by_text _ (of_trees dump_line false asks_dump IsDump IsDumpBegun HasNoDump (g.F.OpenFiles.bytes_of c.args.files.now) (g.I.Read.remaining c.args.input.now)
+    (map g.S.AsStr.text c.args.words.now)) _ _ _ _ _ _ _ c.run_command-in-Some-7.ensures)
 
 named-Lint : (g : given.Over) (c : goal.After-lint g) → command_in (map g.S.AsStr.text c.args.words.now) ≡ Some Lint
 named-Lint g c = grind (arith, common_steps)

@@ -19,3 +19,8 @@ returns-in-NoCommand g c =
 pub returns-in-TooManyWords : goal.returns-in-TooManyWords
 returns-in-TooManyWords g c =
     subst (λ (failure : Failure). IfSome (line_of failure) (λ line. Tells line c.args.err.now c.write_line-in-TooManyWords.new.self)) (sym c.in-TooManyWords.is) c.write_line-in-TooManyWords.ensures
+
+pub returns-in-TooManySessions : goal.returns-in-TooManySessions
+returns-in-TooManySessions g c =
+    subst (λ (failure : Failure). IfSome (line_of failure) (λ line. Tells line c.args.err.now c.write_line-in-TooManySessions.new.self)) (sym c.in-TooManySessions.is)
+    c.write_line-in-TooManySessions.ensures

@@ -4,7 +4,7 @@ use Rattle.std.specs.Map.Iter.{deref_pair}
 use Rattle.std.proofs.lemmas.Result.{err_from_is_err_and}
 use Rattle.acl_tree.specs.declared.node.Node.{Node}
 use Rattle.acl_audit.specs.Dump.{creation}
-use Rattle.acl_tree_queries.specs.AnswerFaults.{IsAnswerFault}
+use Rattle.acl_tree_queries.specs.TreeQuestions.{IsAnswerFailure}
 use Rattle.acl_tree_queries.specs.DumpText.{HasLongLine}
 use Rattle.acl_tree_queries.proofs.DumpLemmas.{fault_weaker, long_within, next_lines, of_fault}
 use Rattle.acl_tree_queries.proofs.dump_command.text.push_creations.Goals as goal
@@ -18,8 +18,8 @@ returns-in_err-push_creation-clause-refused c =
     let within : at < length items = search rules in
     let whole = HasLongLine (flat_map creation (each (deref_pair {K = List ℕ} {X = Node}) items)) in
     let p = err_from_is_err_and c.from_residual.result c.from_residual.ensures.1 in
-    of_fault c.from_residual.result p.0 (IsAnswerFault whole) p.1
-    (subst (IsAnswerFault whole) (sym p.2)
+    of_fault c.from_residual.result p.0 (IsAnswerFailure whole) p.1
+    (subst (IsAnswerFailure whole) (sym p.2)
     (fault_weaker _ whole (long_within (deref_pair {K = List ℕ} {X = Node}) creation items at item within here) _ c.in_err-push_creation.ensures.refused))
 
 pub loop-path-preserved : goal.loop-path-preserved

@@ -7,7 +7,7 @@ use Rattle.acl_names.specs.Bytes.{newline}
 use Rattle.acl_tree.specs.Entries.{Entry}
 use Rattle.acl_tree.specs.declared.node.Node.{Node}
 use Rattle.acl_audit.specs.Dump.{creation, make_commands, set_commands}
-use Rattle.acl_tree_queries.specs.AnswerFaults.{IsAnswerFault}
+use Rattle.acl_tree_queries.specs.TreeQuestions.{IsAnswerFailure}
 use Rattle.acl_tree_queries.specs.DumpText.{AddsLines, HasLongLine, closing_line}
 use Rattle.acl_tree_queries.proofs.DumpLemmas.{fault_weaker, long_before, long_behind, more_lines, of_fault, refused_weaker}
 use Rattle.acl_tree_queries.proofs.dump_command.text.push_dump.Goals as goal
@@ -19,8 +19,8 @@ returns-in_err-push_creations-clause-refused c =
     let are : shown ≡ entries = ap (each deref_pair) c.as_slice.ensures.value ∙ c.in_ok-entries.ensures in
     let whole = HasLongLine (make_commands c.args.tree.now) in
     let p = err_from_is_err_and c.from_residual-in_err-push_creations.result c.from_residual-in_err-push_creations.ensures.1 in
-    of_fault c.from_residual-in_err-push_creations.result p.0 (IsAnswerFault whole) p.1
-    (subst (IsAnswerFault whole) (sym p.2)
+    of_fault c.from_residual-in_err-push_creations.result p.0 (IsAnswerFailure whole) p.1
+    (subst (IsAnswerFailure whole) (sym p.2)
     (fault_weaker (HasLongLine (flat_map creation shown)) whole
     (λ long. long_before (flat_map creation entries) (flat_map set_commands entries) (subst (λ es. HasLongLine (flat_map creation es)) are long))
     _ c.in_err-push_creations.ensures.refused))

@@ -3,7 +3,7 @@ use Rattle.std.specs.Io.KnownBytes.{Appends}
 use Rattle.std.proofs.lemmas.Result.{IfErr-weaker, on_err_weaker, on_ok_weaker}
 use Rattle.clap.specs.Words.{found_of, rows_of}
 use Rattle.acl_cli.specs.Output.{AppendsFront}
-use Rattle.acl_service.specs.RunWords.{bytes_of_session, input_count}
+use Rattle.acl_cli.specs.SessionFiles.{bytes_of_session, input_count}
 use Rattle.acl_tree_queries.specs.ChangeSteps.{TellsOfKnown}
 use Rattle.acl_listings.specs.Cursor.{blocks_to_come}
 use Rattle.acl_tree_queries.specs.ImpactAnswer.{asks_impact}

@@ -4,7 +4,7 @@ use Rattle.std.proofs.lemmas.Result.{IfErr-weaker, on_err_weaker, on_ok_weaker}
 use Rattle.clap.specs.Words.{found_of, rows_of}
 use Rattle.acl_listings.specs.Listing.{blocks_of}
 use Rattle.acl_cli.specs.Output.{AppendsFront}
-use Rattle.acl_service.specs.RunWords.{bytes_of_session, input_count}
+use Rattle.acl_cli.specs.SessionFiles.{bytes_of_session, input_count}
 use Rattle.acl_tree_queries.specs.Listings.{AreListed, Listed, SaysWhoThereIs, listing_in, one_listing_in}
 use Rattle.acl_tree_queries.specs.ListingFaults.{IsNamedFault}
 use Rattle.acl_tree_queries.specs.QuestionFaults.{AsksQuestion}

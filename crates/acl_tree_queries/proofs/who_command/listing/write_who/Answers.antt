@@ -6,7 +6,7 @@ use Rattle.acl_audit.specs.Reach.{reaches}
 use Rattle.acl_listings.specs.Cursor.{blocks_to_come}
 use Rattle.acl_listings.specs.Listing.{Block}
 use Rattle.acl_cli.proofs.OutputLemmas.{front_of_none}
-use Rattle.acl_service.specs.RunWords.{bytes_of_session}
+use Rattle.acl_cli.specs.SessionFiles.{bytes_of_session}
 use Rattle.acl_tree_queries.specs.WhoSteps.{AreRight, IsEveryone, asked_of}
 use Rattle.acl_tree_queries.specs.declared.who_command.answers.Answers.{Answers}
 use Rattle.acl_tree_queries.specs.declared.who_command.answers.Users.{Users}

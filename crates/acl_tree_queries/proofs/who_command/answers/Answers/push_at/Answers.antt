@@ -1,4 +1,5 @@
 use Rattle.std.proofs.Common.{rules, ◌≡◌, ◌∙◌, ◌++◌, List, ℕ, OnOk, Some, option_map, subst, sym}
+use Rattle.acl_names.specs.Names.{names_of}
 use Rattle.acl_listings.proofs.PathLemmas.{path_of-file}
 use Rattle.acl_posix.specs.Perms.{bits_of}
 use Rattle.acl_tree_queries.specs.ListingText.{node_of}
@@ -13,7 +14,7 @@ returns-in-Some-Some c = λ file way reads at reach.
     let found : Some c.in-Some-Some.kept.now ≡ kept_at c.args.self.now.kept.items c.args.place = search rules in
     let there : Some c.in-Some-Some.kept.now ≡ Some at.kept = found ∙ at.there in
     let kept : c.in-Some-Some.kept.now ≡ at.kept = cc in
-    let shown : Some c.in-Some-Some.path.now ≡ Some file.path = search (rules, path_of-file known c.args.text.now file reads) in
+    let shown : Some c.in-Some-Some.path.now ≡ Some file.path = search (rules, path_of-file (names_of known) c.args.text.now file reads) in
     let path : c.in-Some-Some.path.now ≡ file.path = cc in
     let are : AreAnswersOf users file c.in-Some-Some.kept.now = subst (AreAnswersOf users file) (sym kept) at.are in
     subst (λ (path : List ℕ). OnOk c.push.result (c.push.new.out.items ≡ c.args.out.now.items ++ who_text_on known (option_map bits_of users.perms) way (path, node_of file))) path

@@ -1,0 +1,158 @@
+-- What is kept of a file tells of it.
+use Rattle.std.proofs.Common.{◌≡◌, ◌∙◌, ◌+◌, ◌++◌, ◌&&◌, ℕ, zero, suc, Bool, true, false, cond, List, [], ◌∷◌, Option, Some, None, ap, append_assoc, append-nil, arith, get_or, length, length-append, map, refl, sym}
+use Rattle.std.specs.Prelude.{Vec, slice_get}
+use Rattle.std.specs.List.{enumerate_from, flat_map}
+use Rattle.std.specs.declared.alloc.Global.{Global}
+use Rattle.acl_names.specs.Requester.{Identity}
+use Rattle.acl_audit.specs.Answers.{is_set}
+use Rattle.acl_audit.specs.Letters.{effective}
+use Rattle.acl_audit.specs.Reach.{places_from, reaches}
+use Rattle.acl_audit.specs.Who.{may_line}
+use Rattle.acl_posix.specs.Perms.{bits_of}
+use Rattle.acl_posix.specs.declared.perms.Perms.{Perms}
+use Rattle.acl_tree.specs.Nodes.{may}
+use Rattle.acl_tree.specs.declared.node.Node.{Node}
+use Rattle.acl_listing_queries.specs.WhoSteps.{IsGranted, letters_line_at, letters_lines, may_line_at, may_line_of, may_lines, persons_of}
+use Rattle.acl_listing_queries.specs.WhoText.{letters_line_if, person_line, person_line_if, who_text}
+use Rattle.acl_listing_queries.specs.declared.who.answers.Granted.TheVariants.{Letters, Those}
+
+-- what stands behind some items
+name_there : (before after : List (List ℕ)) (name : List ℕ) → slice_get (before ++ name ∷ after) (length before) ≡ Some name
+name_there [] after name = refl
+name_there (first ∷ before) after name = name_there before after name
+
+at_place : {X Z : Type 0} (f : X → Z) (default : Z) (before after : List X) (item : X) → get_or (map f (before ++ item ∷ after)) (length before) default ≡ f item
+at_place f default [] after item = refl
+at_place f default (first ∷ before) after item = at_place f default before after item
+
+none_there : {X Z : Type 0} (f : X → Z) (default : Z) (before : List X) (more : ℕ) → get_or (map f before) (length before + more) default ≡ default
+none_there f default [] more = refl
+none_there f default (first ∷ before) more =
+    let next : length (first ∷ before) + more ≡ suc (length before + more) = omega arith in
+    ap (λ place. get_or (map f (first ∷ before)) place default) next ∙ none_there f default before more
+
+module _ (way : List Node) (path : List ℕ) (node : Node) where
+  abbrev reach : List Identity → List Bool
+  reach whos = map (reaches way) whos
+
+  abbrev letters : List Identity → List ℕ
+  letters whos = map (effective node) whos
+
+  -- the line of somebody at a place
+  one_letters : (whos before after : List Identity) (name : List ℕ) (who : Identity) (place : ℕ) → whos ≡ before ++ who ∷ after → place ≡ length before
+      → letters_line_at path (letters whos) (reach whos) (place, name) ≡ person_line way path node (record { name = name; who = who })
+  one_letters whos before after name who place is there =
+      ap (λ place. letters_line_at path (letters whos) (reach whos) (place, name)) there
+      ∙ ap (λ whos. letters_line_at path (letters whos) (reach whos) (length before, name)) is
+      ∙ ap (λ b. letters_line_if path name (cond b (get_or (letters (before ++ who ∷ after)) (length before) 0) 0)) (at_place (reaches way) false before after who)
+      ∙ ap (λ perms. letters_line_if path name (cond (reaches way who) perms 0)) (at_place (effective node) 0 before after who)
+
+  -- where nobody is any more there is no line
+  no_letters : (whos : List Identity) (names : List (List ℕ)) (more : ℕ) → flat_map (letters_line_at path (letters whos) (reach whos)) (enumerate_from (length whos + more) names) ≡ []
+  no_letters whos [] more = refl
+  no_letters whos (name ∷ names) more =
+      let next : length whos + more + 1 ≡ length whos + (more + 1) = omega arith in
+      ap (λ b. letters_line_if path name (cond b (get_or (letters whos) (length whos + more) 0) 0) ++ flat_map (letters_line_at path (letters whos) (reach whos)) (enumerate_from (length whos + more + 1) names))
+      (none_there (reaches way) false whos more)
+      ∙ ap (λ place. flat_map (letters_line_at path (letters whos) (reach whos)) (enumerate_from place names)) next ∙ no_letters whos names (more + 1)
+
+  letters_behind : (whos before after : List Identity) (names : List (List ℕ)) (place : ℕ) → whos ≡ before ++ after → place ≡ length before
+      → flat_map (letters_line_at path (letters whos) (reach whos)) (enumerate_from place names) ≡ flat_map (person_line way path node) (persons_of names after)
+  letters_behind whos before after [] place is there = refl
+  letters_behind whos before [] (name ∷ names) place is there =
+      let whole : before ≡ whos = sym (append-nil before) ∙ sym is in
+      let at : place ≡ length whos + 0 = there ∙ ap length whole ∙ omega arith in
+      ap (λ place. flat_map (letters_line_at path (letters whos) (reach whos)) (enumerate_from place (name ∷ names))) at ∙ no_letters whos (name ∷ names) 0
+  letters_behind whos before (who ∷ after) (name ∷ names) place is there =
+      let next : place + 1 ≡ length (before ++ who ∷ []) = simp length-append (omega (arith, there)) in
+      ap (λ line. line ++ flat_map (letters_line_at path (letters whos) (reach whos)) (enumerate_from (place + 1) names)) (one_letters whos before after name who place is there)
+      ∙ ap (λ lines. person_line way path node (record { name = name; who = who }) ++ lines)
+      (letters_behind whos (before ++ who ∷ []) after names (place + 1) (is ∙ sym (append_assoc before (who ∷ []) after)) next)
+
+  -- of those who may
+
+  module _ (perms : ℕ) where
+    abbrev test : Identity → Bool
+    test who = may node who perms
+
+    abbrev line : List (List ℕ) → List Identity → ℕ → List ℕ
+    line names whos place = may_line_at path names (reach whos) place
+
+    one_line : (names before_names after_names : List (List ℕ)) (whos before after : List Identity) (name : List ℕ) (who : Identity) (place : ℕ)
+        → names ≡ before_names ++ name ∷ after_names → place ≡ length before_names → whos ≡ before ++ who ∷ after → place ≡ length before
+        → line names whos place ≡ cond (reaches way who) (may_line path name) []
+    one_line names before_names after_names whos before after name who place names_are at is there =
+        ap (λ b. cond b (may_line_of path (slice_get names place)) []) (ap (λ place. get_or (reach whos) place false) there ∙ ap (λ whos. get_or (reach whos) (length before) false) is ∙ at_place (reaches way) false before after who)
+        ∙ ap (λ found. cond (reaches way who) (may_line_of path found) []) (ap (slice_get names) at ∙ ap (λ names. slice_get names (length before_names)) names_are ∙ name_there before_names after_names name)
+
+    -- where no name is any more there is no line
+    no_name : (names : List (List ℕ)) (whos : List Identity) (more : ℕ) → line names whos (length names + more) ≡ []
+    no_name names whos more = by (is_set (reach whos) (length names + more))
+      where
+        none : (names : List (List ℕ)) → slice_get names (length names + more) ≡ None
+        none [] = refl
+        none (first ∷ names) =
+            let next : length (first ∷ names) + more ≡ suc (length names + more) = omega arith in
+            ap (slice_get (first ∷ names)) next ∙ none names
+
+        by : (b : Bool) → cond b (may_line_of path (slice_get names (length names + more))) [] ≡ []
+        by true = ap (may_line_of path) (none names)
+        by false = refl
+
+    no_lines : (names : List (List ℕ)) (whos after : List Identity) (more : ℕ) → flat_map (line names whos) (places_from test (length names + more) after) ≡ []
+    no_lines names whos [] more = refl
+    no_lines names whos (who ∷ after) more =
+        let next : length names + more + 1 ≡ length names + (more + 1) = omega arith in
+        by (test who) (ap (λ place. flat_map (line names whos) (places_from test place after)) next ∙ no_lines names whos after (more + 1))
+      where
+        by : (b : Bool) → flat_map (line names whos) (places_from test (length names + more + 1) after) ≡ [] → flat_map (line names whos) (cond b ((length names + more) ∷ places_from test (length names + more + 1) after) (places_from test (length names + more + 1) after)) ≡ []
+        by true rest = ap (λ first. first ++ flat_map (line names whos) (places_from test (length names + more + 1) after)) (no_name names whos more) ∙ rest
+        by false rest = rest
+
+    no_names : (names before_names : List (List ℕ)) (whos after : List Identity) (place : ℕ) → names ≡ before_names ++ [] → place ≡ length before_names
+        → flat_map (line names whos) (places_from test place after) ≡ []
+    no_names names before_names whos after place is there =
+        let at : place ≡ length names + 0 = there ∙ ap length (sym (append-nil before_names) ∙ sym is) ∙ omega arith in
+        ap (λ place. flat_map (line names whos) (places_from test place after)) at ∙ no_lines names whos after 0
+
+    lines_behind : (names before_names after_names : List (List ℕ)) (whos before after : List Identity) (place : ℕ)
+        → names ≡ before_names ++ after_names → place ≡ length before_names → whos ≡ before ++ after → place ≡ length before
+        → flat_map (line names whos) (places_from test place after) ≡ flat_map (person_line_if way path node perms) (persons_of after_names after)
+    lines_behind names before_names [] whos before after place names_are at is there = no_names names before_names whos after place names_are at
+    lines_behind names before_names (name ∷ after_names) whos before [] place names_are at is there = refl
+    lines_behind names before_names (name ∷ after_names) whos before (who ∷ after) place names_are at is there =
+        let next_name : place + 1 ≡ length (before_names ++ name ∷ []) = simp length-append (omega (arith, at)) in
+        let next : place + 1 ≡ length (before ++ who ∷ []) = simp length-append (omega (arith, there)) in
+        let rest : flat_map (line names whos) (places_from test (place + 1) after) ≡ flat_map (person_line_if way path node perms) (persons_of after_names after) =
+        lines_behind names (before_names ++ name ∷ []) after_names whos (before ++ who ∷ []) after (place + 1)
+        (names_are ∙ sym (append_assoc before_names (name ∷ []) after_names)) next_name (is ∙ sym (append_assoc before (who ∷ []) after)) next in
+        let here = one_line names before_names after_names whos before after name who place names_are at is there in
+        elim (test who) as (λ b. flat_map (line names whos) (cond b (place ∷ places_from test (place + 1) after) (places_from test (place + 1) after))
+        ≡ cond (b && reaches way who) (may_line path name) [] ++ flat_map (person_line_if way path node perms) (persons_of after_names after)) [
+          | true ↦ ap (λ first. first ++ flat_map (line names whos) (places_from test (place + 1) after)) here
+              ∙ ap (λ lines. cond (reaches way who) (may_line path name) [] ++ lines) rest
+          | false ↦ rest
+        ]
+
+module _ (names : List (List ℕ)) (whos : List Identity) (way : List Node) (path : List ℕ) (node : Node) (marks : List Bool) (marks_are : marks ≡ map (reaches way) whos) where
+  pub letters_text : (perms : Option ℕ) (letters : Vec Perms Global) → IsGranted whos perms node (Letters letters)
+      → letters_lines path names (map bits_of letters.items) marks ≡ who_text (persons_of names whos) perms way path node
+  letters_text None letters is =
+      ap (λ marks. letters_lines path names (map bits_of letters.items) marks) marks_are
+      ∙ ap (λ letters. letters_lines path names letters (map (reaches way) whos)) is
+      ∙ letters_behind way path node whos [] whos names 0 refl refl
+  letters_text (Some perms) letters is = absurd is
+
+  pub those_text : (perms : Option ℕ) (places : Vec ℕ Global) → IsGranted whos perms node (Those places)
+      → may_lines path names places.items marks ≡ who_text (persons_of names whos) perms way path node
+  those_text None places is = absurd is
+  those_text (Some perms) places is =
+      ap (λ marks. may_lines path names places.items marks) marks_are
+      ∙ ap (λ places. may_lines path names places (map (reaches way) whos)) is
+      ∙ lines_behind way path node perms names [] names whos [] whos 0 refl refl refl refl
+
+-- the name at a place, as a list of bytes
+pub name_at : (names : List (Vec ℕ Global)) (at : ℕ) (name : Vec ℕ Global) → get_or names at name ≡ name → get_or (map (λ name. name.items) names) at name.items ≡ name.items
+name_at [] at name is = refl
+name_at (first ∷ names) zero name is = ap (λ (name : Vec ℕ Global). name.items) is
+name_at (first ∷ names) (suc at) name is = name_at names at name is

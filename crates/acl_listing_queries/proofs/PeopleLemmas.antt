@@ -1,0 +1,164 @@
+-- All users, place by place, and people one by one.
+use Rattle.std.proofs.Common.{◌≡◌, ◌∙◌, ◌+◌, ◌<◌, ◌≤◌, ◌++◌, ◌∷◌, [], ℕ, zero, suc, true, false, List, Option, Some, None, Ok, Err, Bor, ap, ap₂, drop, refl, sym, map, take, get_or, length, arith, append-nil}
+use Rattle.std.specs.Prelude.{not, option_map, slice_get}
+use Rattle.std.specs.List.{zip}
+use Rattle.std.specs.Option.{option_and_then}
+use Rattle.std.proofs.lemmas.List.{length-map, map-append, take-append-drop, take_all, take_more}
+use Rattle.std.proofs.Math.Seq.{drop-cons}
+use Rattle.std.proofs.lemmas.List.Elements.{filter-append}
+use Rattle.std.proofs.lemmas.Option.{get_or_from_slice_get, slice_get-map, slice_get_within}
+use Rattle.clap.specs.Words.{Text}
+use Rattle.acl_names.specs.ListText.{PiecesSay}
+use Rattle.acl_names.specs.ReadList.{each_read}
+use Rattle.acl_names.proofs.ReadListLemmas.{each_read-fault, each_read-said}
+use Rattle.acl_cli.specs.declared.field_fault.FieldFault.{FieldFault}
+use Rattle.acl_names.specs.Requester.{Identity}
+use Rattle.acl_names.specs.Directory.{Known, KnownUser, as_requester}
+use Rattle.acl_accounts.specs.Accounts.{KnownAccount, KnownAccounts}
+use Rattle.acl_listing_queries.specs.People.{asked_of, everyone, people_of, person_asked}
+use Rattle.acl_listing_queries.specs.declared.host.Host.{Host}
+use Rattle.acl_listing_queries.specs.declared.host.Host.TheVariants.{Accounts, Setup}
+use Rattle.acl_listing_queries.specs.Person.{Person, is_root, person, without_root}
+
+abbrev pub listed : List (List ℕ) → List Identity → List Person
+listed names whos = map (λ (user : List ℕ × Identity). person user.0 user.1) (zip names whos)
+
+-- where there is nobody to go with a name
+nobody : (name : Option (List ℕ)) → None ≡ option_and_then (λ (n : List ℕ). option_map (person n) None) name
+nobody None = refl
+nobody (Some name) = refl
+
+-- the one at a place has the name and the identity that stand there
+pub listed_at : (names : List (List ℕ)) (whos : List Identity) (place : ℕ)
+    → slice_get (listed names whos) place ≡ option_and_then (λ name. option_map (person name) (slice_get whos place)) (slice_get names place)
+listed_at [] whos place = refl
+listed_at (name ∷ names) [] zero = refl
+listed_at (name ∷ names) [] (suc place) = nobody (slice_get names place)
+listed_at (name ∷ names) (who ∷ whos) zero = refl
+listed_at (name ∷ names) (who ∷ whos) (suc place) = listed_at names whos place
+
+module _ (names : List (List ℕ)) (whos : List Identity) (place : ℕ) where
+  pub listed_there : (name : List ℕ) (who : Identity) → slice_get names place ≡ Some name → slice_get whos place ≡ Some who
+      → slice_get (listed names whos) place ≡ Some (person name who)
+  listed_there name who is_name is_who = listed_at names whos place ∙ rw (is_name, is_who) refl
+
+  pub listed_nameless : slice_get names place ≡ None → slice_get (listed names whos) place ≡ None
+  listed_nameless is = listed_at names whos place ∙ rw is refl
+
+-- there are no more than names
+pub length-listed : (names : List (List ℕ)) (whos : List Identity) → length (listed names whos) ≤ length names
+length-listed [] whos = omega arith
+length-listed (name ∷ names) [] = omega arith
+length-listed (name ∷ names) (who ∷ whos) = omega (arith, length-listed names whos)
+
+-- of accounts
+module _ (known : KnownAccounts) where
+  abbrev account_names : List (List ℕ)
+  account_names = map (λ (user : KnownAccount). user.name) known.users
+
+  pub accounts_count : length (everyone (Accounts known)) ≤ length known.users
+  accounts_count = omega (arith, length-listed account_names known.requesters, length-map known.users (λ (user : KnownAccount). user.name))
+
+  module _ (place : ℕ) where
+    pub account_there : (user : KnownAccount) (who : Identity) → Some user ≡ slice_get known.users place → Some who ≡ slice_get known.requesters place
+        → Some (person user.name who) ≡ slice_get (everyone (Accounts known)) place
+    account_there user who is_user is_who =
+        let name : slice_get account_names place ≡ Some user.name = slice_get-map (λ (u : KnownAccount). u.name) known.users place ∙ rw (← is_user) refl in
+        sym (listed_there account_names known.requesters place user.name who name (sym is_who))
+
+    pub account_nameless : None ≡ slice_get known.users place → None ≡ slice_get (everyone (Accounts known)) place
+    account_nameless is =
+        let name : slice_get account_names place ≡ None = slice_get-map (λ (u : KnownAccount). u.name) known.users place ∙ rw (← is) refl in
+        sym (listed_nameless account_names known.requesters place name)
+
+-- of a setup
+module _ (known : Known) where
+  abbrev setup_names : List (List ℕ)
+  setup_names = map (λ (user : KnownUser). user.name) known.users
+
+  abbrev setup_whos : List Identity
+  setup_whos = map (as_requester known) known.users
+
+  pub setup_count : length (everyone (Setup known)) ≤ length known.users
+  setup_count = omega (arith, length-listed setup_names setup_whos, length-map known.users (λ (user : KnownUser). user.name))
+
+  module _ (place : ℕ) where
+    pub setup_user_there : (user : KnownUser) (who : Identity) → Some user ≡ slice_get known.users place → Some who ≡ slice_get setup_whos place
+        → Some (person user.name who) ≡ slice_get (everyone (Setup known)) place
+    setup_user_there user who is_user is_who =
+        let name : slice_get setup_names place ≡ Some user.name = slice_get-map (λ (u : KnownUser). u.name) known.users place ∙ rw (← is_user) refl in
+        sym (listed_there setup_names setup_whos place user.name who name (sym is_who))
+
+    pub setup_user_nameless : None ≡ slice_get known.users place → None ≡ slice_get (everyone (Setup known)) place
+    setup_user_nameless is =
+        let name : slice_get setup_names place ≡ None = slice_get-map (λ (u : KnownUser). u.name) known.users place ∙ rw (← is) refl in
+        sym (listed_nameless setup_names setup_whos place name)
+
+one_more : (all : List Person) (place : ℕ) (one : Person) → slice_get all place ≡ Some one
+    → without_root (take (place + 1) all) ≡ without_root (take place all) ++ without_root (one ∷ [])
+one_more all place one is =
+    let more : take (place + 1) all ≡ take place all ++ get_or all place one ∷ [] = take_more all place one (slice_get_within all place one is) in
+    let it : get_or all place one ≡ one = get_or_from_slice_get all place one one is in
+    ap without_root (more ∙ ap (λ x. take place all ++ x ∷ []) it) ∙ filter-append (λ x. not (is_root x)) (take place all) (one ∷ [])
+
+-- one more place has one more of the people, or uid 0
+pub people_more : (all : List Person) (place : ℕ) (one : Person) → slice_get all place ≡ Some one → is_root one ≡ false
+    → without_root (take (place + 1) all) ≡ without_root (take place all) ++ one ∷ []
+people_more all place one is other =
+    let kept : without_root (one ∷ []) ≡ one ∷ [] = rw other refl in
+    one_more all place one is ∙ ap (λ rest. without_root (take place all) ++ rest) kept
+
+pub people_root : (all : List Person) (place : ℕ) (one : Person) → slice_get all place ≡ Some one → is_root one ≡ true
+    → without_root (take (place + 1) all) ≡ without_root (take place all)
+people_root all place one is root =
+    let gone : without_root (one ∷ []) ≡ [] = rw root refl in
+    one_more all place one is ∙ ap (λ rest. without_root (take place all) ++ rest) gone ∙ append-nil (without_root (take place all))
+
+-- without a text all people are asked about, and else those of the texts
+pub asked_of_none : (host : Host) (texts : List Text) → length texts ≡ 0 → asked_of host texts ≡ Ok (people_of host)
+asked_of_none host [] none = refl
+asked_of_none host (text ∷ texts) none = absurd (omega arith)
+
+pub asked_of_some : (host : Host) (texts : List Text) → 0 < length texts → asked_of host texts ≡ each_read (person_asked host) texts
+asked_of_some host [] some = absurd (omega arith)
+asked_of_some host (text ∷ texts) some = refl
+
+-- texts that are read one by one
+module _ (texts : List (Bor (List ℕ))) (place : ℕ) (other : Bor (List ℕ)) (within : place < length texts) where
+  abbrev pub text_at : List ℕ
+  text_at = (get_or texts place other).now
+
+  abbrev pub texts_before : List (List ℕ)
+  texts_before = map (λ (text : Bor (List ℕ)). text.now) (take place texts)
+
+  abbrev pub texts_after : List (List ℕ)
+  texts_after = map (λ (text : Bor (List ℕ)). text.now) (drop (suc place) texts)
+
+  pub texts_apart : map (λ (text : Bor (List ℕ)). text.now) texts ≡ texts_before ++ text_at ∷ texts_after
+  texts_apart =
+      let cut : texts ≡ take place texts ++ get_or texts place other ∷ drop (suc place) texts =
+      sym (take-append-drop place texts) ∙ ap (λ rest. take place texts ++ rest) (drop-cons texts place other within) in
+      ap (map (λ (text : Bor (List ℕ)). text.now)) cut ∙ map-append (λ (text : Bor (List ℕ)). text.now) (take place texts) (get_or texts place other ∷ drop (suc place) texts)
+
+  pub texts_more : map (λ (text : Bor (List ℕ)). text.now) (take (place + 1) texts) ≡ texts_before ++ text_at ∷ []
+  texts_more =
+      ap (map (λ (text : Bor (List ℕ)). text.now)) (take_more texts place other within)
+      ∙ map-append (λ (text : Bor (List ℕ)). text.now) (take place texts) (get_or texts place other ∷ [])
+
+  module _ (host : Host) (persons : List Person) (said : PiecesSay (person_asked host) texts_before persons) where
+    pub said_more : (one : Person) → person_asked host text_at ≡ Ok one
+        → PiecesSay (person_asked host) (map (λ (text : Bor (List ℕ)). text.now) (take (place + 1) texts)) (persons ++ one ∷ [])
+    said_more one is =
+        ap (map (person_asked host)) texts_more ∙ map-append (person_asked host) texts_before (text_at ∷ [])
+        ∙ ap₂ (λ front last. front ++ last ∷ []) said is ∙ sym (map-append Ok persons (one ∷ []))
+
+    pub refused_at : (fault : FieldFault) → person_asked host text_at ≡ Err fault
+        → each_read (person_asked host) (map (λ (text : Bor (List ℕ)). text.now) texts) ≡ Err fault
+    refused_at fault is = ap (each_read (person_asked host)) texts_apart ∙ each_read-fault (person_asked host) texts_before persons text_at texts_after fault said is
+
+pub said_all : (texts : List (Bor (List ℕ))) (place : ℕ) (host : Host) (persons : List Person) → length texts ≤ place
+    → PiecesSay (person_asked host) (map (λ (text : Bor (List ℕ)). text.now) (take place texts)) persons
+    → each_read (person_asked host) (map (λ (text : Bor (List ℕ)). text.now) texts) ≡ Ok persons
+said_all texts place host persons past said =
+    ap (λ (all : List (Bor (List ℕ))). each_read (person_asked host) (map (λ (text : Bor (List ℕ)). text.now) all)) (sym (take_all place texts past))
+    ∙ each_read-said (person_asked host) _ persons said

@@ -1,0 +1,15 @@
+pub mod Host
+pub mod HostFailures
+pub mod Person
+pub mod People
+pub mod Asked
+pub mod Files
+pub mod Readings
+pub mod Ways
+pub mod Listed
+pub mod WhoText
+pub mod WhoPart
+pub mod Telling
+pub mod WhoSteps
+pub mod WhoLine
+pub mod WhoMeaning

@@ -1,0 +1,10 @@
+//! `who` of a listing.
+
+mod answers;
+mod command;
+mod lines;
+mod listed;
+mod reach;
+mod way;
+
+pub use command::WhoOfListing;

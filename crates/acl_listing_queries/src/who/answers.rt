@@ -1,0 +1,265 @@
+//! What is answered of the files of a listing, kept for files whose blocks have the same lines.
+ghost use Rattle.std.specs.Prelude.{◌≡◌, ◌++◌, ◌<◌, IfErr, IfOk, List, OnOk, bytes_eq, false, map};
+ghost use Rattle.std.specs.Prelude.{Ok, option_map};
+ghost use Rattle.std.specs.Option.{option_map_or};
+ghost use Rattle.acl_audit.specs.Reach.{reaches};
+ghost use Rattle.acl_listings.specs.Block.{FileValue, file_by};
+ghost use Rattle.acl_listings.specs.Faults.{IsFaultOf};
+ghost use Rattle.acl_listings.specs.Lines.{after_line};
+ghost use Rattle.acl_listings.specs.Views.{view_file};
+ghost use Rattle.acl_posix.specs.Perms.{bits_of};
+ghost use Rattle.acl_tree.specs.declared.node.Node.{Node};
+ghost use Rattle.acl_listing_queries.specs.Files.{node_of};
+ghost use Rattle.acl_listing_queries.specs.WhoSteps.{AreAnswersOf, AreRight, IsAnsweredAt};
+ghost use Rattle.acl_listing_queries.specs.WhoSteps.{IsGranted, IsSearch, asking_of, kept_at};
+ghost use Rattle.acl_listing_queries.specs.WhoSteps.{names_by, whos_of};
+ghost use Rattle.acl_listing_queries.specs.WhoText.{who_text};
+
+use super::lines::{push_letters_lines, push_may_lines};
+use crate::host::Host;
+use crate::people::People;
+use acl_audit::{letters_of_each, places_of_those_who_may, which_may};
+use acl_listings::{File, FileFault, MAX_BLOCK, lines_behind, path_of, read_file};
+use acl_nfs4::Kind;
+use acl_posix::Perms;
+use acl_tree::{Node, NodeAcl};
+use std::alloc::{AllocError, Global};
+
+/// Of how many files with different lines the answers are kept at once.
+const PLACES: usize = 256;
+
+/// An odd number that spreads the bits of a word (2^64 by the golden ratio).
+const FACTOR: u64 = 0x9e37_79b9_7f4a_7c15;
+
+/// What a file grants the users.
+#[derive(Drop)]
+pub(super) enum Granted {
+    /// Of each user the letters.
+    Letters(Vec<Perms>),
+    /// The places of those users who are granted what is asked.
+    Those(Vec<usize>),
+}
+
+/// What was answered of a file.
+#[derive(Drop)]
+pub(super) struct Kept {
+    /// The lines of its block behind the first.
+    lines: Vec<u8>,
+    granted: Granted,
+    /// Of each user whether to search it is granted, if that is asked.
+    search: Vec<bool>,
+}
+
+impl Kept {
+    /// Of each user whether to search it is granted.
+    pub fn search(&self) -> &[bool]
+        ensures { result.now ≡ self.now.search.items }
+    {
+        self.search.as_slice()
+    }
+}
+
+/// A place for lines, by a product over their words of 8 bytes. What is left behind the words is
+/// in the last 8 bytes, with which it begins.
+fn place_for(lines: &[u8]) -> usize
+    ensures { result < PLACES }
+{
+    let (words, _) = lines.as_chunks::<8>();
+    let mut hash = match lines.last_chunk::<8>() {
+        Some(last) => u64::from_le_bytes(*last),
+        None => 0,
+    };
+    for word in words {
+        hash = (hash ^ u64::from_le_bytes(*word)).wrapping_mul(FACTOR);
+    }
+    ((hash >> 32) % PLACES as u64) as usize
+}
+
+/// Who is asked about, and what is asked.
+#[derive(Clone, Copy)]
+pub(super) struct Users<'t> {
+    /// By whose names blocks are read.
+    pub host: &'t Host,
+    pub people: &'t People,
+    /// What is asked for: permissions, or the letters.
+    pub perms: Option<Perms>,
+    /// Whether it is asked who may search a file.
+    pub reach: bool,
+}
+
+/// A listed file as a node, with the list that Linux looks at. It takes no memory.
+fn node_of(alloc: Global, file: File<'_>) -> Result<Node, AllocError>
+    ensures { IfOk result (λ node. node ≡ node_of (view_file file.entry)) }
+{
+    Ok(Node {
+        kind: Kind::File,
+        owner: file.owner,
+        group: file.group,
+        acl: NodeAcl::Posix {
+            access: file.access.for_linux(alloc)?,
+            default: None,
+        },
+    })
+}
+
+impl<'t> Users<'t> {
+    /// What the node grants the users. It fails only if memory runs out.
+    fn granted(&self, alloc: Global, node: &Node) -> Result<Granted, AllocError>
+        ensures { IfOk result (IsGranted (whos_of self.now) (option_map bits_of self.now.perms)
+            node.now) }
+    {
+        let requesters = self.people.requesters.as_slice();
+        match self.perms {
+            None => Ok(Granted::Letters(letters_of_each(alloc, requesters, node)?)),
+            Some(perms) => {
+                let places = places_of_those_who_may(alloc, requesters, node, perms)?;
+                Ok(Granted::Those(places))
+            }
+        }
+    }
+
+    /// Of each user whether to search the node is granted, if that is asked. It fails only if
+    /// memory runs out.
+    fn search(&self, alloc: Global, node: &Node) -> Result<Vec<bool>, AllocError>
+        ensures { IfOk result (λ marks. IsSearch (whos_of self.now) self.now.reach node.now
+            marks.items) }
+    {
+        if self.reach {
+            which_may(
+                alloc,
+                self.people.requesters.as_slice(),
+                node,
+                Perms::EXECUTE,
+            )
+        } else {
+            Ok(Vec::new(alloc))
+        }
+    }
+
+    /// What is answered of the file of the block with this text.
+    fn answer(&self, alloc: Global, text: &[u8]) -> Result<Kept, FileFault>
+        ensures lines { IfOk result (λ kept. kept.lines.items ≡ after_line text.now) }
+        ensures answers { IfOk result (λ kept. (file : FileValue)
+            × (file_by (names_by self.now) text.now ≡ Ok file) × AreAnswersOf self.now file kept) }
+        ensures refused { IfErr result (IsFaultOf (file_by (names_by self.now) text.now)) }
+    {
+        let file = read_file(alloc, text, self.host)?;
+        let node = node_of(alloc, file)?;
+        let granted = self.granted(alloc, &node)?;
+        let search = self.search(alloc, &node)?;
+        let lines = Vec::from_slice(alloc, lines_behind(text))?;
+        Ok(Kept {
+            lines,
+            granted,
+            search,
+        })
+    }
+
+    /// Appends what is told of a file at the path, whose answers these are.
+    fn push(
+        &self,
+        kept: &Kept,
+        reach: &[bool],
+        path: &[u8],
+        out: &mut Vec<u8>,
+    ) -> Result<(), AllocError>
+        ensures { (file : FileValue) (way : List Node) → AreAnswersOf self.now file kept.now
+            → reach.now ≡ map (reaches way) (whos_of self.now)
+            → OnOk result (out.new.items ≡ out.old.items ++ who_text (asking_of self.now).persons
+            (asking_of self.now).perms way path.now (node_of file)) }
+    {
+        let names = self.people.names.as_slice();
+        match &kept.granted {
+            Granted::Letters(letters) => {
+                push_letters_lines(names, letters.as_slice(), reach, path, out)
+            }
+            Granted::Those(places) => push_may_lines(names, places.as_slice(), reach, path, out),
+        }
+    }
+}
+
+/// Answers of files, by the lines of their blocks.
+#[derive(Drop)]
+pub(super) struct Answers<'t> {
+    users: Users<'t>,
+    kept: Vec<Option<Kept>>,
+}
+
+impl<'t> Answers<'t> {
+    /// No answers yet.
+    pub fn new(alloc: Global, users: Users<'t>) -> Result<Answers<'t>, AllocError>
+        ensures users { IfOk result (λ answers. answers.users ≡ users.entry) }
+        ensures right { IfOk result AreRight }
+    {
+        let mut kept = Vec::with_capacity(alloc, PLACES)?;
+        for _ in 0..PLACES {
+            kept.push(None)?;
+        }
+        Ok(Answers { users, kept })
+    }
+
+    /// What was kept at the place.
+    pub fn at(&self, place: usize) -> Option<&Kept>
+        ensures { option_map (λ kept. kept.now) result ≡ kept_at self.now.kept.items place }
+    {
+        match self.kept.get(place) {
+            Some(Some(kept)) => Some(kept),
+            _ => None,
+        }
+    }
+
+    /// Whether what is kept at the place is of a file with these lines.
+    fn is_of(&self, place: usize, lines: &[u8]) -> bool
+        ensures { result ≡ option_map_or (λ kept. bytes_eq kept.lines.items lines.now)
+            (kept_at self.now.kept.items place) false }
+    {
+        match self.at(place) {
+            Some(kept) => kept.lines.as_slice() == lines,
+            None => false,
+        }
+    }
+
+    /// The place where the answers for this block's file are kept.
+    pub fn find(&mut self, alloc: Global, text: &[u8]) -> Result<usize, FileFault>
+        ensures users { self.new.users ≡ self.old.users }
+        ensures right { AreRight self.old → AreRight self.new }
+        ensures found { AreRight self.old → IfOk result (λ place. (file : FileValue)
+            × (file_by (names_by self.old.users) text.now ≡ Ok file)
+            × IsAnsweredAt self.new place file) }
+        ensures refused { IfErr result
+            (IsFaultOf (file_by (names_by self.old.users) text.now)) }
+    {
+        let lines = lines_behind(text);
+        let place = place_for(lines);
+        if text.len() <= MAX_BLOCK && path_of(text).is_some() && self.is_of(place, lines) {
+            return Ok(place);
+        }
+        let kept = self.users.answer(alloc, text)?;
+        if place < self.kept.len() {
+            self.kept[place] = Some(kept);
+        }
+        Ok(place)
+    }
+
+    /// Appends what is told of the file of the block, whose answers are kept at the place.
+    pub fn push_at(
+        &self,
+        place: usize,
+        reach: &[bool],
+        text: &[u8],
+        out: &mut Vec<u8>,
+    ) -> Result<(), AllocError>
+        ensures { (file : FileValue) (way : List Node)
+            → file_by (names_by self.now.users) text.now ≡ Ok file
+            → IsAnsweredAt self.now place file
+            → reach.now ≡ map (reaches way) (whos_of self.now.users)
+            → OnOk result (out.new.items ≡ out.old.items
+            ++ who_text (asking_of self.now.users).persons (asking_of self.now.users).perms way
+            file.path (node_of file)) }
+    {
+        match (self.at(place), path_of(text)) {
+            (Some(kept), Some(path)) => self.users.push(kept, reach, path, out),
+            _ => Ok(()),
+        }
+    }
+}

@@ -1,0 +1,82 @@
+//! The lines of a file, of people by their places.
+ghost use Rattle.std.specs.Prelude.{◌≡◌, ◌++◌, OnOk, map};
+ghost use Rattle.acl_posix.specs.Perms.{bits_of};
+ghost use Rattle.acl_listing_queries.specs.WhoSteps.{letters_lines, may_line_at, may_lines};
+ghost use Rattle.acl_listing_queries.specs.WhoText.{letters_line_if};
+
+use acl_audit::{is_set, letters_at, push_letters_line, push_may_line};
+use acl_posix::Perms;
+use bitflags::Flags;
+use std::alloc::AllocError;
+
+/// Appends the line of somebody who has a letter.
+fn push_letters_if(
+    path: &[u8],
+    name: &[u8],
+    letters: Perms,
+    out: &mut Vec<u8>,
+) -> Result<(), AllocError>
+    ensures { OnOk result (out.new.items ≡ out.old.items
+        ++ letters_line_if path.now name.now (bits_of letters)) }
+{
+    if letters.is_empty() {
+        return Ok(());
+    }
+    push_letters_line(path, name, letters, out)
+}
+
+/// Appends a line for each of the names, in their order: the letters at the name's place, if it is
+/// one of those that reach the file and has any, the name, and the path.
+pub(super) fn push_letters_lines(
+    names: &[Vec<u8>],
+    letters: &[Perms],
+    reach: &[bool],
+    path: &[u8],
+    out: &mut Vec<u8>,
+) -> Result<(), AllocError>
+    ensures { OnOk result (out.new.items ≡ out.old.items ++ letters_lines path.now
+        (map (λ name. name.items) names.now) (map bits_of letters.now) reach.now) }
+{
+    for (place, name) in names.iter().enumerate() {
+        let here = letters_at(letters, reach, place);
+        push_letters_if(path, name.as_slice(), here, out)?;
+    }
+    Ok(())
+}
+
+/// Appends the line of the name at the place, if it is one of those that reach the file.
+fn push_may_line_at(
+    names: &[Vec<u8>],
+    place: usize,
+    reach: &[bool],
+    path: &[u8],
+    out: &mut Vec<u8>,
+) -> Result<(), AllocError>
+    ensures { OnOk result (out.new.items ≡ out.old.items ++ may_line_at path.now
+        (map (λ name. name.items) names.now) reach.now place) }
+{
+    if !is_set(reach, place) {
+        return Ok(());
+    }
+    match names.get(place) {
+        Some(name) => push_may_line(path, name.as_slice(), out),
+        None => Ok(()),
+    }
+}
+
+/// Appends a line for each of the names at the places who reach the file: the name and the path.
+pub(super) fn push_may_lines(
+    names: &[Vec<u8>],
+    places: &[usize],
+    reach: &[bool],
+    path: &[u8],
+    out: &mut Vec<u8>,
+) -> Result<(), AllocError>
+    ensures { OnOk result (out.new.items ≡ out.old.items ++ may_lines path.now
+        (map (λ name. name.items) names.now) places.now reach.now) }
+{
+    for place in places {
+        push_may_line_at(names, *place, reach, path, out)?;
+    }
+    Ok(())
+}

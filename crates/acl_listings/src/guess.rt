@@ -1,0 +1,90 @@
+//! What a text may be that is no listing.
+
+ghost use Rattle.std.specs.Prelude.{◌≡◌};
+ghost use Rattle.std.specs.Io.BufRead.{ends_with_byte};
+ghost use Rattle.acl_accounts.specs.Names.{carriage_return};
+ghost use Rattle.acl_listings.specs.Guess.{begins, guess_of_lines};
+
+use crate::header::{read_path, split_line};
+
+/// What a text may be of which no block reads, by its first block.
+#[derive(Clone, Copy, Debug, PartialEq, Eq)]
+pub enum Guess {
+    /// It is packed.
+    Gzip,
+    /// Its characters have two bytes.
+    Utf16,
+    /// Its lines end with a carriage return and a newline.
+    CarriageReturns,
+    /// It is a table, as `getfacl -t` prints.
+    Tabular,
+    /// Its blocks have no owner, as `getfacl -c` and `nfs4_getfacl` print.
+    NoOwners,
+    /// It is none that is known here.
+    NoListing,
+}
+
+impl Guess {
+    ghost use Rattle.acl_listings.specs.Guess.{guess_of, guess_words};
+
+    /// What the text may be whose first block this is.
+    pub fn of(block: &[u8]) -> Guess
+        ensures { result ≡ guess_of block.now }
+    {
+        if begins(b"\x1f\x8b", block) {
+            return Guess::Gzip;
+        }
+        if begins(b"\xff\xfe", block) || begins(b"\xfe\xff", block) {
+            return Guess::Utf16;
+        }
+        let (first, behind) = split_line(block);
+        let (second, _) = split_line(behind);
+        guess_of_lines(first, second)
+    }
+
+    /// The words that ask whether it is so.
+    pub fn words(self) -> &'static str
+        ensures { result.now ≡ guess_words self }
+    {
+        match self {
+            Guess::Gzip => "is it gzip?",
+            Guess::Utf16 => "is it UTF-16?",
+            Guess::CarriageReturns => "has it carriage returns?",
+            Guess::Tabular => "is it tabular (getfacl -t)?",
+            Guess::NoOwners => "is it without owners (getfacl -c, nfs4_getfacl)?",
+            Guess::NoListing => "is it a listing?",
+        }
+    }
+}
+
+/// What a text may be, by its first line and its second.
+fn guess_of_lines(first: &[u8], second: &[u8]) -> Guess
+    ensures { result ≡ guess_of_lines first.now second.now }
+{
+    if ends_with_return(first) {
+        return Guess::CarriageReturns;
+    }
+    if begins(b"# file: ", first) && begins(b"USER", second) {
+        return Guess::Tabular;
+    }
+    if read_path(first).is_some() && !begins(b"# owner: ", second) {
+        return Guess::NoOwners;
+    }
+    // `getfacl -c` leaves out the whole header.
+    if begins(b"user::", first) {
+        return Guess::NoOwners;
+    }
+    Guess::NoListing
+}
+
+fn begins(word: &[u8], text: &[u8]) -> bool
+    ensures { result ≡ begins word.now text.now }
+{
+    text.starts_with(word)
+}
+
+fn ends_with_return(line: &[u8]) -> bool
+    ensures { result ≡ ends_with_byte carriage_return line.now }
+{
+    line.ends_with(b"\r")
+}

@@ -1,0 +1,8 @@
+use Rattle.acl_names.specs.Directory.{gid_of}
+use Rattle.acl_names.proofs.NamesLemmas.{named_front}
+use Rattle.acl_names.proofs.directory.resolve.group_in_front.Goals as goal
+
+pub returns : goal.returns
+returns c =
+    named_front (gid_of c.args.directory.now) c.args.text.now c.in_ok-name.name.now c.in_ok-gid.gid c.in_ok-name.rest.now
+    c.in_ok-name.ensures.parts c.in_ok-gid.ensures.shaped c.in_ok-gid.ensures.value

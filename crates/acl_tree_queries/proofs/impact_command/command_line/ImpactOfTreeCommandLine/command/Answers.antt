@@ -1,0 +1,17 @@
+use Rattle.std.proofs.Common.{◌≡◌, ◌∙◌, ap, codes}
+use Rattle.std.proofs.lemmas.Result.{IfOk-weaker}
+use Rattle.clap.specs.Words.{app_of, new_app}
+use Rattle.clap.specs.Simple.{app_of_fields}
+use Rattle.acl_cli.proofs.CommandLemmas.{app_of-arg}
+use Rattle.acl_tree_queries.specs.ImpactLine.{impact_line}
+use Rattle.acl_tree_queries.proofs.impact_command.command_line.ImpactOfTreeCommandLine.command.Goals as goal
+
+pub returns : goal.returns
+unfolding impact_line
+returns c =
+    let described : app_of c.after_help.result ≡ new_app
+    (codes "impact") = ap app_of_fields c.after_help.ensures ∙ ap app_of_fields c.about.ensures
+    ∙ ap app_of_fields c.in_ok-bin_name.ensures.0 ∙ c.new.ensures.app in
+    let first = app_of-arg _ c.in_ok-arg.field-0 _ c.in_ok-arg.ensures c.setup_option.ensures.local described c.setup_option.ensures.rule in
+    let second = app_of-arg _ c.in_ok-arg-2.field-0 _ c.in_ok-arg-2.ensures c.optional_option.ensures.local first c.optional_option.ensures.rule in
+    IfOk-weaker c.arg-3.result _ _ (λ command added. app_of-arg _ command _ added c.required_word.ensures.local second c.required_word.ensures.rule) c.arg-3.ensures

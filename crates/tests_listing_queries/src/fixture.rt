@@ -1,0 +1,97 @@
+//! Accounts at hand, and how `who` of a listing is asked.
+use acl_cli::{ErrorOutput, run_command};
+use acl_listing_queries::WhoOfListing;
+use std::alloc::Global;
+use std::io::{Read, Write};
+use tests_files::{Command, Shelf};
+
+/// Three users beside root: two are of staff, and one of these is of ops too.
+const OFFICE: &str =
+    "root:x:0:0:root:/root:/bin/sh\ncarol:x:1002:70::/home/carol:/bin/sh\nbob:x:1001:100::/home/bob:/bin/sh\nalice:x:1000:100::/home/alice:/bin/sh\nroot:x:0:\nusers:x:100:\nstaff:x:50:alice,bob\nops:x:60:bob\nguest:x:70:\n";
+
+/// The same users, as a setup has them.
+const SETUP: &str =
+    "domain = \"example.org\"\numask = \"022\"\nroot = { owner = \"root\", group = \"root\", mode = \"755\", style = \"posix\" }\nuser = [ { name = \"root\", uid = 0, groups = [\"root\"] }, { name = \"alice\", uid = 1000, groups = [\"staff\"] }, { name = \"bob\", uid = 1001, groups = [\"staff\", \"ops\"] } ]\ngroup = [ { name = \"root\", gid = 0 }, { name = \"staff\", gid = 50 }, { name = \"ops\", gid = 60 } ]\n";
+
+/// Users and groups whose names have a blank or a backslash.
+const DOMAIN: &str =
+    "erin smith:x:2001:513::/home/erin:/bin/sh\nCORP\\alice:x:2000:512::/home/alice:/bin/sh\ndomain users:x:513:\ndomain admins:x:512:\n";
+
+/// A user of 33 groups besides the user's own.
+const MANY: &str =
+    "many:x:3000:3000::/:/bin/sh\ng01:x:3001:many\ng02:x:3002:many\ng03:x:3003:many\ng04:x:3004:many\ng05:x:3005:many\ng06:x:3006:many\ng07:x:3007:many\ng08:x:3008:many\ng09:x:3009:many\ng10:x:3010:many\ng11:x:3011:many\ng12:x:3012:many\ng13:x:3013:many\ng14:x:3014:many\ng15:x:3015:many\ng16:x:3016:many\ng17:x:3017:many\ng18:x:3018:many\ng19:x:3019:many\ng20:x:3020:many\ng21:x:3021:many\ng22:x:3022:many\ng23:x:3023:many\ng24:x:3024:many\ng25:x:3025:many\ng26:x:3026:many\ng27:x:3027:many\ng28:x:3028:many\ng29:x:3029:many\ng30:x:3030:many\ng31:x:3031:many\ng32:x:3032:many\ng33:x:3033:many\n";
+
+/// Two users with one uid, of whom one is of ops.
+const TWINS: &str = "web:x:1500:90::/:/bin/sh\nadmin:x:1500:60::/:/bin/sh\nops:x:60:\nweb:x:90:\n";
+
+/// A name that comes twice, two groups with one gid, and lines that are passed over.
+const AGAIN: &str =
+    "# who there is\n\n+::::::\n-@them\nalice:x:1000:100::/:/bin/sh\nalice:x:1001:100::/:/bin/sh\nusers:x:100:\nops:x:60:\ncrew:x:60:alice\n";
+
+/// A third line that is neither a user nor a group.
+const BAD: &str = "# who there is\nroot:x:0:0:root:/root:/bin/sh\nalice:x:1000\n";
+
+/// A file as `getfacl` lists it, which the host's own accounts answer for too.
+const PLAN: &str =
+    "# file: srv/plan\n# owner: alice\n# group: staff\nuser::rw-\ngroup::r--\nother::--x\n";
+
+/// A folder that two users may search, a folder in it that one of these may, and what is in that.
+const CLOSED: &str =
+    "# file: srv\n# owner: alice\n# group: staff\nuser::rwx\ngroup::r-x\nother::---\n\n# file: srv/in\n# owner: alice\n# group: ops\nuser::rwx\ngroup::---\nother::r--\n\n# file: srv/in/file\n# owner: bob\n# group: staff\nuser::rw-\ngroup::r--\nother::r--\n\n# file: srv//./next\n# owner: root\n# group: root\nuser::rw-\ngroup::---\nother::r--\n";
+
+const FILES: &[(&str, &str)] = &[
+    ("/etc/passwd", "alice:x:1000:100::/home/alice:/bin/sh"),
+    ("/etc/group", "staff:x:50:\nusers:x:100:\n"),
+    ("office", OFFICE),
+    ("setup", SETUP),
+    ("domain", DOMAIN),
+    ("many", MANY),
+    ("twins", TWINS),
+    ("again", AGAIN),
+    ("bad", BAD),
+    ("plan", PLAN),
+    ("closed", CLOSED),
+];
+
+/// `who` of a listing, over the files.
+#[derive(Clone, Copy)]
+pub struct Who;
+
+impl Command for Who {
+    fn run<I: Read, W: Write, E: Write + Drop>(
+        &self,
+        alloc: Global,
+        words: &[&str],
+        input: &mut I,
+        out: &mut W,
+        err: &mut ErrorOutput<E>,
+    ) -> u8 {
+        run_command(
+            &WhoOfListing,
+            alloc,
+            &Shelf::new(FILES),
+            words,
+            input,
+            out,
+            err,
+        )
+    }
+}
+
+/// Whether the words end so with this listing on standard input: with this status, and with these
+/// texts on the output and for faults.
+pub fn ends(
+    alloc: Global,
+    words: &[&str],
+    listing: &[u8],
+    status: u8,
+    text: &str,
+    faults: &str,
+) -> bool {
+    let mut input = listing;
+    let mut out = Vec::new(alloc);
+    let mut err = Vec::new(alloc);
+    let told = &mut ErrorOutput::new(&mut err);
+    let ended = Who.run(alloc, words, &mut input, &mut out, told);
+    ended == status && out.as_slice() == text.as_bytes() && err.as_slice() == faults.as_bytes()
+}
