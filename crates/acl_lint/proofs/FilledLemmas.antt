@@ -1,5 +1,5 @@
 -- No place is empty.
-use Rattle.std.proofs.Common.{◌≡◌, ◌≢◌, ◌++◌, ℕ, List, [], ◌∷◌, Option, Some, None, decimal, subst}
+use Rattle.std.proofs.Common.{◌≢◌, ◌++◌, ℕ, List, [], ◌∷◌, Option, Some, None, decimal, subst}
 use Rattle.std.specs.Prelude.{⊤}
 use Rattle.acl_names.specs.Bytes.{colon, space}
 use Rattle.acl_setup.specs.declared.fault.SetupError.{SetupError}

@@ -1,4 +1,5 @@
 pub mod AnswerLemmas
+pub mod FileLemmas
 pub mod FilledLemmas
 pub mod LawLemmas
 pub mod PieceLemmas

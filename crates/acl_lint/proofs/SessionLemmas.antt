@@ -41,9 +41,9 @@ module _ (known : Known) where
         ∙ ap (λ bytes. sent ++ (kept ++ bytes)) (sym split) ∙ left
     -- what was kept went out, or stays
 
-pub session-sent : (sent kept rest more new all : List ℕ) → sent ++ (kept ++ rest) ≡ all → more ++ new ≡ kept → (sent ++ more) ++ (new ++ rest) ≡ all
+pub session-sent : (sent kept rest more new all : List ℕ) → sent ++ (kept ++ rest) ≡ all → kept ≡ more ++ new → (sent ++ more) ++ (new ++ rest) ≡ all
 session-sent sent kept rest more new all left is =
-    append_assoc sent more (new ++ rest) ∙ ap (λ bytes. sent ++ bytes) (sym (append_assoc more new rest)) ∙ ap (λ bytes. sent ++ (bytes ++ rest)) is ∙ left
+    append_assoc sent more (new ++ rest) ∙ ap (λ bytes. sent ++ bytes) (sym (append_assoc more new rest)) ∙ ap (λ bytes. sent ++ (bytes ++ rest)) (sym is) ∙ left
 
 -- a text has at most one part more than bytes
 pub parts-few : (text : List ℕ) → length (parts newline text) ≤ length text + 1

@@ -2,22 +2,21 @@
 use Rattle.std.specs.Prelude.{◌≡◌, ◌⊎◌, ℕ, ◌==◌, List, [], ◌∷◌, ◌++◌, Option, Vec, map}
 use Rattle.std.specs.Prelude.{codes, if◌then◌else◌}
 use Rattle.std.specs.declared.alloc.Global.{Global}
-use Rattle.clap.specs.Words.{Row, Text, matches_of}
+use Rattle.clap.specs.Words.{Row, Text}
 use Rattle.acl_names.specs.Bytes.{hyphen, newline, space}
 use Rattle.acl_names.specs.Directory.{Known}
 use Rattle.acl_tree.specs.Tree.{NodesUnderUmask}
-use Rattle.acl_cli.specs.CommandLine.{Takes}
-use Rattle.acl_cli.specs.ErrorOutput.{SaysFault}
-use Rattle.acl_cli.specs.Meaning.{Meaning}
+use Rattle.acl_cli.specs.Commands.{Answer, Meaning}
+use Rattle.acl_cli.specs.Failures.{failed_write, out_of_memory}
 use Rattle.acl_setup.specs.Opened.{Opens}
 use Rattle.acl_service.specs.RunWords.{CanRun, sessions_in}
-use Rattle.acl_cli.specs.SessionFiles.{HasBytes, HaveBytes, input_count}
-use Rattle.acl_cli.specs.SessionFiles.{setup_in}
+use Rattle.acl_cli.specs.SessionFiles.{HasBytes, HaveBytes, input_count, setup_in}
+use Rattle.acl_cli.specs.declared.command.Ending.TheVariants.{Answered}
+use Rattle.acl_cli.specs.declared.failure.Failure.{Failure}
 use Rattle.acl_setup.specs.SetupFaults.{setup_error_words}
 use Rattle.acl_setup.specs.Opened.{IsRefusedBy}
 use Rattle.acl_setup.specs.declared.fault.SetupError.{SetupError}
-use Rattle.acl_lint.specs.LintFaults.{IsLintFault, lint_fault_line, lint_status}
-use Rattle.acl_lint.specs.LintLine.{lint_line}
+use Rattle.acl_lint.specs.LintFiles.{IsFilesFailure}
 use Rattle.acl_lint.specs.LintText.{sessions_text}
 use Rattle.acl_lint.specs.SetupPlace.{setup_place}
 
@@ -49,29 +48,28 @@ abbrev pub IsLint : Text → List ℕ → List Text → List (Vec ℕ Global) �
 IsLint name setup names texts text =
     IsOfSessions setup names texts text ⊎ IsOfSetup name setup text
 
--- what is told of the files that the words name went out so: all of it, or a front
+-- that is told of the files that the fields name, wholly, with nothing beside it
 pub record AnswersRows (bytes_of : Text → Option (List ℕ)) (input : Option (List ℕ))
-    (rows : List Row) (WentOut : List ℕ → Type 0) : Type 0 where
+    (rows : List Row) (answer : Answer) : Type 0 where
   pub can_run : CanRun (sessions_in rows)
   pub setup : List ℕ
   pub texts : List (Vec ℕ Global)
   pub setup_is : HasBytes (bytes_of (setup_in rows)) setup
   pub texts_are : HaveBytes bytes_of input (sessions_in rows) texts
-  pub text : List ℕ
-  pub answers : IsLint (setup_in rows) setup (sessions_in rows) texts text
-  pub out : WentOut text
+  pub answers : IsLint (setup_in rows) setup (sessions_in rows) texts answer.text
+  pub quiet : answer.beside ≡ []
+  pub whole : answer.ending ≡ Answered
 
--- the words of `lint` are answered
-pub record AnswersLint (bytes_of : Text → Option (List ℕ)) (input : Option (List ℕ))
-    (words : List Text) (WentOut : List ℕ → Type 0) : Type 0 where
-  pub taken : Takes lint_line words
-  pub of_rows : AnswersRows bytes_of input (matches_of lint_line words) WentOut
+-- an answer lacks memory, or can't be written
+abbrev pub IsAnswerLack : Failure → Type 0
+IsAnswerLack failure = (failure ≡ out_of_memory) ⊎ (failure ≡ failed_write)
 
--- what the words of `lint` mean
-abbrev pub lint_meaning : (Text → Option (List ℕ)) → Option (List ℕ) → List Text → Meaning
-lint_meaning bytes_of input words = record {
-  Answers = AnswersLint bytes_of input words;
-  Begins = AnswersLint bytes_of input words;
-  Says = SaysFault lint_status lint_fault_line (IsLintFault words);
-  inputs = input_count (sessions_in (matches_of lint_line words));
+-- what the fields of `lint` mean
+abbrev pub lint_meaning : (Text → Option (List ℕ)) → Option (List ℕ) → List Row → Meaning
+lint_meaning bytes_of input rows = record {
+  Answers = AnswersRows bytes_of input rows;
+  Begins = AnswersRows bytes_of input rows;
+  Fails = λ failure. IsFilesFailure (setup_in rows) (sessions_in rows) failure
+      ⊎ CanRun (sessions_in rows) × IsAnswerLack failure;
+  inputs = input_count (sessions_in rows);
 }

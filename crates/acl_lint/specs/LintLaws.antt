@@ -1,6 +1,6 @@
 -- What is told of sessions, beside what `run` answers and what the pieces of a list say.
 use Rattle.std.specs.Prelude.{◌≡◌, ◌≢◌, ◌++◌, ◌+◌, ℕ, All, List, [], ◌∷◌, Option, Some, None, Ok}
-use Rattle.std.specs.Prelude.{Err, IsSome, IsSomeAnd, bytes_eq, codes, if◌then◌else◌, length}
+use Rattle.std.specs.Prelude.{Err, IsSomeAnd, bytes_eq, codes, if◌then◌else◌, length}
 use Rattle.std.specs.Prelude.{map, true}
 use Rattle.std.specs.List.{flat_map}
 use Rattle.acl_names.specs.Directory.{Known}

@@ -1,5 +1,6 @@
 //! The command line of `lint`.
 
+use crate::Lint;
 use acl_cli::CommandLine;
 use acl_cli::options::setup_option;
 use acl_service::session_words;
@@ -19,10 +20,7 @@ Exit status: 0 with an answer; 1 if a file can't be read; 2 if the words are wro
 help; 3 if
 memory runs out or the answer can't be written.";
 
-/// The command line of `lint`.
-pub(crate) struct LintLine;
-
-impl CommandLine for LintLine {
+impl CommandLine for Lint {
     ghost use Rattle.acl_lint.specs.LintLine.{lint_line, lint_line-free, lint_line-simple};
 
     ghost line = { lint_line };

@@ -4,7 +4,7 @@
 
 mod answer;
 mod command_line;
-mod fault;
+mod files;
 mod laws;
 mod line;
 mod lint_command;
@@ -14,4 +14,4 @@ mod sessions;
 mod setup;
 
 pub use laws::lint_laws;
-pub use lint_command::lint;
+pub use lint_command::Lint;

@@ -1,50 +1,12 @@
 //! The command `lint`.
-ghost use Rattle.std.specs.Prelude.{◌≡◌, ◌≤◌, ◌⊎◌, IfErr, OnErr, OnOk, map};
-ghost use Rattle.std.specs.Io.KnownBytes.{Appends, Keeps};
-ghost use Rattle.acl_cli.specs.Meaning.{EndsWithInput};
-ghost use Rattle.acl_cli.specs.Output.{AppendsFront};
-ghost use Rattle.acl_lint.specs.LintAnswer.{AnswersLint, lint_meaning};
-ghost use Rattle.acl_lint.specs.LintFaults.{IsLintFault, lint_status};
 
-use crate::answer::answer_matches;
-use crate::command_line::LintLine;
-use crate::fault::LintFault;
-use acl_cli::{ErrorOutput, parse, report};
-use acl_service::OpenFiles;
+use crate::answer::write_answer;
+use crate::files::{read_files, session_names};
+use acl_cli::session_files::setup_field;
+use acl_cli::{Command, Ending, ErrorOutput, Failure, OpenFiles};
+use clap::ArgMatches;
 use std::alloc::Global;
-use std::convert::AsStr;
 use std::io::{Read, Write};
-
-/// Writes what is told of the files that the words name.
-fn answer<'a, F, S, I, W>(
-    alloc: Global,
-    files: &F,
-    words: &'a [S],
-    input: &mut I,
-    out: &mut W,
-) -> Result<(), LintFault<'a>>
-where
-    F: OpenFiles,
-    S: AsStr,
-    I: Read,
-    W: Write,
-    ensures answered { OnOk result (AnswersLint (F.bytes_of files.now) (I.remaining input.old)
-        (map S.text words.entry.now) (Appends (W.contents out.old) (W.contents out.new))) }
-    ensures silent { IfErr result (λ fault. lint_status fault ≤ 2
-        → Keeps (W.contents out.old) (W.contents out.new)) }
-    ensures cut { OnErr result (Keeps (W.contents out.old) (W.contents out.new)
-        ⊎ AnswersLint (F.bytes_of files.now) (I.remaining input.old) (map S.text words.entry.now)
-        (AppendsFront (W.contents out.old) (W.contents out.new))) }
-    ensures untouched { (lint_meaning (F.bytes_of files.now) (I.remaining input.old)
-        (map S.text words.entry.now)).inputs ≡ 0 → input.new ≡ input.old }
-    ensures unread { IfErr result (λ fault. lint_status fault ≡ 2 → input.new ≡ input.old) }
-    ensures refused { IfErr result (IsLintFault (map S.text words.entry.now)) }
-{
-    match parse::<LintLine, S>(alloc, words) {
-        Ok(matches) => answer_matches(alloc, files, &matches, input, out),
-        Err(error) => Err(LintFault::Usage(error)),
-    }
-}
 
 /// Tells what is wrong with a setup, or with sessions, before they run. The words are those of the
 /// command, its name first: `lint --setup FILE SESSION..`. A SESSION `-` is what `input` has, and
@@ -66,30 +28,37 @@ where
 /// It is written in pieces of some 64 KiB. What is wrong with the words or the files goes to `err`,
 /// and so does help; a fault while writing there changes nothing.
 ///
-/// It returns the exit status: 0 with the answer, whatever it is; 1 if a file can't be opened or
+/// The exit status is 0 with the answer, whatever it is; 1 if a file can't be opened or
 /// read or is too long; 2 if the parser of command lines refuses the words, or there are more than
 /// 64 sessions or two of them `-`, before any file is opened; and 3 if memory runs out or `out`
 /// can't be written. At 1 and 2 nothing was written, and at 3 nothing or a front of the answer.
-pub fn lint<F, S, I, W, E>(
-    alloc: Global,
-    files: &F,
-    words: &[S],
-    input: &mut I,
-    out: &mut W,
-    err: &mut ErrorOutput<E>,
-) -> u8
-where
-    F: OpenFiles,
-    S: AsStr,
-    I: Read,
-    W: Write,
-    E: Write + Drop,
-    ensures { EndsWithInput (lint_meaning (F.bytes_of files.now) (I.remaining input.old)
-        (map S.text words.now)) result (W.contents out.old) (W.contents out.new) err.old err.new
-        input.old input.new }
-{
-    match answer::<F, S, I, W>(alloc, files, words, input, out) {
-        Ok(()) => 0,
-        Err(fault) => report(&fault, err),
+pub struct Lint;
+
+impl Command for Lint {
+    ghost use Rattle.std.specs.Prelude.{false};
+    ghost use Rattle.acl_lint.specs.LintAnswer.{lint_meaning};
+
+    ghost meaning = { lint_meaning };
+
+    ghost helps = { false };
+
+    fn answers_help() -> bool {
+        false
+    }
+
+    fn answer<'a, F: OpenFiles, I: Read, W: Write, E: Write + Drop>(
+        &self,
+        alloc: Global,
+        files: &F,
+        matches: &ArgMatches<'a>,
+        input: &mut I,
+        out: &mut W,
+        _err: &mut ErrorOutput<E>,
+    ) -> Result<Ending, Failure<'a>> {
+        let setup = setup_field(matches);
+        let names = session_names(matches);
+        let texts = read_files(alloc, files, input, setup, names)?;
+        write_answer(alloc, setup, names, &texts, out)?;
+        Ok(Ending::Answered)
     }
 }

@@ -2,11 +2,10 @@
 ghost use Rattle.std.specs.Prelude.{◌≡◌, ◌++◌, ◌⊎◌, IfErr, IfOk, OnErr, OnOk};
 ghost use Rattle.std.specs.Io.KnownBytes.{Appends, Keeps};
 ghost use Rattle.acl_cli.specs.Output.{AppendsFront};
-ghost use Rattle.acl_lint.specs.LintAnswer.{setup_text, with_hyphens};
-ghost use Rattle.acl_lint.specs.LintFaults.{IsLack};
+ghost use Rattle.acl_lint.specs.LintAnswer.{IsAnswerLack, setup_text, with_hyphens};
 
 use crate::place::push_place;
-use acl_cli::{RunFault, write_text};
+use acl_cli::{Failure, write_text};
 use acl_setup::SetupError;
 use std::alloc::{AllocError, Global};
 use std::io::Write;
@@ -37,17 +36,17 @@ fn setup_line(alloc: Global, name: &str, error: SetupError) -> Result<Vec<u8>, A
 
 /// Writes what is told of the setup of this name, which is refused for this. If memory runs out,
 /// nothing went out, and if a write fails, a front of it.
-pub(crate) fn write_setup<W: Write>(
+pub(crate) fn write_setup<'n, W: Write>(
     alloc: Global,
     name: &str,
     error: SetupError,
     out: &mut W,
-) -> Result<(), RunFault>
+) -> Result<(), Failure<'n>>
     ensures written { OnOk result
         (Appends (W.contents out.old) (W.contents out.new) (setup_text name.now error)) }
     ensures cut { OnErr result (Keeps (W.contents out.old) (W.contents out.new)
         ⊎ AppendsFront (W.contents out.old) (W.contents out.new) (setup_text name.now error)) }
-    ensures lack { IfErr result IsLack }
+    ensures lack { IfErr result IsAnswerLack }
 {
     let line = setup_line(alloc, name, error)?;
     write_text(line.as_slice(), out)?;

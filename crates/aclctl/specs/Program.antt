@@ -4,6 +4,7 @@ use Rattle.std.specs.Prelude.{if◌then◌else◌, bytes_eq, false, true}
 use Rattle.std.specs.Io.KnownBytes.{IsAtEnd}
 use Rattle.acl_names.specs.Bytes.{newline}
 use Rattle.acl_lint.specs.LintAnswer.{lint_meaning}
+use Rattle.acl_lint.specs.LintLine.{lint_line}
 use Rattle.acl_cli.specs.Commands.{of_words}
 use Rattle.acl_cli.specs.ErrorOutput.{SaysFault}
 use Rattle.acl_cli.specs.Meaning.{Meaning}
@@ -106,7 +107,8 @@ command_meaning files input (Some Who) words = who_meaning files input words
 command_meaning files input (Some Impact) words = impact_meaning files input words
 command_meaning files input (Some Dump) words =
     by_text (of_words dump_line false (dump_meaning files input) words)
-command_meaning files input (Some Lint) words = lint_meaning files input words
+command_meaning files input (Some Lint) words =
+    by_text (of_words lint_line false (lint_meaning files input) words)
 command_meaning files input (Some Help) words = text_meaning HELP.now
 command_meaning files input (Some Version) words = text_meaning version_text
 command_meaning files input None words = no_command

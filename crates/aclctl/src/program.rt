@@ -6,7 +6,7 @@ ghost use Rattle.aclctl.specs.Program.{meaning_from, meaning_of};
 
 use crate::help::{print_help, print_version, report_no_command};
 use crate::input::command_words;
-use acl_lint::lint;
+use acl_lint::Lint;
 use acl_queries::{Compare, Decide, Explain};
 use acl_service::{ErrorOutput, OpenFiles, report};
 use acl_tree_queries::{Dump, impact, who};
@@ -62,7 +62,9 @@ where
         Some(first) if first.as_str() == "dump" => {
             acl_cli::run_command(&Dump, alloc, files, words, input, out, err)
         }
-        Some(first) if first.as_str() == "lint" => lint(alloc, files, words, input, out, err),
+        Some(first) if first.as_str() == "lint" => {
+            acl_cli::run_command(&Lint, alloc, files, words, input, out, err)
+        }
         Some(first) if first.as_str() == "--help" => print_help(out, err),
         Some(first) if first.as_str() == "--version" => print_version(out, err),
         Some(first) => report_no_command(alloc, Some(first.as_str()), err),

@@ -1,6 +1,6 @@
 //! What `lint` is refused for, and what it lacks.
 use crate::fixture::Lint;
-use acl_service::ErrorOutput;
+use acl_cli::ErrorOutput;
 use std::test::Fail;
 use tests_files::{Command, Sheet};
 

@@ -1,6 +1,5 @@
 //! An office and sessions over it, as files at hand.
-use acl_lint::lint;
-use acl_service::ErrorOutput;
+use acl_cli::{ErrorOutput, run_command};
 use std::alloc::Global;
 use std::io::{Read, Write};
 use tests_files::{Command, Shelf};
@@ -157,6 +156,6 @@ impl Command for Lint {
         out: &mut W,
         err: &mut ErrorOutput<E>,
     ) -> u8 {
-        lint(alloc, &Shelf::new(FILES), words, input, out, err)
+        run_command(&acl_lint::Lint, alloc, &Shelf::new(FILES), words, input, out, err)
     }
 }

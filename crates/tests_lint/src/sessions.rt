@@ -1,6 +1,6 @@
 //! What is told of sessions.
 use crate::fixture::Lint;
-use acl_service::ErrorOutput;
+use acl_cli::ErrorOutput;
 use std::test::Fail;
 use tests_files::{Command, Sheet};
 

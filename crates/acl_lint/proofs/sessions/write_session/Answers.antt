@@ -43,17 +43,17 @@ loop-line-preserved g c =
     let kept = c.push_line.new.out.items in
     let left =
     session-next known name was.sent all c.loop-line.kept.items kept number c.loop-line.lines c.in-Some.line.now c.next.new.self c.in-Some.ensures.part c.in_ok-push_line.ensures was.left in
-    let sent = c.in_ok-send_piece.ensures.sent in
+    let sent = c.in_ok-send_full.ensures.sent in
     let one_less = ap length c.in-Some.ensures.part in
     record {
       sent = was.sent ++ sent.0;
       written = Appends-trans _ _ _ was.sent sent.0 was.written sent.1;
-      left = session-sent was.sent kept _ sent.0 c.send_piece.new.kept.items all left sent.2;
+      left = session-sent was.sent kept _ sent.0 c.send_full.new.text.items all left sent.2;
       within = omega (arith, was.within, one_less);
     }
 
-pub returns-in_err-send_piece-clause-cut : goal.returns-in_err-send_piece-clause-cut
-returns-in_err-send_piece-clause-cut g c =
+pub returns-in_err-send_full-clause-cut : goal.returns-in_err-send_full-clause-cut
+returns-in_err-send_full-clause-cut g c =
     let known = c.args.directory.now in
     let name = c.args.name.now in
     let all = session_text known name c.args.text.now in
@@ -62,7 +62,7 @@ returns-in_err-send_piece-clause-cut g c =
     let kept = c.push_line.new.out.items in
     let left =
     session-next known name was.sent all c.loop-line.kept.items kept number c.loop-line.lines c.in-Some.line.now c.next.new.self c.in-Some.ensures.part c.in_ok-push_line.ensures was.left in
-    on_err _ _ (front_among _ _ _ was.sent kept _ all left was.written c.in_err-send_piece.ensures.cut)
+    on_err _ _ (front_among _ _ _ was.sent kept _ all left was.written c.in_err-send_full.ensures.front)
 
 pub returns-in_err-write_text-clause-cut : goal.returns-in_err-write_text-clause-cut
 returns-in_err-write_text-clause-cut g c =

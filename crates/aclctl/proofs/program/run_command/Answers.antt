@@ -5,6 +5,7 @@ use Rattle.acl_cli.specs.ErrorOutput.{ErrorText, Reports}
 use Rattle.acl_cli.specs.Meaning.{Ends, EndsWithInput}
 use Rattle.acl_cli.proofs.MeaningLemmas.{Ends-unread}
 use Rattle.acl_cli.proofs.PlainLemmas.{Ends-by_text}
+use Rattle.acl_lint.proofs.AnswerLemmas.{answers_by_text as of_lint}
 use Rattle.acl_queries.specs.Asked.{asked_in}
 use Rattle.acl_queries.specs.CompareLine.{compare_line}
 use Rattle.acl_queries.specs.Compared.{compared_in}
@@ -105,13 +106,14 @@ returns-in-Some-7 g c =
     (Ends-by_text _ (of_trees dump_line false asks_dump IsDump IsDumpBegun HasNoDump (g.F.OpenFiles.bytes_of c.args.files.now) (g.I.Read.remaining c.args.input.now)
     (map g.S.AsStr.text c.args.words.now)) _ _ _ _ _ _ _ c.run_command-in-Some-7.ensures)
 
-named-Lint : (g : given.Over) (c : goal.After-lint g) → command_in (map g.S.AsStr.text c.args.words.now) ≡ Some Lint
+named-Lint : (g : given.Over) (c : goal.After-run_command-in-Some-8 g) → command_in (map g.S.AsStr.text c.args.words.now) ≡ Some Lint
 named-Lint g c = grind (arith, common_steps)
 
 pub returns-in-Some-8 : goal.returns-in-Some-8
 returns-in-Some-8 g c =
     ends_as (g.F.OpenFiles.bytes_of c.args.files.now) (g.I.Read.remaining c.args.input.now) (map g.S.AsStr.text c.args.words.now) (Some Lint)
-    (named-Lint g c) _ _ _ _ _ _ _ c.lint.ensures
+    (named-Lint g c) _ _ _ _ _ _ _
+    (Ends-by_text _ (of_lint (g.F.OpenFiles.bytes_of c.args.files.now) (g.I.Read.remaining c.args.input.now) (map g.S.AsStr.text c.args.words.now)) _ _ _ _ _ _ _ c.run_command-in-Some-8.ensures)
 
 named-Help : (g : given.Over) (c : goal.After-print_help g) → command_in (map g.S.AsStr.text c.args.words.now) ≡ Some Help
 named-Help g c = grind (arith, common_steps)

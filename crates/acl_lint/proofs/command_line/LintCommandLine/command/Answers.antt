@@ -4,7 +4,7 @@ use Rattle.clap.specs.Words.{app_of, new_app}
 use Rattle.clap.specs.Simple.{app_of_fields}
 use Rattle.acl_cli.proofs.CommandLemmas.{app_of-arg}
 use Rattle.acl_lint.specs.LintLine.{lint_line}
-use Rattle.acl_lint.proofs.command_line.LintLineCommandLine.command.Goals as goal
+use Rattle.acl_lint.proofs.command_line.LintCommandLine.command.Goals as goal
 
 pub returns : goal.returns
 unfolding lint_line
