@@ -156,6 +156,14 @@ impl Command for Lint {
         out: &mut W,
         err: &mut ErrorOutput<E>,
     ) -> u8 {
-        run_command(&acl_lint::Lint, alloc, &Shelf::new(FILES), words, input, out, err)
+        run_command(
+            &acl_lint::Lint,
+            alloc,
+            &Shelf::new(FILES),
+            words,
+            input,
+            out,
+            err,
+        )
     }
 }
