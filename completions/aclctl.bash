@@ -7,18 +7,26 @@ _aclctl_options() {
         explain) echo --owner --group --uid --gids --perms --help ;;
         compare) echo --owner --group --help ;;
         run) echo --setup --journal --max-errors --help ;;
-        who) echo --setup --perms --reach --listing --help ;;
-        impact) echo --setup --before --listing --help ;;
+        who) echo --accounts --setup --perms --reach --user --session --help ;;
+        why) echo --accounts --setup --user --perms --help ;;
+        impact) echo --accounts --setup --all --user --text --exit-code --before --session --help ;;
+        restore) echo --help ;;
+        translate) echo --accounts --setup --form --attributes --print0 --help ;;
         dump) echo --setup --help ;;
         lint) echo --setup --help ;;
     esac
 }
 
-# What stands at a place of a command, from 0, options not counted: a style, a file, or else a text.
+# The commands.
+_aclctl_commands='who why impact restore translate decide explain compare run dump lint help --version'
+
+# What stands at a place of a command, from 0, options not counted: a style, a file, a command, or else
+# a text.
 _aclctl_kind() {
     case $1:$2 in
         explain:0 | compare:[02]) echo style ;;
-        run:* | lint:* | who:0 | impact:0 | dump:0) echo file ;;
+        run:* | lint:* | who:0 | why:0 | impact:[01] | restore:[01] | translate:0 | dump:0) echo file ;;
+        help:0) echo command ;;
     esac
 }
 
@@ -62,7 +70,7 @@ _aclctl_place() {
             place=$((place + 1))
         elif [[ $word == -- ]]; then
             is_ended=yes
-        elif [[ $word != *=* && $word != --nfs4 && $word != --journal && $word != --help ]]; then
+        elif [[ ! $word =~ =|^--(nfs4|journal|reach|all|text|exit-code|attributes|print0|help)$ ]]; then
             option=$word
         fi
     done
@@ -78,17 +86,21 @@ _aclctl() {
     _aclctl_words
     current=${words[-1]}
     if [[ ${#words[@]} -eq 2 ]]; then
-        _aclctl_choose 'decide explain compare run who impact dump lint --help --version' "$current"
+        _aclctl_choose "$_aclctl_commands" "$current"
         return
     fi
     _aclctl_place
     kind=$(_aclctl_kind "${words[1]}" "$place")
-    if [[ $option == --setup || $option == --before || $option == --listing ]]; then
+    if [[ $option =~ ^--(accounts|setup|session|before)$ ]]; then
         _aclctl_files "${current#"$option="}" "$2"
+    elif [[ $option == --form ]]; then
+        _aclctl_choose 'nfs4 freebsd' "${current#"$option="}"
     elif [[ -n $option ]]; then
         return
     elif [[ -z $is_ended && ( $current == -* || -z $current$kind ) ]]; then
         _aclctl_choose "$(_aclctl_options "${words[1]}")" "$current"
+    elif [[ $kind == command ]]; then
+        _aclctl_choose "$_aclctl_commands" "$current"
     elif [[ $kind == style ]]; then
         _aclctl_choose 'posix nfs4' "$current"
     elif [[ $kind == file ]]; then

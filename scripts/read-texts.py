@@ -17,7 +17,7 @@ import re
 import sys
 from pathlib import Path
 
-from texts import entry, fields, pieces, qualifier
+from texts import SetupNames, entry, fields, pieces
 
 USERS = {"root": 0, "alice": 1000, "bob": 1001, "carol": 1002}
 GROUPS = {"root": 0, "staff": 50, "ops": 60, "guest": 70}
@@ -48,7 +48,7 @@ def ace(piece):
         shaped = re.fullmatch(rb"[a-z0-9.-]{1,255}", domain) and re.fullmatch(rb"[A-Za-z_][A-Za-z0-9._-]{0,31}", name)
         known = None if not shaped else domain.decode() == DOMAIN and name.decode() in names
     else:
-        found = qualifier(who, names)
+        found = SetupNames(names).read(who)
         known = None if found == "S" else found != "U"
     if known is None:
         return "S"
@@ -59,7 +59,7 @@ def ace(piece):
 
 def entry_fault(piece):
     """The fault of a piece as a POSIX entry, if it has one."""
-    read = entry(piece, USERS, GROUPS)
+    read = entry(piece, SetupNames(USERS), SetupNames(GROUPS))
     return read if isinstance(read, str) else ""
 
 

@@ -5,6 +5,7 @@ import re
 
 MAX_BLOCK = 65536
 MAX_ENTRIES = 64
+DEFAULT = b"default:"
 
 
 def pieces(text):
@@ -20,13 +21,40 @@ def fields(piece):
     return [field.strip(b" \t") for field in piece.split(b":")]
 
 
-def qualifier(text, ids):
-    """The id that a text writes, by these names: S if it is neither a decimal nor a name, and U if the name is unknown."""
-    if re.fullmatch(rb"[0-9]{1,10}", text):
-        return int(text) if int(text) <= 4294967294 else "S"
-    if re.fullmatch(rb"[A-Za-z_][A-Za-z0-9._-]{0,31}", text):
-        return ids.get(text.decode(), "U")
-    return "S"
+class SetupNames:
+    """Ids by the names of a setup, as texts write both."""
+
+    def __init__(self, ids):
+        self.ids = ids
+
+    def read(self, text):
+        """The id that a text writes: S if it is neither a decimal nor a name, and U if the name is unknown."""
+        if re.fullmatch(rb"[0-9]{1,10}", text):
+            return int(text) if int(text) <= 4294967294 else "S"
+        if re.fullmatch(rb"[A-Za-z_][A-Za-z0-9._-]{0,31}", text):
+            return self.ids.get(text.decode(), "U")
+        return "S"
+
+
+class AccountNames:
+    """Ids by the names of accounts, as getfacl writes both: a backslash and three octal digits are that byte."""
+
+    def __init__(self, ids):
+        self.ids = ids
+
+    def read(self, text):
+        """The id that a text writes: S if it is neither a decimal nor a name, and U if the name is unknown."""
+        if re.fullmatch(rb"[0-9]*", text):
+            return int(text) if 1 <= len(text) <= 10 and int(text) <= 4294967294 else "S"
+        name = re.sub(rb"\\([0-3][0-7]{2})", lambda it: bytes([int(it[1], 8)]), text)
+        if not 1 <= len(name) <= 255 or b":" in name or b"\n" in name:
+            return "S"
+        return self.ids.get(name, "U")
+
+
+def as_getfacl(name):
+    """A name as getfacl writes it."""
+    return b"".join(b"\\%03o" % it if it in b" \t\n\r:,\\" else bytes([it]) for it in name)
 
 
 def entry(piece, users, groups):
@@ -34,7 +62,7 @@ def entry(piece, users, groups):
     tag, *rest = fields(piece)
     named = {b"user": users, b"u": users, b"group": groups, b"g": groups}
     if tag in named and len(rest) == 2:
-        whose = "" if rest[0] == b"" else qualifier(rest[0], named[tag])
+        whose = "" if rest[0] == b"" else named[tag].read(rest[0])
     elif tag in (b"mask", b"m", b"other", b"o") and (len(rest) == 1 or len(rest) == 2 and rest[0] == b""):
         whose = ""
     else:
@@ -46,7 +74,12 @@ def entry(piece, users, groups):
 
 
 class Unread(Exception):
-    """The word that says why a block of a listing doesn't read."""
+    """Why a block of a listing doesn't read: the word, how many of its lines stand before the one at fault, and which rule of lists is
+    broken, if one is."""
+
+    def __init__(self, word, before=0, rule=None):
+        super().__init__(word)
+        self.word, self.before, self.rule = word, before, rule
 
 
 def blocks_of(listing):
@@ -103,12 +136,15 @@ class Ways:
         return way
 
 
-def header_of(lines):
-    """The path, the owner's and the group's texts of a block's first three lines."""
-    for line, head in zip(lines, (b"# file: ", b"# owner: ", b"# group: ")):
-        if not line.startswith(head):
-            raise Unread("bad-header")
-        yield line[len(head):]
+def header_of(lines, users, groups):
+    """The path of a block's first three lines, and the owner's and the group's ids, by these names."""
+    heads = ((b"# file: ", lambda it: it or "S"), (b"# owner: ", users.read), (b"# group: ", groups.read))
+    for before, (head, read) in enumerate(heads):
+        line = lines[before] if before < len(lines) else b""
+        value = read(line[len(head):]) if line.startswith(head) else "S"
+        if value == "S":
+            raise Unread("bad-header", before)
+        yield value
 
 
 def file_of(text, users, groups, is_repeated=False):
@@ -117,31 +153,62 @@ def file_of(text, users, groups, is_repeated=False):
     if len(text) > MAX_BLOCK:
         raise Unread("too-long")
     lines = text.split(b"\n")
-    header = [*header_of(lines)]
-    ids = [qualifier(it, known) for it, known in zip(header[1:], (users, groups))]
-    if len(header) < 3 or header[0] == b"" or "S" in ids:
-        raise Unread("bad-header")
+    path, *ids = header_of(lines, users, groups)
     if is_repeated:
         raise Unread("repeated-path")
     if "U" in ids:
-        raise Unread("unknown-name")
-    access = b"\n".join(it for it in lines[3:] if not it.startswith(b"default:"))
-    return header[0], *ids, entries_of(access, users, groups)
+        raise Unread("unknown-name", 1 + ids.index("U"))
+    found = entries_of(lines, 3, users, groups, lambda line: b"" if line.startswith(DEFAULT) else line)
+    if any(it.startswith(DEFAULT) for it in lines[3:]):
+        # A default list decides nothing, and has to read all the same.
+        entries_of(lines, 3, users, groups, lambda line: line[len(DEFAULT):] if line.startswith(DEFAULT) else b"")
+    return path, *ids, found
 
 
-def entries_of(text, users, groups):
-    """The entries of a list, which have to be one."""
+def entries_of(lines, before, users, groups, text_of):
+    """The entries of a list, which have to be one: what the lines behind so many have of it."""
     found = []
-    for piece in pieces(text):
-        if len(found) == MAX_ENTRIES:
-            raise Unread("too-many")
-        read = entry(piece, users, groups)
-        if isinstance(read, str):
-            raise Unread("bad-acl" if read == "S" else "unknown-name")
-        found.append(read)
-    keys = [it[:2] for it in found]
-    named = any(tag in "ug" and name != "" for tag, name in keys)
-    whole = {("u", ""), ("g", ""), ("o", "")} <= set(keys) and len(set(keys)) == len(keys)
-    if not whole or named and ("m", "") not in keys:
-        raise Unread("invalid-acl")
+    for at, line in enumerate(lines[before:], before):
+        for piece in pieces(text_of(line)):
+            if len(found) == MAX_ENTRIES:
+                raise Unread("too-many", at)
+            read = entry(piece, users, groups)
+            if isinstance(read, str):
+                raise Unread("bad-acl" if read == "S" else "unknown-name", at)
+            found.append(read)
+    if rule := broken_rule([it[:2] for it in found]):
+        raise Unread("invalid-acl", 0, rule)
     return found
+
+
+def broken_rule(keys):
+    """Which rule of access control lists entries of these keys break, if they break one."""
+    for tag, rule in (("u", "no-owner"), ("g", "no-group"), ("o", "no-other")):
+        if (tag, "") not in keys:
+            return rule
+    if len(set(keys)) < len(keys):
+        return "twice"
+    named = any(tag in "ug" and name != "" for tag, name in keys)
+    return "no-mask" if named and ("m", "") not in keys else None
+
+
+def shown(line):
+    """A line as a fault shows it: its first 200 bytes, of which those that aren't printable, and backslashes, by their octal digits."""
+    return b"".join(bytes([it]) if 32 <= it <= 126 and it != 92 else b"\\%03o" % it for it in line[:200])
+
+
+def guess_of(text):
+    """What a listing may be of which no block reads, by its first block's text: of one that is too long, what is kept of it."""
+    first, second = (text[:MAX_BLOCK + 1].split(b"\n") + [b""])[:2]
+    if text.startswith(b"\x1f\x8b"):
+        return "is it gzip?"
+    if text.startswith((b"\xff\xfe", b"\xfe\xff")):
+        return "is it UTF-16?"
+    if first.endswith(b"\r"):
+        return "has it carriage returns?"
+    if first.startswith(b"# file: ") and second.startswith(b"USER"):
+        return "is it tabular (getfacl -t)?"
+    # The line of a file, however long it is.
+    if len(first) > 8 and first.startswith(b"# file: ") and not second.startswith(b"# owner: ") or first.startswith(b"user::"):
+        return "is it without owners (getfacl -c, nfs4_getfacl)?"
+    return "is it a listing?"

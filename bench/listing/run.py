@@ -96,7 +96,7 @@ def main():
         write_listing(later, files, lambda place: folder_of(place) + (place % FILES_OF_CHANGE == 0))
         changed = len(range(0, files, FILES_OF_CHANGE))
         listed = files + 2 + len(range(0, files, FILES_OF_FOLDER))
-        who = lambda setup, *options: ("who", "--setup", setup, *options, "--listing")
+        who = lambda setup, *options: ("who", "--setup", setup, *options)
         works = {
             "one user: files of a folder with one list, letters": (listed, *who(one), shared),
             "the same, `--perms w`": (None, *who(one, "--perms", "w"), shared),
@@ -105,7 +105,8 @@ def main():
             f"{USERS} users: files of a folder with one list, `--perms w`": (None, *who(many, "--perms", "w"), shared),
             f"{USERS} users: the same, `--reach --perms w`": (None, *who(many, "--reach", "--perms", "w"), shared),
             f"{USERS} users: each file with a list of its own, `--perms w`": (None, *who(many, "--perms", "w"), each),
-            f"`impact` of two listings, {changed} files changed, one user": (changed, "impact", "--setup", one, "--listing", shared, later),
+            f"`impact` of two listings, {changed} files changed, one user": (changed, "impact", "--setup", one, shared, later),
+            "`restore` of the same": (10 * changed, "restore", shared, later),
         }
         for name, (lines, *words) in works.items():
             if lines is not None and lines_of(words) != lines:

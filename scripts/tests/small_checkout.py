@@ -10,10 +10,16 @@ from pathlib import Path
 TOP = Path(__file__).resolve().parent.parent.parent
 # How many seconds a stand-in may take on the slowest machine.
 SLOW = 600
-SCRIPTS = ("aclctl", "build-aclctl", "install", "release", "host-setup")
-FILES = (*(f"scripts/{it}" for it in SCRIPTS), "docs/aclctl.1", "completions/aclctl.bash")
+SCRIPTS = ("aclctl", "build-aclctl", "install", "release", "debian.py", "host-setup", "accounts", "report")
+# The parts of scripts/report, and the manual pages of section 1.
+PARTS = sorted(it.name for it in (TOP / "scripts/reporting").iterdir() if it.suffix in (".py", ".css", ".js"))
+COMPLETIONS = {"aclctl.bash": "bash-completion/completions/aclctl", "_aclctl": "zsh/site-functions/_aclctl"}
+COMPLETIONS |= {it.replace("aclctl", "aclctl-report"): to.replace("aclctl", "aclctl-report") for it, to in COMPLETIONS.items()}
+PAGES = ("aclctl.1", "aclctl-accounts.1", "aclctl-host-setup.1", "aclctl-report.1")
+FILES = (*(f"scripts/{it}" for it in SCRIPTS), *(f"scripts/reporting/{it}" for it in PARTS))
+FILES += (*(f"docs/{it}" for it in PAGES), *(f"completions/{it}" for it in COMPLETIONS))
 FILES += ("include/meardwyn.h", "docs/meardwyn.3")
-FILES += ("completions/_aclctl", "README.md", "LICENSE-APACHE", "LICENSE-MIT", "CHANGELOG.md")
+FILES += ("README.md", "LICENSE-APACHE", "LICENSE-MIT", "CHANGELOG.md")
 # It builds the program, unless it is told not to, and writes down that it was called.
 KIT = """#!/bin/sh
 echo "$*" >> "$ROOM/calls"
@@ -30,6 +36,7 @@ echo static > out/capi/libmeardwyn.a
 echo shared > out/capi/libmeardwyn.so.1
 sha256sum out/capi/* > out/build/capi.sha256
 """
+GLIBC = re.search(r"glibc ([0-9.]*[0-9])", (TOP / "README.md").read_text())[1]
 VERSION = re.search(r"^## (\S+)", (TOP / "CHANGELOG.md").read_text(), re.M)[1]
 
 
@@ -45,12 +52,13 @@ class SmallCheckout:
         for part in ("src", "specs", "proofs"):
             (self.top / "crates/aclctl" / part).mkdir(parents=True)
         (self.top / "crates.txt").write_text("aclctl: thiserror\n")
-        (self.top / ".gitignore").write_text("out/\n")
+        (self.top / ".gitignore").write_text("out/\n__pycache__/\n")
         (self.top / "crates/aclctl/src/main.rt").write_text("")
         (room / "bin").mkdir()
         self.write("bin/rt", KIT)
         self.write("checkout/scripts/build-capi", LIBRARY)
-        self.write("program", f'#!/bin/sh\necho "aclctl {VERSION}"\n')
+        # It needs as much of glibc as the program does, and libgcc.
+        self.write("program", f'#!/bin/sh\necho "aclctl {VERSION}"\nexit 0\nGLIBC_2.17 GLIBC_{GLIBC}\n\0libgcc_s.so.1\0libc.so.6\0\n')
         path = f"{room}/bin:{os.environ['PATH']}"
         self.env = {**os.environ, "PATH": path, "ROOM": str(room), "GIT_CONFIG_GLOBAL": "/dev/null"}
         self.env.pop("DESTDIR", None)

@@ -44,13 +44,13 @@ def help_commands():
 
 def manual():
     """The options of each command in the manual page's synopsis. Those that stand without a
-    command are commands themselves, and each command has --help."""
+    command are commands themselves, and each command but help has --help."""
     text = (TOP / "docs/aclctl.1").read_text().split(".SH SYNOPSIS")[1].split(".SH DESC")[0]
     found = {}
     for part in text.replace("\\-", "-").split(".SY aclctl\n")[1:]:
         options = set(re.findall(r"--[a-z0-9-]+", part))
         if command := re.match(r"\.B ([a-z]+)\n", part):
-            found[command[1]] = found.get(command[1], set()) | options | {"--help"}
+            found[command[1]] = found.get(command[1], set()) | options | ({"--help"} if command[1] != "help" else set())
         else:
             found |= {it: set() for it in options}
     return found
@@ -86,7 +86,7 @@ def by_zsh(*words):
 class Names(unittest.TestCase):
     def test_help_and_manual_name_the_same_commands(self):
         self.assertEqual(help_commands(), set(MANUAL))
-        self.assertEqual(set(MANUAL) - set(COMMANDS), {"--help", "--version"})
+        self.assertEqual(set(MANUAL) - set(COMMANDS), {"--version"})
 
     def test_no_other_option_is_named_in_help_or_manual(self):
         files = ("crates/aclctl/src/help.rt", "docs/aclctl.1")
@@ -102,7 +102,7 @@ class Names(unittest.TestCase):
 
     def test_the_text_for_zsh_has_the_commands_and_options_and_no_others(self):
         text = ZSH.read_text()
-        named = set(re.findall(r"'(--[a-z0-9-]+)[=[:]", text))
+        named = set(re.findall(r"'\*?(--[a-z0-9-]+)[=[:]", text))
         self.assertEqual(named, {"--version"}.union(*MANUAL.values()))
         self.assertEqual(sorted(re.findall(r"^        ([a-z]+)\)", text, re.M)), COMMANDS)
         described = re.findall(r"^        '([a-z-]+):", text, re.M)
@@ -115,9 +115,9 @@ class Names(unittest.TestCase):
         self.assertEqual(sorted(described), sorted(MANUAL))
         for command, options in MANUAL.items():
             told = by_zsh("aclctl", command, "-")
-            names = [re.split(r"[=[]", it)[0] for it in told if it.startswith("--")]
-            self.assertEqual(names, sorted(options), command)
-            values = {it for it in told if re.match(r"--(setup|before|listing)=|[*1]:session", it)}
+            names = [re.split(r"[=[]", it.lstrip("*"))[0] for it in told if it.startswith(("--", "*--"))]
+            self.assertEqual(sorted(names), sorted(options), command)
+            values = {it for it in told if re.match(r"--(accounts|setup|session|before|listing)=|[*12]:(session|listing)", it)}
             self.assertTrue(all(it.endswith(":_files") for it in values))
 
     @unittest.skipUnless(shutil.which("zsh"), "zsh isn't here")
@@ -127,10 +127,9 @@ class Names(unittest.TestCase):
             told = by_zsh("aclctl", command, "")
             styles = [it for it in told if it.endswith(":style:(posix nfs4)")]
             self.assertEqual([it[0] for it in styles], places.get(command, []))
-            places_of_files = {"run": "*", "lint": "*", "who": "1", "impact": "1", "dump": "1"}
-            is_of_files = places_of_files.get(command)
-            files = [it[0] for it in told if it.endswith(":session:_files") and it[0] != "-"]
-            self.assertEqual(files, [is_of_files] if is_of_files else [])
+            places_of_files = {"run": "*", "lint": "*", "who": "1", "why": "1", "impact": "12", "restore": "12", "translate": "1", "dump": "1"}
+            files = [it[0] for it in told if re.search(r":(session|listing):_files$", it) and it[0] != "-" and not it.startswith("*:user")]
+            self.assertEqual("".join(files), places_of_files.get(command, ""))
 
 
 class Lines(unittest.TestCase):
@@ -149,8 +148,16 @@ class Lines(unittest.TestCase):
         self.assertEqual(by_bash(f"aclctl compare nfs4 A::OWNER@:rwa,D:g:60:w {ids} "), STYLES)
         self.assertEqual(by_bash(f"aclctl compare {ids} -- posix u::rw,g::r,o::- n"), ["nfs4"])
 
+    def test_commands_where_a_command_goes(self):
+        self.assertEqual(by_bash("aclctl help "), sorted(MANUAL))
+        self.assertEqual(by_bash("aclctl help tr"), ["translate"])
+
+    def test_forms_where_a_form_goes(self):
+        self.assertEqual(by_bash("aclctl translate --form "), ["freebsd", "nfs4"])
+        self.assertEqual(by_bash("aclctl translate --form=f"), ["freebsd"])
+
     def test_options_where_a_text_goes(self):
-        lines = ("decide", "explain nfs4", "compare posix", "compare posix u::- nfs4", "dump s")
+        lines = ("decide", "explain nfs4", "compare posix", "compare posix u::- nfs4", "dump s", "why x")
         for line in lines:
             options = sorted(MANUAL[line.split()[0]])
             self.assertEqual(by_bash(f"aclctl {line} "), options)
@@ -161,8 +168,8 @@ class Lines(unittest.TestCase):
         files = sorted(it.name for it in self.room.iterdir())
         lines = ["run --setup ", "run --setup=", "run --setup s x y ", "run --max-errors 3 x "]
         lines += ["run --journal ", "impact --before ", "impact ", "who --perms r ", "dump "]
-        lines += ["who --listing ", "impact --listing ", "impact --listing=", "impact --listing x "]
-        lines += ["lint --setup s x "]
+        lines += ["who --accounts ", "who --session=", "who --reach ", "impact --session ", "impact --all x "]
+        lines += ["why --user bob --perms w ", "restore ", "restore x ", "translate --print0 ", "lint --setup s x "]
         for line in lines:
             self.assertEqual(by_bash(f"aclctl {line}", cwd=self.room), files, line)
         for line in ("run --setup se", "who --setup=se", "run x y se", "dump -- se"):
@@ -175,7 +182,7 @@ class Lines(unittest.TestCase):
 
     def test_nothing_where_a_number_goes_or_too_many_words_stand(self):
         lines = ["decide --owner ", "explain --gids=", "compare --group 5", "run --max-errors "]
-        for line in (*lines, "who --perms ", "who x s", "impact --setup s x y", "impact --listing b a x"):
+        for line in (*lines, "who --perms ", "who --user ", "who x s", "why --user ", "restore x y z", "impact --user ", "impact --all b a x"):
             self.assertEqual(by_bash(f"aclctl {line}", cwd=self.room), [], line)
 
 

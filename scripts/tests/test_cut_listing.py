@@ -20,16 +20,13 @@ def listing(paths):
 
 
 def answer(text):
-    """Two lines of each block whose way is known, and a fault of each other."""
+    """Two lines of each block whose way is known."""
     ways = Ways()
-    for number, block in blocks_of(text):
+    for _, block in blocks_of(text):
         path = path_of(block)
         way = ways.to(path, path is not None)
-        told = b"-" if path is None else path
-        if path is None or way is None:
-            yield b"fault unread %d %s\n" % (number, told)
-        else:
-            yield from (b"%s %s %s\n" % (letters, b"+".join([b"al", *(b"in" for _ in way)]), told) for letters in (b"rwx", b"--x"))
+        if path is not None and way is not None:
+            yield from (b"%s %s %s\n" % (letters, b"+".join([b"al", *(b"in" for _ in way)]), path) for letters in (b"rwx", b"--x"))
 
 
 class Cut(unittest.TestCase):
@@ -52,7 +49,6 @@ class Cut(unittest.TestCase):
         return len(names), self.run_it("--join", into).stdout
 
     def test_the_pieces_answers_are_those_of_the_whole(self):
-        without_numbers = lambda text: [it.split(b" ")[:2] + it.split(b" ")[3:] if it.startswith(b"fault") else it for it in text.split(b"\n")]
         for lost in (None, 3, 0):
             paths = [*PATHS]
             if lost is not None:
@@ -61,7 +57,7 @@ class Cut(unittest.TestCase):
             for pieces in (1, 2, 3, 5, 11):
                 count, joined = self.cut_and_joined(text, f"{pieces}")
                 self.assertGreaterEqual(count, min(pieces, 2))
-                self.assertEqual(without_numbers(joined), without_numbers(b"".join(answer(text))), (lost, pieces))
+                self.assertEqual(joined, b"".join(answer(text)), (lost, pieces))
                 subprocess.run(["rm", "-r", self.folder / f"pieces{pieces}"], check=True)
 
     def test_a_path_of_two_listings_is_in_one_pair(self):

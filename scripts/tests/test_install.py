@@ -7,15 +7,17 @@ import time
 import unittest
 from pathlib import Path
 
-from small_checkout import VERSION, SmallCheckout
+from small_checkout import COMPLETIONS, PAGES, PARTS, VERSION, SmallCheckout
 
 # Where each file goes, and what it is in the checkout.
 PLACES = {
     "bin/aclctl": "crates/aclctl/out/aclctl",
     "bin/aclctl-host-setup": "scripts/host-setup",
-    "share/man/man1/aclctl.1": "docs/aclctl.1",
-    "share/bash-completion/completions/aclctl": "completions/aclctl.bash",
-    "share/zsh/site-functions/_aclctl": "completions/_aclctl",
+    "bin/aclctl-accounts": "scripts/accounts",
+    "bin/aclctl-report": "scripts/report",
+    **{f"share/aclctl/reporting/{it}": f"scripts/reporting/{it}" for it in PARTS},
+    **{f"share/man/man1/{it}": f"docs/{it}" for it in PAGES},
+    **{f"share/{to}": f"completions/{it}" for it, to in COMPLETIONS.items()},
 }
 # Where the files of the C library go, but for the manual pages of the calls.
 LIBRARY = {"include/meardwyn.h", "lib/libmeardwyn.a", "lib/libmeardwyn.so", "lib/libmeardwyn.so.1"}
@@ -64,6 +66,14 @@ class Install(unittest.TestCase):
         self.assertEqual(len(lines), len(made) + len(PLACES))
         ran = self.checkout.run(self.prefix / "bin/aclctl", "--version")
         self.assertEqual(ran.stdout, f"aclctl {VERSION}\n")
+
+    def test_what_is_installed_runs_and_leaves_nothing_behind(self):
+        self.install()
+        for name in ("host-setup", "accounts", "report"):
+            ran = self.checkout.run(self.prefix / f"bin/aclctl-{name}", "--help")
+            self.assertEqual((ran.returncode, ran.stderr), (0, ""), name)
+            self.assertIn(f"usage: aclctl-{name} ", ran.stdout)
+        self.assertEqual(self.files(self.prefix), {*PLACES, RECORD})
 
     def test_nothing_is_left_after_uninstall(self):
         self.install()

@@ -1,29 +1,36 @@
 """scripts/release in a small checkout under git: what it makes, the same bytes each time, and what
 it refuses."""
 
+import gzip
 import hashlib
+import os
 import re
 import shutil
+import subprocess
 import tarfile
 import tempfile
 import unittest
 from pathlib import Path
 
-from small_checkout import TOP, VERSION, SmallCheckout
+from small_checkout import COMPLETIONS, GLIBC, PAGES, SLOW, TOP, VERSION, SmallCheckout
+from small_checkout import PARTS as SCRIPT_PARTS
 
 NAME = f"aclctl-{VERSION}-x86_64-linux"
 LIBRARY = f"meardwyn-{VERSION}-x86_64-linux"
 # The time of the commit, which is none of those at which files are made.
 SECONDS = 1_700_000_000
-PLACES = ("bin/aclctl", "bin/aclctl-host-setup", "share/man/man1/aclctl.1")
-PLACES += ("share/bash-completion/completions/aclctl", "share/zsh/site-functions/_aclctl")
+PLACES = ("bin/aclctl", *(f"bin/aclctl-{it}" for it in ("host-setup", "accounts", "report")))
+PLACES += (*(f"share/man/man1/{it}" for it in PAGES), *(f"share/aclctl/reporting/{it}" for it in SCRIPT_PARTS))
+PLACES += (*(f"share/{it}" for it in COMPLETIONS.values()),)
 BESIDE = ("LICENSE-APACHE", "LICENSE-MIT", "README.md")
 # Of the C library, without the manual pages of its calls.
 PARTS = ("include/meardwyn.h", "lib/libmeardwyn.a", "lib/libmeardwyn.so.1")
 PARTS += ("lib/pkgconfig/meardwyn.pc", "share/man/man3/meardwyn.3")
 
 
-class Release(unittest.TestCase):
+class InCheckout(unittest.TestCase):
+    """A small checkout under git."""
+
     def setUp(self):
         self.room = Path(tempfile.mkdtemp(prefix="test-release-")).resolve()
         self.addCleanup(shutil.rmtree, self.room)
@@ -44,9 +51,9 @@ class Release(unittest.TestCase):
         self.git("add", "-A")
         self.git("commit", "-q", "-m", "what there is")
 
-    def release(self):
+    def release(self, *words):
         """Runs the script. Returns its status, its lines, and its last lines on standard error."""
-        ran = self.checkout.script("release")
+        ran = self.checkout.script("release", *words)
         errors = [it for it in ran.stderr.splitlines() if not it.startswith("scripts/aclctl: ")]
         return ran.returncode, ran.stdout.splitlines(), errors
 
@@ -56,6 +63,8 @@ class Release(unittest.TestCase):
         self.assertEqual((status, lines, errors[-len(why) :]), (1, [], [*why]))
         self.assertEqual([*self.out.glob("*.tar.gz"), *self.out.glob("SHA256SUMS")], [])
 
+
+class Release(InCheckout):
     def test_the_archive_has_what_is_installed_and_a_checksum(self):
         made = [f"{NAME}.tar.gz", f"{LIBRARY}.tar.gz", "SHA256SUMS"]
         made = [str(self.out / it) for it in made]
@@ -111,9 +120,9 @@ class Release(unittest.TestCase):
             self.assertEqual(before[3:8], bytes(5))
 
     def test_a_checkout_that_is_not_its_commit_is_refused(self):
-        for name in ("README.md", "crates/aclctl/src/more.rt"):
+        for name, mark in (("LICENSE-MIT", " M"), ("crates/aclctl/src/more.rt", "??")):
             (self.checkout.top / name).write_text("more")
-            mark = " M README.md" if name == "README.md" else "?? crates/aclctl/src/more.rt"
+            mark = f"{mark} {name}"
             self.refused("scripts/release: the checkout is not its commit:", mark)
             self.commit()
         self.assertEqual(self.release()[0], 0)
@@ -135,12 +144,90 @@ class Release(unittest.TestCase):
             self.commit()
 
 
+    def test_a_program_that_needs_another_glibc_than_readme_says_is_refused(self):
+        readme = self.checkout.top / "README.md"
+        readme.write_text(readme.read_text().replace(f"glibc {GLIBC}", "glibc 2.2"))
+        self.commit()
+        self.refused(f"scripts/release: the program needs glibc {GLIBC}, and README.md names another")
+
+
+@unittest.skipUnless(shutil.which("dpkg-deb"), "dpkg-deb isn't here")
+class Debian(InCheckout):
+    """The Debian package of such a checkout."""
+
+    NAME = f"aclctl_{VERSION}_amd64.deb"
+
+    def deb(self):
+        """The package, made."""
+        status, lines, errors = self.release("--deb")
+        self.assertEqual((status, errors), (0, []))
+        self.assertEqual(lines[2], str(self.out / self.NAME))
+        return self.out / self.NAME
+
+    def told(self, *words):
+        """What dpkg tells."""
+        ran = subprocess.run(words, capture_output=True, text=True, timeout=SLOW, env={**os.environ, "LC_ALL": "C"})
+        self.assertEqual(ran.returncode, 0, ran.stderr)
+        return ran.stdout
+
+    def test_what_the_package_says_of_itself(self):
+        deb = self.deb()
+        self.assertIn(f"{hashlib.sha256(deb.read_bytes()).hexdigest()}  {self.NAME}\n", (self.out / "SHA256SUMS").read_text())
+        wanted = {"Package": "aclctl", "Version": VERSION, "Architecture": "amd64", "Depends": f"libc6 (>= {GLIBC}), libgcc-s1", "Recommends": "acl, python3 (>= 3.8)"}
+        for field, text in wanted.items():
+            self.assertEqual(self.told("dpkg-deb", "--field", deb, field), f"{text}\n")
+
+    def test_its_files_stand_at_debians_places(self):
+        files = {}
+        for line in self.told("dpkg-deb", "--contents", self.deb()).splitlines():
+            mode, owner, _, date, _, name = line.split(maxsplit=5)
+            self.assertEqual((owner, date), ("root/root", "2023-11-14"))
+            self.assertEqual(mode, "drwxr-xr-x" if name.endswith("/") else "-rwxr-xr-x" if "/bin/" in name else "-rw-r--r--")
+            files |= {} if name.endswith("/") else {name.removeprefix("./"): mode}
+        places = {f"usr/{it}{'.gz' if '/man/' in it else ''}".replace("site-functions", "vendor-completions") for it in PLACES}
+        docs = {f"usr/share/doc/aclctl/{it}" for it in ("copyright", "changelog.gz", "README.md")}
+        self.assertEqual(set(files), places | docs)
+
+    def test_the_packages_bytes_are_the_same_each_time(self):
+        first = self.deb().read_bytes()
+        shutil.rmtree(self.out)
+        shutil.rmtree(self.checkout.program.parent)
+        self.assertEqual(self.deb().read_bytes(), first)
+
+    def test_a_library_of_no_known_package_is_refused(self):
+        self.checkout.write("program", (self.room / "program").read_text() + "\0libodd.so.7\0")
+        status, _, errors = self.release("--deb")
+        self.assertEqual((status, errors[-1]), (1, "scripts/release: no package is known of libodd.so.7"))
+
+    @unittest.skipUnless(os.geteuid() == 0 and shutil.which("dpkg"), "it wants root")
+    def test_it_is_installed_and_removed_in_a_clean_root(self):
+        root = self.room / "root"
+        for name in ("info", "updates"):
+            (root / "var/lib/dpkg" / name).mkdir(parents=True)
+        for name in ("status", "available"):
+            (root / "var/lib/dpkg" / name).touch()
+        before = {it for it in root.rglob("*")}
+        dpkg = ("dpkg", f"--root={root}", "--force-depends", "--log=/dev/null")
+        self.told(*dpkg, "--install", self.deb())
+        self.assertIn("Status: install ok installed", self.told(*dpkg, "--status", "aclctl"))
+        self.assertEqual(self.told(*dpkg, "--verify", "aclctl"), "")
+        self.assertEqual(self.told(root / "usr/bin/aclctl", "--version"), f"aclctl {VERSION}\n")
+        for name in ("host-setup", "accounts", "report"):
+            self.assertIn(f"usage: aclctl-{name} ", self.told(root / f"usr/bin/aclctl-{name}", "--help"))
+        page = gzip.decompress((root / "usr/share/man/man1/aclctl.1.gz").read_bytes())
+        self.assertEqual(page, (TOP / "docs/aclctl.1").read_bytes())
+        self.told(*dpkg, "--purge", "aclctl")
+        left = {str(it.relative_to(root)) for it in root.rglob("*")} - {str(it.relative_to(root)) for it in before}
+        self.assertEqual({it for it in left if not it.startswith("var/lib/dpkg/")}, set())
+
+
 class Version(unittest.TestCase):
     def test_program_changelog_and_manual_name_one_version(self):
         text = (TOP / "crates/aclctl/src/help.rt").read_text()
         self.assertEqual(re.search(r'VERSION: &str = "aclctl (\S+)\\n"', text)[1], VERSION)
-        head = (TOP / "docs/aclctl.1").read_text().splitlines()[0]
-        self.assertIn(f'"aclctl {VERSION}"', head)
+        for name in PAGES:
+            head = (TOP / "docs" / name).read_text().splitlines()[0]
+            self.assertIn(f'"aclctl {VERSION}"', head)
 
 
 if __name__ == "__main__":

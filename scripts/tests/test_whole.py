@@ -37,10 +37,12 @@ exit $status
 # How the parts are called before the wrong bodies are.
 BEFORE = ["rt ci", "try-scripts ", "read-texts.py --check", "count-definitions "]
 BEFORE += ["layout "]
-BEFORE += ["try-aclctl ", "try-compare ", "try-trees ", "try-listings ", "try-kernel "]
-BEFORE += ["try-capi "]
+BEFORE += ["try-aclctl ", "try-compare ", "try-trees ", "try-listings ", "try-kernel ", "try-restore ", "try-changes ", "try-tutorial "]
+BEFORE += ["try-report ", "try-parallel ", "try-streams ", "try-capi "]
 BEFORE += ["refused-growths "]
 PARTS = [*(it.split()[0] for it in BEFORE), "wrong-bodies"]
+# What all parts but the wrong bodies pass where each says so of 2 checks.
+ALL = 2 * len(BEFORE)
 TRIED = """\
 wrong bodies: 3 of 9 were tried; the others were not, for want of time
 3 passed, 0 failed
@@ -87,14 +89,14 @@ class Whole(unittest.TestCase):
     def test_without_minutes_nothing_is_ended_and_all_wrong_bodies_are_tried(self):
         status, lines, calls = self.run_test()
         self.assertEqual(status, 0)
-        self.assertEqual(lines[-1], "27 passed, 0 failed")
+        self.assertEqual(lines[-1], f"{ALL + 3} passed, 0 failed")
         self.assertEqual(sorted(calls), sorted([*BEFORE, "wrong-bodies "]))
 
     def test_with_minutes_wrong_bodies_come_last_and_fill_what_is_left(self):
         self.part("rt", 60 * 100, "2 passed, 0 failed\n")
         status, lines, calls = self.run_test("--minutes", "150")
         self.assertEqual(status, 0)
-        self.assertEqual(lines[-2:], [TRIED.splitlines()[0], "27 passed, 0 failed"])
+        self.assertEqual(lines[-2:], [TRIED.splitlines()[0], f"{ALL + 3} passed, 0 failed"])
         parts = [it for it in calls if not it.startswith("timeout")]
         self.assertEqual(parts, [*BEFORE, "wrong-bodies --minutes 48"])
         self.assertIn(f"timeout {60 * 150 - 90}", calls)
@@ -109,7 +111,7 @@ class Whole(unittest.TestCase):
         status, lines, calls = self.run_test("--minutes", "150")
         self.assertEqual(status, 1)
         self.assertTrue(any("rt ci was not done in 150 minutes" in it for it in lines))
-        self.assertTrue(lines[-1].startswith("3 passed, 12 failed (within env RT_JOBS="))
+        self.assertTrue(lines[-1].startswith(f"3 passed, {len(BEFORE)} failed (within env RT_JOBS="))
         self.assertTrue(lines[-2].startswith("failed: within scripts/refused-growths: "))
         self.assertEqual(calls[-1], "wrong-bodies --minutes 0")
 
@@ -130,14 +132,14 @@ class Whole(unittest.TestCase):
         tried = "wrong bodies: 9 of 9 were tried"
         self.part("wrong-bodies", 0, f"{told}\n{tried}\n8 passed, 1 failed\n")
         status, lines, _ = self.run_test("--minutes", "150")
-        last = "32 passed, 1 failed (wrong body acl_names/one: NOT REFUSED)"
+        last = f"{ALL + 8} passed, 1 failed (wrong body acl_names/one: NOT REFUSED)"
         self.assertEqual((status, lines[-3:]), (1, [tried, told, last]))
 
     def test_a_part_that_does_not_say_what_failed_is_named(self):
         self.part("layout", 0, "1 passed, 2 failed\n")
         status, lines, _ = self.run_test()
         told = "within scripts/layout: 1 passed, 2 failed"
-        self.assertEqual((status, lines[-2:]), (1, [f"failed: {told}", f"26 passed, 2 failed ({told})"]))
+        self.assertEqual((status, lines[-2:]), (1, [f"failed: {told}", f"{ALL + 2} passed, 2 failed ({told})"]))
 
     def test_wrong_usage_runs_nothing(self):
         option = "--minutes"

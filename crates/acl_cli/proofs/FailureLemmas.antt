@@ -1,5 +1,5 @@
 -- Failures, by their kinds.
-use Rattle.std.proofs.Common.{◌≡◌, ◌≢◌, ◌≤◌, ◌⊎◌, ◌∙◌, ◌&&◌, [], ℕ, Bool, false, true, ap, List, Result, Err, arith, inl, inr, refl, subst, sym}
+use Rattle.std.proofs.Common.{◌≡◌, ◌≢◌, ◌⊎◌, ◌∙◌, ◌&&◌, [], ℕ, Bool, false, true, ap, List, Result, Err, arith, inl, inr, refl, subst, sym}
 use Rattle.std.proofs.lemmas.Bool.{true≢false}
 use Rattle.clap.specs.Words.{HasKind, IsAmong, Kinds, kind_of}
 use Rattle.clap.specs.declared.error.Error.{Error}
@@ -7,7 +7,7 @@ use Rattle.clap.specs.declared.error.kind.ErrorKind.{ErrorKind}
 use Rattle.clap.specs.declared.error.kind.ErrorKind.TheVariants.{OutOfMemory}
 use Rattle.acl_cli.specs.Failures.{AsksForHelp, BecomesFailure, Explains, IsRefusal, IsUnexplained, is_help, status_of}
 use Rattle.acl_cli.specs.declared.failure.Failure.{Failure}
-use Rattle.acl_cli.specs.declared.failure.Failure.TheVariants.{Accounts, BadWords, CannotRead, Field, InputTwice, Lacks, LineTooLong, Mismatch, NoCommand, Setup, TooManySessions, TooManyWords, Unread, Usage}
+use Rattle.acl_cli.specs.declared.failure.Failure.TheVariants.{Accounts, BadWords, CannotRead, Field, InputTwice, Lacks, LineTooLong, Mismatch, NoCommand, NoFile, Setup, TooManySessions, TooManyWords, Unread, Usage}
 use Rattle.acl_cli.specs.declared.field_fault.FieldFault.{FieldFault}
 use Rattle.acl_cli.specs.declared.run_fault.RunFault.TheVariants.{Memory, NoThread, Output, Stopped}
 
@@ -28,26 +28,10 @@ Explains-as reading other turned (Accounts name fault) is = absurd is
 Explains-as reading other turned (CannotRead name reason) is = absurd is
 Explains-as reading other turned LineTooLong is = absurd is
 Explains-as reading other turned (Unread name) is = absurd is
+Explains-as reading other turned (NoFile name path) is = absurd is
 Explains-as reading other turned NoCommand is = absurd is
 Explains-as reading other turned BadWords is = absurd is
 Explains-as reading other turned TooManyWords is = absurd is
-
--- each has a status of its own
-pub bounds : (failure : Failure) → (1 ≤ status_of failure) × (status_of failure ≤ 3)
-bounds (Field fault) = (omega arith, omega arith)
-bounds (Lacks lack) = (omega arith, omega arith)
-bounds (Usage error) = (omega arith, omega arith)
-bounds InputTwice = (omega arith, omega arith)
-bounds (Mismatch mismatch) = (omega arith, omega arith)
-bounds TooManySessions = (omega arith, omega arith)
-bounds (Setup error) = (omega arith, omega arith)
-bounds (Accounts name fault) = (omega arith, omega arith)
-bounds (CannotRead name reason) = (omega arith, omega arith)
-bounds LineTooLong = (omega arith, omega arith)
-bounds (Unread name) = (omega arith, omega arith)
-bounds NoCommand = (omega arith, omega arith)
-bounds BadWords = (omega arith, omega arith)
-bounds TooManyWords = (omega arith, omega arith)
 
 -- the parser's error has one of the kinds, unless memory ran out
 among : (kinds : Kinds) (error : Error) → HasKind kinds error → (kind_of error ≡ OutOfMemory → ⊥) → IsAmong (kind_of error) kinds
@@ -77,6 +61,7 @@ refusal_of helps kinds error (Accounts name fault) has no_help becomes = absurd 
 refusal_of helps kinds error (CannotRead name reason) has no_help becomes = absurd becomes
 refusal_of helps kinds error LineTooLong has no_help becomes = absurd becomes
 refusal_of helps kinds error (Unread name) has no_help becomes = absurd becomes
+refusal_of helps kinds error (NoFile name path) has no_help becomes = absurd becomes
 refusal_of helps kinds error NoCommand has no_help becomes = absurd becomes
 refusal_of helps kinds error BadWords has no_help becomes = absurd becomes
 refusal_of helps kinds error TooManyWords has no_help becomes = absurd becomes
@@ -97,6 +82,7 @@ IsUnexplained-as IsName IsOther as_other (Setup error) is = absurd is
 IsUnexplained-as IsName IsOther as_other (Accounts name fault) is = absurd is
 IsUnexplained-as IsName IsOther as_other LineTooLong is = absurd is
 IsUnexplained-as IsName IsOther as_other (Unread name) is = absurd is
+IsUnexplained-as IsName IsOther as_other (NoFile name path) is = absurd is
 IsUnexplained-as IsName IsOther as_other NoCommand is = absurd is
 IsUnexplained-as IsName IsOther as_other BadWords is = absurd is
 IsUnexplained-as IsName IsOther as_other TooManyWords is = absurd is
@@ -113,6 +99,7 @@ unexplained_not_two IsName (Setup error) is two = absurd is
 unexplained_not_two IsName (Accounts name fault) is two = absurd is
 unexplained_not_two IsName LineTooLong is two = absurd is
 unexplained_not_two IsName (Unread name) is two = absurd is
+unexplained_not_two IsName (NoFile name path) is two = absurd is
 unexplained_not_two IsName (Lacks Memory) is two = absurd (omega (arith, two))
 unexplained_not_two IsName (Lacks Output) is two = absurd is
 unexplained_not_two IsName (Lacks Stopped) is two = absurd is
@@ -136,6 +123,7 @@ refusal_status helps kinds (Setup error) is = absurd is
 refusal_status helps kinds (Accounts name fault) is = absurd is
 refusal_status helps kinds LineTooLong is = absurd is
 refusal_status helps kinds (Unread name) is = absurd is
+refusal_status helps kinds (NoFile name path) is = absurd is
 refusal_status helps kinds (Lacks Memory) is = inl refl
 refusal_status helps kinds (Lacks Output) is = inl refl
 refusal_status helps kinds (Lacks Stopped) is = absurd is

@@ -2,10 +2,9 @@ pub mod OutputLemmas
 pub mod ErrorLemmas
 pub mod LineLemmas
 pub mod CommandLemmas
-pub mod MeaningLemmas
 pub mod FailureLemmas
 pub mod SessionFileLemmas
 pub mod PiecesLemmas
 pub mod TellingLemmas
+pub mod ToldLemmas
 pub mod CommandsLemmas
-pub mod PlainLemmas

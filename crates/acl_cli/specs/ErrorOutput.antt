@@ -1,6 +1,6 @@
 -- What goes to standard error.
-use Rattle.std.specs.Prelude.{◌≡◌, ◌≢◌, ◌++◌, ◌∷◌, [], ℕ, Bool, false, true, List, Option, IfSome}
-use Rattle.std.specs.Prelude.{codes, decimal}
+use Rattle.std.specs.Prelude.{◌≡◌, ◌++◌, ◌∷◌, [], ℕ, Bool, false, true, List, Option, codes}
+use Rattle.std.specs.Prelude.{decimal}
 use Rattle.std.specs.Io.KnownBytes.{Appends}
 use Rattle.acl_names.specs.Bytes.{newline}
 use Rattle.acl_cli.specs.Output.{AppendsFront}
@@ -25,17 +25,3 @@ pub record Tells (text : List ℕ) (old new : ErrorText) : Type 0 where
   pub front : AppendsFront old.contents new.contents text
   pub stopped : old.has_failed ≡ true → new ≡ old
   pub none : text ≡ [] → new ≡ old
-
--- a command of this exit status told what it has to say: nothing beside an answer, and else a line,
--- if it isn't the parser's
-pub record Reports (Says : ℕ → Option (List ℕ) → Type 0) (status : ℕ) (old new : ErrorText) : Type 0
-  where
-    pub silent : status ≡ 0 → new ≡ old
-    pub told : status ≢ 0 → (line : Option (List ℕ)) × Says status line
-        × IfSome line (λ text. Tells text old new)
-
--- a status and a line are those of a fault that there is
-abbrev pub SaysFault : {F : Type 0} → (F → ℕ) → (F → Option (List ℕ)) → (F → Type 0) → ℕ
-    → Option (List ℕ) → Type 0
-SaysFault status_of line_of IsFault status line =
-    (fault : _) × IsFault fault × (status ≡ status_of fault) × (line ≡ line_of fault)

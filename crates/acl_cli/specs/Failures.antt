@@ -18,6 +18,7 @@ use Rattle.acl_cli.specs.declared.failure.Failure.{Failure}
 use Rattle.acl_cli.specs.declared.failure.Failure.TheVariants.{Usage, Field, InputTwice, CannotRead}
 use Rattle.acl_cli.specs.declared.failure.Failure.TheVariants.{LineTooLong, Unread, Lacks}
 use Rattle.acl_cli.specs.declared.failure.Failure.TheVariants.{NoCommand, BadWords, TooManyWords}
+use Rattle.acl_cli.specs.declared.failure.Failure.TheVariants.{NoFile}
 use Rattle.acl_cli.specs.declared.failure.Failure.TheVariants.{Mismatch, TooManySessions}
 use Rattle.acl_cli.specs.declared.failure.Failure.TheVariants.{Setup, Accounts}
 use Rattle.acl_cli.specs.declared.field_fault.FieldFault.{FieldFault}
@@ -38,6 +39,7 @@ status_of (Setup error) = 1
 status_of (Accounts name fault) = 1
 status_of LineTooLong = 1
 status_of (Unread name) = 3
+status_of (NoFile name path) = 1
 status_of (Lacks lack) = 3
 status_of NoCommand = 2
 status_of BadWords = 2
@@ -68,6 +70,7 @@ words_of (Setup error) = Some (codes "setup: " ++ setup_error_words error)
 words_of (Accounts name fault) = Some (name.now ++ accounts_fault_words fault)
 words_of LineTooLong = Some (codes "dump: line too long")
 words_of (Unread name) = Some (codes "cannot read " ++ name.now)
+words_of (NoFile name path) = Some (name.now ++ codes ": no such file: " ++ path.now)
 words_of (Lacks lack) = Some (codes "run: " ++ run_fault_words lack)
 words_of NoCommand = Some (codes "no command")
 words_of BadWords = Some (codes "bad words")

@@ -7,7 +7,5 @@ pub mod Faults
 pub mod Failures
 pub mod Fields
 pub mod SessionFiles
-pub mod Meaning
 pub mod Commands
 pub mod Telling
-pub mod Plain

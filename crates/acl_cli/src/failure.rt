@@ -34,6 +34,8 @@ pub enum Failure<'a> {
     LineTooLong,
     /// What has this name failed while it was read, and part of the answer may be written.
     Unread(&'a str),
+    /// The listing of the first name has no file of this path.
+    NoFile(&'a str, &'a str),
     /// Something lacks.
     Lacks(RunFault),
     /// There is no word, or the first names no command.
@@ -61,7 +63,7 @@ impl<'a> Failure<'a> {
     {
         match self {
             Failure::Field(_) | Failure::CannotRead(_, _) | Failure::LineTooLong => 1,
-            Failure::Setup(_) | Failure::Accounts(_, _) => 1,
+            Failure::Setup(_) | Failure::Accounts(_, _) | Failure::NoFile(_, _) => 1,
             Failure::Unread(_) | Failure::Lacks(_) => 3,
             _ => 2,
         }
@@ -86,6 +88,7 @@ impl<'a> Failure<'a> {
             Failure::Accounts(name, fault) => tell_accounts(name, *fault, err),
             Failure::LineTooLong => err.write_line("dump: line too long", ""),
             Failure::Unread(name) => err.write_line("cannot read ", name),
+            Failure::NoFile(name, path) => err.write_named(name, ": no such file: ", path),
             Failure::Lacks(lack) => err.write_line("run: ", lack.words()),
             Failure::NoCommand => err.write_line("no command", ""),
             Failure::BadWords => err.write_line("bad words", ""),

@@ -3,7 +3,6 @@
 #![tactic(auto)]
 
 mod command;
-mod command_fault;
 mod command_line;
 mod error_output;
 mod failure;
@@ -17,16 +16,13 @@ pub mod options;
 mod output;
 mod perms;
 mod pieces;
-mod query_fault;
 mod reason;
 mod run_fault;
 pub mod session_files;
 mod telling;
-mod usage;
 mod words;
 
 pub use command::{Command, Ending, run_command};
-pub use command_fault::{CommandFault, report};
 pub use command_line::{CommandLine, parse};
 pub use error_output::ErrorOutput;
 pub use failure::Failure;
@@ -37,7 +33,6 @@ pub use open_files::OpenFiles;
 pub use output::write_text;
 pub use perms::{optional_perms_field, perms_field};
 pub use pieces::send_full;
-pub use query_fault::QueryFault;
 pub use reason::Reason;
 pub use run_fault::RunFault;
 pub use telling::{Telling, tell_each};

@@ -1,10 +1,8 @@
 //! Why a valid command failed.
 ghost use Rattle.std.specs.Prelude.{◌≡◌, Some};
 
-use crate::{CommandFault, ErrorOutput};
 use std::alloc::AllocError;
-use std::fmt;
-use std::io::{self, Write};
+use std::{fmt, io};
 use thiserror::Error;
 
 /// What a run lacked. It is shown by the words that follow `aclctl: run: ` on the fault line.
@@ -43,22 +41,6 @@ impl fmt::Display for RunFault {
 
     fn fmt<W: fmt::Write>(&self, f: &mut fmt::Formatter<W>) -> fmt::Result {
         f.write_str(self.words())
-    }
-}
-
-impl CommandFault for RunFault {
-    ghost use Rattle.acl_cli.specs.RunFaults.{run_line, run_status};
-
-    ghost status_of = { run_status };
-
-    ghost line_of = { run_line };
-
-    fn status(&self) -> u8 {
-        3
-    }
-
-    fn tell<E: Write + Drop>(&self, err: &mut ErrorOutput<E>) {
-        err.write_line("run: ", self.words());
     }
 }
 

@@ -1,11 +1,12 @@
-//! Answers that are told thing by thing, and written in pieces.
-ghost use Rattle.std.specs.Prelude.{◌≡◌, ◌++◌, ◌⊎◌, ℕ, IfErr, IfOk, List, [], OnErr, OnOk};
+//! Answers that are told thing by thing, and written in pieces; and whether there is one.
+ghost use Rattle.std.specs.Prelude.{◌≡◌, ◌++◌, ◌⊎◌, ◌||◌, ℕ, IfErr, IfOk, List, [], OnErr};
+ghost use Rattle.std.specs.Prelude.{OnOk, nat_lt, not};
 ghost use Rattle.std.specs.Bool.{MatchBool};
 ghost use Rattle.std.specs.Io.KnownBytes.{Appends};
 ghost use Rattle.acl_cli.specs.ErrorOutput.{Tells as GoesTo};
 ghost use Rattle.acl_cli.specs.Failures.{failed_write};
 ghost use Rattle.acl_cli.specs.Output.{AppendsFront};
-ghost use Rattle.acl_cli.specs.Telling.{LeadsOn};
+ghost use Rattle.acl_cli.specs.Telling.{LeadsOn, is_empty};
 ghost use Rattle.acl_cli.specs.declared.command.Ending.{Ending};
 ghost use Rattle.acl_cli.specs.declared.failure.Failure.{Failure as FailureValue};
 
@@ -48,18 +49,26 @@ pub trait Telling<'n> {
         ensures stays { (failure : FailureValue) → Fails self.new failure → Fails self.old failure };
 }
 
-/// Writes all that is told, in pieces of some 64 KiB, and what stands beside it at once. If it
-/// fails, or a write does, what is told of the first things went out: a front of the answer, and
-/// all that stands beside it.
+/// Whether something was told, or now is: a text of so many bytes has so many now.
+fn told_more(some: bool, kept: usize, now: usize) -> bool
+    ensures { result ≡ (some || nat_lt kept now) }
+{
+    some || now > kept
+}
+
+/// Writes all that is told, in pieces of some 64 KiB, and what stands beside it at once. Returns
+/// whether anything is told. If it fails, or a write does, what is told of the first things went
+/// out: a front of the answer, and all that stands beside it.
 pub fn tell_each<'n, T: Telling<'n>, W: Write, E: Write + Drop>(
     alloc: Global,
     telling: &mut T,
     out: &mut W,
     err: &mut ErrorOutput<E>,
-) -> Result<(), Failure<'n>>
+) -> Result<bool, Failure<'n>>
     requires { T.Begins telling.old [] [] }
-    ensures written { OnOk result ((text : List ℕ) × (said : List ℕ) × T.Tells telling.old text said
-        × Appends (W.contents out.old) (W.contents out.new) text × GoesTo said err.old err.new) }
+    ensures written { IfOk result (λ some. (text : List ℕ) × (said : List ℕ)
+        × T.Tells telling.old text said × Appends (W.contents out.old) (W.contents out.new) text
+        × GoesTo said err.old err.new × (some ≡ not (is_empty text))) }
     ensures cut { OnErr result ((text : List ℕ) × (said : List ℕ) × T.Begins telling.old text said
         × AppendsFront (W.contents out.old) (W.contents out.new) text
         × GoesTo said err.old err.new) }
@@ -71,11 +80,15 @@ pub fn tell_each<'n, T: Telling<'n>, W: Write, E: Write + Drop>(
 {
     let mut text = Vec::new(alloc);
     let mut beside = Vec::new(alloc);
+    let mut some = false;
     for _ in 0..u64::MAX {
+        let kept = text.len();
         if !telling.tell_next(alloc, &mut text, &mut beside)? {
             write_text(text.as_slice(), out)?;
-            return Ok(());
+            return Ok(some);
         }
+        let now = text.len();
+        some = told_more(some, kept, now);
         err.write_text(beside.as_slice());
         beside.clear();
         send_full(&mut text, out)?;

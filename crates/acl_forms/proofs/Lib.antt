@@ -3,3 +3,4 @@ pub mod FormReads
 pub mod MarksAgain
 pub mod FormAgain
 pub mod FormShapeLemmas
+pub mod NamedLemmas

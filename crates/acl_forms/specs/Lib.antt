@@ -5,3 +5,5 @@ pub mod FormViews
 pub mod EntriesFault
 pub mod Forms
 pub mod PrintedForm
+pub mod NamedEntries
+pub mod ShortForm

@@ -6,11 +6,15 @@ mod fields;
 mod form;
 mod laws;
 mod marks;
+mod named;
 mod printing;
 mod reading;
+mod short;
 mod tags;
 
 pub use form::{Form, form_of};
 pub use laws::entries_have_shapes;
+pub use named::{NamedEntryReader, read_entries_by};
 pub use printing::{Places, print_entries, push_entry};
 pub use reading::{EntryReader, read_entries, read_entry};
+pub use short::push_short_entry;

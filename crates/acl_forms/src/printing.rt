@@ -103,7 +103,11 @@ pub fn push_entry(
     push_colon_and_type(ace.kind(), out)
 }
 
-fn push_colon_and_perms(places: Places, mask: Mask, out: &mut Vec<u8>) -> Result<(), AllocError>
+pub(crate) fn push_colon_and_perms(
+    places: Places,
+    mask: Mask,
+    out: &mut Vec<u8>,
+) -> Result<(), AllocError>
     ensures { PushesInRoom (colon ∷ marks_text places perm_table (mask_bits mask)) result out.old
         out.new }
 {
@@ -111,7 +115,11 @@ fn push_colon_and_perms(places: Places, mask: Mask, out: &mut Vec<u8>) -> Result
     push_perms(places, mask, out)
 }
 
-fn push_colon_and_flags(places: Places, flags: Flags, out: &mut Vec<u8>) -> Result<(), AllocError>
+pub(crate) fn push_colon_and_flags(
+    places: Places,
+    flags: Flags,
+    out: &mut Vec<u8>,
+) -> Result<(), AllocError>
     ensures { PushesInRoom (colon ∷ marks_text places mark_table (marks_of_flags (flag_bits flags)))
         result out.old out.new }
 {
@@ -119,7 +127,7 @@ fn push_colon_and_flags(places: Places, flags: Flags, out: &mut Vec<u8>) -> Resu
     push_flags(places, flags, out)
 }
 
-fn push_colon_and_type(kind: AceType, out: &mut Vec<u8>) -> Result<(), AllocError>
+pub(crate) fn push_colon_and_type(kind: AceType, out: &mut Vec<u8>) -> Result<(), AllocError>
     ensures { PushesInRoom (colon ∷ type_text kind) result out.old out.new }
 {
     out.push(b':')?;

@@ -87,7 +87,7 @@ pub(crate) fn read_type(text: &[u8]) -> Option<AceType>
     }
 }
 
-fn refuse_idle(ace: Ace) -> Result<Ace, PieceFault>
+pub(crate) fn refuse_idle(ace: Ace) -> Result<Ace, PieceFault>
     ensures { result ≡ refuse_idle ace }
 {
     if ace.is_idle() {
@@ -118,7 +118,7 @@ pub fn read_entries(alloc: Global, text: &[u8], directory: &Directory) -> Result
 }
 
 /// The list of these entries.
-fn list_of(alloc: Global, aces: &[Ace]) -> Result<Acl4, AceFault>
+pub(crate) fn list_of(alloc: Global, aces: &[Ace]) -> Result<Acl4, AceFault>
     requires { AreAces aces.now }
     ensures list { IfOk result (λ acl. acl ≡ aces.now) }
     ensures fault { IfErr result (λ fault. fault ≡ Memory) }
@@ -133,7 +133,7 @@ fn list_of(alloc: Global, aces: &[Ace]) -> Result<Acl4, AceFault>
     Ok(acl)
 }
 
-fn text_fault(fault: ListFault<PieceFault>) -> AceFault
+pub(crate) fn text_fault(fault: ListFault<PieceFault>) -> AceFault
     ensures { list_fault result ≡ fault }
 {
     match fault {

@@ -1,20 +1,18 @@
 -- What came of files that are looked at.
-use Rattle.std.proofs.Common.{◌≡◌, ◌⊎◌, [], ℕ, false, List, Option, OnErr, OnOk, Result, Ok, Err, Vec, Global, ap, arith, inl, inr, refl}
+use Rattle.std.proofs.Common.{◌≡◌, ◌⊎◌, [], ℕ, List, Option, OnErr, OnOk, Result, Ok, Err, Vec, Global, ap, arith, inl, inr, refl}
 use Rattle.std.proofs.Math.Logic.{⊎_map}
 use Rattle.std.specs.Io.KnownBytes.{Appends, Keeps}
 use Rattle.clap.specs.Words.{Row, Text}
-use Rattle.acl_cli.specs.Commands.{Answer, Comes, of_words}
+use Rattle.acl_cli.specs.Commands.{Answer, Comes}
 use Rattle.acl_cli.specs.ErrorOutput.{ErrorText}
 use Rattle.acl_cli.specs.Failures.{status_of}
 use Rattle.acl_cli.specs.Output.{AppendsFront}
-use Rattle.acl_cli.specs.Plain.{AnswersByText}
 use Rattle.acl_cli.specs.SessionFiles.{HasBytes, HaveBytes, input_count, setup_in}
 use Rattle.acl_cli.specs.declared.command.Ending.TheVariants.{Answered}
 use Rattle.acl_cli.specs.declared.failure.Failure.{Failure}
 use Rattle.acl_cli.proofs.TellingLemmas.{Tells-nothing}
 use Rattle.acl_service.specs.RunWords.{CanRun, sessions_in}
 use Rattle.acl_lint.specs.LintAnswer.{AnswersRows, IsAnswerLack, IsLint, lint_meaning}
-use Rattle.acl_lint.specs.LintLine.{lint_line}
 
 -- what an answer lacks has the status 3
 late : (failure : Failure) → IsAnswerLack failure → status_of failure ≡ 3
@@ -56,14 +54,6 @@ module _ {I : Type 0} (bytes_of : Text → Option (List ℕ)) (start : Option (L
     untouched = untouched;
     unread = λ two. absurd (omega (arith, two, late failure lack));
   }
-
--- `lint` answers with a text alone
-pub answers_by_text : (bytes_of : Text → Option (List ℕ)) (input : Option (List ℕ)) (words : List Text)
-    → AnswersByText (of_words lint_line false (lint_meaning bytes_of input) words)
-answers_by_text bytes_of input words answer (inl (inl (is, asks, quiet, whole))) = (quiet, whole)
-answers_by_text bytes_of input words answer (inl (inr (taken, answered))) = (answered.quiet, answered.whole)
-answers_by_text bytes_of input words answer (inr (inl (is, asks, quiet, whole))) = (quiet, whole)
-answers_by_text bytes_of input words answer (inr (inr (taken, answered))) = (answered.quiet, answered.whole)
 
 -- what is so where it failed, and where it didn't
 pub on_err : {T E : Type 0} (result : Result T E) (P : Type 0) → P → OnErr result P

@@ -1,5 +1,4 @@
 pub mod AnswerLemmas
-pub mod FileLemmas
 pub mod FilledLemmas
 pub mod LawLemmas
 pub mod PieceLemmas

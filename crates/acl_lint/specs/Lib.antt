@@ -2,6 +2,5 @@ pub mod LintLine
 pub mod Places
 pub mod LintText
 pub mod SetupPlace
-pub mod LintFiles
 pub mod LintAnswer
 pub mod LintLaws

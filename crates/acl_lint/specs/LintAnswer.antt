@@ -9,6 +9,7 @@ use Rattle.acl_tree.specs.Tree.{NodesUnderUmask}
 use Rattle.acl_cli.specs.Commands.{Answer, Meaning}
 use Rattle.acl_cli.specs.Failures.{failed_write, out_of_memory}
 use Rattle.acl_setup.specs.Opened.{Opens}
+use Rattle.acl_service.specs.Files.{IsFilesFailure}
 use Rattle.acl_service.specs.RunWords.{CanRun, sessions_in}
 use Rattle.acl_cli.specs.SessionFiles.{HasBytes, HaveBytes, input_count, setup_in}
 use Rattle.acl_cli.specs.declared.command.Ending.TheVariants.{Answered}
@@ -16,7 +17,6 @@ use Rattle.acl_cli.specs.declared.failure.Failure.{Failure}
 use Rattle.acl_setup.specs.SetupFaults.{setup_error_words}
 use Rattle.acl_setup.specs.Opened.{IsRefusedBy}
 use Rattle.acl_setup.specs.declared.fault.SetupError.{SetupError}
-use Rattle.acl_lint.specs.LintFiles.{IsFilesFailure}
 use Rattle.acl_lint.specs.LintText.{sessions_text}
 use Rattle.acl_lint.specs.SetupPlace.{setup_place}
 

@@ -4,7 +4,6 @@
 
 mod answer;
 mod command_line;
-mod files;
 mod laws;
 mod line;
 mod lint_command;

@@ -1,9 +1,9 @@
 //! The command `lint`.
 
 use crate::answer::write_answer;
-use crate::files::{read_files, session_names};
 use acl_cli::session_files::setup_field;
 use acl_cli::{Command, Ending, ErrorOutput, Failure, OpenFiles};
+use acl_service::{read_texts, session_names};
 use clap::ArgMatches;
 use std::alloc::Global;
 use std::io::{Read, Write};
@@ -25,25 +25,26 @@ use std::io::{Read, Write};
 /// from 1, if that is the fault, as `3 user:bob:rwz`; an empty piece is told as `-`. For a place
 /// that there is not there is `-`.
 ///
-/// It is written in pieces of some 64 KiB. What is wrong with the words or the files goes to `err`,
-/// and so does help; a fault while writing there changes nothing.
+/// It is written in pieces of some 64 KiB. What is wrong with the words or the files goes to `err`;
+/// a fault while writing there changes nothing.
 ///
-/// The exit status is 0 with the answer, whatever it is; 1 if a file can't be opened or
-/// read or is too long; 2 if the parser of command lines refuses the words, or there are more than
-/// 64 sessions or two of them `-`, before any file is opened; and 3 if memory runs out or `out`
-/// can't be written. At 1 and 2 nothing was written, and at 3 nothing or a front of the answer.
+/// The exit status is 0 with the answer, whatever it is, and with help; 1 if a file can't be opened
+/// or read or is too long; 2 if the parser of command lines refuses the words, or there are more
+/// than 64 sessions or two of them `-`, before any file is opened; and 3 if memory runs out or
+/// `out` can't be written. At 1 and 2 nothing was written, and at 3 nothing or a front of the
+/// answer.
 pub struct Lint;
 
 impl Command for Lint {
-    ghost use Rattle.std.specs.Prelude.{false};
+    ghost use Rattle.std.specs.Prelude.{true};
     ghost use Rattle.acl_lint.specs.LintAnswer.{lint_meaning};
 
     ghost meaning = { lint_meaning };
 
-    ghost helps = { false };
+    ghost helps = { true };
 
     fn answers_help() -> bool {
-        false
+        true
     }
 
     fn answer<'a, F: OpenFiles, I: Read, W: Write, E: Write + Drop>(
@@ -57,7 +58,7 @@ impl Command for Lint {
     ) -> Result<Ending, Failure<'a>> {
         let setup = setup_field(matches);
         let names = session_names(matches);
-        let texts = read_files(alloc, files, input, setup, names)?;
+        let texts = read_texts(alloc, files, input, setup, names)?;
         write_answer(alloc, setup, names, &texts, out)?;
         Ok(Ending::Answered)
     }

@@ -52,6 +52,7 @@ text_refusal known whole file name files among longer failure.TooManySessions is
 text_refusal known whole file name files among longer (failure.Setup error) is = absurd is
 text_refusal known whole file name files among longer failure.LineTooLong is = absurd is
 text_refusal known whole file name files among longer (failure.Unread unread) is = absurd is
+text_refusal known whole file name files among longer (failure.NoFile unread path) is = absurd is
 text_refusal known whole file name files among longer failure.NoCommand is = absurd is
 text_refusal known whole file name files among longer failure.BadWords is = absurd is
 text_refusal known whole file name files among longer failure.TooManyWords is = absurd is

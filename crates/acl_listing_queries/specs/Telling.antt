@@ -1,6 +1,6 @@
 -- How a listing is told, block by block. Private steps, which no public clause cites.
 use Rattle.std.specs.Prelude.{◌≡◌, ⊤, ℕ, Bool, true, false, List, [], ◌++◌, Option, IfSome}
-use Rattle.std.specs.Prelude.{Result, Ok, Err, if◌then◌else◌}
+use Rattle.std.specs.Prelude.{Result, Ok, Err}
 use Rattle.acl_names.specs.Names.{Names}
 use Rattle.acl_cli.specs.declared.command.Ending.{Ending}
 use Rattle.acl_cli.specs.declared.failure.Failure.{Failure}

@@ -1,12 +1,15 @@
 //! What is told of a listing, block by block.
-ghost use Rattle.std.specs.Prelude.{◌≡◌, ◌++◌, ◌∷◌, ◌⊎◌, ℕ, IfErr, IfOk, List, [], OnErr, OnOk};
+ghost use Rattle.std.specs.Prelude.{◌≡◌, ◌+◌, ◌++◌, ◌∷◌, ◌⊎◌, ℕ, IfErr, IfOk, List, [], OnErr};
+ghost use Rattle.std.specs.Prelude.{OnOk, codes, decimal};
 ghost use Rattle.std.specs.Bool.{MatchBool};
 ghost use Rattle.acl_cli.specs.Commands.{FrontWentOut, NothingWentOut, WentOut};
+ghost use Rattle.acl_cli.specs.ErrorOutput.{line_of_words};
 ghost use Rattle.acl_cli.specs.Failures.{failed_write};
 ghost use Rattle.acl_listings.specs.Cursor.{HandsOut, IsOver};
+ghost use Rattle.acl_listings.specs.Shown.{shown};
 ghost use Rattle.acl_listing_queries.specs.Host.{names_of_host};
 ghost use Rattle.acl_listing_queries.specs.Listed.{AnswersListing, BeginsListing, IsFaultLine};
-ghost use Rattle.acl_listing_queries.specs.Listed.{Part};
+ghost use Rattle.acl_listing_queries.specs.Listed.{Part, fault_words};
 ghost use Rattle.acl_listing_queries.specs.Telling.{IsItemDone, IsItemTold, IsListingFailure};
 ghost use Rattle.acl_listing_queries.specs.Telling.{IsPart, UnlessMemory};
 
@@ -47,9 +50,32 @@ pub(crate) struct Listing<'n, 't, T: BlockTeller + Drop, R: Read + Drop> {
     closed: bool,
 }
 
+/// Appends the line of a block whose first line has this number, at its line that is at fault,
+/// before which so many stand.
+pub(crate) fn push_fault_at<'n>(
+    name: &'n str,
+    line: u64,
+    before: usize,
+    fault: BlockFault,
+    faulty: &[u8],
+    out: &mut Vec<u8>,
+) -> Result<(), Failure<'n>>
+    ensures said { OnOk result (out.new.items ≡ out.old.items ++ line_of_words (name.entry.now
+        ++ codes ":" ++ decimal (line + before) ++ codes ": " ++ fault_words fault ++ codes ": "
+        ++ shown faulty.now)) }
+    ensures failed { IfErr result (IsListingFailure name.entry.now) }
+{
+    let Some(place) = line.checked_add(before as u64) else {
+        // No listing has so many lines.
+        return Err(Failure::Unread(name));
+    };
+    push_fault_line(name, place, fault, faulty, out)?;
+    Ok(())
+}
+
 /// Appends the line of the block with this text, whose first line has this number, and of which
 /// nothing is known.
-fn push_fault<'n>(
+pub(crate) fn push_fault<'n>(
     name: &'n str,
     host: &Host,
     line: u64,
@@ -63,12 +89,7 @@ fn push_fault<'n>(
     ensures failed { IfErr result (IsListingFailure name.entry.now) }
 {
     let (before, faulty) = faulty_line(text, fault, host);
-    let Some(place) = line.checked_add(before as u64) else {
-        // No listing has so many lines.
-        return Err(Failure::Unread(name));
-    };
-    push_fault_line(name, place, fault, faulty, out)?;
-    Ok(())
+    push_fault_at(name, line, before, fault, faulty, out)
 }
 
 /// Appends what is told of the block with this text, or what is said of it, and returns what is

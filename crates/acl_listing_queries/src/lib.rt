@@ -2,17 +2,31 @@
 //! no setup, in answers that scripts can trust.
 #![tactic(auto)]
 
+mod above;
+mod advance;
+mod between;
 mod blocks;
 mod everyone;
+mod files;
 mod host;
+mod impact;
+mod laws;
 mod lines;
 mod named;
-mod options;
+pub mod options;
 mod people;
 mod person;
+mod restore;
 mod tally;
+mod translate;
 mod who;
+mod why;
 mod written;
 
 pub use host::Host;
-pub use who::WhoOfListing;
+pub use impact::{IMPACT_ANSWERS, ImpactOfListings};
+pub use laws::way_laws;
+pub use restore::{Restore, restore_brings_back};
+pub use translate::{Translate, translations_are_read_again, translations_decide_alike};
+pub use who::{WHO_ANSWERS, WhoOfListing};
+pub use why::Why;

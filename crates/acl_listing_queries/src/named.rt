@@ -14,7 +14,7 @@ use std::alloc::Global;
 use std::io::{Read, Write};
 
 /// The name of standard input.
-const INPUT: &str = "-";
+pub(crate) const INPUT: &str = "-";
 
 /// The name of the listing that the words give.
 pub(crate) fn listing_field<'a>(matches: &ArgMatches<'a>) -> &'a str

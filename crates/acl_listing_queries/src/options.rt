@@ -1,14 +1,14 @@
 //! Options of questions of listings, as the parser of command lines is told of them.
 ghost use Rattle.std.specs.Prelude.{◌≡◌, codes, false};
 ghost use Rattle.clap.specs.Words.{rule_of};
-ghost use Rattle.acl_cli.specs.CommandLine.{optional_option, repeated_option};
+ghost use Rattle.acl_cli.specs.CommandLine.{flag, optional_option, repeated_option};
 
-use acl_cli::options::{optional_option, repeated_option};
+use acl_cli::options::{flag, optional_option, repeated_option};
 use clap::Arg;
 use std::alloc::Global;
 
 /// The option `--accounts`: who there is.
-pub(crate) fn accounts_option<'a>(alloc: Global) -> Arg<'a>
+pub fn accounts_option<'a>(alloc: Global) -> Arg<'a>
     ensures rule { rule_of result ≡ optional_option (codes "accounts") }
     ensures local { result.global ≡ false }
 {
@@ -18,7 +18,7 @@ pub(crate) fn accounts_option<'a>(alloc: Global) -> Arg<'a>
 }
 
 /// The option `--setup`: who there is, by a setup.
-pub(crate) fn setup_option<'a>(alloc: Global) -> Arg<'a>
+pub fn setup_option<'a>(alloc: Global) -> Arg<'a>
     ensures rule { rule_of result ≡ optional_option (codes "setup") }
     ensures local { result.global ≡ false }
 {
@@ -27,10 +27,37 @@ pub(crate) fn setup_option<'a>(alloc: Global) -> Arg<'a>
 }
 
 /// The option `--user`: whom to ask about.
-pub(crate) fn user_option<'a>(alloc: Global) -> Arg<'a>
+pub fn user_option<'a>(alloc: Global) -> Arg<'a>
     ensures rule { rule_of result ≡ repeated_option (codes "user") }
     ensures local { result.global ≡ false }
 {
     let help = "A user to ask about, by name or uid; it may be given again. Else all but uid 0";
     repeated_option(alloc, "user", "NAME", help)
+}
+
+/// The option `--all`: whether each has a line.
+pub fn all_option<'a>(alloc: Global) -> Arg<'a>
+    ensures rule { rule_of result ≡ flag (codes "all") }
+    ensures local { result.global ≡ false }
+{
+    let help = "A line for each user whom it concerns, and not only for the first";
+    flag(alloc, "all", help)
+}
+
+/// The option `--text`: whether what is written otherwise has a line.
+pub fn text_option<'a>(alloc: Global) -> Arg<'a>
+    ensures rule { rule_of result ≡ flag (codes "text") }
+    ensures local { result.global ≡ false }
+{
+    let help = "A line for each path of which something is written otherwise, whoever gains by it";
+    flag(alloc, "text", help)
+}
+
+/// The option `--exit-code`: whether the exit status tells that there is a line.
+pub fn exit_code_option<'a>(alloc: Global) -> Arg<'a>
+    ensures rule { rule_of result ≡ flag (codes "exit-code") }
+    ensures local { result.global ≡ false }
+{
+    let help = "Exit status 5 if there is a line";
+    flag(alloc, "exit-code", help)
 }

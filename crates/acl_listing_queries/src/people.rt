@@ -107,7 +107,7 @@ fn people_asked<'a>(alloc: Global, host: &Host, texts: &[&'a str]) -> Result<Peo
 }
 
 /// The texts of `--user`, if the words give any.
-fn user_fields<'m, 'a>(matches: &'m ArgMatches<'a>) -> Option<&'m [&'a str]>
+pub(crate) fn user_fields<'m, 'a>(matches: &'m ArgMatches<'a>) -> Option<&'m [&'a str]>
     ensures { option_map (λ texts. map (λ text. text.now) texts.now) result
         ≡ all_of (codes "user") (rows_of (found_of matches.now)) }
 {

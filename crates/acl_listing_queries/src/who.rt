@@ -7,4 +7,4 @@ mod listed;
 mod reach;
 mod way;
 
-pub use command::WhoOfListing;
+pub use command::{WHO_ANSWERS, WhoOfListing};

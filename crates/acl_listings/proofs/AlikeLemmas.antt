@@ -4,20 +4,20 @@ use Rattle.std.proofs.lemmas.Bool.Decides.{nat_tests}
 use Rattle.acl_names.specs.Names.{Names}
 use Rattle.acl_names.specs.Steps.{◌>>=◌, or_fault}
 use Rattle.acl_names.proofs.StepLemmas.{bind_ok, given, some_from_cond}
-use Rattle.acl_listings.specs.Access.{access_by}
+use Rattle.acl_listings.specs.BlockLists.{lists_by}
 use Rattle.acl_listings.specs.Block.{FileValue, file_by, owners_by, path_of, within_limit}
 use Rattle.acl_listings.specs.Header.{Header, after_prefix, as_header, header_of, path_in}
 use Rattle.acl_listings.specs.Lines.{after_line, first_line}
 use Rattle.acl_listings.specs.declared.fault.BlockFault.{BlockFault}
 use Rattle.acl_listings.specs.declared.fault.BlockFault.TheVariants.{TooLong, BadHeader}
 use Rattle.acl_listings.specs.declared.limits.TheConstants.{MAX_BLOCK}
-use Rattle.acl_listings.proofs.HandedLemmas.{from_access, from_block, from_header, from_ids}
+use Rattle.acl_listings.proofs.HandedLemmas.{from_lists, from_block, from_header, from_ids}
 
 abbrev header_at : List ℕ → Header → Header
 header_at path header = record { path = path; owner = header.owner; group = header.group; list = header.list }
 
 abbrev pub file_at : List ℕ → FileValue → FileValue
-file_at path file = record { path = path; owner = file.owner; group = file.group; access = file.access }
+file_at path file = record { path = path; owner = file.owner; group = file.group; flags = file.flags; lists = file.lists }
 
 abbrev found_at : List ℕ → Option Header → Option Header
 found_at path (Some header) = Some (header_at path header)
@@ -55,7 +55,7 @@ file_of-alike names one other file path same short is_at is =
     let (_, own) = some_from_cond (nat_le (length one) MAX_BLOCK) one block (given TooLong (within_limit one) block taken) in
     let (header, read, of_header) = bind_ok (or_fault BadHeader (header_of block)) (from_header names) file of_block in
     let (ids, its, of_ids) = bind_ok (owners_by names header) (from_ids names header) file of_header in
-    let (access, listed, made) = bind_ok (access_by names header.list) (from_access header ids) file of_ids in
+    let (lists, listed, made) = bind_ok (lists_by names header.list) (from_lists header ids) file of_ids in
     let header_is : header_of one ≡ Some header = ap header_of own ∙ given BadHeader (header_of block) header read in
     let lines_is : behind (path_in (first_line one)) (after_line other) ≡ Some header = ap (behind (path_in (first_line one))) (sym same) ∙ header_is in
     let other_is : header_of other ≡ Some (header_at path header) =
@@ -64,5 +64,5 @@ file_of-alike names one other file path same short is_at is =
     ap (λ b. or_fault TooLong (cond b (Some other) None) >>= from_block names) fits
     ∙ ap (λ found. or_fault BadHeader found >>= from_header names) other_is
     ∙ ap (λ ids. ids >>= from_ids names (header_at path header)) its
-    ∙ ap (λ list. list >>= from_access (header_at path header) ids) listed
+    ∙ ap (λ list. list >>= from_lists (header_at path header) ids) listed
     ∙ ap (said_at path) made

@@ -1,11 +1,11 @@
 -- Of how many lines the entries read.
-use Rattle.std.proofs.Common.{◌≡◌, ◌∙◌, ℕ, zero, suc, ◌+◌, ◌-◌, ◌≤◌, ◌==◌, Bool, true, false, cond, ◌&&◌, not, List, [], ◌∷◌, ◌++◌, ap, ap₂, refl, sym, subst, arith, leb, ltb, is_ok, is_some}
-use Rattle.std.proofs.Common.{Some, None, Ok, Err, Result, append-nil, add-one, drop, filter, flat_map, length, length-append, take}
-use Rattle.std.specs.List.{All, list_all}
+use Rattle.std.proofs.Common.{◌≡◌, ◌∙◌, ℕ, zero, suc, ◌+◌, ◌-◌, ◌≤◌, ◌==◌, Bool, true, false, cond, ◌&&◌, List, [], ◌∷◌, ◌++◌, ap, ap₂, refl, sym, subst, arith, leb, ltb, is_ok, is_some}
+use Rattle.std.proofs.Common.{Some, None, Ok, Err, Option, Result, append-nil, add-one, drop, flat_map, length, length-append, take}
+use Rattle.std.specs.List.{All, cons_option, filter_map, list_all}
 use Rattle.std.proofs.lemmas.Bool.{true≢false}
 use Rattle.std.proofs.lemmas.Bool.Decides.{nat_tests}
-use Rattle.std.proofs.lemmas.List.{take_all}
-use Rattle.std.proofs.lemmas.List.Elements.{All-drop, All-head, filter-append}
+use Rattle.std.proofs.lemmas.List.{take-append-drop, take_all}
+use Rattle.std.proofs.lemmas.List.Elements.{All-drop, All-head, filter_map-append}
 use Rattle.std.proofs.lemmas.List.Folds.{list_all-append}
 use Rattle.std.proofs.lemmas.List.Splits.{length-slice_split, slice_split_none}
 use Rattle.std.proofs.lemmas.List.Sums.{count_by-le-length}
@@ -16,13 +16,10 @@ use Rattle.acl_names.specs.ReadList.{at_most_read, each_read}
 use Rattle.acl_names.specs.Steps.{◌>>=◌, map_fault}
 use Rattle.acl_names.proofs.AnyLemmas.{flat_map-append}
 use Rattle.acl_names.proofs.StepLemmas.{some_from_cond}
-use Rattle.acl_posix.specs.AclText.{entry_in, piece_fault}
-use Rattle.acl_posix.specs.EntryText.{entry_by}
-use Rattle.acl_posix.specs.declared.acl_text.AclFault.TheVariants.{TooMany}
-use Rattle.acl_posix.specs.declared.limits.TheConstants.{MAX_ENTRIES}
-use Rattle.acl_listings.specs.Access.{is_default, pieces_in}
-use Rattle.acl_listings.specs.FaultyLine.{lines_read, room_behind}
-use Rattle.acl_listings.proofs.AccessLemmas.{LacksNewline, is_access, line_pieces, parts-lack}
+use Rattle.acl_listings.specs.FaultyLine.{is_entry, lines_read, most, room_behind, room_behind_line}
+use Rattle.acl_listings.specs.ListLines.{line_of, pieces_in}
+use Rattle.acl_listings.specs.declared.list_lines.ListKind.{ListKind}
+use Rattle.acl_listings.proofs.AccessLemmas.{LacksNewline, lacks-line_of, line_pieces, parts-lack}
 
 and_true : (a b : Bool) → (a && b) ≡ true → (a ≡ true) × (b ≡ true)
 and_true true b e = (refl, e)
@@ -52,7 +49,7 @@ and_with_true true = refl
 and_with_true false = refl
 
 -- and there are no more of them than may be
-at_most_ok : {A F : Type 0} (too_many : F) (most : ℕ) (read : List ℕ → Result A F) (ok : List ℕ → Bool) → ((text : List ℕ) → is_ok (read text) ≡ ok text)
+pub at_most_ok : {A F : Type 0} (too_many : F) (most : ℕ) (read : List ℕ → Result A F) (ok : List ℕ → Bool) → ((text : List ℕ) → is_ok (read text) ≡ ok text)
     → (texts : List (List ℕ)) → is_ok (at_most_read too_many most read texts) ≡ (list_all ok texts && leb (length texts) most)
 unfolding at_most_read
 at_most_ok {A} {F} too_many most read ok same texts = by_count (ltb most (length texts)) refl
@@ -92,33 +89,48 @@ taken_next (y ∷ ys) (suc n) x rest is =
     let further = taken_next ys n x rest is in
     (ap (λ zs. y ∷ zs) further.0, further.1)
 
-pieces_in-append : (xs ys : List (List ℕ)) → pieces_in (xs ++ ys) ≡ pieces_in xs ++ pieces_in ys
-pieces_in-append xs ys = ap (flat_map line_pieces) (filter-append is_access xs ys) ∙ flat_map-append line_pieces (filter is_access xs) (filter is_access ys)
-
-pieces_in-one : (line : List ℕ) (b : Bool) → is_default line ≡ b → pieces_in (line ∷ []) ≡ cond b [] (line_pieces line)
-pieces_in-one line true is = ap (λ b. flat_map line_pieces (cond (not b) (line ∷ []) [])) is
-pieces_in-one line false is = ap (λ b. flat_map line_pieces (cond (not b) (line ∷ []) [])) is ∙ append-nil (line_pieces line)
-
 -- a line is one line
 pieces-line : (line : List ℕ) → LacksNewline line → pieces line ≡ line_pieces line
 pieces-line line lacks = ap (flat_map line_pieces) (slice_split_none (λ x. x == newline) line lacks) ∙ append-nil (line_pieces line)
 
-told_ok : {A F G : Type 0} (becomes : F → G) (r : Result A F) → is_ok (map_fault becomes r) ≡ is_ok r
+pub told_ok : {A F G : Type 0} (becomes : F → G) (r : Result A F) → is_ok (map_fault becomes r) ≡ is_ok r
 told_ok becomes (Ok value) = refl
 told_ok becomes (Err fault) = refl
 
-module _ (names : Names) where
-  abbrev reads : List ℕ → Bool
-  reads piece = is_ok (entry_by names piece)
+-- what is wrong with the first of two texts is wrong with both
+and_more : (a b a' b' : Bool) → (a && b) ≡ false → (b ≡ false → b' ≡ false) → ((a && a') && b') ≡ false
+and_more true b a' b' bad less = go a' (less bad)
+  where
+    go : (a' : Bool) → b' ≡ false → ((true && a') && b') ≡ false
+    go true e = e
+    go false e = refl
+and_more false b a' b' bad less = refl
 
-  room-none : (room : ℕ) → room_behind names room [] ≡ Some room
+module _ (names : Names) (kind : ListKind) where
+  abbrev reads : List ℕ → Bool
+  reads piece = is_entry names kind piece
+
+  abbrev line_part : Option (List ℕ) → List (List ℕ)
+  line_part None = []
+  line_part (Some text) = line_pieces text
+
+  pieces_in-append : (xs ys : List (List ℕ)) → pieces_in kind (xs ++ ys) ≡ pieces_in kind xs ++ pieces_in kind ys
+  pieces_in-append xs ys =
+      ap (flat_map line_pieces) (filter_map-append (line_of kind) xs ys)
+      ∙ flat_map-append line_pieces (filter_map (line_of kind) xs) (filter_map (line_of kind) ys)
+
+  pieces_in-one : (line : List ℕ) (found : Option (List ℕ)) → line_of kind line ≡ found → pieces_in kind (line ∷ []) ≡ line_part found
+  pieces_in-one line None is = ap (λ text. flat_map line_pieces (cons_option text [])) is
+  pieces_in-one line (Some text) is = ap (λ text. flat_map line_pieces (cons_option text [])) is ∙ append-nil (line_pieces text)
+
+  room-none : (room : ℕ) → room_behind names kind room [] ≡ Some room
   room-none room =
       let fits : leb 0 room ≡ true = grind (arith, nat_tests) in
       let whole : room - 0 ≡ room = omega arith in
       ap₂ (λ b n. cond b (Some n) None) fits whole
 
   -- behind some pieces come others
-  room-append : (room left : ℕ) (xs ys : List (List ℕ)) → room_behind names room xs ≡ Some left → room_behind names room (xs ++ ys) ≡ room_behind names left ys
+  room-append : (room left : ℕ) (xs ys : List (List ℕ)) → room_behind names kind room xs ≡ Some left → room_behind names kind room (xs ++ ys) ≡ room_behind names kind left ys
   room-append room left xs ys is =
       let found = some_from_cond (list_all reads xs && leb (length xs) room) (room - length xs) left is in
       let each = and_true (list_all reads xs) (leb (length xs) room) found.0 in
@@ -129,41 +141,44 @@ module _ (names : Names) where
       let less : room - length (xs ++ ys) ≡ left - length ys = omega (arith, count, short, found.1) in
       ap₂ (λ b n. cond b (Some n) None) (ap₂ (λ a b. a && b) same fits) less
 
-  entry_ok : (piece : List ℕ) → is_ok (entry_in (entry_by names) piece) ≡ reads piece
-  entry_ok piece = told_ok piece_fault (entry_by names piece)
-
   -- lines read if there is room behind their pieces
-  pub read-room : (lines : List (List ℕ)) → lines_read names lines ≡ is_some (room_behind names MAX_ENTRIES (pieces_in lines))
-  read-room lines =
-      let texts = pieces_in lines in
-      at_most_ok TooMany MAX_ENTRIES (entry_in (entry_by names)) reads entry_ok texts
-      ∙ sym (some_if (list_all reads texts && leb (length texts) MAX_ENTRIES) (MAX_ENTRIES - length texts))
+  pub read-room : (lines : List (List ℕ)) → lines_read names kind lines ≡ is_some (room_behind names kind (most kind) (pieces_in kind lines))
+  read-room lines = sym (some_if (lines_read names kind lines) (most kind - length (pieces_in kind lines)))
     where
       some_if : (b : Bool) (n : ℕ) → is_some (cond b (Some n) None) ≡ b
       some_if true n = refl
       some_if false n = refl
 
+  -- and if the front of them doesn't, they don't
+  pub front_fails : (n : ℕ) (lines : List (List ℕ)) → lines_read names kind (take n lines) ≡ false → lines_read names kind lines ≡ false
+  front_fails n lines bad =
+      let xs = pieces_in kind (take n lines) in
+      let ys = pieces_in kind (drop n lines) in
+      let whole : pieces_in kind lines ≡ xs ++ ys = ap (pieces_in kind) (sym (take-append-drop n lines)) ∙ pieces_in-append (take n lines) (drop n lines) in
+      let count : length (xs ++ ys) ≡ length xs + length ys = length-append xs ys in
+      ap (λ texts. list_all reads texts && leb (length texts) (most kind)) whole
+      ∙ ap (λ b. b && leb (length (xs ++ ys)) (most kind)) (list_all-append reads xs ys)
+      ∙ and_more (list_all reads xs) (leb (length xs) (most kind)) (list_all reads ys) (leb (length (xs ++ ys)) (most kind)) bad
+      (λ long. grind (arith, nat_tests, count, long))
+
   module _ (list : List ℕ) (before room : ℕ) (line : List ℕ) (rest : List (List ℕ)) (here : drop before (parts newline list) ≡ line ∷ rest)
-      (read : room_behind names MAX_ENTRIES (pieces_in (take before (parts newline list))) ≡ Some room) where
-    room-further : (b : Bool) → is_default line ≡ b
-        → room_behind names MAX_ENTRIES (pieces_in (take (before + 1) (parts newline list))) ≡ room_behind names room (cond b [] (line_pieces line))
-    room-further b is =
+      (read : room_behind names kind (most kind) (pieces_in kind (take before (parts newline list))) ≡ Some room) where
+    room-part : (found : Option (List ℕ)) → line_of kind line ≡ found → room_behind names kind room (line_part found) ≡ room_behind_line names kind room found
+    room-part None is = room-none room
+    room-part (Some text) is =
+        let lacks : LacksNewline line = All-head LacksNewline line rest (subst (All LacksNewline) here (All-drop LacksNewline before (parts newline list) (parts-lack list))) in
+        ap (room_behind names kind room) (sym (pieces-line text (lacks-line_of kind line text lacks is)))
+
+    -- behind the line there is as much room as it leaves
+    pub room-next : room_behind names kind (most kind) (pieces_in kind (take (before + 1) (parts newline list))) ≡ room_behind_line names kind room (line_of kind line)
+    room-next =
         let lines = parts newline list in
         let one_more : take (before + 1) lines ≡ take before lines ++ line ∷ [] = rw add-one (taken_next lines before line rest here).0 in
-        ap (λ ls. room_behind names MAX_ENTRIES (pieces_in ls)) one_more
-        ∙ ap (room_behind names MAX_ENTRIES) (pieces_in-append (take before lines) (line ∷ []) ∙ ap (λ ps. pieces_in (take before lines) ++ ps) (pieces_in-one line b is))
-        ∙ room-append MAX_ENTRIES room (pieces_in (take before lines)) (cond b [] (line_pieces line)) read
-
-    -- a line of the access list takes room
-    pub room-next : is_default line ≡ false
-        → room_behind names MAX_ENTRIES (pieces_in (take (before + 1) (parts newline list))) ≡ room_behind names room (pieces line)
-    room-next is =
-        let lacks : LacksNewline line = All-head LacksNewline line rest (subst (All LacksNewline) here (All-drop LacksNewline before (parts newline list) (parts-lack list))) in
-        room-further false is ∙ ap (room_behind names room) (sym (pieces-line line lacks))
-
-    -- and one of a default list takes none
-    pub room-default : is_default line ≡ true → room_behind names MAX_ENTRIES (pieces_in (take (before + 1) (parts newline list))) ≡ Some room
-    room-default is = room-further true is ∙ room-none room
+        ap (λ ls. room_behind names kind (most kind) (pieces_in kind ls)) one_more
+        ∙ ap (room_behind names kind (most kind)) (pieces_in-append (take before lines) (line ∷ [])
+        ∙ ap (λ ps. pieces_in kind (take before lines) ++ ps) (pieces_in-one line (line_of kind line) refl))
+        ∙ room-append (most kind) room (pieces_in kind (take before lines)) (line_part (line_of kind line)) read
+        ∙ room-part (line_of kind line) refl
 
 -- a text has at most one line more than bytes
 pub few_lines : (text : List ℕ) → length (parts newline text) ≤ length text + 1

@@ -5,14 +5,15 @@ use Rattle.std.proofs.lemmas.Bool.Decides.{nat_tests}
 use Rattle.std.proofs.lemmas.List.{take_all}
 use Rattle.acl_names.specs.Names.{Names}
 use Rattle.acl_names.specs.Steps.{◌>>=◌, or_fault}
-use Rattle.acl_posix.specs.Entry.{EntryValue}
-use Rattle.acl_listings.specs.Access.{access_by}
+use Rattle.acl_listings.specs.BlockLists.{lists_by}
 use Rattle.acl_listings.specs.Block.{FileValue, file_by, owners_by, path_of, within_limit}
+use Rattle.acl_listings.specs.FileFlags.{flags_by}
 use Rattle.acl_listings.specs.Header.{Header, header_of, path_in}
 use Rattle.acl_listings.specs.declared.fault.BlockFault.{BlockFault}
 use Rattle.acl_listings.specs.declared.fault.BlockFault.TheVariants.{TooLong, BadHeader}
 use Rattle.acl_listings.specs.Lines.{first_line}
 use Rattle.acl_listings.specs.declared.limits.TheConstants.{MAX_BLOCK}
+use Rattle.acl_listings.specs.declared.lists.Lists.{Lists}
 use Rattle.acl_listings.proofs.LineLemmas.{first-front}
 
 is_above : (a b : ℕ) → b < a → nat_le a b ≡ false
@@ -35,11 +36,11 @@ path-handed text =
 
 -- the steps of reading a block, each with what is known before it
 
-abbrev pub from_access : Header → ℕ × ℕ → List EntryValue → Result FileValue BlockFault
-from_access header ids access = Ok (record { path = header.path; owner = ids.0; group = ids.1; access = access })
+abbrev pub from_lists : Header → ℕ × ℕ → Lists → Result FileValue BlockFault
+from_lists header ids lists = Ok (record { path = header.path; owner = ids.0; group = ids.1; flags = flags_by header.list; lists = lists })
 
 abbrev pub from_ids : Names → Header → ℕ × ℕ → Result FileValue BlockFault
-from_ids names header ids = access_by names header.list >>= from_access header ids
+from_ids names header ids = lists_by names header.list >>= from_lists header ids
 
 abbrev pub from_header : Names → Header → Result FileValue BlockFault
 from_header names header = owners_by names header >>= from_ids names header

@@ -11,3 +11,7 @@ pub mod PrintedLemmas
 pub mod AlikeLemmas
 pub mod WayLemmas
 pub mod FaultyLemmas
+pub mod RefusedLemmas
+pub mod ListsLemmas
+pub mod FormLemmas
+pub mod Nfs4Lemmas

@@ -44,3 +44,9 @@ after-of [] rest lacks = refl
 after-of (byte ∷ line) rest lacks =
     after_line-cons byte (line ++ newline ∷ rest) false (All-head (λ x. is_newline x ≡ false) byte line lacks)
     ∙ after-of line rest (All-tail (λ x. is_newline x ≡ false) byte line lacks)
+
+pub first-alone : (line : List ℕ) → LacksNewline line → first_line line ≡ line
+first-alone [] lacks = refl
+first-alone (byte ∷ line) lacks =
+    first_line-cons byte line false (All-head (λ x. is_newline x ≡ false) byte line lacks)
+    ∙ ap (λ more. byte ∷ more) (first-alone line (All-tail (λ x. is_newline x ≡ false) byte line lacks))

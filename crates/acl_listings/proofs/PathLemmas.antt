@@ -4,14 +4,14 @@ use Rattle.std.proofs.lemmas.Bool.Decides.{nat_tests}
 use Rattle.acl_names.specs.Names.{Names}
 use Rattle.acl_names.specs.Steps.{or_fault}
 use Rattle.acl_names.proofs.StepLemmas.{bind_ok, given, some_from_cond}
-use Rattle.acl_listings.specs.Access.{access_by}
 use Rattle.acl_listings.specs.Block.{FileValue, file_by, owners_by, path_of, within_limit}
+use Rattle.acl_listings.specs.BlockLists.{lists_by}
 use Rattle.acl_listings.specs.Header.{Header, as_header, header_of, path_in}
 use Rattle.acl_listings.specs.Lines.{first_line}
 use Rattle.acl_listings.specs.declared.fault.BlockFault.{BlockFault}
 use Rattle.acl_listings.specs.declared.fault.BlockFault.TheVariants.{TooLong, BadHeader}
 use Rattle.acl_listings.specs.declared.limits.TheConstants.{MAX_BLOCK}
-use Rattle.acl_listings.proofs.HandedLemmas.{from_access, from_block, from_header, from_ids}
+use Rattle.acl_listings.proofs.HandedLemmas.{from_lists, from_block, from_header, from_ids}
 
 -- a text that is within the limit, and how long it is
 limited : (text block : List ℕ) → within_limit text ≡ Some block → (text ≡ block) × (length text ≤ MAX_BLOCK)
@@ -48,7 +48,7 @@ path_of-file names text file is =
     let (same, short) = limited text block (given TooLong (within_limit text) block taken) in
     let (header, read, of_header) = bind_ok (or_fault BadHeader (header_of block)) (from_header names) file of_block in
     let (ids, its, of_ids) = bind_ok (owners_by names header) (from_ids names header) file of_header in
-    let (access, listed, made) = bind_ok (access_by names header.list) (from_access header ids) file of_ids in
+    let (lists, listed, made) = bind_ok (lists_by names header.list) (from_lists header ids) file of_ids in
     let front : path_in (first_line block) ≡ Some header.path = path_in_header (path_in (first_line block)) _ _ _ header (given BadHeader (header_of block) header read) in
     let line_is : length (first_line text) ≤ MAX_BLOCK = omega (arith, short, length-take {A = ℕ}) in
     ap (option_and_then path_in) (within (first_line text) line_is)

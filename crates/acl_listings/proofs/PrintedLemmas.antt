@@ -1,6 +1,6 @@
 -- Files that are printed are read again.
 use Rattle.std.proofs.Common.{◌≡◌, ℕ, ◌+◌, ◌<◌, ◌≤◌, ◌||◌, ◌&&◌, Bool, true, false, cond, not, nat_le, List}
-use Rattle.std.proofs.Common.{[], ◌∷◌, ◌++◌, length, map, Option, Some, None, Ok, codes, option_and_then, ap}
+use Rattle.std.proofs.Common.{[], ◌∷◌, ◌++◌, length, map, Option, Some, None, Ok, codes, option_and_then, unwrap_or, ap}
 use Rattle.std.proofs.Common.{ap₂, refl, sym, ◌∙◌, append_assoc, append-nil, length-append, arith, subst}
 use Rattle.std.proofs.Common.{flat_map}
 use Rattle.std.specs.List.{All, join_with_byte, list_all, list_any}
@@ -32,19 +32,28 @@ use Rattle.acl_posix.specs.PermsText.{perms_text}
 use Rattle.acl_posix.specs.declared.entry.Tag.{Tag}
 use Rattle.acl_posix.specs.declared.entry.Tag.TheVariants.{UserObj, User, GroupObj, Group, Mask, Other}
 use Rattle.acl_names.specs.Bytes.{colon}
-use Rattle.acl_listings.specs.Access.{access_by, access_pieces, acl_by, is_default, list_of}
+use Rattle.acl_forms.specs.Forms.{form_of, form_of_pieces}
+use Rattle.acl_forms.specs.declared.form.Form.TheVariants as form
+use Rattle.acl_listings.specs.Access.{acl_by, default_by, if_there, list_of}
+use Rattle.acl_listings.specs.BlockLists.{lists_by, lists_in}
 use Rattle.acl_listings.specs.Block.{FileValue, file_of, owners_of, within_limit}
+use Rattle.acl_listings.specs.FileFlags.{flags_by, flags_in, no_flags}
 use Rattle.acl_listings.specs.Extent.{HasFullLines, newlines_in}
 use Rattle.acl_listings.specs.Header.{Header, after_prefix, as_header, header_of, path_in}
 use Rattle.acl_listings.specs.Lines.{after_line, first_line}
+use Rattle.acl_listings.specs.ListLines.{is_default, pieces_of}
 use Rattle.acl_listings.specs.Listing.{blocks_from}
-use Rattle.acl_listings.specs.Printed.{IsPrintable, block_text, line_text, listing_text}
+use Rattle.acl_listings.specs.Printed.{ArePrintable, IsPrintable, block_text, line_text, listing_text}
 use Rattle.acl_listings.specs.declared.fault.BlockFault.TheVariants.{TooLong, BadHeader, Acl}
 use Rattle.acl_listings.specs.declared.limits.TheConstants.{MAX_BLOCK}
+use Rattle.acl_listings.specs.declared.list_lines.ListKind.TheVariants.{Access, Default}
+use Rattle.acl_listings.specs.declared.lists.Lists.{Lists}
+use Rattle.acl_listings.specs.declared.lists.Lists.TheVariants.{Posix, Nfs4}
 use Rattle.acl_listings.proofs.AccessLemmas.{ended, line_pieces, pieces-whole}
 use Rattle.acl_listings.proofs.ExtentLemmas.{LacksNewline, full-append, full-line, is_newline}
-use Rattle.acl_listings.proofs.HandedLemmas.{from_access, from_block, from_header, from_ids}
-use Rattle.acl_listings.proofs.LineLemmas.{after-of, first-of}
+use Rattle.acl_listings.proofs.FormLemmas.{form_said}
+use Rattle.acl_listings.proofs.HandedLemmas.{from_lists, from_block, from_header, from_ids}
+use Rattle.acl_listings.proofs.LineLemmas.{after-of, first-alone, first-of}
 use Rattle.acl_listings.proofs.ListingLemmas.{blocks-empty_line, blocks-first, parts-append}
 
 -- a line with a byte and without a newline
@@ -52,11 +61,11 @@ pub record IsOneLine (line : List ℕ) : Type 0 where
   pub some : 0 < length line
   pub lacks : LacksNewline line
 
-abbrev joined : List (List ℕ) → List ℕ
+abbrev pub joined : List (List ℕ) → List ℕ
 joined lines = join_with_byte newline lines
 
 -- lines that are joined, and the same lines each with its newline
-ended-joined : (line : List ℕ) (lines : List (List ℕ)) → ended (line ∷ lines) ≡ joined (line ∷ lines) ++ newline ∷ []
+pub ended-joined : (line : List ℕ) (lines : List (List ℕ)) → ended (line ∷ lines) ≡ joined (line ∷ lines) ++ newline ∷ []
 ended-joined line [] = append-nil (line ++ newline ∷ [])
 ended-joined line (next ∷ lines) =
     append_assoc line (newline ∷ []) (ended (next ∷ lines))
@@ -77,7 +86,7 @@ parts-joined line (next ∷ lines) each =
     ∙ ap (λ more. line ∷ more) (parts-joined next lines (All-tail IsOneLine line (next ∷ lines) each))
 
 -- a newline at the end adds no piece
-pieces-ended : (text : List ℕ) → pieces (text ++ newline ∷ []) ≡ pieces text
+pub pieces-ended : (text : List ℕ) → pieces (text ++ newline ∷ []) ≡ pieces text
 pieces-ended text =
     ap (flat_map line_pieces) (parts-append text []) ∙ flat_map-append line_pieces (parts newline text) ([] ∷ []) ∙ append-nil (pieces text)
 
@@ -129,24 +138,56 @@ no_default_line known mask (entry ∷ entries) =
     (no_default entry.tag (qualifier_text known entry.tag ∷ perms_text entry.perms ∷ []) (effective_mark mask entry))
     ∙ no_default_line known mask entries
 
--- the access list of a block
-access_again : (known : Known) (mask : Option ℕ) (first : EntryValue) (more : List EntryValue) → NamesReadBack known → IsAcl (first ∷ more) → HaveIds (first ∷ more)
-    → access_by (names_of known) (joined (map (entry_line known mask) (first ∷ more))) ≡ Ok (first ∷ more)
-access_again known mask first more names is ids =
+-- the lists of a block
+lists_again : (known : Known) (mask : Option ℕ) (first : EntryValue) (more : List EntryValue) → NamesReadBack known → IsAcl (first ∷ more) → HaveIds (first ∷ more)
+    → lists_by (names_of known) (joined (map (entry_line known mask) (first ∷ more))) ≡ Ok (Posix (first ∷ more) None)
+lists_again known mask first more names is ids =
     let acl = first ∷ more in
     let lines = map (entry_line known mask) more in
     let list = joined (entry_line known mask first ∷ lines) in
     let each : All IsOneLine (entry_line known mask first ∷ lines) = entry_lines known mask acl names ids in
     let none : list_any is_default (parts newline list) ≡ false = ap (list_any is_default) (parts-joined (entry_line known mask first) lines each) ∙ no_default_line known mask acl in
-    let same_pieces : access_pieces list ≡ pieces (effective_text known mask acl) =
-    sym (pieces-whole list none) ∙ sym (pieces-ended list)
-    ∙ ap pieces (sym (effective_lines known mask acl ∙ ended-joined (entry_line known mask first) lines)) in
+    let same : pieces list ≡ pieces (effective_text known mask acl) =
+    sym (pieces-ended list) ∙ ap pieces (sym (effective_lines known mask acl ∙ ended-joined (entry_line known mask first) lines)) in
+    let same_pieces : pieces_of Access list ≡ pieces (effective_text known mask acl) = sym (pieces-whole list none) ∙ same in
     let spelt = text_spells known mask acl names ids is.permissions is.within in
+    let access : acl_by (names_of known) (pieces_of Access list) ≡ Ok acl =
     ap (acl_by (names_of known)) same_pieces
     ∙ ap (λ found. map_fault (λ fault. Acl fault) found >>= (λ entries. list_of (fault_of entries) entries))
     (entries_of-spelt (names_of known) (effective_text known mask acl) acl spelt)
     ∙ ap (λ fault. list_of fault acl) ((valid_iff acl).0 is.valid)
-    ∙ ap Ok (in_order-acl acl acl is (IsPermutation-refl acl))
+    ∙ ap Ok (in_order-acl acl acl is (IsPermutation-refl acl)) in
+    let form : form_of list ≡ form.Posix = ap form_of_pieces same ∙ form_said (names_of known) (pieces (effective_text known mask acl)) acl spelt.said in
+    ap (λ of. lists_in of (names_of known) list) form
+    ∙ ap (λ found. found >>= (λ acl. default_by (names_of known) list >>= (λ default. Ok (Posix acl default)))) access
+    ∙ ap (λ b. cond b (if_there (acl_by (names_of known) (pieces_of Default list))) (Ok None) >>= (λ default. Ok (Posix acl default))) none
+
+-- and no line of it tells of flags
+no_flags_line : (tag : Tag) (fields : List (List ℕ)) (more : List ℕ) → after_prefix (codes "# flags: ") (join_with_byte colon (word_text tag ∷ fields) ++ more) ≡ None
+no_flags_line UserObj [] more = refl
+no_flags_line UserObj (field ∷ fields) more = refl
+no_flags_line (User uid) [] more = refl
+no_flags_line (User uid) (field ∷ fields) more = refl
+no_flags_line GroupObj [] more = refl
+no_flags_line GroupObj (field ∷ fields) more = refl
+no_flags_line (Group gid) [] more = refl
+no_flags_line (Group gid) (field ∷ fields) more = refl
+no_flags_line Mask [] more = refl
+no_flags_line Mask (field ∷ fields) more = refl
+no_flags_line Other [] more = refl
+no_flags_line Other (field ∷ fields) more = refl
+
+first-joined : (line : List ℕ) (lines : List (List ℕ)) → LacksNewline line → first_line (joined (line ∷ lines)) ≡ line
+first-joined line [] lacks = first-alone line lacks
+first-joined line (next ∷ lines) lacks = first-of line (joined (next ∷ lines)) lacks
+
+flags_again : (known : Known) (mask : Option ℕ) (first : EntryValue) (more : List EntryValue) → NamesReadBack known → HaveIds (first ∷ more)
+    → flags_by (joined (map (entry_line known mask) (first ∷ more))) ≡ no_flags
+flags_again known mask first more names ids =
+    let lacks = (All-head IsOneLine (entry_line known mask first) (map (entry_line known mask) more) (entry_lines known mask (first ∷ more) names ids)).lacks in
+    ap (λ line. unwrap_or (option_and_then flags_in (after_prefix (codes "# flags: ") line)) no_flags) (first-joined (entry_line known mask first) (map (entry_line known mask) more) lacks)
+    ∙ ap (λ found. unwrap_or (option_and_then flags_in found) no_flags)
+    (no_flags_line first.tag (qualifier_text known first.tag ∷ perms_text first.perms ∷ []) (effective_mark mask first))
 
 -- the header of a block
 
@@ -173,10 +214,10 @@ path_again [] some = absurd (omega arith)
 path_again (byte ∷ bytes) some = refl
 
 -- three lines, and a list behind them
-abbrev headed : List ℕ → List ℕ → List ℕ → List ℕ → List ℕ
+abbrev pub headed : List ℕ → List ℕ → List ℕ → List ℕ → List ℕ
 headed first second third list = first ++ newline ∷ (second ++ newline ∷ (third ++ newline ∷ list))
 
-header-headed : (first second third list : List ℕ) → LacksNewline first → LacksNewline second → LacksNewline third
+pub header-headed : (first second third list : List ℕ) → LacksNewline first → LacksNewline second → LacksNewline third
     → header_of (headed first second third list) ≡ as_header (path_in first) (after_prefix owner_word second) (after_prefix group_word third) list
 header-headed first second third list one two three =
     let rest = third ++ newline ∷ list in
@@ -233,7 +274,7 @@ at_most a b h = grind (arith, nat_tests)
 
 module _ (known : Known) (names : NamesReadBack known) (path : List ℕ) (owner group : ℕ) (first : EntryValue) (more : List EntryValue) where
   abbrev file : FileValue
-  file = record { path = path; owner = owner; group = group; access = first ∷ more }
+  file = record { path = path; owner = owner; group = group; flags = no_flags; lists = Posix (first ∷ more) None }
 
   abbrev mask : Option ℕ
   mask = perms_of Mask (first ∷ more)
@@ -274,7 +315,7 @@ module _ (known : Known) (names : NamesReadBack known) (path : List ℕ) (owner 
     each_is =
         All-cons IsOneLine file_line (owner_line ∷ group_line ∷ list_lines) file_is
         (All-cons IsOneLine owner_line (group_line ∷ list_lines) owner_is
-        (All-cons IsOneLine group_line list_lines group_is (entry_lines known mask (first ∷ more) names is.ids)))
+        (All-cons IsOneLine group_line list_lines group_is (entry_lines known mask (first ∷ more) names is.lists.1)))
 
     within : within_limit body ≡ Some body
     within =
@@ -301,7 +342,8 @@ module _ (known : Known) (names : NamesReadBack known) (path : List ℕ) (owner 
         ap (λ limited. or_fault TooLong limited >>= from_block (names_of known)) within
         ∙ ap (λ found. or_fault BadHeader found >>= from_header (names_of known)) header_is
         ∙ ap₂ (λ o g. owners_of o g >>= from_ids (names_of known) header) owner_again group_again
-        ∙ ap (λ access. access >>= from_access header (owner, group)) (access_again known mask first more names is.access is.ids)
+        ∙ ap (λ lists. lists >>= from_lists header (owner, group)) (lists_again known mask first more names is.lists.0 is.lists.1)
+        ∙ ap (λ flags. Ok (record file { flags = flags })) (flags_again known mask first more names is.lists.1)
 
     printed_block : IsBlockOf known file
     printed_block = record { block = body; cut = printed_cut; full = full-joined file_line (owner_line ∷ group_line ∷ list_lines) each_is; says = printed_says }
@@ -310,13 +352,16 @@ no_acl : IsAcl [] → ⊥
 no_acl is = let one = is.valid.user_obj in cc
 
 block_of_file : (known : Known) → NamesReadBack known → (file : FileValue) → IsPrintable known file → IsBlockOf known file
-block_of_file known names file is = by_access file.access refl
+block_of_file known names file is = by_lists file.lists refl (is.lists)
   where
-    by_access : (access : List EntryValue) → file.access ≡ access → IsBlockOf known file
-    by_access [] none = absurd (no_acl (subst IsAcl none is.access))
-    by_access (first ∷ more) some =
-        let same : file ≡ record file { access = first ∷ more } = ap (λ access. record file { access = access }) some in
+    by_lists : (lists : Lists) → file.lists ≡ lists → ArePrintable lists → IsBlockOf known file
+    by_lists (Posix [] None) none are = absurd (no_acl are.0)
+    by_lists (Posix (first ∷ more) None) some are =
+        let printed : FileValue = record { path = file.path; owner = file.owner; group = file.group; flags = no_flags; lists = Posix (first ∷ more) None } in
+        let same : file ≡ printed = ap₂ (λ flags lists. record file { flags = flags; lists = lists }) is.flags some in
         subst (IsBlockOf known) (sym same) (printed_block known names file.path file.owner file.group first more (subst (IsPrintable known) same is))
+    by_lists (Posix access (Some default)) some are = absurd are
+    by_lists (Nfs4 acl) some are = absurd are
 
 pub files_again : (known : Known) → NamesReadBack known → (number : ℕ) (files : List FileValue) → All (IsPrintable known) files
     → map (λ block. file_of known block.text) (blocks_from number (listing_text known files)) ≡ map Ok files

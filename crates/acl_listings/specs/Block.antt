@@ -7,20 +7,23 @@ use Rattle.acl_names.specs.Names.{Names, names_of, resolved}
 use Rattle.acl_names.specs.Steps.{◌>>=◌, or_fault}
 use Rattle.acl_names.specs.declared.directory.resolve.NameFault.{NameFault}
 use Rattle.acl_names.specs.declared.directory.resolve.NameFault.TheVariants.{Malformed, Unknown}
-use Rattle.acl_posix.specs.Entry.{EntryValue}
-use Rattle.acl_listings.specs.Access.{access_by}
+use Rattle.acl_listings.specs.BlockLists.{lists_by}
+use Rattle.acl_listings.specs.FileFlags.{flags_by}
 use Rattle.acl_listings.specs.Header.{Header, header_of, path_in}
 use Rattle.acl_listings.specs.Lines.{first_line}
 use Rattle.acl_listings.specs.declared.fault.BlockFault.{BlockFault}
 use Rattle.acl_listings.specs.declared.fault.BlockFault.TheVariants.{TooLong, BadHeader}
 use Rattle.acl_listings.specs.declared.fault.BlockFault.TheVariants.{UnknownOwner, UnknownGroup}
+use Rattle.acl_listings.specs.declared.file_flags.FileFlags.{FileFlags}
 use Rattle.acl_listings.specs.declared.limits.TheConstants.{MAX_BLOCK}
+use Rattle.acl_listings.specs.declared.lists.Lists.{Lists}
 
 pub record FileValue : Type 0 where
   pub path : List ℕ
   pub owner : ℕ
   pub group : ℕ
-  pub access : List EntryValue
+  pub flags : FileFlags
+  pub lists : Lists
 
 -- a text that is no longer than a block may be
 abbrev pub within_limit : List ℕ → Option (List ℕ)
@@ -46,8 +49,14 @@ file_by names text = do
   block ← or_fault TooLong (within_limit text)
   header ← or_fault BadHeader (header_of block)
   ids ← owners_by names header
-  access ← access_by names header.list
-  Ok (record { path = header.path; owner = ids.0; group = ids.1; access = access })
+  lists ← lists_by names header.list
+  Ok (record {
+    path = header.path;
+    owner = ids.0;
+    group = ids.1;
+    flags = flags_by header.list;
+    lists = lists;
+  })
 
 -- by the names of a directory
 abbrev pub file_of : Known → List ℕ → Result FileValue BlockFault

@@ -24,6 +24,10 @@ pub record CursorValue : Type 0 where
   pub block : Block
   pub fault : Option ReadFault
 
+-- before the first block
+abbrev pub no_block : Block
+no_block = record { line = 0; text = [] }
+
 -- known blocks stay as they were
 abbrev pub Stays : Option (List Block) → Option (List Block) → Type 0
 Stays None new = ⊤

@@ -6,6 +6,8 @@ use Rattle.acl_posix.specs.declared.acl.Invalid.TheVariants as invalid
 use Rattle.acl_posix.specs.declared.acl_text.AclFault.TheVariants.{BadAcl, UnknownName, TooMany}
 use Rattle.acl_posix.specs.declared.entries.TextFault.{TextFault}
 use Rattle.acl_posix.specs.declared.entries.TextFault.TheVariants as text
+use Rattle.acl_nfs4.specs.declared.acl.AceFault.{AceFault}
+use Rattle.acl_nfs4.specs.declared.acl.AceFault.TheVariants as ace
 use Rattle.acl_listings.specs.declared.fault.BlockFault.{BlockFault}
 use Rattle.acl_listings.specs.declared.fault.BlockFault.TheVariants.{TooLong, BadHeader}
 use Rattle.acl_listings.specs.declared.fault.BlockFault.TheVariants.{RepeatedPath}
@@ -45,6 +47,14 @@ entries_fault text.Syntax = Block (Acl BadAcl)
 entries_fault text.UnknownName = Block (Acl UnknownName)
 entries_fault text.TooMany = Block (Acl TooMany)
 entries_fault text.Memory = Memory
+
+-- and why NFSv4 entries are not
+abbrev pub aces_fault : AceFault → FileFault
+aces_fault ace.Syntax = Block (Acl BadAcl)
+aces_fault ace.UnknownName = Block (Acl UnknownName)
+aces_fault ace.TooMany = Block (Acl TooMany)
+aces_fault ace.InheritOnly = Block (Acl BadAcl)
+aces_fault ace.Memory = Memory
 
 -- why entries are no list, of which this is missing if one is
 abbrev pub fault_of_entries : Rule → Invalid → FileFault

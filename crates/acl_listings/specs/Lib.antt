@@ -2,7 +2,10 @@ pub mod Lines
 pub mod Listing
 pub mod Header
 pub mod Rules
+pub mod ListLines
 pub mod Access
+pub mod BlockLists
+pub mod FileFlags
 pub mod Block
 pub mod Faults
 pub mod Views
@@ -16,3 +19,4 @@ pub mod Way
 pub mod Shown
 pub mod Guess
 pub mod FaultyLine
+pub mod Nfs4Block

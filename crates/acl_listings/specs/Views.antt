@@ -9,7 +9,8 @@ view_file file = record {
   path = file.path.now;
   owner = file.owner;
   group = file.group;
-  access = file.access;
+  flags = file.flags;
+  lists = file.lists;
 }
 
 abbrev pub view_header : Header → text.Header

@@ -1,60 +1,54 @@
-//! The access list of a block.
+//! The POSIX lists of a block.
 
-ghost use Rattle.std.specs.Prelude.{◌≡◌, IfOk};
-ghost use Rattle.std.specs.List.{list_any};
-ghost use Rattle.acl_names.specs.Bytes.{newline};
-ghost use Rattle.acl_names.specs.Pieces.{parts, pieces};
-ghost use Rattle.acl_listings.specs.Access.{access_by, access_pieces, acl_by, is_default};
+ghost use Rattle.std.specs.Prelude.{◌≡◌};
+ghost use Rattle.acl_names.specs.Pieces.{pieces};
+ghost use Rattle.acl_listings.specs.Access.{acl_by, posix_by};
 ghost use Rattle.acl_listings.specs.Faults.{ReadsAs, fault_of_entries};
+ghost use Rattle.acl_listings.specs.ListLines.{pieces_of};
 
+use crate::Lists;
 use crate::fault::{BlockFault, FileFault};
+use crate::list_lines::{ListKind, has_default, lines_of};
 use crate::rule::{Rule, missing_of};
-use acl_names::{Parts, ResolveNames};
+use acl_names::ResolveNames;
 use acl_posix::{Acl, Invalid, read_entries};
-use std::alloc::{AllocError, Global};
+use std::alloc::Global;
 
-/// The access list that the lines behind a block's header spell. Lines of a default list are passed
-/// over; if there are any, the others are copied.
-pub(crate) fn read_access<N: ResolveNames>(
+/// The lists that the lines behind a block's header spell. If it has a default list, its lines and
+/// the others are copied.
+pub(crate) fn read_posix<N: ResolveNames>(
     alloc: Global,
     list: &[u8],
     names: &N,
-) -> Result<Acl, FileFault>
-    ensures { ReadsAs (access_by (N.names names.now) list.now) result }
+) -> Result<Lists, FileFault>
+    ensures { ReadsAs (posix_by (N.names names.now) list.now) result }
 {
     if !has_default(list) {
-        return read_acl(alloc, list, names);
+        let access = read_acl(alloc, list, names)?;
+        return Ok(Lists::Posix {
+            access,
+            default: None,
+        });
     }
-    let access = without_default(alloc, list)?;
-    read_acl(alloc, &access, names)
+    let access = read_acl_of(alloc, ListKind::Access, list, names)?;
+    let default = read_acl_of(alloc, ListKind::Default, list, names)?;
+    Ok(Lists::Posix {
+        access,
+        default: Some(default),
+    })
 }
 
-/// Whether some line is one of a default list.
-fn has_default(list: &[u8]) -> bool
-    ensures { result ≡ list_any is_default (parts newline list.now) }
+/// The access control list that its lines spell.
+fn read_acl_of<N: ResolveNames>(
+    alloc: Global,
+    kind: ListKind,
+    list: &[u8],
+    names: &N,
+) -> Result<Acl, FileFault>
+    ensures { ReadsAs (acl_by (N.names names.now) (pieces_of kind list.now)) result }
 {
-    let mut lines = Parts::new(b'\n', list);
-    while let Some(line) = lines.next() {
-        if line.starts_with(b"default:") {
-            return true;
-        }
-    }
-    false
-}
-
-/// The lines that are none of a default list.
-fn without_default(alloc: Global, list: &[u8]) -> Result<Vec<u8>, AllocError>
-    ensures { IfOk result (λ access. pieces access.items ≡ access_pieces list.now) }
-{
-    let mut access = Vec::with_capacity(alloc, list.len())?;
-    let mut lines = Parts::new(b'\n', list);
-    while let Some(line) = lines.next() {
-        if !line.starts_with(b"default:") {
-            access.extend_from_slice(line)?;
-            access.push(b'\n')?;
-        }
-    }
-    Ok(access)
+    let lines = lines_of(alloc, kind, list)?;
+    read_acl(alloc, &lines, names)
 }
 
 /// The access control list that a text spells.

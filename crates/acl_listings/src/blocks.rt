@@ -3,7 +3,7 @@
 ghost use Rattle.std.specs.Prelude.{◌≡◌, ◌+◌, ◌≤◌, [], length, take, IfErr, IfOk, IfSome};
 ghost use Rattle.std.specs.Prelude.{Err, None, OnOk, Some};
 ghost use Rattle.std.specs.Bool.{MatchBool};
-ghost use Rattle.acl_listings.specs.Cursor.{blocks_to_come, HandsOut, IsOver};
+ghost use Rattle.acl_listings.specs.Cursor.{blocks_to_come, HandsOut, IsOver, no_block};
 ghost use Rattle.acl_listings.specs.Extent.{BeginsLine};
 ghost use Rattle.acl_listings.specs.Source.{bytes_to_come, bytes_after};
 ghost use Rattle.acl_listings.specs.Steps.{text_at_hand};
@@ -56,11 +56,13 @@ impl<R: Read + Drop> Model for Blocks<R> {
 }
 
 impl<R: Read + Drop> Blocks<R> {
-    /// The blocks of the listing that the reader reads. No block is at hand yet.
+    /// The blocks of the listing that the reader reads. None is at hand yet: its line is 0, and its
+    /// text empty.
     pub fn new(alloc: Global, reader: R) -> Result<Blocks<R>, AllocError>
         ensures blocks { IfOk result (λ blocks.
             blocks.coming ≡ blocks_to_come 1 (R.remaining reader)) }
         ensures open { IfOk result (λ blocks. blocks.fault ≡ None) }
+        ensures none { IfOk result (λ blocks. blocks.block ≡ no_block) }
     {
         Ok(Blocks {
             source: Source::new(alloc, reader)?,

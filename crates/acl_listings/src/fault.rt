@@ -1,10 +1,11 @@
 //! Why a block is no file.
 
 ghost use Rattle.std.specs.Prelude.{◌≡◌};
-ghost use Rattle.acl_listings.specs.Faults.{entries_fault, out_of_memory};
+ghost use Rattle.acl_listings.specs.Faults.{aces_fault, entries_fault, out_of_memory};
 ghost use Rattle.acl_listings.specs.declared.fault.FileFault.TheVariants.{Block};
 
 use crate::rule::Rule;
+use acl_nfs4::AceFault;
 use acl_posix::{AclFault, TextFault};
 use std::alloc::AllocError;
 
@@ -83,6 +84,22 @@ impl From<TextFault> for FileFault {
             TextFault::UnknownName => FileFault::Block(BlockFault::Acl(AclFault::UnknownName)),
             TextFault::TooMany => FileFault::Block(BlockFault::Acl(AclFault::TooMany)),
             TextFault::Memory => FileFault::Memory,
+        }
+    }
+}
+
+impl From<AceFault> for FileFault {
+    ghost from_gives = { λ error fault. fault ≡ aces_fault error };
+
+    fn from(error: AceFault) -> FileFault {
+        match error {
+            // An entry that has an effect neither where it stands nor below is none.
+            AceFault::Syntax | AceFault::InheritOnly => {
+                FileFault::Block(BlockFault::Acl(AclFault::BadAcl))
+            }
+            AceFault::UnknownName => FileFault::Block(BlockFault::Acl(AclFault::UnknownName)),
+            AceFault::TooMany => FileFault::Block(BlockFault::Acl(AclFault::TooMany)),
+            AceFault::Memory => FileFault::Memory,
         }
     }
 }

@@ -1,15 +1,21 @@
 //! Which line of a block is at fault.
 
-ghost use Rattle.std.specs.Prelude.{◌≡◌, ◌≤◌, ◌+◌, false, length};
+ghost use Rattle.std.specs.Prelude.{◌≡◌, ◌≤◌, ◌+◌, false, true, length, IfNone, IfSome};
 ghost use Rattle.acl_names.specs.Bytes.{newline};
 ghost use Rattle.acl_names.specs.Pieces.{parts, pieces};
-ghost use Rattle.acl_listings.specs.FaultyLine.{IsFaultyAt, IsFirstFaulty, before_bad_header};
-ghost use Rattle.acl_listings.specs.FaultyLine.{is_owner_line, line_at, lines_read, room_behind};
+ghost use Rattle.acl_listings.specs.FaultyLine.{IsBadLine, IsFaultyAt, IsFirstFaulty};
+ghost use Rattle.acl_listings.specs.FaultyLine.{before_bad_header, faulty_kind, is_entry};
+ghost use Rattle.acl_listings.specs.FaultyLine.{is_owner_line, line_at, lines_read, most};
+ghost use Rattle.acl_listings.specs.FaultyLine.{room_behind, room_behind_line};
+ghost use Rattle.acl_listings.specs.ListLines.{line_of};
 
 use crate::fault::BlockFault;
 use crate::file::lines_behind;
 use crate::header::{after_prefix, read_path, split_line};
+use crate::list_lines::{ListKind, line_of};
+use acl_forms::{Form, NamedEntryReader, form_of};
 use acl_names::{NameFault, Parts, PieceReader, Pieces, ResolveNames};
+use acl_nfs4::{MAX_ACES, NamedAceReader};
 use acl_posix::{EntryReader, MAX_ENTRIES};
 
 /// The line of a block that is at fault, and how many stand before it: the first for what is wrong
@@ -86,40 +92,109 @@ fn is_owner_line<N: ResolveNames>(line: &[u8], names: &N) -> bool
 }
 
 /// How many lines of a list stand before the first in which an entry doesn't read or is one too
-/// many. Lines of a default list are passed over.
+/// many.
 fn before_bad_entry<N: ResolveNames>(list: &[u8], names: &N) -> usize
-    ensures first { lines_read (N.names names.now) (parts newline list.now) ≡ false
-        → IsFirstFaulty (N.names names.now) (parts newline list.now) result }
+    ensures first { IsBadLine (N.names names.now) (faulty_kind (N.names names.now) list.now)
+        (parts newline list.now) result }
     ensures bound { result ≤ length list.now + 1 }
 {
-    let mut before = 0;
-    let mut room = MAX_ENTRIES;
-    let mut lines = Parts::new(b'\n', list);
-    while let Some(line) = lines.next() {
-        if !line.starts_with(b"default:") {
-            match room_behind(line, room, names) {
-                Some(left) => room = left,
-                None => return before,
-            }
-        }
-        before += 1;
+    match form_of(list) {
+        Form::Posix => match bad_line(list, ListKind::Access, names) {
+            Some(before) => before,
+            None => bad_line_or_first(list, ListKind::Default, names),
+        },
+        Form::Nfs4 => bad_line_or_first(list, ListKind::Nfs4, names),
+        Form::Freebsd => bad_line_or_first(list, ListKind::Freebsd, names),
     }
-    before
 }
 
-/// How many more entries may stand behind a line, before which there was room for so many. `None`
-/// if one of its entries doesn't read, or is one too many.
-fn room_behind<N: ResolveNames>(line: &[u8], room: usize, names: &N) -> Option<usize>
-    ensures { result ≡ room_behind (N.names names.now) room (pieces line.now) }
+fn bad_line_or_first<N: ResolveNames>(list: &[u8], kind: ListKind, names: &N) -> usize
+    ensures first { IsBadLine (N.names names.now) kind (parts newline list.now) result }
+    ensures bound { result ≤ length list.now + 1 }
 {
-    let reader = EntryReader { names };
+    match bad_line(list, kind, names) {
+        Some(before) => before,
+        None => 0,
+    }
+}
+
+/// How many lines stand before the first in which an entry of the list doesn't read or is one too
+/// many, if there is one.
+fn bad_line<N: ResolveNames>(list: &[u8], kind: ListKind, names: &N) -> Option<usize>
+    ensures first { IfSome result (IsFirstFaulty (N.names names.now) kind
+        (parts newline list.now)) }
+    ensures bad { IfSome result (λ _. lines_read (N.names names.now) kind
+        (parts newline list.now) ≡ false) }
+    ensures read { IfNone result (lines_read (N.names names.now) kind
+        (parts newline list.now) ≡ true) }
+    ensures bound { IfSome result (λ before. before ≤ length list.now + 1) }
+{
+    let mut before = 0;
+    let mut room = most(kind);
+    let mut lines = Parts::new(b'\n', list);
+    while let Some(line) = lines.next() {
+        let Some(left) = room_behind_line(line, kind, room, names) else {
+            return Some(before);
+        };
+        room = left;
+        before += 1;
+    }
+    None
+}
+
+/// How many entries a list may have.
+fn most(kind: ListKind) -> usize
+    ensures { result ≡ most kind }
+{
+    match kind {
+        ListKind::Access | ListKind::Default => MAX_ENTRIES,
+        ListKind::Nfs4 | ListKind::Freebsd => MAX_ACES,
+    }
+}
+
+/// How many more entries of the list may stand behind a line, before which there was room for so
+/// many. `None` if one of its entries doesn't read, or is one too many.
+fn room_behind_line<N: ResolveNames>(
+    line: &[u8],
+    kind: ListKind,
+    room: usize,
+    names: &N,
+) -> Option<usize>
+    ensures { result ≡ room_behind_line (N.names names.now) kind room (line_of kind line.now) }
+{
+    match line_of(kind, line) {
+        Some(text) => room_behind(text, kind, room, names),
+        None => Some(room),
+    }
+}
+
+/// The same behind what a line has of the list.
+fn room_behind<N: ResolveNames>(
+    text: &[u8],
+    kind: ListKind,
+    room: usize,
+    names: &N,
+) -> Option<usize>
+    ensures { result ≡ room_behind (N.names names.now) kind room (pieces text.now) }
+{
     let mut left = room;
-    let mut pieces = Pieces::new(line);
+    let mut pieces = Pieces::new(text);
     while let Some(piece) = pieces.next() {
-        if left == 0 || reader.read(piece).is_err() {
+        if left == 0 || !is_entry(piece, kind, names) {
             return None;
         }
         left -= 1;
     }
     Some(left)
+}
+
+/// Whether the piece is an entry of such a list.
+fn is_entry<N: ResolveNames>(piece: &[u8], kind: ListKind, names: &N) -> bool
+    ensures { result ≡ is_entry (N.names names.now) kind piece.now }
+{
+    match kind {
+        ListKind::Access | ListKind::Default => EntryReader { names }.read(piece).is_ok(),
+        ListKind::Nfs4 => NamedAceReader { names }.read(piece).is_ok(),
+        ListKind::Freebsd => NamedEntryReader { names }.read(piece).is_ok(),
+    }
 }

@@ -6,12 +6,12 @@ ghost use Rattle.acl_listings.specs.Faults.{IsFaultOf};
 ghost use Rattle.acl_listings.specs.Lines.{after_line};
 ghost use Rattle.acl_listings.specs.Views.{view_file, view_header};
 
-use crate::access::read_access;
 use crate::fault::{BlockFault, FileFault};
+use crate::file_flags::{FileFlags, read_flags};
 use crate::header::{Header, read_header, read_path, split_line};
 use crate::limits::MAX_BLOCK;
+use crate::lists::{Lists, read_lists};
 use acl_names::{Gid, NameFault, ResolveNames, Uid};
-use acl_posix::Acl;
 use std::alloc::Global;
 
 /// A file of a listing.
@@ -21,8 +21,8 @@ pub struct File<'t> {
     pub path: &'t [u8],
     pub owner: Uid,
     pub group: Gid,
-    /// Its access list. A default list decides no access.
-    pub access: Acl,
+    pub flags: FileFlags,
+    pub lists: Lists,
 }
 
 /// The owner and the group that a header names.
@@ -58,12 +58,13 @@ pub fn read_file<'t, N: ResolveNames>(
     }
     let header = read_header(text).ok_or(BlockFault::BadHeader)?;
     let (owner, group) = read_owners(names, &header)?;
-    let access = read_access(alloc, header.list, names)?;
+    let lists = read_lists(alloc, header.list, names)?;
     Ok(File {
         path: header.path,
         owner,
         group,
-        access,
+        flags: read_flags(header.list),
+        lists,
     })
 }
 

@@ -8,10 +8,13 @@ mod extent;
 mod fault;
 mod faulty;
 mod file;
+mod file_flags;
 mod guess;
 mod header;
 mod laws;
 mod limits;
+mod list_lines;
+mod lists;
 mod rule;
 mod shown;
 mod source;
@@ -23,11 +26,14 @@ pub use blocks::Blocks;
 pub use fault::{BlockFault, FileFault};
 pub use faulty::faulty_line;
 pub use file::{File, lines_behind, path_of, read_file};
+pub use file_flags::FileFlags;
 pub use guess::Guess;
 pub use laws::{
-    handed_blocks_tell_the_same, printed_files_are_read_again, refused_entries_stand_in_lines,
+    handed_blocks_tell_the_same, nfs4_blocks_are_read_again, printed_files_are_read_again,
+    refused_entries_stand_in_lines,
 };
 pub use limits::{MAX_BLOCK, MAX_SHOWN, limits_in_numbers};
+pub use lists::Lists;
 pub use rule::Rule;
 pub use shown::push_shown;
 pub use way::{Place, place_below};

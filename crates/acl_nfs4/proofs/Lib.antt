@@ -27,3 +27,5 @@ pub mod EvaluationMode
 pub mod EvaluationLemmas
 pub mod FrontLemmas
 pub mod PrintedLengths
+pub mod NamedLemmas
+pub mod NamedAgain

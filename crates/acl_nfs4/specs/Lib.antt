@@ -18,3 +18,4 @@ pub mod AceShapes
 pub mod Faults
 pub mod ReadFault
 pub mod Front
+pub mod NamedAces

@@ -107,7 +107,7 @@ pub fn read_aces(alloc: Global, text: &[u8], directory: &Directory) -> Result<Ac
     }
 }
 
-fn text_fault(fault: ListFault<PieceFault>) -> AceFault
+pub(crate) fn text_fault(fault: ListFault<PieceFault>) -> AceFault
     ensures { list_fault result ≡ fault }
 {
     match fault {
@@ -119,7 +119,7 @@ fn text_fault(fault: ListFault<PieceFault>) -> AceFault
     }
 }
 
-fn read_fields(piece: &[u8]) -> Option<AceFields<'_>>
+pub(crate) fn read_fields(piece: &[u8]) -> Option<AceFields<'_>>
     ensures { option_map view_fields result ≡ fields_of piece.now }
 {
     let mut fields = Parts::new(b':', piece);
@@ -140,7 +140,7 @@ fn read_fields(piece: &[u8]) -> Option<AceFields<'_>>
     }
 }
 
-fn read_type(text: &[u8]) -> Option<AceType>
+pub(crate) fn read_type(text: &[u8]) -> Option<AceType>
     ensures { result ≡ type_of text.now }
 {
     match text {
@@ -152,7 +152,7 @@ fn read_type(text: &[u8]) -> Option<AceType>
     }
 }
 
-fn refuse_idle(ace: Ace) -> Result<Ace, PieceFault>
+pub(crate) fn refuse_idle(ace: Ace) -> Result<Ace, PieceFault>
     ensures { result ≡ refuse_idle ace }
 {
     if ace.is_idle() {

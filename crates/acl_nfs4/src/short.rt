@@ -76,7 +76,9 @@ fn push_further_ace(ace: &Ace, out: &mut Vec<u8>) -> Result<(), AllocError>
     push_short_ace(ace, out)
 }
 
-fn push_short_ace(ace: &Ace, out: &mut Vec<u8>) -> Result<(), AllocError>
+/// Appends the entry as `print_short` does. If memory runs out, what was there stays; that happens
+/// only if `out` has no room for the text.
+pub fn push_short_ace(ace: &Ace, out: &mut Vec<u8>) -> Result<(), AllocError>
     ensures printed { PushesInRoom (short_ace ace.now) result out.old out.new }
     ensures has_id { OnOk result (HasId ace.now.who) }
 {

@@ -1,12 +1,11 @@
 -- What a query came to that was answered.
-use Rattle.std.proofs.Common.{◌≡◌, [], ℕ, Bool, List, Option, Result, Ok, Err, arith, inl, inr, refl}
+use Rattle.std.proofs.Common.{◌≡◌, [], ℕ, List, Option, Result, Ok, Err, arith, inr, refl}
 use Rattle.std.specs.Io.KnownBytes.{Appends}
-use Rattle.clap.specs.Words.{App, Row, Text}
-use Rattle.acl_cli.specs.Commands.{Answer, Comes, of_words}
+use Rattle.clap.specs.Words.{Row}
+use Rattle.acl_cli.specs.Commands.{Answer, Comes}
 use Rattle.acl_cli.specs.ErrorOutput.{ErrorText}
 use Rattle.acl_cli.specs.Failures.{failed_write}
 use Rattle.acl_cli.specs.Output.{AppendsFront}
-use Rattle.acl_cli.specs.Plain.{AnswersByText}
 use Rattle.acl_cli.specs.declared.command.Ending.TheVariants.{Answered}
 use Rattle.acl_cli.specs.declared.field_fault.FieldFault.{FieldFault}
 use Rattle.acl_cli.proofs.TellingLemmas.{Tells-nothing}
@@ -44,11 +43,3 @@ module _ {A I : Type 0} (asked_in : List Row → Result A FieldFault) (IsAnswer 
     where
       is_read : FailsFor (asked_in rows) failed_write
       is_read = rw read refl
-
--- a query answers with a text alone
-pub answers_by_text : {A : Type 0} (line : App) (helps : Bool) (asked_in : List Row → Result A FieldFault) (IsAnswer : A → List ℕ → Type 0) (words : List Text)
-    → AnswersByText (of_words line helps (query_meaning asked_in IsAnswer) words)
-answers_by_text line helps asked_in IsAnswer words answer (inl (inl (is, asks, quiet, whole))) = (quiet, whole)
-answers_by_text line helps asked_in IsAnswer words answer (inl (inr (taken, answered))) = (answered.quiet, answered.whole)
-answers_by_text line helps asked_in IsAnswer words answer (inr (inl (is, asks, quiet, whole))) = (quiet, whole)
-answers_by_text line helps asked_in IsAnswer words answer (inr (inr (taken, answered))) = (answered.quiet, answered.whole)

@@ -7,7 +7,7 @@ use Rattle.acl_cli.specs.ErrorOutput.{ErrorText}
 use Rattle.acl_cli.specs.Failures.{IsRefusal, is_help, status_of}
 use Rattle.acl_cli.specs.declared.command.Ending.{Ending}
 use Rattle.acl_cli.specs.declared.failure.Failure.{Failure}
-use Rattle.acl_cli.specs.declared.failure.Failure.TheVariants.{Accounts, BadWords, CannotRead, Field, InputTwice, Lacks, LineTooLong, Mismatch, NoCommand, Setup, TooManySessions, TooManyWords, Unread, Usage}
+use Rattle.acl_cli.specs.declared.failure.Failure.TheVariants.{Accounts, BadWords, CannotRead, Field, InputTwice, Lacks, LineTooLong, Mismatch, NoCommand, NoFile, Setup, TooManySessions, TooManyWords, Unread, Usage}
 use Rattle.acl_cli.specs.declared.field_fault.FieldFault.{FieldFault}
 use Rattle.acl_queries.specs.Queries.{FailsFor, query_meaning}
 use Rattle.acl_queries.specs.QueryLaws.{HasTheStatusOfItsWords, IsStatusOf, status_of_kind, status_of_reading}
@@ -30,6 +30,7 @@ module _ {A : Type 0} (helps : Bool) (kinds : Kinds) (reading : Result A FieldFa
   of_refusal (CannotRead name reason) is ended = absurd is
   of_refusal LineTooLong is ended = absurd is
   of_refusal (Unread name) is ended = absurd is
+  of_refusal (NoFile name path) is ended = absurd is
   of_refusal NoCommand is ended = absurd is
   of_refusal BadWords is ended = absurd is
   of_refusal TooManyWords is ended = absurd is
@@ -47,6 +48,7 @@ module _ {A : Type 0} (helps : Bool) (kinds : Kinds) (reading : Result A FieldFa
   of_fields (CannotRead name reason) none is ended = absurd is
   of_fields LineTooLong none is ended = absurd is
   of_fields (Unread name) none is ended = absurd is
+  of_fields (NoFile name path) none is ended = absurd is
   of_fields NoCommand none is ended = absurd is
   of_fields BadWords none is ended = absurd is
   of_fields TooManyWords none is ended = absurd is

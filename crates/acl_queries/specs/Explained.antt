@@ -1,20 +1,17 @@
 -- What the fields of `explain` ask, read one by one.
-use Rattle.std.specs.Prelude.{ℕ, List, Result, Ok, codes}
+use Rattle.std.specs.Prelude.{List, Result, Ok, codes}
 use Rattle.clap.specs.Words.{Row}
-use Rattle.acl_names.specs.Requester.{Identity}
 use Rattle.acl_names.specs.Steps.{◌>>=◌}
 use Rattle.acl_cli.specs.Fields.{gids_in, id_in, perms_in}
 use Rattle.acl_queries.specs.ListField.{list_in}
+use Rattle.acl_queries.specs.Reasons.{FileRequestValue}
 use Rattle.acl_queries.specs.declared.command.list.AnyAcl.{AnyAcl}
 use Rattle.acl_cli.specs.declared.field_fault.FieldFault.{FieldFault}
 
--- why the requester may do all of what is requested with a file of this owner, this group and this
--- access control list, or may not
+-- why the requester may do all of what is requested with a file of this access control list, or may
+-- not
 pub record Explained : Type 0 where
-  pub owner : ℕ
-  pub group : ℕ
-  pub requester : Identity
-  pub request : ℕ
+  pub asked : FileRequestValue
   pub acl : AnyAcl
 
 -- what is asked, or the fault of the first field that doesn't read, in this order
@@ -27,9 +24,11 @@ explained_in rows = do
   perms ← perms_in rows
   acl ← list_in (codes "style") (codes "text") rows
   Ok (record {
-    owner = owner;
-    group = group;
-    requester = record { uid = uid; gids = gids };
-    request = perms;
+    asked = record {
+      owner = owner;
+      group = group;
+      requester = record { uid = uid; gids = gids };
+      request = perms;
+    };
     acl = acl;
   })

@@ -10,6 +10,7 @@ pub mod Compared
 pub mod Comparing
 pub mod Differences
 pub mod Explanation
+pub mod Reasons
 pub mod ExplainLine
 pub mod Explained
 pub mod ExplainText

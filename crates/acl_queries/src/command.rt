@@ -6,4 +6,6 @@ pub(crate) mod change_text;
 pub(crate) mod list;
 pub(crate) mod query;
 
+pub use acl::empty_directory;
+pub use answer::answer_line;
 pub use change_text::{push_bits, push_gids};

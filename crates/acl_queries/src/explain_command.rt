@@ -1,8 +1,6 @@
 //! The command `explain`.
 
 mod command_line;
-mod nfs4;
-mod posix;
 mod question;
 mod text;
 

@@ -9,8 +9,9 @@ mod decide_command;
 mod explain_command;
 mod explanation;
 mod laws;
+mod reasons;
 
-pub use command::{push_bits, push_gids};
+pub use command::{answer_line, empty_directory, push_bits, push_gids};
 pub use compare_command::Compare;
 pub use decide_command::Decide;
 pub use explain_command::Explain;
@@ -19,3 +20,4 @@ pub use laws::{
     alike_lists_differ_for_nobody, explanation_laws, statuses_are_those_of_the_words,
     words_ask_what_they_give,
 };
+pub use reasons::{FileRequest, push_nfs4_reasons, push_posix_reasons};

@@ -1,79 +1,77 @@
 -- The exit status of `run`, by its words.
-use Rattle.std.proofs.Common.{◌≡◌, ◌≢◌, ◌≤◌, ◌⊎◌, ◌∙◌, ℕ, zero, suc, List, Option, ap, arith, inl, inr, length, refl, sym}
-use Rattle.clap.specs.Words.{Text, matches_of}
-use Rattle.clap.specs.declared.error.kind.ErrorKind.{ErrorKind}
-use Rattle.clap.specs.declared.error.kind.ErrorKind.TheVariants.{OutOfMemory}
+use Rattle.std.proofs.Common.{◌≡◌, ◌≢◌, ◌≤◌, ◌<◌, ◌⊎◌, ◌∙◌, ℕ, List, Option, Result, Ok, Err, ap, arith, false, true, inl, inr, length, refl, sym}
+use Rattle.std.specs.Prelude.{Contains, ◌∷◌}
+use Rattle.std.proofs.lemmas.Bool.{true≢false}
+use Rattle.clap.specs.Words.{Row, Text, fault_of, matches_of}
+use Rattle.acl_broker.specs.declared.limits.TheConstants.{SESSIONS}
 use Rattle.acl_cli.specs.CommandLine.{Takes}
+use Rattle.acl_cli.specs.Commands.{Comes, IsTold, of_words, status_of_ending}
 use Rattle.acl_cli.specs.ErrorOutput.{ErrorText}
-use Rattle.acl_cli.specs.Faults.{usage_status_by}
-use Rattle.acl_cli.specs.Meaning.{Ends}
-use Rattle.acl_cli.proofs.ErrorLemmas.{usage_bounds}
-use Rattle.acl_service.specs.FilesFaults.{IsFilesFault, SaysRun, files_status}
+use Rattle.acl_cli.specs.Failures.{status_of}
+use Rattle.acl_cli.specs.SessionFiles.{setup_in}
+use Rattle.acl_cli.specs.declared.command.Ending.{Ending}
+use Rattle.acl_cli.specs.declared.failure.Failure.{Failure}
+use Rattle.acl_cli.proofs.FailureLemmas.{refusal_status, unexplained_not_two}
+use Rattle.acl_service.specs.Files.{IsFilesFailure}
 use Rattle.acl_service.specs.RunLaws.{CannotRun, StatusesTellTheWords}
 use Rattle.acl_service.specs.RunLine.{run_line}
-use Rattle.acl_service.specs.RunMeaning.{run_meaning}
+use Rattle.acl_service.specs.RunMeaning.{AnswersFiles, FailsOfFiles, run_meaning}
 use Rattle.acl_service.specs.RunWords.{CanRun, sessions_in}
-use Rattle.acl_cli.specs.SessionFiles.{setup_in}
-use Rattle.acl_service.specs.TextsFaults.{IsTextsFault, texts_status}
-use Rattle.acl_service.specs.declared.files.fault.FilesFault.{FilesFault}
-use Rattle.acl_service.specs.declared.files.fault.FilesFault.TheVariants.{SessionCount, InputTwice, CannotRead, Memory}
-use Rattle.acl_service.specs.declared.run_command.fault.TextsFault.{TextsFault}
-use Rattle.acl_service.specs.declared.run_command.fault.TextsFault.TheVariants.{TooManySessions, Setup, Run}
+use Rattle.acl_service.proofs.RunLemmas.{usage_is_too_many}
 
--- wrong usage isn't a lack of memory
-used_wrongly : (kind : ErrorKind) → usage_status_by kind ≡ 2 → kind ≢ OutOfMemory
-used_wrongly kind two is = let three = ap usage_status_by (sym is) ∙ two in absurd (omega (arith, three))
+-- files that are refused without wrong usage are those of sessions that can run, and with it of those that can't
+module _ (setup : Text) (names : List Text) (failure : Failure) where
+  files_can_run : IsFilesFailure setup names failure → status_of failure ≤ 1 → CanRun names
+  files_can_run (inl (inl (is, count))) few = let two = ap status_of is in absurd (omega (arith, two, few))
+  files_can_run (inl (inr (is, twice))) few = let two = ap status_of is in absurd (omega (arith, two, few))
+  files_can_run (inr (can, is)) few = can
 
-module _ (setup : Text) (names : List Text) where
-  -- a file can't be read only of sessions that can run
-  files_can_run : (fault : FilesFault) → IsFilesFault setup names fault → files_status fault ≡ 1 → CanRun names
-  files_can_run (CannotRead refused) is one = is.0
-  files_can_run Memory is one = is
-  files_can_run SessionCount is one = absurd (omega (arith, one))
-  files_can_run InputTwice is one = absurd (omega (arith, one))
+  files_cannot_run : IsFilesFailure setup names failure → status_of failure ≡ 2 → CannotRun names
+  files_cannot_run (inl (inl (is, inl none))) two = inl none
+  files_cannot_run (inl (inl (is, inr many))) two = inr (inl many)
+  files_cannot_run (inl (inr (is, twice))) two = inr (inr twice)
+  files_cannot_run (inr (can, is)) two = absurd (unexplained_not_two (Contains (setup ∷ names)) failure is two)
 
-  -- and wrong usage is that of sessions that can't
-  files_cannot_run : (fault : FilesFault) → IsFilesFault setup names fault → files_status fault ≡ 2 → CannotRun names
-  files_cannot_run SessionCount (inl none) two = inl none
-  files_cannot_run SessionCount (inr many) two = inr (inl many)
-  files_cannot_run InputTwice is two = inr (inr is)
-  files_cannot_run (CannotRead refused) is two = absurd (omega (arith, two))
-  files_cannot_run Memory is two = absurd (omega (arith, two))
+module _ (bytes_of : Text → Option (List ℕ)) (input : Option (List ℕ)) (words : List Text) where
+  abbrev rows : List Row
+  rows = matches_of run_line words
 
--- sessions that can run are not too many
-not_too_many : (bytes : List ℕ) (names : List Text) (fault : TextsFault) → CanRun names → IsTextsFault bytes (length names) fault → texts_status fault ≢ 2
-not_too_many bytes names TooManySessions can many two = let few = can.few in absurd (omega (arith, few, many))
-not_too_many bytes names (Setup error) can is two = absurd (omega (arith, two))
-not_too_many bytes names (Run fault) can is two = absurd (omega (arith, two))
-
-module _ (bytes_of : Text → Option (List ℕ)) (words : List Text) (line : Option (List ℕ)) where
   abbrev names : List Text
-  names = sessions_in (matches_of run_line words)
+  names = sessions_in rows
 
-  said_at_1 : SaysRun bytes_of words 1 line → Takes run_line words × CanRun names
-  said_at_1 (inl (error, is, status, line_is)) = let some = (usage_bounds error).0 in absurd (omega (arith, some, status))
-  said_at_1 (inr (taken, inl (fault, is, status, line_is))) = (taken, files_can_run (setup_in (matches_of run_line words)) names fault is (sym status))
-  said_at_1 (inr (taken, inr (can, texts))) = (taken, can)
+  -- sessions that come to nothing are none of wrong usage
+  texts_not_two : (failure : Failure) → FailsOfFiles bytes_of rows failure → status_of failure ≢ 2
+  texts_not_two failure failed two =
+      let few : length names ≤ SESSIONS = failed.can_run.few in
+      let many : SESSIONS < length names = (usage_is_too_many failed.setup (length names) failure failed.fails).0 two in
+      omega (arith, few, many)
 
-  said_at_2 : SaysRun bytes_of words 2 line → (¬ Takes run_line words) ⊎ CannotRun names
-  said_at_2 (inl (error, is, status, line_is)) = inl (is (used_wrongly _ (sym status)))
-  said_at_2 (inr (taken, inl (fault, is, status, line_is))) = inr (files_cannot_run (setup_in (matches_of run_line words)) names fault is (sym status))
-  said_at_2 (inr (taken, inr (can, (bytes, told, (fault, is, status, line_is))))) = absurd (not_too_many bytes names fault can is (sym status))
+  -- the status tells of the words
+  abbrev Tells : ℕ → Type 0
+  Tells status = (status ≤ 1 → Takes run_line words × CanRun names) × (status ≡ 2 → (¬ Takes run_line words) ⊎ CannotRun names)
 
-module _ (bytes_of : Text → Option (List ℕ)) (input : Option (List ℕ)) (words : List Text) (out out' : Option (List ℕ)) (err err' : ErrorText) where
-  at_most_1 : (status : ℕ) → Ends (run_meaning bytes_of input words) status out out' err err' → status ≤ 1
-      → Takes run_line words × CanRun (sessions_in (matches_of run_line words))
-  at_most_1 zero ends few = let answered = ends.answered refl in (answered.taken, answered.runs.can_run)
-  at_most_1 (suc zero) ends few = let said = ends.told.told (λ none. absurd (omega (arith, none))) in said_at_1 bytes_of words said.0 said.1
-  at_most_1 (suc (suc n)) ends few = absurd (omega (arith, few))
+  of_failure : (failure : Failure) → (of_words run_line false (run_meaning bytes_of input) words).Fails failure → Tells (status_of failure)
+  of_failure failure (inl refused) = of_refusal (refusal_status false (fault_of run_line words) failure refused)
+    where
+      of_refusal : (status_of failure ≡ 3) ⊎ ((status_of failure ≡ 2) × (¬ Takes run_line words)) → Tells (status_of failure)
+      of_refusal (inl three) = (λ few. absurd (omega (arith, three, few)), λ two. absurd (omega (arith, three, two)))
+      of_refusal (inr (is, not_taken)) = (λ few. absurd (omega (arith, is, few)), λ two. inl not_taken)
+  of_failure failure (inr (taken, inl files)) =
+      (λ few. (taken, files_can_run (setup_in rows) names failure files few), λ two. inr (files_cannot_run (setup_in rows) names failure files two))
+  of_failure failure (inr (taken, inr texts)) = (λ few. (taken, texts.can_run), λ two. absurd (texts_not_two failure texts two))
 
-  at_2 : (status : ℕ) → Ends (run_meaning bytes_of input words) status out out' err err' → status ≡ 2
-      → (¬ Takes run_line words) ⊎ CannotRun (sessions_in (matches_of run_line words))
-  at_2 zero ends two = absurd (omega (arith, two))
-  at_2 (suc zero) ends two = absurd (omega (arith, two))
-  at_2 (suc (suc zero)) ends two = let said = ends.told.told (λ none. absurd (omega (arith, none))) in said_at_2 bytes_of words said.0 said.1
-  at_2 (suc (suc (suc n))) ends two = absurd (omega (arith, two))
+  module _ (out out' : Option (List ℕ)) (err err' told_err : ErrorText) (stdin stdin' : Unit {0}) where
+    by_result : (result : Result Ending Failure) (status : ℕ) → Comes (of_words run_line false (run_meaning bytes_of input) words) result out out' err err' stdin stdin'
+        → IsTold result status err' told_err → Tells status
+    by_result (Ok ending) status comes told = of_answer comes.answered.is (told.0 ∙ ap status_of_ending (sym comes.answered.ends))
+      where
+        of_answer : (of_words run_line false (run_meaning bytes_of input) words).Answers comes.answered.answer → status ≡ status_of_ending comes.answered.answer.ending → Tells status
+        of_answer (inl (helps, asks, quiet, whole)) is = absurd (true≢false (sym helps))
+        of_answer (inr (taken, answered)) is =
+            let none : status ≡ 0 = is ∙ ap status_of_ending answered.answers.whole in
+            (λ few. (taken, answered.can_run), λ two. absurd (omega (arith, none, two)))
+    by_result (Err failure) status comes told = rw told.0 (of_failure failure comes.fails)
 
 pub statuses_tell : StatusesTellTheWords
-statuses_tell bytes_of input words status out out' err err' ends =
-    (at_most_1 bytes_of input words out out' err err' status ends, at_2 bytes_of input words out out' err err' status ends)
+statuses_tell bytes_of input words status out out' err err' stdin stdin' ends =
+    by_result bytes_of input words out out' err ends.between err' stdin stdin' ends.result status ends.comes ends.told

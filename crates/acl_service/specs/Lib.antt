@@ -1,15 +1,15 @@
 pub mod Runs
 pub mod Served
 pub mod ServedCode
-pub mod FilesFaults
 pub mod Sessions
 pub mod Cursor
 pub mod ReportOf
 pub mod Headline
-pub mod TextsFaults
+pub mod TextsFailures
 pub mod RunText
 pub mod RunTexts
 pub mod RunLine
 pub mod RunWords
+pub mod Files
 pub mod RunMeaning
 pub mod RunLaws

@@ -1,5 +1,5 @@
 //! What the service is built for, as laws.
-ghost use Rattle.std.specs.Prelude.{[], ◌∷◌, ℕ, None};
+ghost use Rattle.std.specs.Prelude.{◌≡◌, [], ◌∷◌, ℕ, None, Some};
 ghost use Rattle.std.specs.declared.alloc.Global.{Global};
 ghost use Rattle.std.specs.declared.vec.Vec.{Vec};
 ghost use Rattle.acl_names.specs.Directory.{Known};
@@ -8,10 +8,12 @@ ghost use Rattle.acl_broker.specs.Headline.{Merges};
 ghost use Rattle.acl_broker.specs.Points.{BrokerState};
 ghost use Rattle.acl_broker.specs.Steps.{GoesOnAll, History};
 ghost use Rattle.acl_bridge.specs.TranslationLaws.{TranslationDecidesAlike};
+ghost use Rattle.acl_cli.specs.Failures.{words_of};
+ghost use Rattle.acl_cli.specs.declared.failure.Failure.TheVariants.{TooManySessions};
 ghost use Rattle.acl_lang.specs.declared.answer.Answer.{Answer};
 ghost use Rattle.acl_lang.specs.declared.text.Numbered.{Numbered};
 ghost use Rattle.acl_service.specs.Headline.{IsServedBy};
-ghost use Rattle.acl_service.specs.RunLaws.{StatusesTellTheWords};
+ghost use Rattle.acl_service.specs.RunLaws.{StatusesTellTheWords, too_many_sessions};
 ghost use Rattle.acl_service.specs.Served.{next_served, reply_served};
 ghost use Rattle.acl_service.specs.Sessions.{ExplainsSessions, IsServedAlone};
 ghost use Rattle.acl_service.specs.declared.served.Served.{Served};
@@ -47,9 +49,10 @@ pub fn one_session_is_served_as_alone()
 
 /// The exit status of `run` tells of its words. At 0 and 1 they were taken and the sessions that
 /// they name can run together; 2 is that of words that aren't taken, or that name no sessions, more
-/// than there may be, or standard input twice.
+/// than there may be, or standard input twice. The line of too many says how many there may be.
 ///
 /// There is nothing to run here: a proof cites the contract.
 pub fn run_statuses_tell_the_words()
-    ensures { StatusesTellTheWords }
+    ensures statuses { StatusesTellTheWords }
+    ensures number { words_of TooManySessions ≡ Some too_many_sessions }
 {}

@@ -11,18 +11,15 @@ mod served;
 mod sessions;
 
 pub use acl_cli::session_files::setup_field;
-pub use acl_cli::{
-    CapFault, CommandFault, ErrorOutput, RunFault, WordsFault, read_capped, report, words_of,
-    write_text,
-};
+pub use acl_cli::{CapFault, ErrorOutput, RunFault, WordsFault, read_capped, words_of, write_text};
 pub use acl_queries::{alike_lists_differ_for_nobody, words_ask_what_they_give};
 pub use acl_runs::{Gate, OpenGate, ServeFault};
-pub use files::{FilesFault, OpenFiles, Texts, count_inputs, read_file, read_sessions, read_texts};
+pub use files::{OpenFiles, Texts, read_texts};
 pub use laws::{
     journal_explains_every_answer, one_session_is_served_as_alone, run_statuses_tell_the_words,
 };
 pub use one::{OneFault, apply_text, run_one};
-pub use run_command::{run, run_texts, session_fields, session_words};
+pub use run_command::{RunLine, run, run_texts, session_names, session_words};
 pub use served::Served;
 pub(crate) use served::ServedInPrint;
 pub use sessions::{Report, serve, serve_rounds};

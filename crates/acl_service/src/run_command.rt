@@ -1,24 +1,26 @@
 //! The command `run`.
-ghost use Rattle.std.specs.Prelude.{◌≢◌, ◌<◌, ◌≤◌, ◌≡◌, ◌↔◌, All, Some, length, map};
+ghost use Rattle.std.specs.Prelude.{◌≢◌, ◌<◌, ◌≤◌, ◌≡◌, ◌↔◌, All, Some, false, length, map};
 ghost use Rattle.clap.specs.Words.{found_of, rows_of};
 ghost use Rattle.acl_lang.specs.declared.limits.TheConstants.{MAX_TEXT_LEN};
 ghost use Rattle.acl_broker.specs.declared.limits.TheConstants.{SESSIONS};
-ghost use Rattle.acl_cli.specs.Meaning.{Ends, EndsWithInput};
-ghost use Rattle.acl_service.specs.RunMeaning.{files_meaning, run_meaning, texts_meaning};
+ghost use Rattle.acl_cli.specs.Commands.{Comes, Ends, of_words};
+ghost use Rattle.acl_cli.specs.ErrorOutput.{ErrorText};
+ghost use Rattle.acl_service.specs.RunLine.{run_line};
+ghost use Rattle.acl_service.specs.RunMeaning.{run_meaning, texts_meaning};
 
 mod command_line;
-mod fault;
+mod failure;
 mod printing;
 mod texts;
 
-use crate::files::{FilesFault, OpenFiles, read_texts};
+use crate::files::{OpenFiles, read_texts};
 use acl_cli::fields::flag_field;
 use acl_cli::session_files::setup_field;
-use acl_cli::{ErrorOutput, parse, report};
+use acl_cli::{Ending, ErrorOutput, Failure, parse};
 use acl_runs::{Gate, OpenGate};
 use clap::ArgMatches;
-use command_line::{RunLine, limit_field};
-pub use command_line::{session_fields, session_words};
+use command_line::limit_field;
+pub use command_line::{RunLine, session_names, session_words};
 use std::alloc::Global;
 use std::convert::AsStr;
 use std::io::{Read, Write};
@@ -59,7 +61,7 @@ pub fn run_texts<R: Threads + Wait + Clock + Sync, G: Gate, W: Write, E: Write +
     requires short { All (λ text. length text.items ≤ MAX_TEXT_LEN) texts.now }
     requires some { max_errors ≢ Some 0 }
     ensures ended { Ends (texts_meaning setup.now texts.now journal max_errors) result
-        (W.contents out.old) (W.contents out.new) err.old err.new }
+        (W.contents out.old) (W.contents out.new) err.old err.new (tt {0}) (tt {0}) }
     ensures too_many { (result ≡ 2) ↔ (SESSIONS < length texts.now) }
 {
     let options = Options {
@@ -68,7 +70,10 @@ pub fn run_texts<R: Threads + Wait + Clock + Sync, G: Gate, W: Write, E: Write +
     };
     match print_texts(rt, alloc, gate, setup, texts, options, out) {
         Ok(()) => 0,
-        Err(fault) => report(&fault, err),
+        Err(failure) => {
+            failure.tell(err);
+            failure.status()
+        }
     }
 }
 
@@ -101,51 +106,72 @@ where
     I: Read,
     W: Write,
     E: Write + Drop,
-    ensures { EndsWithInput (run_meaning (F.bytes_of files.now) (I.remaining input.old)
-        (map S.text words.now)) result (W.contents out.old) (W.contents out.new) err.old err.new
-        input.old input.new }
+    ensures { Ends (of_words run_line false (run_meaning (F.bytes_of files.now)
+        (I.remaining input.old)) (map S.text words.now)) result (W.contents out.old)
+        (W.contents out.new) err.old err.new input.old input.new }
 {
-    match parse::<RunLine, S>(alloc, words) {
-        Ok(matches) => run_files(rt, alloc, files, &matches, input, out, err),
-        Err(error) => report(&error, err),
+    match answer_words(rt, alloc, files, words, input, out) {
+        Ok(ending) => ending.status(),
+        Err(failure) => {
+            failure.tell(err);
+            failure.status()
+        }
     }
 }
 
-/// Reads the files that the words name, and runs their sessions.
-fn run_files<R, F, I, W, E>(
+/// Writes what the sessions print that the words name.
+fn answer_words<'a, R, F, S, I, W>(
     rt: &R,
     alloc: Global,
     files: &F,
-    matches: &ArgMatches<'_>,
+    words: &'a [S],
     input: &mut I,
     out: &mut W,
-    err: &mut ErrorOutput<E>,
-) -> u8
+) -> Result<Ending, Failure<'a>>
+where
+    R: Threads + Wait + Clock + Sync,
+    F: OpenFiles,
+    S: AsStr,
+    I: Read,
+    W: Write,
+    // Whatever went to standard error.
+    ensures { (said : ErrorText) → Comes (of_words run_line false (run_meaning
+        (F.bytes_of files.now) (I.remaining input.old)) (map S.text words.entry.now)) result
+        (W.contents out.old) (W.contents out.new) said said input.old input.new }
+{
+    match parse::<RunLine, S>(alloc, words) {
+        Ok(matches) => answer(rt, alloc, files, &matches, input, out),
+        Err(error) => Err(Failure::from(error)),
+    }
+}
+
+/// Writes what the sessions print that the fields name.
+fn answer<'a, R, F, I, W>(
+    rt: &R,
+    alloc: Global,
+    files: &F,
+    matches: &ArgMatches<'a>,
+    input: &mut I,
+    out: &mut W,
+) -> Result<Ending, Failure<'a>>
 where
     R: Threads + Wait + Clock + Sync,
     F: OpenFiles,
     I: Read,
     W: Write,
-    E: Write + Drop,
-    ensures { EndsWithInput (files_meaning (F.bytes_of files.now) (I.remaining input.old)
-        (rows_of (found_of matches.now))) result (W.contents out.old) (W.contents out.new) err.old
-        err.new input.old input.new }
+    // Whatever went to standard error.
+    ensures { (said : ErrorText) → Comes (run_meaning (F.bytes_of files.now)
+        (I.remaining input.old) (rows_of (found_of matches.now))) result (W.contents out.old)
+        (W.contents out.new) said said input.old input.new }
 {
-    let Some(names) = session_fields(matches) else {
-        return report(&FilesFault::SessionCount, err);
+    let names = session_names(matches);
+    let texts = read_texts(alloc, files, input, setup_field(matches), names)?;
+    let options = Options {
+        journal: flag_field(matches, "journal"),
+        max_errors: limit_field(matches),
     };
-    match read_texts(alloc, files, input, setup_field(matches), names) {
-        Ok(texts) => run_texts(
-            rt,
-            alloc,
-            &OpenGate,
-            texts.setup.as_slice(),
-            texts.sessions.as_slice(),
-            flag_field(matches, "journal"),
-            limit_field(matches),
-            out,
-            err,
-        ),
-        Err(fault) => report(&fault, err),
-    }
+    let setup = texts.setup.as_slice();
+    let sessions = texts.sessions.as_slice();
+    print_texts(rt, alloc, &OpenGate, setup, sessions, options, out)?;
+    Ok(Ending::Answered)
 }

@@ -1,12 +1,11 @@
 -- What came of a question of trees.
-use Rattle.std.proofs.Common.{◌≡◌, ◌≢◌, ◌≤◌, ◌∙◌, [], Bool, ℕ, List, Option, Result, Ok, Err, OnErr, OnOk, ap, arith, inl, inr, refl, subst, sym}
+use Rattle.std.proofs.Common.{◌≡◌, ◌≢◌, ◌≤◌, ◌∙◌, [], ℕ, List, Option, Result, Ok, Err, ap, arith, inl, inr, refl, subst, sym}
 use Rattle.std.specs.Io.KnownBytes.{Appends, Keeps}
-use Rattle.clap.specs.Words.{App, Row, Text}
-use Rattle.acl_cli.specs.Commands.{Answer, Comes, of_words}
+use Rattle.clap.specs.Words.{Row, Text}
+use Rattle.acl_cli.specs.Commands.{Answer, Comes}
 use Rattle.acl_cli.specs.ErrorOutput.{ErrorText, Tells}
 use Rattle.acl_cli.specs.Failures.{status_of}
 use Rattle.acl_cli.specs.Output.{AppendsFront}
-use Rattle.acl_cli.specs.Plain.{AnswersByText}
 use Rattle.acl_cli.specs.declared.command.Ending.TheVariants.{Answered}
 use Rattle.acl_cli.specs.declared.failure.Failure.{Failure}
 use Rattle.acl_cli.specs.declared.field_fault.FieldFault.{FieldFault}
@@ -67,12 +66,3 @@ module _ {Q I : Type 0} (asked_in : List Row → Result Q FieldFault) (IsAnswer 
     untouched = untouched;
     unread = λ two. absurd (not_two (IsRefused question trees) failure failed two);
   }
-
--- a question of trees is answered by a text alone
-pub answers_by_text : {Q : Type 0} (line : App) (helps : Bool) (asked_in : List Row → Result Q FieldFault) (IsAnswer IsBegun : Q → Trees → List ℕ → Type 0)
-    (IsRefused : Q → Trees → Type 0) (bytes_of : Text → Option (List ℕ)) (input : Option (List ℕ)) (words : List Text)
-    → AnswersByText (of_words line helps (tree_meaning asked_in IsAnswer IsBegun IsRefused bytes_of input) words)
-answers_by_text line helps asked_in IsAnswer IsBegun IsRefused bytes_of input words answer (inl (inl (is, asks, quiet, whole))) = (quiet, whole)
-answers_by_text line helps asked_in IsAnswer IsBegun IsRefused bytes_of input words answer (inl (inr (taken, answered))) = (answered.quiet, answered.whole)
-answers_by_text line helps asked_in IsAnswer IsBegun IsRefused bytes_of input words answer (inr (inl (is, asks, quiet, whole))) = (quiet, whole)
-answers_by_text line helps asked_in IsAnswer IsBegun IsRefused bytes_of input words answer (inr (inr (taken, answered))) = (answered.quiet, answered.whole)

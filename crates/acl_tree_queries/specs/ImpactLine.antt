@@ -2,13 +2,16 @@
 use Rattle.std.specs.Prelude.{◌≡◌, [], ◌∷◌, codes, fold, refl, true}
 use Rattle.clap.specs.Words.{App, is_simple, is_simple_and_free, new_app, with_rule}
 use Rattle.clap.proofs.OnLiterals.{clap_on_literals}
-use Rattle.acl_cli.specs.CommandLine.{optional_option, required_option, required_word}
+use Rattle.acl_cli.specs.CommandLine.{flag, optional_option, optional_word, repeated_option}
 
--- `impact --setup FILE [--before SESSION] SESSION`
+-- `impact [--accounts FILE] [--setup FILE] [--all] [--user NAME].. [--text] [--exit-code]
+-- [--before SESSION] [--session SESSION] [BEFORE] [AFTER]`
 unfoldable pub impact_line : App
 impact_line = fold with_rule (new_app (codes "impact"))
-    (required_option (codes "setup") ∷ optional_option (codes "before")
-    ∷ required_word (codes "session") ∷ [])
+    (optional_option (codes "accounts") ∷ optional_option (codes "setup") ∷ flag (codes "all")
+    ∷ repeated_option (codes "user") ∷ flag (codes "text") ∷ flag (codes "exit-code")
+    ∷ optional_option (codes "before") ∷ optional_option (codes "session")
+    ∷ optional_word (codes "listing") ∷ optional_word (codes "after") ∷ [])
 
 -- its parser is known
 pub impact_line-simple : is_simple impact_line ≡ true

@@ -21,24 +21,24 @@ use std::io::{Read, Write};
 /// inherits; then `create KIND PATH UID 000` for each node but the root, in the order of their
 /// paths; then for each node `set PATH access TEXT`, with `set PATH default TEXT` where it has a
 /// default list, or `set PATH nfs4 TEXT`. Ids are decimal, and lists are in the short text form.
-/// What is wrong goes to `err`, and so does help; a fault while writing there changes nothing.
+/// What is wrong goes to `err`; a fault while writing there changes nothing.
 ///
-/// The exit status is 0 with the session; 1 if a file can't be opened or read or is too
-/// long, the setup is refused, or a line would be longer than 1024 bytes; 2 if the parser of
+/// The exit status is 0 with the session, and with help; 1 if a file can't be opened or read or is
+/// too long, the setup is refused, or a line would be longer than 1024 bytes; 2 if the parser of
 /// command lines refuses the words; and 3 if memory runs out or `out` can't be written. At 1 and 2
 /// nothing was written, and at 3 nothing or a front of the session.
 pub struct Dump;
 
 impl Command for Dump {
-    ghost use Rattle.std.specs.Prelude.{false};
+    ghost use Rattle.std.specs.Prelude.{true};
     ghost use Rattle.acl_tree_queries.specs.DumpAnswer.{dump_meaning};
 
     ghost meaning = { dump_meaning };
 
-    ghost helps = { false };
+    ghost helps = { true };
 
     fn answers_help() -> bool {
-        false
+        true
     }
 
     fn answer<'a, F: OpenFiles, I: Read, W: Write, E: Write + Drop>(

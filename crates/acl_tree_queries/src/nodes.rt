@@ -92,5 +92,6 @@ pub(crate) fn write_nodes<'n, T: NodeText, W: Write, E: Write + Drop>(
         entries: entries.as_slice(),
         at: 0,
     };
-    tell_each(alloc, &mut telling, out, err)
+    tell_each(alloc, &mut telling, out, err)?;
+    Ok(())
 }

@@ -9,12 +9,9 @@ ghost use Rattle.acl_cli.specs.declared.field_fault.FieldFault.{FieldFault as Fa
 ghost use Rattle.acl_tree_queries.specs.TreeQuestions.{IsAnswerFailure, tree_meaning};
 ghost use Rattle.acl_tree_queries.specs.declared.trees.Trees.{Trees as TreesValue};
 
-mod fault;
-
 use crate::trees::{Trees, open_trees};
 use acl_cli::{Ending, ErrorOutput, Failure, FieldFault, OpenFiles};
 use clap::ArgMatches;
-pub(crate) use fault::QuestionFault;
 use std::alloc::Global;
 use std::io::{Read, Write};
 

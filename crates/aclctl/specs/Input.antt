@@ -1,9 +1,11 @@
 -- The words on standard input.
-use Rattle.std.specs.Prelude.{◌≡◌, ◌<◌, ◌≤◌, ⊤, ℕ, List, length, IsUtf8}
+use Rattle.std.specs.Prelude.{◌≡◌, ◌<◌, ◌≤◌, ⊤, ℕ, List, length, IsUtf8, codes}
 use Rattle.acl_names.specs.Pieces.{lines_of}
-use Rattle.aclctl.specs.declared.fault.ProgramFault.{ProgramFault}
-use Rattle.aclctl.specs.declared.fault.ProgramFault.TheVariants.{CannotRead, TooManyWords, BadWords}
-use Rattle.aclctl.specs.declared.fault.ProgramFault.TheVariants.{NoCommand, Memory}
+use Rattle.acl_cli.specs.declared.failure.Failure.{Failure}
+use Rattle.acl_cli.specs.declared.failure.Failure.TheVariants.{CannotRead, BadWords, Lacks}
+use Rattle.acl_cli.specs.declared.failure.Failure.TheVariants.{TooManyWords}
+use Rattle.acl_cli.specs.declared.reason.Reason.TheVariants.{Unknown}
+use Rattle.acl_cli.specs.declared.run_fault.RunFault.TheVariants.{Memory}
 
 -- how many bytes the words may take
 abbrev pub max_bytes : ℕ
@@ -16,9 +18,9 @@ pub record AreWordsOf (bytes : List ℕ) (words : List (List ℕ)) : Type 0 wher
 
 -- what the bytes that a reader tells can be refused for; a failed read and out of memory say
 -- nothing of them
-abbrev pub IsInputFault : ProgramFault → List ℕ → Type 0
-IsInputFault CannotRead bytes = ⊤
-IsInputFault TooManyWords bytes = max_bytes < length bytes
-IsInputFault BadWords bytes = ¬ IsUtf8 bytes
-IsInputFault NoCommand bytes = ⊥
-IsInputFault Memory bytes = ⊤
+abbrev pub IsInputFailure : Failure → List ℕ → Type 0
+IsInputFailure (CannotRead name reason) bytes = (name.now ≡ codes "-") × (reason ≡ Unknown)
+IsInputFailure TooManyWords bytes = max_bytes < length bytes
+IsInputFailure BadWords bytes = ¬ IsUtf8 bytes
+IsInputFailure (Lacks lack) bytes = lack ≡ Memory
+IsInputFailure _ bytes = ⊥

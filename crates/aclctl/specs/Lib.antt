@@ -1,3 +1,4 @@
-pub mod Fault
+pub mod Names
 pub mod Input
+pub mod HelpOf
 pub mod Program

@@ -1,135 +1,137 @@
 -- What the program comes to.
-use Rattle.std.specs.Prelude.{◌≡◌, ◌⊎◌, ℕ, ◌++◌, List, [], ◌∷◌, Option, Some, None, codes}
-use Rattle.std.specs.Prelude.{if◌then◌else◌, bytes_eq, false, true}
-use Rattle.std.specs.Io.KnownBytes.{IsAtEnd}
+use Rattle.std.specs.Prelude.{◌≡◌, ◌⊎◌, ℕ, ◌++◌, List, [], ◌∷◌, Option, Some, codes, false, true}
+use Rattle.std.specs.Prelude.{IfSome}
+use Rattle.std.specs.Io.KnownBytes.{Keeps}
+use Rattle.clap.specs.Words.{App, Text}
 use Rattle.acl_names.specs.Bytes.{newline}
+use Rattle.acl_cli.specs.Commands.{Answer, Ends, Meaning, of_words}
+use Rattle.acl_cli.specs.ErrorOutput.{ErrorText, Tells, line_of_words}
+use Rattle.acl_cli.specs.Failures.{failed_write, line_of, status_of}
+use Rattle.acl_cli.specs.declared.command.Ending.TheVariants.{Answered}
+use Rattle.acl_cli.specs.declared.failure.Failure.{Failure}
+use Rattle.acl_cli.specs.declared.failure.Failure.TheVariants.{NoCommand}
 use Rattle.acl_lint.specs.LintAnswer.{lint_meaning}
 use Rattle.acl_lint.specs.LintLine.{lint_line}
-use Rattle.acl_cli.specs.Commands.{of_words}
-use Rattle.acl_cli.specs.ErrorOutput.{SaysFault}
-use Rattle.acl_cli.specs.Meaning.{Meaning}
-use Rattle.acl_cli.specs.Plain.{by_text}
-use Rattle.acl_cli.specs.RunFaults.{run_fault_line}
-use Rattle.acl_cli.specs.declared.run_fault.RunFault.TheVariants.{Output}
+use Rattle.acl_listing_queries.specs.RestoreLine.{restore_line}
+use Rattle.acl_listing_queries.specs.RestoreMeaning.{restore_meaning}
+use Rattle.acl_listing_queries.specs.TranslateLine.{translate_line}
+use Rattle.acl_listing_queries.specs.TranslateMeaning.{translate_meaning}
+use Rattle.acl_listing_queries.specs.WhyLine.{why_line}
+use Rattle.acl_listing_queries.specs.WhyMeaning.{why_meaning}
 use Rattle.acl_queries.specs.CompareLine.{compare_line}
 use Rattle.acl_queries.specs.DecideAnswer.{decide_meaning}
 use Rattle.acl_queries.specs.DecideLine.{decide_line}
 use Rattle.acl_queries.specs.Differences.{compare_meaning}
 use Rattle.acl_queries.specs.ExplainLine.{explain_line}
 use Rattle.acl_queries.specs.ExplainText.{explain_meaning}
+use Rattle.acl_service.specs.RunLine.{run_line}
 use Rattle.acl_service.specs.RunMeaning.{run_meaning}
 use Rattle.acl_tree_queries.specs.DumpAnswer.{dump_meaning}
 use Rattle.acl_tree_queries.specs.DumpLine.{dump_line}
-use Rattle.acl_tree_queries.specs.ImpactWords.{impact_meaning}
-use Rattle.acl_tree_queries.specs.WhoWords.{who_meaning}
-use Rattle.aclctl.specs.Fault.{fault_line, program_line, status_of}
-use Rattle.aclctl.specs.Input.{AreWordsOf, IsInputFault}
-use Rattle.aclctl.specs.declared.fault.ProgramFault.TheVariants.{NoCommand}
+use Rattle.acl_tree_queries.specs.ImpactLine.{impact_line}
+use Rattle.acl_tree_queries.specs.ImpactMeaning.{impact_meaning}
+use Rattle.acl_tree_queries.specs.WhoLine.{who_line}
+use Rattle.acl_tree_queries.specs.WhoMeaning.{who_meaning}
+use Rattle.aclctl.specs.HelpOf.{no_fields}
+use Rattle.aclctl.specs.Input.{AreWordsOf, IsInputFailure}
+use Rattle.aclctl.specs.Names.{asked, name_of}
 use Rattle.aclctl.specs.declared.help.TheConstants.{HELP}
+use Rattle.aclctl.specs.declared.named.Asked.{Asked}
+use Rattle.aclctl.specs.declared.named.Asked.TheVariants.{Command, HelpOf, Nothing}
+use Rattle.aclctl.specs.declared.named.Named.{Named}
+use Rattle.aclctl.specs.declared.named.Named.TheVariants.{Decide, Explain, Compare, Run, Who}
+use Rattle.aclctl.specs.declared.named.Named.TheVariants.{Why, Impact, Restore, Translate}
+use Rattle.aclctl.specs.declared.named.Named.TheVariants.{Dump, Lint, Help, Version}
 
 -- what is told of each file, by its name
 abbrev pub Files : Type 0
-Files = List ℕ → Option (List ℕ)
-
--- the commands
-pub data Command : Type 0 where
-  Decide : Command
-  Explain : Command
-  Compare : Command
-  Run : Command
-  Who : Command
-  Impact : Command
-  Dump : Command
-  Lint : Command
-  Help : Command
-  Version : Command
-
--- the command of this name
-abbrev pub command_of : List ℕ → Option Command
-command_of name =
-    if bytes_eq name (codes "decide") then Some Decide
-    else (if bytes_eq name (codes "explain") then Some Explain
-    else (if bytes_eq name (codes "compare") then Some Compare
-    else (if bytes_eq name (codes "run") then Some Run
-    else (if bytes_eq name (codes "who") then Some Who
-    else (if bytes_eq name (codes "impact") then Some Impact
-    else (if bytes_eq name (codes "dump") then Some Dump
-    else (if bytes_eq name (codes "lint") then Some Lint
-    else (if bytes_eq name (codes "--help") then Some Help
-    else (if bytes_eq name (codes "--version") then Some Version else None)))))))))
-
--- the one that words name: the first is its name
-abbrev pub command_in : List (List ℕ) → Option Command
-command_in [] = None
-command_in (first ∷ more) = command_of first
+Files = Text → Option (List ℕ)
 
 -- what `--version` prints
 abbrev pub version_text : List ℕ
 version_text = codes "aclctl 0.1.0" ++ newline ∷ []
 
--- what is said if the text of help or the version can't be written
-abbrev pub SaysLostOutput : ℕ → Option (List ℕ) → Type 0
-SaysLostOutput status line = (status ≡ 3) × (line ≡ Some (run_fault_line Output))
+-- a text is all that is printed
+abbrev pub plain : List ℕ → Answer
+plain text = record { text = text; beside = []; ending = Answered }
 
--- what is said if no command is named: the line, and then a text for people
-abbrev pub SaysNoCommand : ℕ → Option (List ℕ) → Type 0
-SaysNoCommand status line = (status ≡ status_of NoCommand)
-    × ((more : List ℕ) × (line ≡ Some (fault_line NoCommand ++ more)))
-
--- that text is all that is printed
 abbrev pub text_meaning : List ℕ → Meaning
 text_meaning text = record {
-  Answers = λ WentOut. WentOut text;
-  Begins = λ WentOut. WentOut text;
-  Says = SaysLostOutput;
-  inputs = 0;
-}
-
--- no command is named: there is no answer
-abbrev pub no_command : Meaning
-no_command = record {
-  Answers = λ WentOut. ⊥;
-  Begins = λ WentOut. ⊥;
-  Says = SaysNoCommand;
+  Answers = λ answer. answer ≡ plain text;
+  Begins = λ answer. answer ≡ plain text;
+  Fails = λ failure. failure ≡ failed_write;
   inputs = 0;
 }
 
 -- with these files and this standard input, what words mean to a command
-abbrev pub command_meaning : Files → Option (List ℕ) → Option Command → List (List ℕ) → Meaning
-command_meaning files input (Some Decide) words =
-    by_text (of_words decide_line false decide_meaning words)
-command_meaning files input (Some Explain) words =
-    by_text (of_words explain_line true explain_meaning words)
-command_meaning files input (Some Compare) words =
-    by_text (of_words compare_line true compare_meaning words)
-command_meaning files input (Some Run) words = run_meaning files input words
-command_meaning files input (Some Who) words = who_meaning files input words
-command_meaning files input (Some Impact) words = impact_meaning files input words
-command_meaning files input (Some Dump) words =
-    by_text (of_words dump_line false (dump_meaning files input) words)
-command_meaning files input (Some Lint) words =
-    by_text (of_words lint_line false (lint_meaning files input) words)
-command_meaning files input (Some Help) words = text_meaning HELP.now
-command_meaning files input (Some Version) words = text_meaning version_text
-command_meaning files input None words = no_command
+abbrev pub command_meaning : Files → Option (List ℕ) → Named → List Text → Meaning
+command_meaning files input Decide words = of_words decide_line false decide_meaning words
+command_meaning files input Explain words = of_words explain_line true explain_meaning words
+command_meaning files input Compare words = of_words compare_line true compare_meaning words
+command_meaning files input Run words = of_words run_line false (run_meaning files input) words
+command_meaning files input Who words = of_words who_line true (who_meaning files input) words
+command_meaning files input Why words = of_words why_line true (why_meaning files input) words
+command_meaning files input Impact words =
+    of_words impact_line true (impact_meaning files input) words
+command_meaning files input Restore words =
+    of_words restore_line true (restore_meaning files input) words
+command_meaning files input Translate words =
+    of_words translate_line true (translate_meaning files input) words
+command_meaning files input Dump words = of_words dump_line true (dump_meaning files input) words
+command_meaning files input Lint words = of_words lint_line true (lint_meaning files input) words
+command_meaning files input Help words = text_meaning HELP.now
+command_meaning files input Version words = text_meaning version_text
 
--- by the command that the words name
-abbrev pub meaning_of : Files → Option (List ℕ) → List (List ℕ) → Meaning
-meaning_of files input words = command_meaning files input (command_in words) words
+-- what the help of a command of this name and this line means
+abbrev pub help_by : Text → App → Meaning
+help_by name line = of_words line true no_fields (name ∷ codes "--help" ∷ [])
 
--- the bytes on standard input are words, nothing is left there then, and they mean such a thing
-pub record AreMeant (files : Files) (bytes : List ℕ) (Such : Meaning → Type 0) : Type 0 where
-  pub words : List (List ℕ)
-  pub are_words : AreWordsOf bytes words
-  pub such : Such (meaning_of files (Some []) words)
+abbrev pub help_meaning : Named → Meaning
+help_meaning Decide = help_by (name_of Decide) decide_line
+help_meaning Explain = help_by (name_of Explain) explain_line
+help_meaning Compare = help_by (name_of Compare) compare_line
+help_meaning Run = help_by (name_of Run) run_line
+help_meaning Who = help_by (name_of Who) who_line
+help_meaning Why = help_by (name_of Why) why_line
+help_meaning Impact = help_by (name_of Impact) impact_line
+help_meaning Restore = help_by (name_of Restore) restore_line
+help_meaning Translate = help_by (name_of Translate) translate_line
+help_meaning Dump = help_by (name_of Dump) dump_line
+help_meaning Lint = help_by (name_of Lint) lint_line
+help_meaning Help = text_meaning HELP.now
+help_meaning Version = text_meaning HELP.now
 
--- with these bytes on standard input, what their words mean; or they are refused, for a fault of
--- the bytes or of reading them
-abbrev pub meaning_from : Files → List ℕ → Meaning
-meaning_from files bytes = record {
-  Answers = λ WentOut. AreMeant files bytes (λ meaning. meaning.Answers WentOut);
-  Begins = λ WentOut. AreMeant files bytes (λ meaning. meaning.Begins WentOut);
-  Says = λ status line. AreMeant files bytes (λ meaning. meaning.Says status line)
-      ⊎ SaysFault status_of program_line (λ fault. IsInputFault fault bytes) status line;
-  inputs = 1;
-}
+module _ {I : Type 0} (status : ℕ) (out out' : Option (List ℕ)) (err err' : ErrorText)
+    (stdin stdin' : I) where
+  -- no command is named: nothing is answered, and the line is told with a text for people behind it
+  pub record EndsUnnamed : Type 0 where
+    pub is_status : status ≡ status_of NoCommand
+    pub silent : Keeps out out'
+    pub more : List ℕ
+    pub told : IfSome (line_of NoCommand) (λ line. Tells (line ++ more) err err')
+    pub unread : stdin' ≡ stdin
+
+  -- what the program comes to that is asked for such a thing by these words
+  abbrev pub EndsAsked : Files → Option (List ℕ) → List Text → Asked → Type 0
+  EndsAsked files input words (Command command) = Ends (command_meaning files input command words)
+      status out out' err err' stdin stdin'
+  EndsAsked files input words (HelpOf command) = Ends (help_meaning command)
+      status out out' err err' stdin stdin'
+  EndsAsked files input words Nothing = EndsUnnamed
+
+  -- what it comes to with these words
+  abbrev pub EndsAs : Files → Option (List ℕ) → List Text → Type 0
+  EndsAs files input words = EndsAsked files input words (asked words)
+
+  -- the words were refused for this, before any command ran
+  pub record EndsRefused (failure : Failure) : Type 0 where
+    pub is_status : status ≡ status_of failure
+    pub silent : Keeps out out'
+    pub told : IfSome (line_of failure) (λ line. Tells line err err')
+
+  -- what it comes to with words on standard input, where these bytes are: they are words, and
+  -- nothing is left there; or they are refused, for a fault of the bytes or of reading them
+  abbrev pub EndsFrom : Files → List ℕ → Type 0
+  EndsFrom files bytes =
+      ((words : List Text) × AreWordsOf bytes words × EndsAs files (Some []) words)
+      ⊎ ((failure : Failure) × IsInputFailure failure bytes × EndsRefused failure)

@@ -1,22 +1,42 @@
 //! The words of the program: those that it is given, or else those of standard input.
 ghost use Rattle.std.specs.Prelude.{◌≡◌, ◌≢◌, [], map, IfErr, IfOk, IfSome, IsOkAnd, Some};
 ghost use Rattle.std.specs.String.{string_bytes};
-ghost use Rattle.aclctl.specs.Input.{AreWordsOf, IsInputFault};
+ghost use Rattle.aclctl.specs.Input.{AreWordsOf, IsInputFailure};
 
-use crate::fault::ProgramFault;
-use acl_service::{read_capped, words_of};
+use acl_cli::{CapFault, Failure, Reason, RunFault, WordsFault, read_capped, words_of};
 use std::alloc::Global;
 use std::io::Read;
 
 /// How many bytes the words on standard input may take.
 const MAX_BYTES: usize = 65_536;
 
+/// The words of the reader, one a line.
+fn read_words<'n, R: Read>(alloc: Global, reader: &mut R) -> Result<Vec<String>, Failure<'n>>
+    // Of a reader that tells its bytes.
+    ensures read { IfOk result (λ words. IfSome (R.remaining reader.old)
+        (λ bytes. AreWordsOf bytes (map string_bytes words.items)
+        × (R.remaining reader.new ≡ Some []))) }
+    ensures refused { IfErr result (λ failure. IfSome (R.remaining reader.old)
+        (IsInputFailure failure)) }
+{
+    match read_capped(alloc, reader, MAX_BYTES) {
+        Ok(bytes) => match words_of(alloc, bytes.as_slice()) {
+            Ok(words) => Ok(words),
+            Err(WordsFault::BadWords) => Err(Failure::BadWords),
+            Err(WordsFault::Memory) => Err(Failure::Lacks(RunFault::Memory)),
+        },
+        Err(CapFault::Read) => Err(Failure::CannotRead("-", Reason::Unknown)),
+        Err(CapFault::TooLong) => Err(Failure::TooManyWords),
+        Err(CapFault::Memory) => Err(Failure::Lacks(RunFault::Memory)),
+    }
+}
+
 /// The words given, or if there are none those that the reader has, one a line.
-pub fn command_words<R: Read>(
+pub fn command_words<'n, R: Read>(
     alloc: Global,
     given: Vec<String>,
     reader: &mut R,
-) -> Result<Vec<String>, ProgramFault>
+) -> Result<Vec<String>, Failure<'n>>
     ensures given { given.items ≢ [] → IsOkAnd result (λ words. words.items ≡ given.items) }
     ensures untouched { given.items ≢ [] → reader.new ≡ reader.old }
 
@@ -24,11 +44,11 @@ pub fn command_words<R: Read>(
     ensures read { given.items ≡ [] → IfOk result (λ words. IfSome (R.remaining reader.old)
         (λ bytes. AreWordsOf bytes (map string_bytes words.items)
         × (R.remaining reader.new ≡ Some []))) }
-    ensures refused { IfErr result (λ fault. IfSome (R.remaining reader.old) (IsInputFault fault)) }
+    ensures refused { IfErr result (λ failure. IfSome (R.remaining reader.old)
+        (IsInputFailure failure)) }
 {
     if !given.is_empty() {
         return Ok(given);
     }
-    let bytes = read_capped(alloc, reader, MAX_BYTES)?;
-    Ok(words_of(alloc, bytes.as_slice())?)
+    read_words(alloc, reader)
 }

@@ -1,13 +1,16 @@
 //! Access control lists, from the command line.
 #![tactic(auto)]
 
-mod fault;
 mod help;
+mod help_of;
 mod input;
+mod named;
+mod output;
 mod program;
 
-use acl_service::{ErrorOutput, OpenFiles, report};
-use fault::ProgramFault;
+use acl_cli::{ErrorOutput, Failure, OpenFiles, RunFault};
+use output::{Faults, Output};
+use std::cell::Cell;
 use std::fs::File;
 use std::process::ExitCode;
 use std::{env, io};
@@ -30,13 +33,23 @@ impl<'a> OpenFiles for Disk<'a> {
     }
 }
 
-/// The words of the command line, without the program's name.
-fn given_words(rt: &HostRuntime) -> Result<Vec<String>, ProgramFault> {
-    Ok(env::args(rt)?.skip(1).collect(rt.alloc())?)
+/// The words of the command line, without the program's name. One that is no text is a bad word.
+fn given_words<'n>(rt: &HostRuntime) -> Result<Vec<String>, Failure<'n>> {
+    match env::args(rt) {
+        Ok(words) => Ok(words.skip(1).collect(rt.alloc())?),
+        Err(error) if error.kind() == io::ErrorKind::OutOfMemory => {
+            Err(Failure::Lacks(RunFault::Memory))
+        }
+        Err(_) => Err(Failure::BadWords),
+    }
 }
 
 fn main(rt: HostRuntime) -> ExitCode {
-    let mut err = ErrorOutput::new(rt.stderr());
+    let is_left = Cell::new(false);
+    let mut err = ErrorOutput::new(Faults {
+        is_left: &is_left,
+        out: rt.stderr(),
+    });
     let status = match given_words(&rt) {
         Ok(given) => program::run(
             &rt,
@@ -44,10 +57,16 @@ fn main(rt: HostRuntime) -> ExitCode {
             &Disk { rt: &rt },
             given,
             &mut rt.stdin(),
-            &mut rt.stdout(),
+            &mut Output {
+                is_left: &is_left,
+                out: rt.stdout(),
+            },
             &mut err,
         ),
-        Err(fault) => report(&fault, &mut err),
+        Err(failure) => {
+            failure.tell(&mut err);
+            failure.status()
+        }
     };
     ExitCode::from(status)
 }

@@ -1,15 +1,20 @@
 //! The program: its words, and the command that the first of them names.
 ghost use Rattle.std.specs.Prelude.{◌≡◌, ◌≢◌, [], map, IfSome};
 ghost use Rattle.std.specs.String.{string_bytes};
-ghost use Rattle.acl_cli.specs.Meaning.{Ends, EndsWithInput};
-ghost use Rattle.aclctl.specs.Program.{meaning_from, meaning_of};
+ghost use Rattle.acl_cli.specs.Commands.{Ends};
+ghost use Rattle.aclctl.specs.Program.{EndsAs, EndsAsked, EndsFrom, help_by, help_meaning};
+ghost use Rattle.aclctl.specs.declared.named.Asked.TheVariants as asked;
 
 use crate::help::{print_help, print_version, report_no_command};
+use crate::help_of::HelpOf;
 use crate::input::command_words;
+use crate::named::{Asked, Named};
+use acl_cli::{CommandLine, ErrorOutput, OpenFiles};
 use acl_lint::Lint;
+use acl_listing_queries::{Restore, Translate, Why};
 use acl_queries::{Compare, Decide, Explain};
-use acl_service::{ErrorOutput, OpenFiles, report};
-use acl_tree_queries::{Dump, impact, who};
+use acl_service::RunLine;
+use acl_tree_queries::{Dump, Impact, Who};
 use std::alloc::Global;
 use std::convert::AsStr;
 use std::io::{Read, Write};
@@ -17,11 +22,108 @@ use std::sync::Wait;
 use std::thread::Threads;
 use std::time::Clock;
 
-/// Runs the command that the first word names (`decide`, `explain`, `compare`, `run`, `who`,
-/// `impact`, `dump`, `lint`, `--help`, `--version`).
-/// It returns the exit status: that of the command; 2 if the first word names none, and the
-/// commands go to `err`. At 3 (out of memory, a thread refused, a write failed, or the run stopped)
-/// nothing or a front of the output went out.
+/// Runs this command with these words, its name first.
+fn run_named<R, F, S, I, W, E>(
+    rt: &R,
+    alloc: Global,
+    command: Named,
+    files: &F,
+    words: &[S],
+    input: &mut I,
+    out: &mut W,
+    err: &mut ErrorOutput<E>,
+) -> u8
+where
+    R: Threads + Wait + Clock + Sync,
+    F: OpenFiles,
+    S: AsStr,
+    I: Read,
+    W: Write,
+    E: Write + Drop,
+    ensures { EndsAsked result (W.contents out.old) (W.contents out.new) err.old err.new input.old
+        input.new (F.bytes_of files.now) (I.remaining input.old) (map S.text words.now)
+        (asked.Command command) }
+{
+    match command {
+        Named::Decide => acl_cli::run_command(&Decide, alloc, files, words, input, out, err),
+        Named::Explain => acl_cli::run_command(&Explain, alloc, files, words, input, out, err),
+        Named::Compare => acl_cli::run_command(&Compare, alloc, files, words, input, out, err),
+        Named::Run => acl_service::run(rt, alloc, files, words, input, out, err),
+        Named::Who => acl_cli::run_command(&Who, alloc, files, words, input, out, err),
+        Named::Why => acl_cli::run_command(&Why, alloc, files, words, input, out, err),
+        Named::Impact => acl_cli::run_command(&Impact, alloc, files, words, input, out, err),
+        Named::Restore => acl_cli::run_command(&Restore, alloc, files, words, input, out, err),
+        Named::Translate => acl_cli::run_command(&Translate, alloc, files, words, input, out, err),
+        Named::Dump => acl_cli::run_command(&Dump, alloc, files, words, input, out, err),
+        Named::Lint => acl_cli::run_command(&Lint, alloc, files, words, input, out, err),
+        Named::Help => print_help(input, out, err),
+        Named::Version => print_version(input, out, err),
+    }
+}
+
+/// Prints the help of a command that has this line.
+fn print_help_by<C, F, I, W, E>(
+    line: &C,
+    alloc: Global,
+    name: &str,
+    files: &F,
+    input: &mut I,
+    out: &mut W,
+    err: &mut ErrorOutput<E>,
+) -> u8
+where
+    C: CommandLine,
+    F: OpenFiles,
+    I: Read,
+    W: Write,
+    E: Write + Drop,
+    ensures { Ends (help_by name.now C.line) result (W.contents out.old) (W.contents out.new)
+        err.old err.new input.old input.new }
+{
+    let help = HelpOf { command: line };
+    acl_cli::run_command(&help, alloc, files, &[name, "--help"], input, out, err)
+}
+
+/// Prints the help of this command.
+fn print_help_of<F, I, W, E>(
+    alloc: Global,
+    command: Named,
+    files: &F,
+    input: &mut I,
+    out: &mut W,
+    err: &mut ErrorOutput<E>,
+) -> u8
+where
+    F: OpenFiles,
+    I: Read,
+    W: Write,
+    E: Write + Drop,
+    ensures { Ends (help_meaning command) result (W.contents out.old) (W.contents out.new) err.old
+        err.new input.old input.new }
+{
+    let name = command.name();
+    match command {
+        Named::Decide => print_help_by(&Decide, alloc, name, files, input, out, err),
+        Named::Explain => print_help_by(&Explain, alloc, name, files, input, out, err),
+        Named::Compare => print_help_by(&Compare, alloc, name, files, input, out, err),
+        Named::Run => print_help_by(&RunLine, alloc, name, files, input, out, err),
+        Named::Who => print_help_by(&Who, alloc, name, files, input, out, err),
+        Named::Why => print_help_by(&Why, alloc, name, files, input, out, err),
+        Named::Impact => print_help_by(&Impact, alloc, name, files, input, out, err),
+        Named::Restore => print_help_by(&Restore, alloc, name, files, input, out, err),
+        Named::Translate => print_help_by(&Translate, alloc, name, files, input, out, err),
+        Named::Dump => print_help_by(&Dump, alloc, name, files, input, out, err),
+        Named::Lint => print_help_by(&Lint, alloc, name, files, input, out, err),
+        Named::Help | Named::Version => print_help(input, out, err),
+    }
+}
+
+/// Runs the command that the first word names (`decide`, `explain`, `compare`, `run`, `who`, `why`,
+/// `impact`, `restore`, `translate`, `dump`, `lint`), or prints the version (`--version`) or help
+/// (`help`, `--help`, `-h`; `help` with the name of a command prints that command's). It returns
+/// the exit status: that of the command; 2 if the first word names none, and the commands go to
+/// `err`. At 3 (out of memory, a thread refused, a write failed, or the run stopped) nothing or a
+/// front of the output went out.
 pub fn run_command<R, F, S, I, W, E>(
     rt: &R,
     alloc: Global,
@@ -38,37 +140,16 @@ where
     I: Read,
     W: Write,
     E: Write + Drop,
-    ensures { EndsWithInput (meaning_of (F.bytes_of files.now) (I.remaining input.old)
-        (map S.text words.now)) result (W.contents out.old) (W.contents out.new) err.old err.new
-        input.old input.new }
+    ensures { EndsAs result (W.contents out.old) (W.contents out.new) err.old err.new input.old
+        input.new (F.bytes_of files.now) (I.remaining input.old) (map S.text words.now) }
 {
-    match words.first() {
-        Some(first) if first.as_str() == "decide" => {
-            acl_cli::run_command(&Decide, alloc, files, words, input, out, err)
+    match Asked::of(words) {
+        Asked::Command(command) => { run_named(rt, alloc, command, files, words, input, out, err) }
+        Asked::HelpOf(command) => print_help_of(alloc, command, files, input, out, err),
+        Asked::Nothing => {
+            let first = words.first().map(|word| word.as_str());
+            report_no_command(alloc, first, err)
         }
-        Some(first) if first.as_str() == "explain" => {
-            acl_cli::run_command(&Explain, alloc, files, words, input, out, err)
-        }
-        Some(first) if first.as_str() == "compare" => {
-            acl_cli::run_command(&Compare, alloc, files, words, input, out, err)
-        }
-        Some(first) if first.as_str() == "run" => {
-            acl_service::run(rt, alloc, files, words, input, out, err)
-        }
-        Some(first) if first.as_str() == "who" => who(alloc, files, words, input, out, err),
-        Some(first) if first.as_str() == "impact" => {
-            impact(alloc, files, words, input, out, err)
-        }
-        Some(first) if first.as_str() == "dump" => {
-            acl_cli::run_command(&Dump, alloc, files, words, input, out, err)
-        }
-        Some(first) if first.as_str() == "lint" => {
-            acl_cli::run_command(&Lint, alloc, files, words, input, out, err)
-        }
-        Some(first) if first.as_str() == "--help" => print_help(out, err),
-        Some(first) if first.as_str() == "--version" => print_version(out, err),
-        Some(first) => report_no_command(alloc, Some(first.as_str()), err),
-        None => report_no_command(alloc, None, err),
     }
 }
 
@@ -90,17 +171,20 @@ where
     I: Read,
     W: Write,
     E: Write + Drop,
-    ensures given { given.items ≢ [] → EndsWithInput (meaning_of (F.bytes_of files.now)
-        (I.remaining reader.old) (map string_bytes given.items)) result (W.contents out.old)
-        (W.contents out.new) err.old err.new reader.old reader.new }
+    ensures given { given.items ≢ [] → EndsAs result (W.contents out.old) (W.contents out.new)
+        err.old err.new reader.old reader.new (F.bytes_of files.now) (I.remaining reader.old)
+        (map string_bytes given.items) }
 
     // Without words: with the bytes that the reader has, if they are known.
-    ensures read { given.items ≡ [] → IfSome (I.remaining reader.old) (λ bytes.
-        Ends (meaning_from (F.bytes_of files.now) bytes) result (W.contents out.old)
-        (W.contents out.new) err.old err.new) }
+    ensures read { given.items ≡ [] → IfSome (I.remaining reader.old) (λ bytes. (between : I)
+        × EndsFrom result (W.contents out.old) (W.contents out.new) err.old err.new between
+        reader.new (F.bytes_of files.now) bytes) }
 {
     match command_words(alloc, given, reader) {
         Ok(words) => run_command(rt, alloc, files, words.as_slice(), reader, out, err),
-        Err(fault) => report(&fault, err),
+        Err(failure) => {
+            failure.tell(err);
+            failure.status()
+        }
     }
 }

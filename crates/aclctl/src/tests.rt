@@ -337,7 +337,10 @@ fn failed_writes(rt: HostRuntime) {
     assert_eq!(rt; run_broken(&rt, rt.alloc(), ASKED.as_slice(), &mut err), 3);
     assert_eq!(rt; err.as_slice(), b"aclctl: run: output\n".as_slice());
     // A fault while writing to standard error changes no status.
-    assert_eq!(rt; run_broken(&rt, rt.alloc(), ["help"].as_slice(), Broken), 2);
+    assert_eq!(rt;
+        run_broken(&rt, rt.alloc(), ["assist"].as_slice(), Broken),
+        2
+    );
     assert_eq!(rt;
         run_broken(&rt, rt.alloc(), ["--help"].as_slice(), &mut err),
         3

@@ -6,6 +6,8 @@ mod entries;
 #[cfg(test)]
 mod forms;
 #[cfg(test)]
+mod named;
+#[cfg(test)]
 mod refused_growths;
 #[cfg(test)]
 mod sizes;

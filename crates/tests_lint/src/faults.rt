@@ -1,6 +1,7 @@
 //! What `lint` is refused for, and what it lacks.
 use crate::fixture::Lint;
 use acl_cli::ErrorOutput;
+use std::alloc::Global;
 use std::test::Fail;
 use tests_files::{Command, Sheet};
 
@@ -67,21 +68,28 @@ fn standard_input_is_left_as_it_is(rt: HostRuntime) -> Result<(), Fail> {
     Ok(())
 }
 
-/// A front of the answer went out.
-#[test]
-fn an_answer_that_cannot_be_written(rt: HostRuntime) -> Result<(), Fail> {
+/// The words, and the front of their answer that has room.
+const CUT: [(&[&str], &str); 2] = [
+    (&["lint", "--setup", "office", "faulty"], "faulty:4:"),
+    (&["lint", "--setup", "no-uid", "faulty"], "no-uid: b"),
+];
+
+/// Whether the words end with this front of their answer, where there is room for no more than 9
+/// bytes.
+fn is_cut(alloc: Global, words: &[&str], front: &str) -> bool {
     let mut room = [0; 9];
     let mut out = room.as_mut_slice();
-    let mut err = Vec::new(rt.alloc());
-    let status = Lint.run(
-        rt.alloc(),
-        &["lint", "--setup", "office", "faulty"],
-        &mut Sheet::new(""),
-        &mut out,
-        &mut ErrorOutput::new(&mut err),
-    );
-    assert_eq!(rt; status, 3);
-    assert!(rt; room == *b"faulty:4:");
-    assert!(rt; err.as_slice() == b"aclctl: run: output\n".as_slice());
-    Ok(())
+    let mut err = Vec::new(alloc);
+    let told = &mut ErrorOutput::new(&mut err);
+    let status = Lint.run(alloc, words, &mut Sheet::new(""), &mut out, told);
+    status == 3
+        && room.as_slice() == front.as_bytes()
+        && err.as_slice() == b"aclctl: run: output\n".as_slice()
+}
+
+#[test]
+fn an_answer_that_cannot_be_written(rt: HostRuntime) {
+    for (words, front) in CUT {
+        assert!(rt; is_cut(rt.alloc(), words, front), "{front}");
+    }
 }

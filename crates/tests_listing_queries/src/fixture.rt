@@ -1,6 +1,6 @@
-//! Accounts at hand, and how `who` of a listing is asked.
+//! Accounts and listings at hand, and how commands are asked about them.
 use acl_cli::{ErrorOutput, run_command};
-use acl_listing_queries::WhoOfListing;
+use acl_listing_queries::{ImpactOfListings, Restore, Translate, WhoOfListing, Why};
 use std::alloc::Global;
 use std::io::{Read, Write};
 use tests_files::{Command, Shelf};
@@ -35,11 +35,59 @@ const BAD: &str = "# who there is\nroot:x:0:0:root:/root:/bin/sh\nalice:x:1000\n
 const PLAN: &str =
     "# file: srv/plan\n# owner: alice\n# group: staff\nuser::rw-\ngroup::r--\nother::--x\n";
 
+/// The same file, closed to others.
+const PLANNED: &str =
+    "# file: srv/plan\n# owner: alice\n# group: staff\nuser::rw-\ngroup::r--\nother::---\n";
+
+/// The same file, listed from the root.
+const ELSEWHERE: &str =
+    "# file: /srv/plan\n# owner: alice\n# group: staff\nuser::rw-\ngroup::r--\nother::--x\n";
+
+/// A file that somebody else may read, and then nobody.
+const NAMED: &str =
+    "# file: x\n# owner: root\n# group: root\nuser::rw-\nuser:9999:r--\ngroup::---\nmask::r--\nother::---\n";
+
+const UNNAMED: &str =
+    "# file: x\n# owner: root\n# group: root\nuser::rw-\ngroup::---\nother::---\n";
+
+/// Of the first block nobody is known to own the file.
+const UNREAD: &str =
+    "# file: srv/plan\n# owner: nobody\n# group: staff\nuser::rw-\ngroup::r--\nother::---\n\n# file: b\n# owner: alice\n# group: staff\nuser::rw-\ngroup::r--\nother::---\n";
+
 /// A folder that two users may search, a folder in it that one of these may, and what is in that.
 const CLOSED: &str =
     "# file: srv\n# owner: alice\n# group: staff\nuser::rwx\ngroup::r-x\nother::---\n\n# file: srv/in\n# owner: alice\n# group: ops\nuser::rwx\ngroup::---\nother::r--\n\n# file: srv/in/file\n# owner: bob\n# group: staff\nuser::rw-\ngroup::r--\nother::r--\n\n# file: srv//./next\n# owner: root\n# group: root\nuser::rw-\ngroup::---\nother::r--\n";
 
+/// A folder, and one in it that only its owner may search, with a file that comes twice; a file
+/// behind a gap, one of an unknown group, and one with an NFSv4 list; and a block without a path,
+/// behind which no way is known.
+const NESTED: &str =
+    "# file: srv\n# owner: alice\n# group: staff\nuser::rwx\ngroup::r-x\nother::r-x\n\n# file: srv/share\n# owner: root\n# group: staff\nuser::rwx\ngroup::r--\nother::---\n\n# file: srv/share/plans\n# owner: alice\n# group: staff\nuser::rw-\nuser:1001:rw-\ngroup::r--\nmask::r--\nother::r--\n\n# file: srv/share/plans\n# owner: bob\n# group: staff\nuser::rw-\ngroup::---\nother::---\n\n# file: srv/gap/file\n# owner: alice\n# group: staff\nuser::rw-\ngroup::---\nother::---\n\n# file: srv/next\n# owner: alice\n# group: gone\nuser::rw-\ngroup::---\nother::---\n\n# file: srv/new\n# owner: alice\n# group: ops\nA::OWNER@:rwa\nD:g:60:w\nA:g:60:rwa\n\n# owner: bob\n\n# file: last\n# owner: bob\n# group: staff\nuser::rw-\ngroup::---\nother::---\n";
+
+/// Four files as they were: one has flags and a default list.
+const BEFORE: &str =
+    "# file: srv\n# owner: root\n# group: staff\n# flags: -s-\nuser::rwx\ngroup::r-x\nother::---\ndefault:user::rwx\ndefault:group::r-x\ndefault:other::---\n\n# file: srv/plan\n# owner: alice\n# group: staff\nuser::rw-\nuser:bob:rw-\t\t#effective:r--\ngroup::r--\nmask::r--\nother::---\n\n# file: srv/old\n# owner: alice\n# group: staff\nuser::rw-\ngroup::r--\nother::---\n\n# file: srv/same\n# owner: bob\n# group: staff\nuser::rw-\ngroup::---\nother::---\n\n";
+
+/// And as they are: in another order, without one of them, and with another one. Of two of them
+/// something changed.
+const AFTER: &str =
+    "# file: srv/plan\n# owner: bob\n# group: staff\nuser::rw-\ngroup::r--\nother::r--\n\n# file: srv/next\n# owner: bob\n# group: staff\nuser::rw-\ngroup::r--\nother::---\n\n# file: srv/same\n# owner: bob\n# group: staff\nuser::rw-\ngroup::---\nother::---\n\n# file: srv\n# owner: root\n# group: staff\nuser::rwx\ngroup::r-x\nother::---\n";
+
+/// The first block has no path, the third that of the second, and the last that of none.
+const ONCE: &str =
+    "# owner: alice\n# group: staff\nuser::rw-\n\n# file: a\nuser::r--\n\n# file: a\nuser::rw-\n\n# file: b\nuser::r--\n";
+
+/// The second block has the path of the first, and the last two have that of none.
+const TWICE: &str =
+    "# file: a\nuser::rwx\n\n# file: a\nuser::---\n\n# file: c\nuser::r--\n\n# file: c\nuser::r--\n";
+
 const FILES: &[(&str, &str)] = &[
+    ("before", BEFORE),
+    ("after", AFTER),
+    ("once", ONCE),
+    ("twice", TWICE),
+    ("empty", ""),
+    ("long", "# file: long\nuser::r--\n"),
     ("/etc/passwd", "alice:x:1000:100::/home/alice:/bin/sh"),
     ("/etc/group", "staff:x:50:\nusers:x:100:\n"),
     ("office", OFFICE),
@@ -50,7 +98,13 @@ const FILES: &[(&str, &str)] = &[
     ("again", AGAIN),
     ("bad", BAD),
     ("plan", PLAN),
+    ("planned", PLANNED),
+    ("elsewhere", ELSEWHERE),
+    ("named", NAMED),
+    ("unnamed", UNNAMED),
+    ("unread", UNREAD),
     ("closed", CLOSED),
+    ("nested", NESTED),
 ];
 
 /// `who` of a listing, over the files.
@@ -78,6 +132,65 @@ impl Command for Who {
     }
 }
 
+/// `why` of a file of a listing, over the files.
+#[derive(Clone, Copy)]
+pub struct Whys;
+
+impl Command for Whys {
+    fn run<I: Read, W: Write, E: Write + Drop>(
+        &self,
+        alloc: Global,
+        words: &[&str],
+        input: &mut I,
+        out: &mut W,
+        err: &mut ErrorOutput<E>,
+    ) -> u8 {
+        run_command(&Why, alloc, &Shelf::new(FILES), words, input, out, err)
+    }
+}
+
+/// `restore` of two listings, over the files.
+#[derive(Clone, Copy)]
+pub struct Restores;
+
+impl Command for Restores {
+    fn run<I: Read, W: Write, E: Write + Drop>(
+        &self,
+        alloc: Global,
+        words: &[&str],
+        input: &mut I,
+        out: &mut W,
+        err: &mut ErrorOutput<E>,
+    ) -> u8 {
+        run_command(&Restore, alloc, &Shelf::new(FILES), words, input, out, err)
+    }
+}
+
+/// `impact` of two listings, over the files.
+#[derive(Clone, Copy)]
+pub struct Impacts;
+
+impl Command for Impacts {
+    fn run<I: Read, W: Write, E: Write + Drop>(
+        &self,
+        alloc: Global,
+        words: &[&str],
+        input: &mut I,
+        out: &mut W,
+        err: &mut ErrorOutput<E>,
+    ) -> u8 {
+        run_command(
+            &ImpactOfListings,
+            alloc,
+            &Shelf::new(FILES),
+            words,
+            input,
+            out,
+            err,
+        )
+    }
+}
+
 /// Whether the words end so with this listing on standard input: with this status, and with these
 /// texts on the output and for faults.
 pub fn ends(
@@ -94,4 +207,29 @@ pub fn ends(
     let told = &mut ErrorOutput::new(&mut err);
     let ended = Who.run(alloc, words, &mut input, &mut out, told);
     ended == status && out.as_slice() == text.as_bytes() && err.as_slice() == faults.as_bytes()
+}
+
+/// `translate`, over the files.
+#[derive(Clone, Copy)]
+pub struct Translating;
+
+impl Command for Translating {
+    fn run<I: Read, W: Write, E: Write + Drop>(
+        &self,
+        alloc: Global,
+        words: &[&str],
+        input: &mut I,
+        out: &mut W,
+        err: &mut ErrorOutput<E>,
+    ) -> u8 {
+        run_command(
+            &Translate,
+            alloc,
+            &Shelf::new(FILES),
+            words,
+            input,
+            out,
+            err,
+        )
+    }
 }

@@ -11,7 +11,11 @@ mod faults;
 #[cfg(test)]
 mod fixture;
 #[cfg(test)]
+mod forms;
+#[cfg(test)]
 mod guesses;
+#[cfg(test)]
+mod impact;
 #[cfg(test)]
 mod letters;
 #[cfg(test)]
@@ -20,5 +24,11 @@ mod names;
 mod reach;
 #[cfg(test)]
 mod refused_growths;
+#[cfg(test)]
+mod restore;
+#[cfg(test)]
+mod translate;
+#[cfg(test)]
+mod why;
 #[cfg(test)]
 mod words;

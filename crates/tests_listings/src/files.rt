@@ -44,9 +44,10 @@ other::r--
 
 ";
 
-const FOLDER_TELLS: &[u8] = b"1 d one 0 0 u::rwx,g::rwx,o::rwx
+const FOLDER_TELLS: &[u8] =
+    b"1 d one 0 0 u::rwx,g::rwx,o::rwx default u::rwx,u:1000:rwx,g::rwx,m::rwx,o::rwx sticky
 14 d one/n\\012l 0 50 u::rw-,g::r--,o::r--
-21 d one/a b 1000 60 u::rwx,u:1001:rw-,g::r-x,g:50:r--,m::r--,o::r-x
+21 d one/a b 1000 60 u::rwx,u:1001:rw-,g::r-x,g:50:r--,m::r--,o::r-x set-user-id set-group-id
 32 d one/b\\\\s 1002 70 u::rw-,g::r--,o::r--
 ";
 
@@ -81,12 +82,25 @@ fn paths_as_they_stand(rt: HostRuntime) -> Result<(), Fail> {
 }
 
 #[test]
-fn default_lines_decide_nothing(rt: HostRuntime) -> Result<(), Fail> {
+fn default_lists(rt: HostRuntime) -> Result<(), Fail> {
     let alloc = rt.alloc();
-    // They may stand anywhere behind the header, and needn't be entries.
-    let block = b"# file: x\n# owner: 0\n# group: 0\ndefault:nonsense\nuser::rwx\n\
-        default:group::rwx\ngroup::r-x\ndefault:\nother::---\ndefault:user:nobody:rwx";
-    assert!(rt; block_tells(alloc, block, b"x 0 0 u::rwx,g::r-x,o::---"));
+    // Their lines may stand anywhere behind the header.
+    let block = b"# file: x\n# owner: 0\n# group: 0\ndefault:user::rwx # all\nuser::rwx\n\
+        default:group::rwx\ngroup::r-x\nother::---\ndefault:other::--x";
+    assert!(rt;
+        block_tells(
+            alloc,
+            block,
+            b"x 0 0 u::rwx,g::r-x,o::--- default u::rwx,g::rwx,o::--x"
+        )
+    );
+    // One that doesn't read is a fault of the block, as an access list is, but after it.
+    let block = b"# file: x\n# owner: 0\n# group: 0\nu::r,g::w,o::x\ndefault:user:dave:rwx";
+    assert!(rt; block_tells(alloc, block, b"fault unknown-name x"));
+    let block = b"# file: x\n# owner: 0\n# group: 0\ndefault:user:dave:rwx\nu::r,g::w,o:x:x";
+    assert!(rt; block_tells(alloc, block, b"fault bad-acl x"));
+    let block = b"# file: x\n# owner: 0\n# group: 0\nu::r,g::w,o::x\ndefault:user::rwx";
+    assert!(rt; block_tells(alloc, block, b"fault invalid-acl x"));
     // A blank before the word makes another line of it, and so does a comment.
     let block = b"# file: x\n# owner: 0\n# group: 0\n default:user::rwx\nuser::rwx\n\
         group::r-x\nother::---";
@@ -94,5 +108,20 @@ fn default_lines_decide_nothing(rt: HostRuntime) -> Result<(), Fail> {
     let block = b"# file: x\n# owner: 0\n# group: 0\n#default:user::rwx\nuser::rwx\n\
         group::r-x\nother::---";
     assert!(rt; block_tells(alloc, block, b"x 0 0 u::rwx,g::r-x,o::---"));
+    Ok(())
+}
+
+#[test]
+fn flags(rt: HostRuntime) -> Result<(), Fail> {
+    let alloc = rt.alloc();
+    let block = b"# file: x\n# owner: 0\n# group: 0\n# flags: -s-\nu::r,g::w,o::x";
+    assert!(rt; block_tells(alloc, block, b"x 0 0 u::r--,g::-w-,o::--x set-group-id"));
+    // A comment in another place or of another form tells none.
+    let block = b"# file: x\n# owner: 0\n# group: 0\nu::r,g::w,o::x\n# flags: -s-";
+    assert!(rt; block_tells(alloc, block, b"x 0 0 u::r--,g::-w-,o::--x"));
+    let block = b"# file: x\n# owner: 0\n# group: 0\n# flags: st\nu::r,g::w,o::x";
+    assert!(rt; block_tells(alloc, block, b"x 0 0 u::r--,g::-w-,o::--x"));
+    let block = b"# file: x\n# owner: 0\n# group: 0\n# flags: t--\nu::r,g::w,o::x";
+    assert!(rt; block_tells(alloc, block, b"x 0 0 u::r--,g::-w-,o::--x"));
     Ok(())
 }

@@ -65,7 +65,29 @@ fn headers(rt: HostRuntime) {
 
 #[test]
 fn lists(rt: HostRuntime) {
-    const ROWS: [(&[u8], usize, &[u8]); 4] = [
+    const ROWS: [(&[u8], usize, &[u8]); 8] = [
+        // A default list is at fault if the access list reads.
+        (
+            b"# file: x\n# owner: 0\n# group: 0\nu::r,g::r,o::r\ndefault:u::r\ndefault:nonsense",
+            5,
+            b"default:nonsense",
+        ),
+        // Of NFSv4 entries one that doesn't read, one of another form, and one without an effect.
+        (
+            b"# file: x\n# owner: 0\n# group: 0\nA::OWNER@:r\nA::dave:r\nA::OWNER@:q",
+            4,
+            b"A::dave:r",
+        ),
+        (
+            b"# file: x\n# owner: 0\n# group: 0\nowner@:r::allow\nA::OWNER@:r",
+            4,
+            b"A::OWNER@:r",
+        ),
+        (
+            b"# file: x\n# owner: 0\n# group: 0\nA::OWNER@:r\nA:i:OWNER@:r",
+            4,
+            b"A:i:OWNER@:r",
+        ),
         (
             b"# file: x\n# owner: 0\n# group: 0\nu::r\ng::r\no::r\nnonsense\nu:dave:r",
             6,

@@ -1,17 +1,24 @@
 //! Readers that give their bytes in one way or another.
 use std::io::{self, ErrorKind, Read};
 
-/// Gives one byte at a time, each after a read that is interrupted.
+/// Gives so many bytes at a time, each time after a read that is interrupted.
 #[derive(Drop)]
 pub struct Slow<'a> {
     bytes: &'a [u8],
+    most: usize,
     ready: bool,
 }
 
 impl<'a> Slow<'a> {
+    /// Gives one byte at a time.
     pub fn new(bytes: &'a [u8]) -> Slow<'a> {
+        Slow::by(1, bytes)
+    }
+
+    pub fn by(most: usize, bytes: &'a [u8]) -> Slow<'a> {
         Slow {
             bytes,
+            most,
             ready: false,
         }
     }
@@ -23,14 +30,8 @@ impl Read for Slow<'_> {
         if self.ready || buffer.is_empty() {
             return Err(io::Error::from(ErrorKind::Interrupted));
         }
-        match self.bytes.split_first() {
-            Some((byte, rest)) => {
-                buffer[0] = *byte;
-                self.bytes = rest;
-                Ok(1)
-            }
-            None => Ok(0),
-        }
+        let count = buffer.len().min(self.most);
+        self.bytes.read(&mut buffer[..count])
     }
 }
 

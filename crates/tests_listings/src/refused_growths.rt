@@ -4,7 +4,7 @@
 //! `rt try --test --fail-alloc N` refuses the growth N of a test. Each test here passes whichever
 //! growth that is, and prints how many refusals it was told of: one up to the last growth that it
 //! asks for, and none from then on.
-use acl_listings::{Blocks, ReadFault, push_shown, read_file};
+use acl_listings::{Blocks, Lists, ReadFault, push_shown, read_file};
 use std::alloc::Global;
 use std::test::Fail;
 use tests_common::{Refusals, directory};
@@ -17,6 +17,8 @@ user::rwx
 user:1:r--
 user:2:r--
 default:user::rwx
+default:group::r-x
+default:other::---
 user:4:r--
 user:3:r--
 user:5:r--
@@ -31,7 +33,10 @@ other::---";
 fn count_of(alloc: Global, text: &[u8]) -> Option<usize> {
     let names = directory(alloc)?;
     let file = read_file(alloc, text, &names).ok()?;
-    Some(file.access.entries().len())
+    match file.lists {
+        Lists::Posix { access, .. } => Some(access.entries().len()),
+        Lists::Nfs4 { acl } => Some(acl.aces().len()),
+    }
 }
 
 #[test]
@@ -40,6 +45,38 @@ fn read_file_under_a_refused_growth(rt: HostRuntime) -> Result<(), Fail> {
     let mut refusals = Refusals::new();
     let count = refusals.again(|| count_of(alloc, LONG));
     assert_eq!(rt; count, Some(13));
+    println!(rt; "refusals: {}", refusals.told())?;
+    Ok(())
+}
+
+/// A list of NFSv4 entries, more than take no memory.
+const ACES: &[u8] = b"# file: x
+# owner: 0
+# group: 0
+A::OWNER@:r
+A::1:r
+A::2:r
+A::3:r
+A::4:r
+A::5:r
+A::6:r
+A::7:r
+A::8:r
+A::9:r
+A::10:r
+A::11:r
+A::12:r
+A::13:r
+A::14:r
+A::15:r
+A::EVERYONE@:r";
+
+#[test]
+fn read_aces_under_a_refused_growth(rt: HostRuntime) -> Result<(), Fail> {
+    let alloc = rt.alloc();
+    let mut refusals = Refusals::new();
+    let count = refusals.again(|| count_of(alloc, ACES));
+    assert_eq!(rt; count, Some(17));
     println!(rt; "refusals: {}", refusals.told())?;
     Ok(())
 }
@@ -70,9 +107,14 @@ fn blocks_under_a_refused_growth(rt: HostRuntime) -> Result<(), Fail> {
     Ok(())
 }
 
+const SHOWN: &[u8] = b"# file: x
+# owner: 0
+# group: 0
+user:1:r--";
+
 fn shown_of(alloc: Global) -> Option<usize> {
     let mut out = Vec::new(alloc);
-    push_shown(LONG, &mut out).ok()?;
+    push_shown(SHOWN, &mut out).ok()?;
     Some(out.len())
 }
 
@@ -81,8 +123,8 @@ fn push_shown_under_a_refused_growth(rt: HostRuntime) -> Result<(), Fail> {
     let alloc = rt.alloc();
     let mut refusals = Refusals::new();
     let len = refusals.again(|| shown_of(alloc));
-    // It has 190 bytes, of which 16 are newlines.
-    assert_eq!(rt; len, Some(238));
+    // It has 42 bytes, of which 3 are newlines.
+    assert_eq!(rt; len, Some(51));
     println!(rt; "refusals: {}", refusals.told())?;
     Ok(())
 }

@@ -1,7 +1,9 @@
 //! Blocks as long as they may be, and longer.
-use crate::told::{block_tells, tells};
-use acl_listings::{BlockFault, Blocks, FileFault, path_of, read_file};
+use crate::readers::Slow;
+use crate::told::{block_tells, is_text, tells, told_by};
+use acl_listings::{BlockFault, Blocks, FileFault, Lists, path_of, read_file};
 use std::alloc::Global;
+use std::io::{self, Read};
 use std::test::Fail;
 use tests_common::directory;
 
@@ -63,6 +65,32 @@ fn what_follows_a_long_one(rt: HostRuntime) -> Result<(), Fail> {
     Ok(())
 }
 
+/// Whether a listing with a block of so many bytes tells this if it comes in small pieces.
+fn tells_slowly(alloc: Global, len: usize, wanted: &[u8]) -> bool {
+    match listing_of(alloc, len, b"\n") {
+        Some(listing) => is_text(told_by(alloc, Slow::by(16, &listing)), wanted),
+        None => false,
+    }
+}
+
+#[test]
+fn blocks_in_many_pieces(rt: HostRuntime) -> Result<(), Fail> {
+    let alloc = rt.alloc();
+    let read = b"1 fault bad-header -\n3 x 0 0 u::r--,g::-w-,o::--x\n";
+    assert!(rt; tells_slowly(alloc, 65_536, read));
+    let refused = b"1 fault bad-header -\n3 fault too-long x\n";
+    assert!(rt; tells_slowly(alloc, 100_000, refused));
+    Ok(())
+}
+
+#[test]
+fn many_empty_lines(rt: HostRuntime) -> Result<(), Fail> {
+    let lines = io::repeat(b'\n').take(2_000_000);
+    let told = told_by(rt.alloc(), lines.chain(b"a".as_slice()));
+    assert!(rt; is_text(told, b"2000001 fault bad-header -\n"));
+    Ok(())
+}
+
 #[test]
 fn a_long_first_line(rt: HostRuntime) -> Result<(), Fail> {
     let alloc = rt.alloc();
@@ -117,7 +145,10 @@ fn entries_of(alloc: Global, count: u8) -> Option<usize> {
     let names = directory(alloc)?;
     let block = with_entries(alloc, count)?;
     let file = read_file(alloc, &block, &names).ok()?;
-    Some(file.access.entries().len())
+    match file.lists {
+        Lists::Posix { access, .. } => Some(access.entries().len()),
+        Lists::Nfs4 { .. } => None,
+    }
 }
 
 /// Whether such a block has too many.

@@ -1,7 +1,9 @@
-//! What a listing tells, a line for each block: its number, and the path, the owner, the group and
-//! the list of its file in the short text form; or `fault`, the word and the path.
-use acl_listings::{Blocks, File, FileFault, path_of, read_file};
+//! What a listing tells, a line for each block: its number, and the path, the owner, the group, the
+//! lists of its file in the short text form and its flags, if it has any; or `fault`, the word and
+//! the path.
+use acl_listings::{Blocks, File, FileFault, FileFlags, Lists, path_of, read_file};
 use acl_names::{Directory, push_decimal};
+use acl_posix::Acl;
 use std::alloc::Global;
 use std::io::Read;
 use tests_common::directory;
@@ -17,7 +19,41 @@ fn push_file(file: &File<'_>, out: &mut Vec<u8>) -> Option<()> {
     out.push(b' ').ok()?;
     push_number(file.group.value(), out)?;
     out.push(b' ').ok()?;
-    file.access.print_short(out).ok()
+    push_lists(&file.lists, out)?;
+    push_flags(file.flags, out)
+}
+
+fn push_lists(lists: &Lists, out: &mut Vec<u8>) -> Option<()> {
+    match lists {
+        Lists::Posix { access, default } => {
+            access.print_short(out).ok()?;
+            push_default(default, out)
+        }
+        Lists::Nfs4 { acl } => acl.print_short(out).ok(),
+    }
+}
+
+fn push_default(default: &Option<Acl>, out: &mut Vec<u8>) -> Option<()> {
+    match default {
+        Some(default) => {
+            out.extend_from_slice(b" default ").ok()?;
+            default.print_short(out).ok()
+        }
+        None => Some(()),
+    }
+}
+
+fn push_flags(flags: FileFlags, out: &mut Vec<u8>) -> Option<()> {
+    if flags.set_user_id {
+        out.extend_from_slice(b" set-user-id").ok()?;
+    }
+    if flags.set_group_id {
+        out.extend_from_slice(b" set-group-id").ok()?;
+    }
+    if flags.sticky {
+        out.extend_from_slice(b" sticky").ok()?;
+    }
+    Some(())
 }
 
 fn push_fault(word: &str, path: Option<&[u8]>, out: &mut Vec<u8>) -> Option<()> {

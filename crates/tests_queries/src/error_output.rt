@@ -1,6 +1,6 @@
 //! Standard error: what goes there, that nothing does after a write that failed, and that a write
 //! is told as failed only if it did.
-use acl_cli::{ErrorOutput, RunFault, report};
+use acl_cli::{ErrorOutput, Failure, RunFault};
 
 /// Writes a line of these words to so much room. Whether a write failed.
 fn fails_in(room: &mut [u8], words: &str, more: &str) -> bool {
@@ -34,18 +34,19 @@ fn nothing_goes_out_after_a_failed_write(rt: HostRuntime) {
     assert_eq!(rt; room.as_slice(), b"1234".as_slice());
 }
 
-/// The exit status where a lacking thread is reported to so much room, and whether a write failed.
-fn reported_in(room: &mut [u8]) -> (u8, bool) {
+/// The exit status where a lacking thread is told to so much room, and whether a write failed.
+fn told_in(room: &mut [u8]) -> (u8, bool) {
     let mut err = ErrorOutput::new(room);
-    let status = report(&RunFault::NoThread, &mut err);
-    (status, err.has_failed())
+    let failure = Failure::Lacks(RunFault::NoThread);
+    failure.tell(&mut err);
+    (failure.status(), err.has_failed())
 }
 
 #[test]
 fn a_failed_write_changes_no_status(rt: HostRuntime) {
     let mut room = [0u8; 23];
     for (bytes, has_failed) in [(23, false), (22, true), (0, true)] {
-        assert_eq!(rt; reported_in(&mut room[..bytes]), (3, has_failed));
+        assert_eq!(rt; told_in(&mut room[..bytes]), (3, has_failed));
     }
     assert_eq!(rt; room.as_slice(), b"aclctl: run: no thread\n".as_slice());
 }

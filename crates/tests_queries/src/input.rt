@@ -93,6 +93,19 @@ fn interrupted_reads_are_made_again(rt: HostRuntime) {
     assert_eq!(rt; reads(rt.alloc(), &mut reader, 3, bytes), Ok(true));
 }
 
+/// More bytes than a piece has, in memory that no one refuses.
+static MANY: [u8; 70_000] = [b'x'; 70_000];
+
+#[test]
+fn bytes_that_come_one_by_one(rt: HostRuntime) {
+    let bytes = MANY.as_slice();
+    let mut reader = Interrupted {
+        bytes,
+        ready: false,
+    };
+    assert_eq!(rt; reads(rt.alloc(), &mut reader, 70_000, bytes), Ok(true));
+}
+
 #[test]
 fn readers_that_fail_and_that_never_end(rt: HostRuntime) {
     let mut reader = FailsAfterOne { gave: false };

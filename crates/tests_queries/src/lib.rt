@@ -19,6 +19,8 @@ mod harness;
 #[cfg(test)]
 mod input;
 #[cfg(test)]
+mod output;
+#[cfg(test)]
 mod refused_growths;
 #[cfg(test)]
 mod words;

@@ -16,7 +16,7 @@ fn the_session_that_makes_the_tree_again(rt: HostRuntime) {
 fn the_tree_that_it_makes(rt: HostRuntime) {
     let words = ["dump", "--setup", "office", "again"];
     assert!(rt; Query.ends(rt.alloc(), &words, 0, ALICE_AGAIN, ""));
-    let letters = ["who", "--setup", "office", "again"];
+    let letters = ["who", "--setup", "office", "--session", "again"];
     let text =
         "r-x alice /\nr-x bob /\nr-x carol /\nrwx root /\nrwx alice /plans\nrwx bob /plans\n--- carol /plans\n--- root /plans\nrw- alice /plans/budget\nrw- bob /plans/budget\n--- carol /plans/budget\n--- root /plans/budget\n";
     assert!(rt; Query.ends(rt.alloc(), &letters, 0, text, ""));

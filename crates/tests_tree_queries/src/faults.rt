@@ -14,7 +14,7 @@ const FAULTS: [(&[&str], u8, &str); 7] = [
     ),
     (&["who", "--setup", "bad"], 1, "aclctl: setup: bad field\n"),
     (
-        &["who", "--setup", "office", "absent"],
+        &["who", "--setup", "office", "--session", "absent"],
         1,
         "aclctl: cannot read absent\n",
     ),
@@ -24,17 +24,33 @@ const FAULTS: [(&[&str], u8, &str); 7] = [
         "aclctl: bad-perms\n",
     ),
     (
-        &["impact", "--setup", "absent", "--before", "-", "-"],
+        &[
+            "impact",
+            "--setup",
+            "absent",
+            "--before",
+            "-",
+            "--session",
+            "-",
+        ],
         2,
         "aclctl: - is given twice\n",
     ),
     (
-        &["impact", "--setup", "office", "--before", "absent", "-"],
+        &[
+            "impact",
+            "--setup",
+            "office",
+            "--before",
+            "absent",
+            "--session",
+            "-",
+        ],
         1,
         "aclctl: cannot read absent\n",
     ),
     (
-        &["impact", "--setup", "bad", "empty"],
+        &["impact", "--setup", "bad", "--session", "empty"],
         1,
         "aclctl: setup: bad field\n",
     ),
@@ -52,7 +68,7 @@ fn faults_of_files_and_fields(rt: HostRuntime) {
 fn words_that_are_refused(rt: HostRuntime) -> Result<(), Fail> {
     let mut out = Vec::new(rt.alloc());
     let mut input = Sheet::new("x\n");
-    let words = ["impact", "--setup", "office"];
+    let words = ["impact", "--setup", "office", "--before"];
     let (status, err) = Query.ask(rt.alloc(), &words, &mut input, &mut out);
     assert_eq!(rt; status, 2);
     assert!(rt; out.is_empty());
@@ -82,13 +98,21 @@ fn an_answer_that_cannot_be_written(rt: HostRuntime) -> Result<(), Fail> {
 
 /// Words whose setup, or whose first file, can't be read, and that name standard input.
 const VAIN: [&[&str]; 7] = [
-    &["who", "--setup", "absent", "-"],
+    &["who", "--setup", "absent", "--session", "-"],
     &["dump", "--setup", "absent", "-"],
-    &["impact", "--setup", "absent", "-"],
-    &["impact", "--setup", "office", "--before", "absent", "-"],
-    &["who", "--setup", "absent", "--listing", "-"],
-    &["impact", "--setup", "absent", "--listing", "-", "listing"],
-    &["impact", "--setup", "office", "--listing", "absent", "-"],
+    &["impact", "--setup", "absent", "--session", "-"],
+    &[
+        "impact",
+        "--setup",
+        "office",
+        "--before",
+        "absent",
+        "--session",
+        "-",
+    ],
+    &["who", "--setup", "absent", "-"],
+    &["impact", "--setup", "absent", "-", "listing"],
+    &["impact", "--setup", "office", "absent", "-"],
 ];
 
 /// Whether the words are refused, and nothing of standard input was read.

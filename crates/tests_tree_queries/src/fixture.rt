@@ -1,6 +1,6 @@
 //! The office of the examples and its sessions, as files at hand.
 use acl_cli::{ErrorOutput, run_command};
-use acl_tree_queries::{Dump, impact, who};
+use acl_tree_queries::{Dump, Impact, Who};
 use std::alloc::Global;
 use std::io::{Read, Write};
 use tests_files::{Command, Shelf};
@@ -49,27 +49,9 @@ const LONG: &str =
 const LISTING: &str =
     "# file: srv/share/plan\n# owner: alice\n# group: staff\nuser::rw-\nuser:bob:rwx\t#effective:rw-\ngroup::r--\nmask::rw-\nother::---\n\n# file: srv/share/lost\n# owner: alice\n# group: gone\nuser::rw-\ngroup::---\nother::---\n\n\n# file: srv/share/bent\n# owner: 1000\n# group: 50\nuser::rwz\ngroup::---\nother::---\n\n# owner: alice\n# group: staff\n\n# file: srv/share/a dir\n# owner: 1001\n# group: 60\n# flags: -s-\nuser::rwx\ngroup::r-x\nother::--x\ndefault:user::rwx\ndefault:group::rwx\ndefault:other::rwx\n";
 
-/// Folders and files, as `getfacl -R srv other` lists them, but for one folder.
-const WAYS: &str =
-    "# file: srv\n# owner: alice\n# group: staff\nuser::rwx\ngroup::r-x\nother::---\n\n# file: srv/in\n# owner: alice\n# group: ops\nuser::rwx\ngroup::---\nother::r--\n\n# file: srv/in/file\n# owner: bob\n# group: staff\nuser::rw-\ngroup::r--\nother::r--\n\n# file: srv//./next\n# owner: root\n# group: root\nuser::rw-\ngroup::---\nother::r--\n\n# file: srv/gone/file\n# owner: alice\n# group: staff\nuser::rw-\ngroup::r--\nother::r--\n\n# file: other\n# owner: nobody\n# group: staff\nuser::rwx\ngroup::r-x\nother::---\n\n# file: other/file\n# owner: alice\n# group: staff\nuser::rw-\ngroup::---\nother::r--\n";
-
-/// Who may read them of those who reach them.
-pub const WHO_REACHES: &str =
-    "alice srv\nbob srv\nalice srv/in\nalice srv/in/file\nalice srv//./next\nbob srv//./next\nfault unknown-way 29 srv/gone/file\nfault unknown-name 36 other\nfault unknown-way 43 other/file\n";
-
-/// A listing of files that were there: later two are gone, one has another owner and one another
-/// list. A header doesn't read, and a group is one that the office lacks.
-pub const OLDER: &str =
-    "# file: srv/share/old\n# owner: root\n# group: root\nuser::rw-\ngroup::r--\nother::r--\n\n# owner: alice\n\n# file: srv/share/a dir\n# owner: 1001\n# group: 60\n# flags: -s-\nuser::rwx\ngroup::r-x\nother::--x\ndefault:user::rwx\n\n# file: srv/share/lost\n# owner: alice\n# group: gone\nuser::rw-\ngroup::---\nother::---\n\n# file: srv/share/plan\n# owner: alice\n# group: staff\nuser::rw-\nuser:bob:rwx\t#effective:rw-\ngroup::r--\nmask::rw-\nother::---\n\n# file: srv/share/a\\012b\n# owner: carol\n# group: guest\nuser::rw-\ngroup::---\nother::---\n";
-
-/// What is there later, in another order. One path stands twice that was there, and one that was
-/// not, of which the first block doesn't read.
-pub const NEWER: &str =
-    "# file: srv/share/plan\n# owner: alice\n# group: staff\nuser::rw-\nuser:bob:r--\ngroup::r--\nmask::rw-\nother::---\n\n# file: srv/share/new\n# owner: root\n# group: root\nuser::rw-\ngroup::r--\nother::r--\n\nuser::rw-\n\n# file: srv/share/lost\n# owner: alice\n# group: staff\nuser::rw-\ngroup::---\nother::---\n\n# file: srv/share/a dir\n# owner: 1000\n# group: 60\n# flags: -s-\nuser::rwx\ngroup::r-x\nother::--x\ndefault:user::rwx\n\n# file: srv/share/plan\n# owner: alice\n# group: staff\nuser::---\ngroup::---\nother::---\n\n# file: srv/share/next\n# owner: bob\n# group: ops\nuser::rw-\n\n# file: srv/share/next\n# owner: bob\n# group: ops\nuser::rw-\ngroup::r--\nother::---\n";
-
-/// What `impact` tells of these two.
-pub const SINCE_OLDER: &str =
-    "fault bad-header 8 -\nfault unknown-name 19 srv/share/lost\ndiffer bob 1001 50,60 w - srv/share/plan\nnew srv/share/new\nfault bad-header 17 -\ndiffer alice 1000 50 - rw srv/share/a dir\nfault repeated-path 35 srv/share/plan\nfault invalid-acl 42 srv/share/next\nnew srv/share/next\ngone srv/share/old\ngone srv/share/a\\012b\n";
+/// The first of these files later, where Bob may read alone, and another.
+const LATER: &str =
+    "# file: srv/share/plan\n# owner: alice\n# group: staff\nuser::rw-\nuser:bob:r--\ngroup::r--\nmask::rw-\nother::---\n\n# file: srv/share/new\n# owner: root\n# group: root\nuser::rw-\ngroup::r--\nother::r--\n";
 
 /// A file that everybody may read, in a root directory that its owner alone may search.
 const SHUT: &str = "create file /motd root 644\nchmod / 700\n";
@@ -88,10 +70,8 @@ const FILES: &[(&str, &str)] = &[
     ("aces", ACES),
     ("long", LONG),
     ("listing", LISTING),
-    ("ways", WAYS),
     ("shut", SHUT),
-    ("older", OLDER),
-    ("newer", NEWER),
+    ("later", LATER),
 ];
 
 /// `impact`, `dump` or `who`, whichever is the first of the words, over the files.
@@ -109,11 +89,13 @@ impl Command for Query {
     ) -> u8 {
         let files = Shelf::new(FILES);
         match words.first() {
-            Some(first) if *first == "impact" => impact(alloc, &files, words, input, out, err),
+            Some(first) if *first == "impact" => {
+                run_command(&Impact, alloc, &files, words, input, out, err)
+            }
             Some(first) if *first == "dump" => {
                 run_command(&Dump, alloc, &files, words, input, out, err)
             }
-            _ => who(alloc, &files, words, input, out, err),
+            _ => run_command(&Who, alloc, &files, words, input, out, err),
         }
     }
 }

@@ -7,7 +7,13 @@ use tests_files::{Command, Sheet};
 #[test]
 fn who_gains_and_who_loses(rt: HostRuntime) {
     let words = [
-        "impact", "--setup", "office", "--before", "before", "change",
+        "impact",
+        "--setup",
+        "office",
+        "--before",
+        "before",
+        "--session",
+        "change",
     ];
     let text =
         "differ bob 1001 50,60 - rx /plans\ndiffer bob 1001 50,60 r - /plans/budget\nnew /plans/next\n";
@@ -18,7 +24,7 @@ fn who_gains_and_who_loses(rt: HostRuntime) {
 /// in. Who of these is told is open.
 #[test]
 fn somebody_who_is_no_user(rt: HostRuntime) {
-    let words = ["impact", "--setup", "office", "strangers"];
+    let words = ["impact", "--setup", "office", "--session", "strangers"];
     let mut out = Vec::new(rt.alloc());
     let (status, err) = Query.ask(rt.alloc(), &words, &mut Sheet::new(""), &mut out);
     assert_eq!(rt; status, 0);
@@ -29,20 +35,20 @@ fn somebody_who_is_no_user(rt: HostRuntime) {
 
 #[test]
 fn all_is_new(rt: HostRuntime) {
-    let words = ["impact", "--setup", "office", "alice"];
+    let words = ["impact", "--setup", "office", "--session", "alice"];
     assert!(rt; Query.ends(rt.alloc(), &words, 0, "new /plans\nnew /plans/budget\n", ""));
 }
 
 /// A session that changes nothing for anybody has no line.
 #[test]
 fn nobody_gains_or_loses(rt: HostRuntime) {
-    let words = ["impact", "--setup", "office", "empty"];
+    let words = ["impact", "--setup", "office", "--session", "empty"];
     assert!(rt; Query.ends(rt.alloc(), &words, 0, "", ""));
 }
 
 /// Of the users whom a change concerns, the first by name is told.
 #[test]
 fn the_first_user_by_name(rt: HostRuntime) {
-    let words = ["impact", "--setup", "office", "closed"];
+    let words = ["impact", "--setup", "office", "--session", "closed"];
     assert!(rt; Query.ends(rt.alloc(), &words, 0, "differ alice 1000 50 rx - /\n", ""));
 }

@@ -13,10 +13,8 @@ mod fixture;
 #[cfg(test)]
 mod impact;
 #[cfg(test)]
-mod impact_listing;
-#[cfg(test)]
 mod refused_growths;
 #[cfg(test)]
-mod who;
+mod subject;
 #[cfg(test)]
-mod who_listing;
+mod who;

@@ -6,7 +6,7 @@ use tests_files::{Command, Sheet};
 /// A line for each path and each user, by the bytes of the paths and of the names.
 #[test]
 fn the_letters_of_each_user(rt: HostRuntime) {
-    let words = ["who", "--setup", "office", "alice"];
+    let words = ["who", "--setup", "office", "--session", "alice"];
     let text =
         "r-x alice /\nr-x bob /\nr-x carol /\nrwx root /\nrwx alice /plans\nrwx bob /plans\n--- carol /plans\n--- root /plans\nrw- alice /plans/budget\nrw- bob /plans/budget\n--- carol /plans/budget\n--- root /plans/budget\n";
     assert!(rt; Query.ends(rt.alloc(), &words, 0, text, ""));
@@ -22,7 +22,15 @@ fn a_setup_alone(rt: HostRuntime) {
 
 #[test]
 fn those_who_may_write(rt: HostRuntime) {
-    let words = ["who", "--setup", "office", "--perms", "w", "alice"];
+    let words = [
+        "who",
+        "--setup",
+        "office",
+        "--perms",
+        "w",
+        "--session",
+        "alice",
+    ];
     let text = "root /\nalice /plans\nbob /plans\nalice /plans/budget\nbob /plans/budget\n";
     assert!(rt; Query.ends(rt.alloc(), &words, 0, text, ""));
 }
@@ -30,11 +38,19 @@ fn those_who_may_write(rt: HostRuntime) {
 /// Bob reads by one group and writes by another, and is denied both at once.
 #[test]
 fn letters_are_asked_one_by_one_and_permissions_as_a_whole(rt: HostRuntime) {
-    let letters = ["who", "--setup", "office", "groups"];
+    let letters = ["who", "--setup", "office", "--session", "groups"];
     let text =
         "r-x alice /\nr-x bob /\nr-x carol /\nrwx root /\nrw- alice /log\nrw- bob /log\n--- carol /log\n--- root /log\n";
     assert!(rt; Query.ends(rt.alloc(), &letters, 0, text, ""));
-    let whole = ["who", "--setup", "office", "--perms", "rw", "groups"];
+    let whole = [
+        "who",
+        "--setup",
+        "office",
+        "--perms",
+        "rw",
+        "--session",
+        "groups",
+    ];
     assert!(rt; Query.ends(rt.alloc(), &whole, 0, "root /\nalice /log\n", ""));
 }
 
@@ -43,7 +59,7 @@ fn letters_are_asked_one_by_one_and_permissions_as_a_whole(rt: HostRuntime) {
 fn a_session_from_standard_input(rt: HostRuntime) -> Result<(), Fail> {
     let mut out = Vec::new(rt.alloc());
     let mut input = Sheet::new("chmod / 700\n");
-    let words = ["who", "--setup", "office", "--perms", "r", "-"];
+    let words = ["who", "--setup", "office", "--perms", "r", "--session", "-"];
     let (status, err) = Query.ask(rt.alloc(), &words, &mut input, &mut out);
     assert_eq!(rt; status, 0);
     assert!(rt; out.as_slice() == b"root /\n".as_slice());
@@ -57,7 +73,7 @@ fn a_session_from_standard_input(rt: HostRuntime) -> Result<(), Fail> {
 fn standard_input_is_left_as_it_is(rt: HostRuntime) -> Result<(), Fail> {
     let mut out = Vec::new(rt.alloc());
     let mut input = Sheet::new("chmod / 700\n");
-    let words = ["who", "--setup", "office", "alice"];
+    let words = ["who", "--setup", "office", "--session", "alice"];
     let (status, _err) = Query.ask(rt.alloc(), &words, &mut input, &mut out);
     assert_eq!(rt; status, 0);
     assert_eq!(rt; input.left(), 12);
@@ -68,7 +84,14 @@ fn standard_input_is_left_as_it_is(rt: HostRuntime) -> Result<(), Fail> {
 #[test]
 fn those_who_reach_a_node(rt: HostRuntime) {
     let words = [
-        "who", "--setup", "office", "--reach", "--perms", "r", "shut",
+        "who",
+        "--setup",
+        "office",
+        "--reach",
+        "--perms",
+        "r",
+        "--session",
+        "shut",
     ];
     let text = "root /\nroot /motd\n";
     assert!(rt; Query.ends(rt.alloc(), &words, 0, text, ""));

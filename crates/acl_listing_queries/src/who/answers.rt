@@ -6,7 +6,6 @@ ghost use Rattle.acl_audit.specs.Reach.{reaches};
 ghost use Rattle.acl_listings.specs.Block.{FileValue, file_by};
 ghost use Rattle.acl_listings.specs.Faults.{IsFaultOf};
 ghost use Rattle.acl_listings.specs.Lines.{after_line};
-ghost use Rattle.acl_listings.specs.Views.{view_file};
 ghost use Rattle.acl_posix.specs.Perms.{bits_of};
 ghost use Rattle.acl_tree.specs.declared.node.Node.{Node};
 ghost use Rattle.acl_listing_queries.specs.Files.{node_of};
@@ -16,13 +15,13 @@ ghost use Rattle.acl_listing_queries.specs.WhoSteps.{names_by, whos_of};
 ghost use Rattle.acl_listing_queries.specs.WhoText.{who_text};
 
 use super::lines::{push_letters_lines, push_may_lines};
+use crate::files::node_of;
 use crate::host::Host;
 use crate::people::People;
 use acl_audit::{letters_of_each, places_of_those_who_may, which_may};
-use acl_listings::{File, FileFault, MAX_BLOCK, lines_behind, path_of, read_file};
-use acl_nfs4::Kind;
+use acl_listings::{FileFault, MAX_BLOCK, lines_behind, path_of, read_file};
 use acl_posix::Perms;
-use acl_tree::{Node, NodeAcl};
+use acl_tree::Node;
 use std::alloc::{AllocError, Global};
 
 /// Of how many files with different lines the answers are kept at once.
@@ -85,21 +84,6 @@ pub(super) struct Users<'t> {
     pub perms: Option<Perms>,
     /// Whether it is asked who may search a file.
     pub reach: bool,
-}
-
-/// A listed file as a node, with the list that Linux looks at. It takes no memory.
-fn node_of(alloc: Global, file: File<'_>) -> Result<Node, AllocError>
-    ensures { IfOk result (λ node. node ≡ node_of (view_file file.entry)) }
-{
-    Ok(Node {
-        kind: Kind::File,
-        owner: file.owner,
-        group: file.group,
-        acl: NodeAcl::Posix {
-            access: file.access.for_linux(alloc)?,
-            default: None,
-        },
-    })
 }
 
 impl<'t> Users<'t> {

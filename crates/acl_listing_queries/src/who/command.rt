@@ -23,8 +23,8 @@ use clap::{ArgMatches, Command};
 use std::alloc::{AllocError, Global};
 use std::io::{Read, Write};
 
-/// What is told, and what the exit statuses are.
-const ANSWERS: &str = "For example:
+/// What is told of a listing, and what the exit statuses are, as help says it.
+pub const WHO_ANSWERS: &str = "For example:
   getfacl -Rn /srv/share | aclctl who --reach --perms w -
 A line for each file and each user who may do something with it: LETTERS NAME PATH, where - is a \
 letter that is
@@ -55,7 +55,7 @@ impl CommandLine for WhoOfListing {
         Command::new(alloc, "who")
             .bin_name("aclctl who")?
             .about("Tells who may do what with each file of a listing, as getfacl -R prints it.")
-            .after_help(ANSWERS)
+            .after_help(WHO_ANSWERS)
             .arg(accounts_option(alloc))?
             .arg(setup_option(alloc))?
             .arg(optional_perms_option(alloc))?

@@ -16,7 +16,8 @@ ghost use Rattle.acl_listing_queries.specs.WhoSteps.{names_by, whos_of};
 ghost use Rattle.acl_listing_queries.specs.declared.who.reach.Before.{Before as BeforeValue};
 
 use super::answers::Answers;
-use super::way::{Folder, is_above, leave, reach_of};
+use super::way::{Folder, leave, reach_of};
+use crate::above::is_above;
 use crate::blocks::BlockTeller;
 use acl_audit::both;
 use acl_listings::{BlockFault, FileFault, path_of};

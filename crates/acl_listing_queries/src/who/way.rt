@@ -2,12 +2,12 @@
 ghost use Rattle.std.specs.Prelude.{◌≡◌, List, [], Some, false, map, option_map};
 ghost use Rattle.std.specs.List.{list_any};
 ghost use Rattle.acl_audit.specs.Reach.{reaches};
-ghost use Rattle.acl_listings.specs.Way.{is_above};
 ghost use Rattle.acl_names.specs.Requester.{Identity};
 ghost use Rattle.acl_listing_queries.specs.Readings.{Reading};
 ghost use Rattle.acl_listing_queries.specs.Ways.{known_way, those_above};
 ghost use Rattle.acl_listing_queries.specs.WhoSteps.{AreFolders, IsChain, lacks_path, marks_of};
 
+use crate::above::is_above;
 use acl_listings::{Place, place_below};
 
 /// A folder on the way.
@@ -16,13 +16,6 @@ pub(super) struct Folder {
     pub path: Vec<u8>,
     /// Of each user whether it and each folder above it may be searched; none if that isn't known.
     pub reach: Option<Vec<bool>>,
-}
-
-/// Whether what has the path lies below the folder.
-pub(super) fn is_above(folder: &[u8], path: &[u8]) -> bool
-    ensures { result ≡ is_above folder.now path.now }
-{
-    matches!(place_below(folder, path), Place::Inside | Place::Deeper)
 }
 
 /// Leaves the folders that the path isn't below.

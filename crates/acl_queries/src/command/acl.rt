@@ -8,8 +8,9 @@ use acl_names::{Directory, SetupFault};
 use acl_posix::{Acl, ReadAclFault};
 use std::alloc::{AllocError, Global};
 
-/// A directory that knows no user and no group.
-pub(crate) fn empty_directory(alloc: Global) -> Result<Directory, AllocError>
+/// A directory that knows no user and no group, by which ids are read and printed. It fails only if
+/// memory runs out.
+pub fn empty_directory(alloc: Global) -> Result<Directory, AllocError>
     ensures { IfOk result (λ directory. directory ≡ nobody) }
 {
     let domain = String::from_str(alloc, "local")?;

@@ -29,10 +29,12 @@ impl Model for Question {
     ghost Value = { Explained };
 
     ghost view = { λ question. record {
-      owner = question.owner;
-      group = question.group;
-      requester = question.requester;
-      request = bits_of question.request;
+      asked = record {
+        owner = question.owner;
+        group = question.group;
+        requester = question.requester;
+        request = bits_of question.request;
+      };
       acl = question.acl;
     } };
 }

@@ -7,12 +7,11 @@ ghost use Rattle.acl_posix.specs.Perms.{bits_of};
 ghost use Rattle.acl_queries.specs.ExplainText.{Decides, IsExplanation, reasons};
 ghost use Rattle.acl_queries.specs.DecideAnswer.{answer_line};
 
-use super::nfs4::push_nfs4_reasons;
-use super::posix::push_posix_reasons;
 use super::question::Question;
 use crate::command::acl::empty_directory;
 use crate::command::answer::answer_line;
 use crate::command::list::AnyAcl;
+use crate::reasons::{FileRequest, push_nfs4_reasons, push_posix_reasons};
 use acl_names::{Directory, Gid, Requester, Uid};
 use acl_nfs4::{Acl4, mask_of};
 use acl_posix::Perms;
@@ -28,9 +27,20 @@ fn grants_perms(acl: &Acl4, owner: Uid, group: Gid, requester: &Requester, perms
 }
 
 impl Question {
+    fn asked(&self) -> FileRequest<'_>
+        ensures { result ≡ self.now.asked }
+    {
+        FileRequest {
+            owner: self.owner,
+            group: self.group,
+            requester: &self.requester,
+            request: self.request,
+        }
+    }
+
     /// The answer.
     fn is_granted(&self) -> bool
-        ensures { Decides self.now self.now.acl result }
+        ensures { Decides self.now.asked self.now.acl result }
     {
         let (owner, group) = (self.owner, self.group);
         match &self.acl {
@@ -42,11 +52,12 @@ impl Question {
     /// Appends why it is so.
     fn push_reasons(&self, directory: &Directory, out: &mut Vec<u8>) -> Result<(), AllocError>
         ensures { OnOk result (out.new.items ≡ out.old.items
-            ++ reasons directory.now self.now self.now.acl) }
+            ++ reasons directory.now self.now.asked self.now.acl) }
     {
+        let asked = self.asked();
         match &self.acl {
-            AnyAcl::Posix(acl) => push_posix_reasons(self, acl, directory, out),
-            AnyAcl::Nfs4(acl) => push_nfs4_reasons(self, acl, directory, out),
+            AnyAcl::Posix(acl) => push_posix_reasons(&asked, acl, directory, out),
+            AnyAcl::Nfs4(acl) => push_nfs4_reasons(&asked, acl, directory, out),
         }
     }
 }

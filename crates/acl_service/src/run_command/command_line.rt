@@ -1,12 +1,13 @@
 //! The command line of `run`, and its fields.
-ghost use Rattle.std.specs.Prelude.{◌≡◌, ◌≢◌, Some, codes, false, map, option_map};
-ghost use Rattle.clap.specs.Words.{all_of, found_of, rows_of, rule_of};
+ghost use Rattle.std.specs.Prelude.{◌≡◌, ◌≢◌, Some, false, map};
+ghost use Rattle.clap.specs.Words.{found_of, rows_of, rule_of};
 ghost use Rattle.acl_service.specs.RunLine.{limit_option, session_words};
-ghost use Rattle.acl_service.specs.RunWords.{HasLimit, IsLimit};
+ghost use Rattle.acl_service.specs.RunWords.{HasLimit, IsLimit, sessions_in};
 
 use acl_cli::CommandLine;
 use acl_cli::fields::text_field;
 use acl_cli::options::{flag, optional_option, required_word, setup_option};
+use acl_cli::session_files::names_field;
 use clap::builder::ValueParser;
 use clap::{Arg, ArgMatches, Command};
 use std::alloc::{AllocError, Global};
@@ -25,7 +26,7 @@ A session has a command a line, and each answer tells its line's number:
 The commands are get, set, chmod, create, check, check4 and translate.";
 
 /// The command line of `run`.
-pub(super) struct RunLine;
+pub struct RunLine;
 
 impl CommandLine for RunLine {
     ghost use Rattle.acl_service.specs.RunLine.{run_line, run_line-free, run_line-simple};
@@ -69,12 +70,13 @@ pub fn session_words<'a>(alloc: Global) -> Arg<'a>
     required_word(alloc, "session", "SESSION", help).num_args(1usize..)
 }
 
-/// The names of the sessions' files, if the words give any.
-pub fn session_fields<'m, 'a>(matches: &'m ArgMatches<'a>) -> Option<&'m [&'a str]>
-    ensures { option_map (λ names. map (λ name. name.now) names.now) result
-        ≡ all_of (codes "session") (rows_of (found_of matches.now)) }
+/// The names of the sessions' files. There is one at least: the parser of command lines lets
+/// nothing else through.
+#[tactic(auto, unfolding(crate::specs::RunWords::sessions_in))]
+pub fn session_names<'m, 'a>(matches: &'m ArgMatches<'a>) -> &'m [&'a str]
+    ensures { map (λ name. name.now) result.now ≡ sessions_in (rows_of (found_of matches.now)) }
 {
-    matches.get_strs("session")
+    names_field(matches, "session").unwrap_or_default()
 }
 
 /// The number of a text, from 1.

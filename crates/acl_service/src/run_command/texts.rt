@@ -4,18 +4,19 @@ ghost use Rattle.std.specs.Prelude.{length, map};
 ghost use Rattle.std.specs.Io.KnownBytes.{Appends, Keeps};
 ghost use Rattle.acl_lang.specs.declared.limits.TheConstants.{MAX_TEXT_LEN};
 ghost use Rattle.acl_broker.specs.declared.limits.TheConstants.{SESSIONS};
+ghost use Rattle.acl_cli.specs.Failures.{failed_write};
 ghost use Rattle.acl_cli.specs.Output.{AppendsFront};
-ghost use Rattle.acl_service.specs.TextsFaults.{IsRunFault, IsTextsFault, lost_output};
+ghost use Rattle.acl_service.specs.TextsFailures.{IsLack, IsTextsFailure};
 ghost use Rattle.acl_service.specs.RunText.{run_text};
 ghost use Rattle.acl_service.specs.RunTexts.{IsOfReport, RunsTexts};
 ghost use Rattle.acl_service.specs.Runs.{session_text};
 
-use super::fault::TextsFault;
+use super::failure::failure_of_serve;
 use super::printing::{print_journal, write_outputs};
 use crate::run_one;
 use crate::sessions::{RunInPrint, serve_in_print};
 use acl_broker::SESSIONS;
-use acl_cli::write_text;
+use acl_cli::{Failure, write_text};
 use acl_names::Directory;
 use acl_runs::Gate;
 use acl_setup::read_setup;
@@ -37,22 +38,22 @@ pub(super) struct Options {
 
 /// Writes the outputs of a run, and after them its journal if that is asked for. All that takes
 /// memory comes first.
-fn print_report<W: Write>(
+fn print_report<'n, W: Write>(
     alloc: Global,
     report: &RunInPrint<'_>,
     journal: bool,
     out: &mut W,
-) -> Result<(), TextsFault>
+) -> Result<(), Failure<'n>>
     ensures printed { OnOk result (Appends (W.contents out.old) (W.contents out.new)
         (run_text journal report.now.journal.items
         (map (λ output. output.items) report.now.outputs.items))) }
-    ensures silent { IfErr result (λ fault. fault ≢ lost_output
+    ensures silent { IfErr result (λ failure. failure ≢ failed_write
         → Keeps (W.contents out.old) (W.contents out.new)) }
-    ensures cut { IsErrOf result lost_output → AppendsFront (W.contents out.old)
+    ensures cut { IsErrOf result failed_write → AppendsFront (W.contents out.old)
         (W.contents out.new)
         (run_text journal report.now.journal.items
         (map (λ output. output.items) report.now.outputs.items)) }
-    ensures fault { IfErr result IsRunFault }
+    ensures lack { IfErr result IsLack }
 {
     let entries = if journal {
         print_journal(alloc, report.journal.as_slice())?
@@ -65,28 +66,28 @@ fn print_report<W: Write>(
 }
 
 /// Runs one session by itself, and writes its output.
-fn print_session<W: Write>(
+fn print_session<'n, W: Write>(
     alloc: Global,
     directory: &Directory,
     tree: Tree,
     text: &[u8],
     out: &mut W,
-) -> Result<(), TextsFault>
+) -> Result<(), Failure<'n>>
     requires { length text.now ≤ MAX_TEXT_LEN }
     ensures printed { OnOk result (Appends (W.contents out.old) (W.contents out.new)
         (session_text directory.now tree text.now)) }
-    ensures silent { IfErr result (λ fault. fault ≢ lost_output
+    ensures silent { IfErr result (λ failure. failure ≢ failed_write
         → Keeps (W.contents out.old) (W.contents out.new)) }
-    ensures cut { IsErrOf result lost_output → AppendsFront (W.contents out.old)
+    ensures cut { IsErrOf result failed_write → AppendsFront (W.contents out.old)
         (W.contents out.new) (session_text directory.now tree text.now) }
-    ensures fault { IfErr result IsRunFault }
+    ensures lack { IfErr result IsLack }
 {
     run_one(alloc, directory, tree, text, out)?;
     Ok(())
 }
 
 /// Runs all sessions at the same time, and writes what is reported of them.
-fn print_sessions<R: Threads + Wait + Clock + Sync, G: Gate, W: Write>(
+fn print_sessions<'n, R: Threads + Wait + Clock + Sync, G: Gate, W: Write>(
     rt: &R,
     alloc: Global,
     gate: &G,
@@ -95,26 +96,28 @@ fn print_sessions<R: Threads + Wait + Clock + Sync, G: Gate, W: Write>(
     texts: &[Vec<u8>],
     options: Options,
     out: &mut W,
-) -> Result<(), TextsFault>
+) -> Result<(), Failure<'n>>
     requires count { (1 ≤ length texts.now) × (length texts.now ≤ SESSIONS) }
     requires short { All (λ text. length text.items ≤ MAX_TEXT_LEN) texts.now }
     requires some { options.max_errors ≢ Some 0 }
     ensures printed { OnOk result ((text : List ℕ)
         × IsOfReport directory.now tree texts.now options.journal options.max_errors text
         × Appends (W.contents out.old) (W.contents out.new) text) }
-    ensures silent { IfErr result (λ fault. fault ≢ lost_output
+    ensures silent { IfErr result (λ failure. failure ≢ failed_write
         → Keeps (W.contents out.old) (W.contents out.new)) }
-    ensures cut { IsErrOf result lost_output → (text : List ℕ)
+    ensures cut { IsErrOf result failed_write → (text : List ℕ)
         × IsOfReport directory.now tree texts.now options.journal options.max_errors text
         × AppendsFront (W.contents out.old) (W.contents out.new) text }
-    ensures fault { IfErr result IsRunFault }
+    ensures lack { IfErr result IsLack }
 {
-    let report = serve_in_print(rt, alloc, gate, directory, tree, texts, options.max_errors)?;
-    print_report(alloc, &report, options.journal, out)
+    match serve_in_print(rt, alloc, gate, directory, tree, texts, options.max_errors) {
+        Ok(report) => print_report(alloc, &report, options.journal, out),
+        Err(fault) => Err(failure_of_serve(fault)),
+    }
 }
 
 /// Runs the sessions over what the setup opens, and writes what they print.
-pub(super) fn print_texts<R: Threads + Wait + Clock + Sync, G: Gate, W: Write>(
+pub(super) fn print_texts<'n, R: Threads + Wait + Clock + Sync, G: Gate, W: Write>(
     rt: &R,
     alloc: Global,
     gate: &G,
@@ -122,21 +125,21 @@ pub(super) fn print_texts<R: Threads + Wait + Clock + Sync, G: Gate, W: Write>(
     texts: &[Vec<u8>],
     options: Options,
     out: &mut W,
-) -> Result<(), TextsFault>
+) -> Result<(), Failure<'n>>
     requires count { 1 ≤ length texts.now }
     requires short { All (λ text. length text.items ≤ MAX_TEXT_LEN) texts.now }
     requires some { options.max_errors ≢ Some 0 }
     ensures few { OnOk result (length texts.now ≤ SESSIONS) }
     ensures printed { OnOk result (RunsTexts setup.now texts.now options.journal options.max_errors
         (Appends (W.contents out.old) (W.contents out.new))) }
-    ensures silent { IfErr result (λ fault. fault ≢ lost_output
+    ensures silent { IfErr result (λ failure. failure ≢ failed_write
         → Keeps (W.contents out.old) (W.contents out.new)) }
-    ensures cut { IsErrOf result lost_output → RunsTexts setup.now texts.now options.journal
+    ensures cut { IsErrOf result failed_write → RunsTexts setup.now texts.now options.journal
         options.max_errors (AppendsFront (W.contents out.old) (W.contents out.new)) }
-    ensures refused { IfErr result (IsTextsFault setup.now (length texts.now)) }
+    ensures refused { IfErr result (IsTextsFailure setup.now (length texts.now)) }
 {
     if texts.len() > SESSIONS as usize {
-        return Err(TextsFault::TooManySessions);
+        return Err(Failure::TooManySessions);
     }
     let (directory, tree) = read_setup(alloc, setup)?;
     match texts {

@@ -1,24 +1,16 @@
-//! The command line of `impact` of a tree.
+//! The command line of `impact`.
 
-use super::ImpactOfTree;
+use super::Impact;
 use acl_cli::CommandLine;
-use acl_cli::options::{optional_option, required_word, setup_option};
+use acl_cli::options::{optional_option, optional_word};
+use acl_listing_queries::IMPACT_ANSWERS;
+use acl_listing_queries::options::{
+    accounts_option, all_option, exit_code_option, setup_option, text_option, user_option,
+};
 use clap::Command;
 use std::alloc::{AllocError, Global};
 
-/// What is told, and what the exit statuses are.
-const ANSWERS: &str = "A line for each file where somebody gains or loses: differ NAME UID GIDS \
-LOST GAINED PATH; and new PATH.
-NAME is the first user whom it concerns; if it is -, UID and GIDS are somebody who isn't in the \
-setup. No line: nobody.
-With --listing BEFORE AFTER in the place of sessions it tells what changed between two listings \
-of real files, as
-getfacl -R prints them: aclctl impact --listing - --help tells more.
-Exit status: 0 with an answer; 1 if a file doesn't read; 2 if the words are wrong, and with this \
-help; 3 if
-memory runs out or the answer can't be written.";
-
-impl CommandLine for ImpactOfTree {
+impl CommandLine for Impact {
     ghost use Rattle.acl_tree_queries.specs.ImpactLine.{impact_line, impact_line-free};
     ghost use Rattle.acl_tree_queries.specs.ImpactLine.{impact_line-simple};
 
@@ -31,20 +23,40 @@ impl CommandLine for ImpactOfTree {
     fn command<'a>(alloc: Global) -> Result<Command<'a>, AllocError> {
         Command::new(alloc, "impact")
             .bin_name("aclctl impact")?
-            .about("Tells who gains or loses what by a session: for anybody at all.")
-            .after_help(ANSWERS)
+            .about(
+                "Tells who gains or loses what between two listings, as getfacl -R prints them, \
+                 for anybody at all; or, without listings, by a session on a setup's tree.",
+            )
+            .after_help(IMPACT_ANSWERS)
+            .arg(accounts_option(alloc))?
             .arg(setup_option(alloc))?
+            .arg(all_option(alloc))?
+            .arg(user_option(alloc))?
+            .arg(text_option(alloc))?
+            .arg(exit_code_option(alloc))?
             .arg(optional_option(
                 alloc,
                 "before",
                 "SESSION",
-                "A session that comes first, of whose effect nothing is told",
+                "A session that comes first on a setup's tree, or - for standard input",
             ))?
-            .arg(required_word(
+            .arg(optional_option(
                 alloc,
                 "session",
                 "SESSION",
-                "The session: a file with its commands, or - for standard input",
+                "Asks what a session changes on a setup's tree: a file with its commands, or -",
+            ))?
+            .arg(optional_word(
+                alloc,
+                "listing",
+                "BEFORE",
+                "What getfacl -R printed before, or - for standard input",
+            ))?
+            .arg(optional_word(
+                alloc,
+                "after",
+                "AFTER",
+                "What it printed after, or - for standard input",
             ))
     }
 }

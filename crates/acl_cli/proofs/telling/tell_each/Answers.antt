@@ -1,10 +1,11 @@
-use Rattle.std.proofs.Common.{rules, ◌≡◌, ◌∙◌, ◌++◌, true, false, ap, ℕ, List, subst}
+use Rattle.std.proofs.Common.{rules, ◌≡◌, ◌∙◌, ◌++◌, ◌||◌, true, false, ap, length, nat_lt, ℕ, List, subst}
 use Rattle.std.specs.Io.KnownBytes.{Appends}
 use Rattle.acl_cli.specs.ErrorOutput.{Tells as GoesTo}
 use Rattle.acl_cli.specs.Output.{AppendsFront}
 use Rattle.acl_cli.proofs.ErrorLemmas.{Tells-both}
 use Rattle.acl_cli.proofs.PiecesLemmas.{front_now, keeps_more, sends, sends_all, sends_front}
 use Rattle.acl_cli.proofs.TellingLemmas.{LeadsOn-end, LeadsOn-more, cut_at, if_false, if_true}
+use Rattle.acl_cli.proofs.ToldLemmas.{some_more}
 use Rattle.acl_cli.proofs.telling.tell_each.Goals as goal
 
 pub returns-in_err-tell_next-clause-cut : goal.returns-in_err-tell_next-clause-cut
@@ -40,6 +41,7 @@ returns-then-not-branch-clause-written g c =
       LeadsOn-end (Tells c.args.telling.now) (Tells c.loop.telling) was.told was.said was.all over.2,
       sends_all _ _ _ was.told was.out last whole,
       was.beside,
+      was.some_is,
     )
 
 pub returns-in_err-send_full-clause-cut : goal.returns-in_err-send_full-clause-cut
@@ -80,6 +82,13 @@ loop-preserved g c =
       begun = begun;
       ends = λ ending is. was.ends ending (ends ending is);
       fails = λ failure is. was.fails failure (c.tell_next.ensures.stays failure is);
+      some_is =
+          let kept_is : c.len-kept.result ≡ length c.loop.text.items = search rules in
+          let now_is : c.len-now.result ≡ length c.tell_next.new.out.items = search rules in
+          c.told_more-some.ensures
+          ∙ ap (λ n. c.loop.some || nat_lt n c.len-now.result) kept_is
+          ∙ ap (λ n. c.loop.some || nat_lt (length c.loop.text.items) n) now_is
+          ∙ some_more c.loop.some was.told c.loop.text.items more c.tell_next.new.out.items was.some_is is;
     }
 
 pub returns-clause-cut : goal.returns-clause-cut

@@ -1,6 +1,6 @@
-use Rattle.std.proofs.Common.{◌≡◌, ℕ, List, []}
+use Rattle.std.proofs.Common.{◌≡◌, ℕ, List, [], not}
 use Rattle.acl_cli.specs.ErrorOutput.{Tells}
-use Rattle.acl_cli.specs.Telling.{LeadsOn}
+use Rattle.acl_cli.specs.Telling.{LeadsOn, is_empty}
 use Rattle.acl_cli.specs.declared.command.Ending.{Ending}
 use Rattle.acl_cli.specs.declared.failure.Failure.{Failure}
 use Rattle.acl_cli.proofs.PiecesLemmas.{WentOut}
@@ -19,4 +19,5 @@ invariant-loop g l = record {
   begun : g.T.Telling.Begins l.telling [] [];
   ends : (ending : Ending) → g.T.Telling.Ends l.telling ending → g.T.Telling.Ends l.initial.telling ending;
   fails : (failure : Failure) → g.T.Telling.Fails l.telling failure → g.T.Telling.Fails l.initial.telling failure;
+  some_is : l.some ≡ not (is_empty told);
 }

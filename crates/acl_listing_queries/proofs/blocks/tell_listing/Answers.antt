@@ -40,7 +40,7 @@ returns-then-listing-clause-answered g c =
     let name = c.args.name.now in
     let names = names_of_host c.args.host.now in
     let bytes = g.R.Read.remaining c.args.reader in
-    let (text, said, told, went, tells) = c.in_ok-tell_each.ensures.written in
+    let (text, said, told, went, tells, some_is) = c.in_ok-tell_each.ensures.written in
     let last = c.tell_each.new.telling in
     let left : Left = record {
       name = last.name.now;
@@ -65,7 +65,7 @@ returns-clause-cut g c =
     let name = c.args.name.now in
     let names = names_of_host c.args.host.now in
     let bytes = g.R.Read.remaining c.args.reader in
-    let (text, said, told, went, tells) = c.in_ok-tell_each.ensures.written in
+    let (text, said, told, went, tells, some_is) = c.in_ok-tell_each.ensures.written in
     let out : FrontWentOut (BeginsListing name names part bytes) (g.W.Write.contents c.args.out.now) (g.W.Write.contents c.tell_each.new.out) c.args.err.now c.tell_each.new.err =
     front_out (BeginsListing name names part bytes) _ _ _ _ text said
     (begins_told name names part c.new-2.result c.in_ok-blocks.blocks.coming bytes c.new-2.ensures c.in_ok-blocks.ensures.blocks text said (told [] c.requires))

@@ -24,3 +24,7 @@ pub returns-in-TooManySessions : goal.returns-in-TooManySessions
 returns-in-TooManySessions g c =
     subst (λ (failure : Failure). IfSome (line_of failure) (λ line. Tells line c.args.err.now c.write_line-in-TooManySessions.new.self)) (sym c.in-TooManySessions.is)
     c.write_line-in-TooManySessions.ensures
+
+pub returns-in-NoFile : goal.returns-in-NoFile
+returns-in-NoFile g c =
+    subst (λ (failure : Failure). IfSome (line_of failure) (λ line. Tells line c.args.err.now c.write_named-in-NoFile.new.self)) (sym c.in-NoFile.is) c.write_named-in-NoFile.ensures

@@ -9,9 +9,9 @@ use Rattle.acl_cli.specs.Output.{AppendsFront}
 use Rattle.acl_cli.specs.SessionFiles.{HasBytes, HaveBytes, input_count, setup_in}
 use Rattle.acl_cli.specs.declared.command.Ending.{Ending}
 use Rattle.acl_cli.specs.declared.failure.Failure.{Failure}
+use Rattle.acl_service.specs.Files.{IsFilesFailure}
 use Rattle.acl_service.specs.RunWords.{CanRun, sessions_in}
 use Rattle.acl_lint.specs.LintAnswer.{IsLint, lint_meaning}
-use Rattle.acl_lint.specs.LintFiles.{IsFilesFailure}
 use Rattle.acl_lint.proofs.AnswerLemmas.{lint_answered, lint_failed}
 use Rattle.acl_lint.proofs.lint_command.LintCommand.answer.Goals as goal
 
@@ -32,13 +32,13 @@ returns-in_err-texts g c =
     let refused : IsFilesFailure (setup_in rows) (sessions_in rows) failure = subst (λ (names : List Text). IsFilesFailure (setup_in rows) names failure) names_are
     (subst (λ (setup : Text). IsFilesFailure setup (map (λ name. name.now) c.session_names-names.result.now) failure) c.setup_field-setup.ensures c.in_err-texts.ensures.refused) in
     let meaning = lint_meaning (g.F.OpenFiles.bytes_of c.args.files.now) (g.I.Read.remaining c.args.input.now) rows in
-    subst (λ (result : Result Ending Failure). Comes meaning result out out c.args._err.now c.args._err.now c.args.input.now c.read_files.new.input) (sym is)
+    subst (λ (result : Result Ending Failure). Comes meaning result out out c.args._err.now c.args._err.now c.args.input.now c.read_texts.new.input) (sym is)
     (record {
       answered = tt;
       fails = inl refused;
       silent = λ few. (Keeps-refl out, refl);
       cut = inl (Keeps-refl out, refl);
-      untouched = λ none. c.read_files.ensures.untouched (ap input_count names_are ∙ none);
+      untouched = λ none. c.read_texts.ensures.untouched (ap input_count names_are ∙ none);
       unread = c.in_err-texts.ensures.unread;
     })
 
@@ -59,11 +59,11 @@ returns-in_err-write_answer g c =
     let comes = lint_failed bytes_of start rows (subst CanRun names_are read.taken) setup texts
     (subst (λ (name : Text). HasBytes (bytes_of name) setup) c.setup_field-setup.ensures read.setup)
     (subst (λ (names : List Text). HaveBytes bytes_of start names texts) names_are read.sessions)
-    out out' c.args._err.now c.args.input.now c.read_files.new.input (λ none. c.read_files.ensures.untouched (ap input_count names_are ∙ none)) failure c.in_err-write_answer.ensures.lack
+    out out' c.args._err.now c.args.input.now c.read_texts.new.input (λ none. c.read_texts.ensures.untouched (ap input_count names_are ∙ none)) failure c.in_err-write_answer.ensures.lack
     (⊎_map (λ (kept : Keeps out out'). kept)
     (told_of c.setup_field-setup.result.now (setup_in rows) (map (λ name. name.now) c.session_names-names.result.now) (sessions_in rows) setup texts c.setup_field-setup.ensures names_are (AppendsFront out out'))
     c.in_err-write_answer.ensures.cut) in
-    subst (λ (result : Result Ending Failure). Comes (lint_meaning bytes_of start rows) result out out' c.args._err.now c.args._err.now c.args.input.now c.read_files.new.input) (sym is) comes
+    subst (λ (result : Result Ending Failure). Comes (lint_meaning bytes_of start rows) result out out' c.args._err.now c.args._err.now c.args.input.now c.read_texts.new.input) (sym is) comes
 
 pub returns : goal.returns
 returns g c =
@@ -79,6 +79,6 @@ returns g c =
     lint_answered bytes_of start rows (subst CanRun names_are read.taken) setup texts
     (subst (λ (name : Text). HasBytes (bytes_of name) setup) c.setup_field-setup.ensures read.setup)
     (subst (λ (names : List Text). HaveBytes bytes_of start names texts) names_are read.sessions)
-    out out' c.args._err.now c.args.input.now c.read_files.new.input (λ none. c.read_files.ensures.untouched (ap input_count names_are ∙ none))
+    out out' c.args._err.now c.args.input.now c.read_texts.new.input (λ none. c.read_texts.ensures.untouched (ap input_count names_are ∙ none))
     (told_of c.setup_field-setup.result.now (setup_in rows) (map (λ name. name.now) c.session_names-names.result.now) (sessions_in rows) setup texts c.setup_field-setup.ensures names_are (Appends out out')
     c.in_ok-write_answer.ensures.written)

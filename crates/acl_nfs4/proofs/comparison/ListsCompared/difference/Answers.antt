@@ -1,4 +1,4 @@
-use Rattle.std.proofs.Common.{◌≡◌, ◌≢◌, ◌∙◌, sym, ap, ap₂, ℕ, true≢false, eq-eqb, eqb-true}
+use Rattle.std.proofs.Common.{◌≢◌, ◌∙◌, sym, ap, ap₂, ℕ, true≢false, eq-eqb, eqb-true}
 use Rattle.acl_names.specs.Bits.{◌∪◌, has}
 use Rattle.acl_names.specs.Asker.{identity_of}
 use Rattle.acl_nfs4.specs.Mask.{mask_bits}

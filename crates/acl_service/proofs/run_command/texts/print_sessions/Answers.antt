@@ -16,9 +16,9 @@ reported : (known : Known) (tree : NodesUnderUmask) (texts : List (Vec ℕ Globa
 reported known tree texts journal limit report WentOut explains out =
     (run_text journal report.journal.items (map (λ output. output.items) report.outputs.items), record { report = report; explains = explains; is = refl }, out)
 
-pub returns-clause-printed : goal.returns-clause-printed
-returns-clause-printed g c =
-    on_ok_weaker c.print_report.result (reported _ _ _ _ _ (report_of c.in_ok-report.report) _ c.in_ok-report.ensures) c.print_report.ensures.printed
+pub returns-in-Ok-clause-printed : goal.returns-in-Ok-clause-printed
+returns-in-Ok-clause-printed g c =
+    on_ok_weaker c.print_report.result (reported _ _ _ _ _ (report_of c.in-Ok.report) _ c.in-Ok.ensures) c.print_report.ensures.printed
 
-pub returns-clause-cut : goal.returns-clause-cut
-returns-clause-cut g c lost = reported _ _ _ _ _ (report_of c.in_ok-report.report) _ c.in_ok-report.ensures (c.print_report.ensures.cut lost)
+pub returns-in-Ok-clause-cut : goal.returns-in-Ok-clause-cut
+returns-in-Ok-clause-cut g c lost = reported _ _ _ _ _ (report_of c.in-Ok.report) _ c.in-Ok.ensures (c.print_report.ensures.cut lost)

@@ -1,0 +1,45 @@
+-- What `why` tells of a block, by what it says and by the folders on the way to it.
+use Rattle.std.proofs.Common.{◌≡◌, ◌∙◌, List, None, Some, Ok, Err, Option, ap, subst, sym, ℕ}
+use Rattle.acl_listings.specs.Block.{FileValue, file_by, path_of}
+use Rattle.acl_listings.specs.Faults.{IsFaultOf}
+use Rattle.acl_listings.specs.declared.fault.FileFault.{FileFault}
+use Rattle.acl_listings.specs.declared.fault.FileFault.TheVariants as file
+use Rattle.acl_listings.proofs.PathLemmas.{path_of-file}
+use Rattle.acl_tree.specs.declared.node.Node.{Node}
+use Rattle.acl_listing_queries.specs.Readings.{Reading, reading_of}
+use Rattle.acl_listing_queries.specs.Ways.{known_way, way_of}
+use Rattle.acl_listing_queries.specs.WhySteps.{IsUnknown, IsWayTo}
+use Rattle.acl_listing_queries.specs.WhyText.{WhyAsking, why_by, why_part, why_text}
+use Rattle.acl_listing_queries.specs.declared.why.way.Way.{Way}
+
+module _ (asking : WhyAsking) (earlier : List Reading) (text : List ℕ) where
+  abbrev here : Reading
+  here = reading_of asking.names text
+
+  abbrev way_here : List Reading
+  way_here = way_of earlier here
+
+  -- a block that doesn't read
+  pub part_unread : (fault : FileFault) → IsFaultOf (file_by asking.names text) fault → IsFaultOf (why_part asking earlier text) fault
+  part_unread (file.Block fault) is = ap (λ said. why_by asking way_here said (known_way way_here here)) is
+  part_unread file.Memory is = tt
+
+  module _ (said : FileValue) (reads : file_by asking.names text ≡ Ok said) where
+    by_nodes : (nodes : Option (List Node)) → known_way way_here here ≡ nodes → why_part asking earlier text ≡ why_by asking way_here (Ok said) nodes
+    by_nodes nodes known = ap (λ said. why_by asking way_here said (known_way way_here here)) reads ∙ ap (why_by asking way_here (Ok said)) known
+
+    -- one to which no way is known
+    pub part_unknown : (fault : FileFault) → IsUnknown (known_way way_here here) fault → IsFaultOf (why_part asking earlier text) fault
+    part_unknown (file.Block fault) (unknown, is) = by_nodes None unknown ∙ ap Err (sym is)
+    part_unknown file.Memory unknown = tt
+
+    -- and any other
+    pub part_known : (nodes : List Node) → known_way way_here here ≡ Some nodes → why_part asking earlier text ≡ Ok (why_text asking nodes way_here said)
+    part_known nodes known = by_nodes (Some nodes) known
+
+    -- the way to its path is kept
+    pub way_to_it : (path : List ℕ) (way : Way) → path_of text ≡ Some path → IsWayTo asking.names path earlier way → IsWayTo asking.names said.path earlier way
+    way_to_it path way is kept = subst (λ path. IsWayTo asking.names path earlier way) (same (sym is ∙ path_of-file asking.names text said reads)) kept
+      where
+        same : {one other : List ℕ} → Some one ≡ Some other → one ≡ other
+        same is = cc

@@ -1,0 +1,7 @@
+use Rattle.acl_listing_queries.specs.ImpactSteps.{persons_in}
+use Rattle.acl_listing_queries.proofs.ImpactLemmas.{IsFirstTo}
+use Rattle.acl_listing_queries.proofs.impact.asked.push_first.Given as goal
+
+-- none of those so far is concerned
+abbrev pub invariant-loop-place : goal.invariant-loop-place
+invariant-loop-place l = IsFirstTo l.before l.after l.path (persons_in l.people) l.place l.initial.out.items l.out.items

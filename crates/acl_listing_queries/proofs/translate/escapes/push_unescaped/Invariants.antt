@@ -1,0 +1,12 @@
+use Rattle.std.proofs.Common.{◌≡◌, ◌++◌, length}
+use Rattle.acl_listing_queries.specs.Escapes.{unescaped}
+use Rattle.acl_listing_queries.proofs.translate.escapes.push_unescaped.Given as goal
+
+-- what was put, and what the rest says, is what the path says
+abbrev pub invariant-loop-byte : goal.invariant-loop-byte
+invariant-loop-byte l = record {
+  text : l.out.items ++ unescaped l.rest ≡ l.fn.out.items ++ unescaped l.path;
+}
+
+abbrev pub decreases-loop-byte : goal.decreases-loop-byte
+decreases-loop-byte l = length l.rest

@@ -1,0 +1,63 @@
+-- How it is told what changed for those who are asked about. Private steps, which no public clause
+-- cites.
+use Rattle.std.specs.Prelude.{◌≡◌, ℕ, Bool, true, false, List, [], ◌++◌, Option, Some, None}
+use Rattle.std.specs.Prelude.{Result, Ok, Err}
+use Rattle.acl_nfs4.specs.Mask.{mask_bits}
+use Rattle.acl_tree.specs.declared.node.Node.{Node}
+use Rattle.acl_audit.specs.Changes as access
+use Rattle.acl_audit.specs.Changes.{IsAlikeTo, IsChangeFor}
+use Rattle.acl_audit.specs.declared.changes.Change.{Change}
+use Rattle.acl_listings.specs.Block.{FileValue}
+use Rattle.acl_listings.specs.declared.fault.BlockFault.{BlockFault}
+use Rattle.acl_listing_queries.specs.Host.{names_of_host}
+use Rattle.acl_listing_queries.specs.ImpactText.{person_text}
+use Rattle.acl_listing_queries.specs.Impacting.{ImpactAsking, TellsChange}
+use Rattle.acl_listing_queries.specs.Person.{Person}
+use Rattle.acl_listing_queries.specs.WhoSteps.{names_of_people, persons_of}
+use Rattle.acl_listing_queries.specs.declared.impact.asked.One.{One}
+use Rattle.acl_listing_queries.specs.declared.impact.teller.ImpactTeller.{ImpactTeller}
+use Rattle.acl_listing_queries.specs.declared.people.People.{People}
+
+-- what was appended is this
+pub record Tells (Is : List ℕ → Type 0) (out out' : List ℕ) : Type 0 where
+  pub text : List ℕ
+  pub is : Is text
+  pub out_is : out' ≡ out ++ text
+
+abbrev pub persons_in : People → List Person
+persons_in people = persons_of (names_of_people people) people.requesters.items
+
+abbrev pub view_one : One → Person
+view_one one = record { name = one.name.now; who = one.requester.now }
+
+abbrev pub asking_by : ImpactTeller → ImpactAsking
+asking_by teller = record {
+  names = names_of_host teller.host.now;
+  persons = persons_in teller.people.now;
+  each = teller.each;
+  somebody = teller.somebody;
+  written = teller.written;
+  asks = teller.asks;
+}
+
+-- what is told of a file, where this is what its block before says
+abbrev pub TellsRead : ImpactAsking → Result FileValue BlockFault → FileValue → List ℕ → Type 0
+TellsRead asking (Ok before) after text = TellsChange asking before after text
+TellsRead asking (Err fault) after text = text ≡ []
+
+-- the line of somebody whom a change concerns, and of somebody whom it doesn't
+abbrev pub TellsBy : Bool → Node → Node → List ℕ → Person → List ℕ → Type 0
+TellsBy true before after path person text = (change : Change)
+    × IsChangeFor (access.file_of before) (access.file_of after) person.who change
+    × (text ≡ person_text person (mask_bits change.lost) (mask_bits change.gained) path)
+TellsBy false before after path person text =
+    IsAlikeTo (access.file_of before) (access.file_of after) person.who × (text ≡ [])
+
+-- of who is at a place, if somebody is
+abbrev pub TellsAt : Bool → Node → Node → List ℕ → Option Person → List ℕ → Type 0
+TellsAt some before after path None text = (some ≡ false) × (text ≡ [])
+TellsAt some before after path (Some person) text = TellsBy some before after path person text
+
+abbrev pub line_at : (Person → List ℕ) → Option Person → List ℕ
+line_at line None = []
+line_at line (Some person) = line person

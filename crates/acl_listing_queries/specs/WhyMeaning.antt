@@ -1,0 +1,117 @@
+-- What the fields of `why` mean.
+use Rattle.std.specs.Prelude.{◌≡◌, ◌⊎◌, ℕ, true, false, List, [], ◌∷◌, ◌++◌, Option, Result}
+use Rattle.std.specs.Prelude.{Ok, Err, IfSome, codes, map, unwrap_or}
+use Rattle.clap.specs.Words.{Row, Text, first_of}
+use Rattle.acl_cli.specs.Commands.{Answer, Meaning}
+use Rattle.acl_cli.specs.Failures.{Explains}
+use Rattle.acl_cli.specs.Fields.{perms_in}
+use Rattle.acl_cli.specs.declared.command.Ending.{Ending}
+use Rattle.acl_cli.specs.declared.command.Ending.TheVariants.{Answered, InPart}
+use Rattle.acl_cli.specs.declared.failure.Failure.{Failure}
+use Rattle.acl_cli.specs.declared.failure.Failure.TheVariants.{NoFile}
+use Rattle.acl_cli.specs.declared.field_fault.FieldFault.{FieldFault}
+use Rattle.acl_listings.specs.Cursor.{blocks_to_come}
+use Rattle.acl_listings.specs.Listing.{Block}
+use Rattle.acl_names.specs.Names.{Names}
+use Rattle.acl_listing_queries.specs.Host.{IsHost, names_of_host}
+use Rattle.acl_listing_queries.specs.HostFailures.{IsHostFailure}
+use Rattle.acl_listing_queries.specs.Listed.{IsSaid, Part, told_of}
+use Rattle.acl_listing_queries.specs.Paths.{has_path, is_among}
+use Rattle.acl_listing_queries.specs.People.{person_asked}
+use Rattle.acl_listing_queries.specs.Person.{Person}
+use Rattle.acl_listing_queries.specs.Placed.{Placed}
+use Rattle.acl_listing_queries.specs.Readings.{Reading, reading_of}
+use Rattle.acl_listing_queries.specs.WhoMeaning.{FailsForListing, bytes_named, inputs_of}
+use Rattle.acl_listing_queries.specs.WhoMeaning.{listing_in}
+use Rattle.acl_listing_queries.specs.WhyText.{WhyAsking, why_part}
+use Rattle.acl_listing_queries.specs.declared.host.Host.{Host}
+
+-- the path that is asked about
+abbrev pub path_in : List Row → Text
+path_in rows = unwrap_or (first_of (codes "path") rows) []
+
+-- the one whom `--user` names
+abbrev pub user_in : Host → List Row → Result Person FieldFault
+user_in host rows = person_asked host (unwrap_or (first_of (codes "user") rows) [])
+
+-- the first block of a path, and those before it
+pub record IsFirstOf (path : List ℕ) (blocks : List Block) (placed : Placed Block) : Type 0 where
+  pub later : List Block
+  pub are : blocks ≡ placed.earlier ++ placed.here ∷ later
+  pub none_before : is_among path placed.earlier ≡ false
+  pub has : has_path path placed.here ≡ true
+
+abbrev pub readings : Names → List Block → List Reading
+readings names blocks = map (λ block. reading_of names block.text) blocks
+
+-- what it comes to, behind them
+abbrev pub placed_part : WhyAsking → Placed Block → Part
+placed_part asking placed = why_part asking (readings asking.names placed.earlier) placed.here.text
+
+-- what isn't known is said on standard error
+abbrev pub part_ending : Part → Ending
+part_ending (Ok text) = Answered
+part_ending (Err fault) = InPart
+
+pub record IsWhyAnswer (asking : WhyAsking) (name : Text) (placed : Placed Block) (answer : Answer)
+    : Type 0 where
+  pub text : answer.text ≡ told_of (placed_part asking placed)
+  pub said : IsSaid name asking.names placed.here (placed_part asking placed) answer.beside
+  pub ending : answer.ending ≡ part_ending (placed_part asking placed)
+
+-- the answer about the first block of the path, of a listing of this name that has these blocks, if
+-- they are told
+abbrev pub AnswersPath : WhyAsking → Text → Text → Option (List Block) → Answer → Type 0
+AnswersPath asking name path coming answer = IfSome coming (λ blocks. (placed : Placed Block)
+    × IsFirstOf path blocks placed × IsWhyAnswer asking name placed answer)
+
+-- no block has the path; or the listing fails
+abbrev pub FailsForPath : Text → Text → Option (List Block) → Failure → Type 0
+FailsForPath name path coming (NoFile listing file) = (listing.now ≡ name) × (file.now ≡ path)
+    × IfSome coming (λ blocks. is_among path blocks ≡ false)
+FailsForPath name path coming failure = FailsForListing name failure
+
+-- the blocks of the listing that the words name, if they are told
+abbrev pub blocks_named : (Text → Option (List ℕ)) → Option (List ℕ) → Text → Option (List Block)
+blocks_named bytes_of input name = blocks_to_come 1 (bytes_named bytes_of input name)
+
+-- what is asked about a path of a listing of this name; all of it is made first and then written at
+-- once
+abbrev pub path_meaning : WhyAsking → (Text → Option (List ℕ)) → Option (List ℕ) → Text → Text
+    → Meaning
+path_meaning asking bytes_of input name path = record {
+  Answers = AnswersPath asking name path (blocks_named bytes_of input name);
+  Begins = AnswersPath asking name path (blocks_named bytes_of input name);
+  Fails = FailsForPath name path (blocks_named bytes_of input name);
+  inputs = inputs_of name;
+}
+
+-- the files say who there is, the words who asks for what, and the answer is what follows from it
+pub record WhyAnswers (bytes_of : Text → Option (List ℕ)) (input : Option (List ℕ))
+    (rows : List Row) (answer : Answer) : Type 0 where
+  pub host : Host
+  pub host_is : IsHost bytes_of rows host
+  pub person : Person
+  pub person_is : user_in host rows ≡ Ok person
+  pub perms : ℕ
+  pub perms_are : perms_in rows ≡ Ok perms
+  pub is : AnswersPath
+      (record { names = names_of_host host; who = person.who; perms = perms }) (listing_in rows)
+      (path_in rows) (blocks_named bytes_of input (listing_in rows)) answer
+
+-- a field doesn't read, the files don't say who there is, nobody is asked about, no block has the
+-- path, or the listing fails
+abbrev pub FailsForWhy : (Text → Option (List ℕ)) → Option (List ℕ) → List Row → Failure → Type 0
+FailsForWhy bytes_of input rows failure = Explains (perms_in rows) failure
+    ⊎ (IsHostFailure bytes_of rows failure
+    ⊎ (((host : Host) × IsHost bytes_of rows host × Explains (user_in host rows) failure)
+    ⊎ FailsForPath (listing_in rows) (path_in rows)
+    (blocks_named bytes_of input (listing_in rows)) failure))
+
+abbrev pub why_meaning : (Text → Option (List ℕ)) → Option (List ℕ) → List Row → Meaning
+why_meaning bytes_of input rows = record {
+  Answers = WhyAnswers bytes_of input rows;
+  Begins = WhyAnswers bytes_of input rows;
+  Fails = FailsForWhy bytes_of input rows;
+  inputs = inputs_of (listing_in rows);
+}

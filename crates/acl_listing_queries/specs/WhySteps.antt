@@ -1,0 +1,90 @@
+-- How the way to a path is kept, and told. Private steps, which no public clause cites.
+use Rattle.std.specs.Prelude.{◌≡◌, ⊤, ℕ, Bool, true, false, List, [], ◌∷◌, Option, Some, None}
+use Rattle.std.specs.Prelude.{Vec, map, reverse}
+use Rattle.std.specs.List.{flat_map, list_any}
+use Rattle.std.specs.declared.alloc.Global.{Global}
+use Rattle.std.specs.Borrow.{Bor}
+use Rattle.acl_audit.specs.Reach.{reaches}
+use Rattle.acl_listings.specs.Block.{path_of}
+use Rattle.acl_listings.specs.Listing.{Block}
+use Rattle.acl_listings.specs.declared.fault.BlockFault.TheVariants.{UnknownWay}
+use Rattle.acl_listings.specs.declared.fault.FileFault.{FileFault}
+use Rattle.acl_listings.specs.declared.fault.FileFault.TheVariants as file
+use Rattle.acl_names.specs.Names.{Names}
+use Rattle.acl_posix.specs.Perms.{bits_of}
+use Rattle.acl_tree.specs.declared.node.Node.{Node}
+use Rattle.acl_listing_queries.specs.Host.{names_of_host}
+use Rattle.acl_listing_queries.specs.Kept.{Splits}
+use Rattle.acl_listing_queries.specs.Paths.{is_among}
+use Rattle.acl_listing_queries.specs.Readings.{Reading, reading_of}
+use Rattle.acl_listing_queries.specs.Ways.{folder_of, holds, known_way, way_of, with_folder}
+use Rattle.acl_listing_queries.specs.WhoSteps.{lacks_path}
+use Rattle.acl_listing_queries.specs.WhyMeaning.{readings}
+use Rattle.acl_listing_queries.specs.WhyText.{WhyAsking, folder_text}
+use Rattle.acl_listing_queries.specs.declared.why.folders.Folders.{Folders}
+use Rattle.acl_listing_queries.specs.declared.why.question.Question.{Question}
+use Rattle.acl_listing_queries.specs.declared.why.way.Way.{Way}
+
+-- what a question asks
+abbrev pub asked_by : Question → WhyAsking
+asked_by question = record {
+  names = names_of_host question.host.now;
+  who = question.requester.now;
+  perms = bits_of question.perms;
+}
+
+-- what these texts say
+abbrev pub readings_of : Names → List (Vec ℕ Global) → List Reading
+readings_of names texts = map (λ text. reading_of names text.items) texts
+
+-- these are kept of the way to a path, behind blocks that say this
+pub record IsWayTo (names : Names) (path : List ℕ) (earlier : List Reading) (way : Way) : Type 0
+  where
+    pub lost : way.lost ≡ list_any lacks_path earlier
+    pub folders : way.lost ≡ false → (here : Reading) → here.path ≡ Some path
+        → readings_of names way.folders.items ≡ reverse (way_of earlier here)
+
+-- the folders of a way, the nearest first, if they are known
+abbrev pub known_folders : List Reading → Option (List Node)
+known_folders [] = Some []
+known_folders (folder ∷ above) = with_folder (folder_of folder) (known_way above folder)
+
+-- the nearest of them, if there is one, holds what has this path
+abbrev pub is_held : List Reading → Option (List ℕ) → Bool
+is_held [] path = true
+is_held (folder ∷ above) path = holds folder.path path
+
+-- the last text is that of the nearest folder
+abbrev pub IsNearest : Option (Bor (List ℕ)) → List Reading → Type 0
+IsNearest None [] = ⊤
+IsNearest (Some text) (folder ∷ above) = path_of text.now ≡ folder.path
+IsNearest _ _ = ⊥
+
+-- the folders of this way are told
+pub record AreTold (asking : WhyAsking) (way : List Reading) (folders : Folders) : Type 0 where
+  pub nodes : List Node
+  pub known : known_folders way ≡ Some nodes
+  pub reach : folders.reach ≡ reaches nodes asking.who
+  pub text : folders.text.items ≡ flat_map (folder_text asking.who) (reverse way)
+  pub last : IsNearest folders.last way
+
+-- and they are all those on the way to a block
+pub record IsWayTold (asking : WhyAsking) (way : List Reading) (here : Reading) (folders : Folders)
+    : Type 0 where
+  pub nodes : List Node
+  pub known : known_way way here ≡ Some nodes
+  pub reach : folders.reach ≡ reaches nodes asking.who
+  pub text : folders.text.items ≡ flat_map (folder_text asking.who) (reverse way)
+
+-- they aren't known; out of memory says nothing
+abbrev pub IsUnknown : Option (List Node) → FileFault → Type 0
+IsUnknown known (file.Block fault) = (known ≡ None) × (fault ≡ UnknownWay)
+IsUnknown known file.Memory = ⊤
+
+-- of a listing's blocks those that were seen don't have the path, and this is kept of the way
+pub record IsSought (names : Names) (path : List ℕ) (coming left : Option (List Block)) (way : Way)
+    : Type 0 where
+  pub seen : List Block
+  pub splits : Splits coming seen left
+  pub none : is_among path seen ≡ false
+  pub way_is : IsWayTo names path (readings names seen) way

@@ -1,0 +1,275 @@
+//! Whom a change concerns, of those who are asked about.
+ghost use Rattle.std.specs.Prelude.{◌≡◌, ◌++◌, IfOk, OnOk, map, option_map, slice_get};
+ghost use Rattle.std.specs.List.{flat_map};
+ghost use Rattle.acl_bridge.specs.Comparison.{mask_for, permission_bits};
+ghost use Rattle.acl_nfs4.specs.Mask.{mask_bits};
+ghost use Rattle.acl_posix.specs.Perms.{bits_of};
+ghost use Rattle.acl_listing_queries.specs.ImpactSteps.{Tells, TellsAt, TellsBy, line_at};
+ghost use Rattle.acl_listing_queries.specs.ImpactSteps.{persons_in, view_one};
+ghost use Rattle.acl_listing_queries.specs.Impacting.{TellsAnybody, TellsFirst, TellsPersons};
+ghost use Rattle.acl_listing_queries.specs.Impacting.{TellsThose, lines_if, may_line};
+
+use super::lines::{push_person, push_somebody};
+use crate::people::People;
+use acl_audit::{change_for, change_for_anybody, effective};
+use acl_names::Requester;
+use acl_nfs4::{Mask, mask_of};
+use acl_posix::Perms;
+use acl_tree::Node;
+use bitflags::Flags;
+use std::alloc::{AllocError, Global};
+
+/// One who is asked about: the name as getfacl prints it, and who it is.
+#[derive(Clone, Copy)]
+pub(super) struct One<'t> {
+    name: &'t [u8],
+    requester: &'t Requester,
+}
+
+/// The name at the place.
+fn name_at(names: &[Vec<u8>], place: usize) -> Option<&[u8]>
+    ensures { option_map (λ name. name.now) result
+        ≡ slice_get (map (λ name. name.items) names.now) place }
+{
+    match names.get(place) {
+        Some(name) => Some(name.as_slice()),
+        None => None,
+    }
+}
+
+/// Who asks at the place.
+fn requester_at(requesters: &[Requester], place: usize) -> Option<&Requester>
+    ensures { option_map (λ requester. requester.now) result ≡ slice_get requesters.now place }
+{
+    requesters.get(place)
+}
+
+/// Who is at the place.
+fn one_at(people: &People, place: usize) -> Option<One<'_>>
+    ensures { option_map view_one result ≡ slice_get (persons_in people.now) place }
+{
+    let Some(name) = name_at(people.names.as_slice(), place) else {
+        return None;
+    };
+    let Some(requester) = requester_at(people.requesters.as_slice(), place) else {
+        return None;
+    };
+    Some(One { name, requester })
+}
+
+/// The bits that stand for permissions, one for each.
+fn permission_bits() -> Mask
+    ensures { mask_bits result ≡ permission_bits }
+{
+    Mask::READ_DATA.union(Mask::WRITE_DATA.union(Mask::EXECUTE))
+}
+
+/// The letters that somebody is granted, as bits of a mask.
+fn granted_mask(perms: Perms) -> Mask
+    ensures { mask_bits result ≡ mask_for (bits_of perms) }
+{
+    mask_of(perms).intersection(permission_bits())
+}
+
+/// Appends the line of somebody whom it concerns that a file became another, and returns whether it
+/// does.
+fn push_changed(
+    before: &Node,
+    after: &Node,
+    one: &One<'_>,
+    path: &[u8],
+    out: &mut Vec<u8>,
+) -> Result<bool, AllocError>
+    ensures { IfOk result (λ some. Tells (TellsBy some before.now after.now path.now
+        (view_one one.now)) out.old.items out.new.items) }
+{
+    match change_for(before, after, one.requester) {
+        Some(change) => {
+            push_person(
+                one.name,
+                one.requester,
+                change.lost,
+                change.gained,
+                path,
+                out,
+            )?;
+            Ok(true)
+        }
+        None => Ok(false),
+    }
+}
+
+/// Appends the line of who is at the place, if a change concerns somebody there, and returns
+/// whether it does.
+fn push_changed_at(
+    before: &Node,
+    after: &Node,
+    people: &People,
+    place: usize,
+    path: &[u8],
+    out: &mut Vec<u8>,
+) -> Result<bool, AllocError>
+    ensures { IfOk result (λ some. Tells (TellsAt some before.now after.now path.now
+        (slice_get (persons_in people.now) place)) out.old.items out.new.items) }
+{
+    match one_at(people, place) {
+        Some(one) => push_changed(before, after, &one, path, out),
+        None => Ok(false),
+    }
+}
+
+/// Appends the line of each whom it concerns that a file became another.
+fn push_each(
+    before: &Node,
+    after: &Node,
+    people: &People,
+    path: &[u8],
+    out: &mut Vec<u8>,
+) -> Result<(), AllocError>
+    ensures { OnOk result (Tells (TellsPersons before.now after.now path.now
+        (persons_in people.now)) out.old.items out.new.items) }
+{
+    for place in 0..people.requesters.len() {
+        push_changed_at(before, after, people, place, path, out)?;
+    }
+    Ok(())
+}
+
+/// Appends the line of the first whom it concerns that a file became another.
+fn push_first(
+    before: &Node,
+    after: &Node,
+    people: &People,
+    path: &[u8],
+    out: &mut Vec<u8>,
+) -> Result<(), AllocError>
+    ensures { OnOk result (Tells (TellsFirst before.now after.now path.now
+        (persons_in people.now)) out.old.items out.new.items) }
+{
+    for place in 0..people.requesters.len() {
+        if push_changed_at(before, after, people, place, path, out)? {
+            return Ok(());
+        }
+    }
+    Ok(())
+}
+
+/// Appends the line of each whom it concerns that a file became another, or of the first of them.
+pub(super) fn push_those(
+    each: bool,
+    before: &Node,
+    after: &Node,
+    people: &People,
+    path: &[u8],
+    out: &mut Vec<u8>,
+) -> Result<(), AllocError>
+    ensures { OnOk result (Tells (TellsThose each before.now after.now path.now
+        (persons_in people.now)) out.old.items out.new.items) }
+{
+    if each {
+        push_each(before, after, people, path, out)
+    } else {
+        push_first(before, after, people, path, out)
+    }
+}
+
+/// Appends the line of somebody whom it concerns that a file became another, if anybody is asked
+/// about.
+pub(super) fn push_anybody(
+    alloc: Global,
+    asked: bool,
+    before: &Node,
+    after: &Node,
+    path: &[u8],
+    out: &mut Vec<u8>,
+) -> Result<(), AllocError>
+    ensures { OnOk result (Tells (TellsAnybody asked before.now after.now path.now) out.old.items
+        out.new.items) }
+{
+    if !asked {
+        return Ok(());
+    }
+    match change_for_anybody(alloc, before, after) {
+        Ok(Some(found)) => push_somebody(found.asker, found.lost, found.gained, path, out),
+        Ok(None) => Ok(()),
+        Err(refused) => Err(refused),
+    }
+}
+
+/// Appends the line of somebody who may do something with a new file, or might with a gone one.
+fn push_may(
+    gone: bool,
+    node: &Node,
+    one: &One<'_>,
+    path: &[u8],
+    out: &mut Vec<u8>,
+) -> Result<(), AllocError>
+    ensures { OnOk result (out.new.items
+        ≡ out.old.items ++ may_line gone path.now node.now (view_one one.now)) }
+{
+    let perms = effective(node, one.requester);
+    if perms.is_empty() {
+        return Ok(());
+    }
+    let bits = granted_mask(perms);
+    if gone {
+        push_person(one.name, one.requester, bits, Mask::empty(), path, out)
+    } else {
+        push_person(one.name, one.requester, Mask::empty(), bits, path, out)
+    }
+}
+
+/// Appends the line of who is at the place, if it may do something with a new file, or might with a
+/// gone one.
+fn push_may_at(
+    gone: bool,
+    node: &Node,
+    people: &People,
+    place: usize,
+    path: &[u8],
+    out: &mut Vec<u8>,
+) -> Result<(), AllocError>
+    ensures { OnOk result (out.new.items ≡ out.old.items
+        ++ line_at (may_line gone path.now node.now) (slice_get (persons_in people.now) place)) }
+{
+    match one_at(people, place) {
+        Some(one) => push_may(gone, node, &one, path, out),
+        None => Ok(()),
+    }
+}
+
+/// Appends the line of each who may do something with a new file, or might with a gone one.
+fn push_each_who_may(
+    gone: bool,
+    node: &Node,
+    people: &People,
+    path: &[u8],
+    out: &mut Vec<u8>,
+) -> Result<(), AllocError>
+    ensures { OnOk result (out.new.items ≡ out.old.items
+        ++ flat_map (may_line gone path.now node.now) (persons_in people.now)) }
+{
+    for place in 0..people.requesters.len() {
+        push_may_at(gone, node, people, place, path, out)?;
+    }
+    Ok(())
+}
+
+/// Appends the line of each who may do something with a new file, or might with a gone one, if each
+/// has a line.
+pub(super) fn push_all_who_may(
+    each: bool,
+    gone: bool,
+    node: &Node,
+    people: &People,
+    path: &[u8],
+    out: &mut Vec<u8>,
+) -> Result<(), AllocError>
+    ensures { OnOk result (out.new.items ≡ out.old.items
+        ++ lines_if each (may_line gone path.now node.now) (persons_in people.now)) }
+{
+    if !each {
+        return Ok(());
+    }
+    push_each_who_may(gone, node, people, path, out)
+}

@@ -1,0 +1,9 @@
+//! `restore` of two listings.
+
+mod command;
+mod laws;
+mod no_names;
+mod teller;
+
+pub use command::Restore;
+pub use laws::restore_brings_back;

@@ -1,0 +1,12 @@
+//! `translate`: the files of a listing as NFSv4 ones.
+
+mod command;
+mod escapes;
+mod form;
+mod laws;
+mod lists;
+mod printing;
+mod teller;
+
+pub use command::Translate;
+pub use laws::{translations_are_read_again, translations_decide_alike};

@@ -1,0 +1,190 @@
+//! The command `why`.
+ghost use Rattle.std.specs.Prelude.{◌≡◌, IfErr, IfOk, Ok, OnErr};
+ghost use Rattle.clap.specs.Words.{found_of, rows_of};
+ghost use Rattle.acl_cli.specs.Commands.{Comes, FrontWentOut, WentOut};
+ghost use Rattle.acl_cli.specs.Failures.{Explains, failed_write};
+ghost use Rattle.acl_listing_queries.specs.WhyMeaning.{path_in, path_meaning, user_in};
+ghost use Rattle.acl_listing_queries.specs.WhySteps.{asked_by};
+
+use super::answer::Made;
+use super::question::Question;
+use super::search::seek_named;
+use crate::host::{Host, read_host};
+use crate::named::listing_field;
+use crate::options::{accounts_option, setup_option};
+use crate::person::Person;
+use crate::written::read_person;
+use acl_cli::fields::text_field;
+use acl_cli::options::{perms_option, required_option, required_word};
+use acl_cli::{
+    Command as CliCommand, CommandLine, Ending, ErrorOutput, Failure, OpenFiles, perms_field,
+    write_text,
+};
+use clap::{ArgMatches, Command};
+use std::alloc::{AllocError, Global};
+use std::io::{Read, Write};
+
+/// What is told, and what the exit statuses are.
+const ANSWERS: &str = "For example:
+  getfacl -Rn /srv/share | aclctl why --user alice --perms w - srv/share/plan
+First granted or denied, of P and of reach: the user has to be granted P by the file's list, and \
+x by that of each
+folder above it that the listing has. Then for each of these folders, the outermost first, and for \
+the file:
+  folder PATH granted|denied, or file PATH granted|denied
+and why its list decides so, as explain tells it. PATH is written as the listing writes it; the \
+first block that has
+it counts. uid 0 isn't asked about: it may do nearly everything.
+Exit status: 0 with an answer, granted or denied; 1 if a field or a file doesn't read, or the \
+listing has no such
+file; 2 if the words are wrong; 3 if memory runs out, the listing fails while it is read, or the \
+answer can't be
+written; 4 if the file's block doesn't read, or the way to it isn't known, as standard error \
+tells.";
+
+/// `why` of a file of a listing.
+#[derive(Clone, Copy)]
+pub struct Why;
+
+impl CommandLine for Why {
+    ghost use Rattle.acl_listing_queries.specs.WhyLine.{why_line, why_line-free, why_line-simple};
+
+    ghost line = { why_line };
+
+    ghost line_simple = { why_line-simple };
+
+    ghost line_free = { why_line-free };
+
+    fn command<'a>(alloc: Global) -> Result<Command<'a>, AllocError> {
+        Command::new(alloc, "why")
+            .bin_name("aclctl why")?
+            .about("Tells why a user may do something with a file of a listing, or may not.")
+            .after_help(ANSWERS)
+            .arg(accounts_option(alloc))?
+            .arg(setup_option(alloc))?
+            .arg(required_option(
+                alloc,
+                "user",
+                "NAME",
+                "The user to ask about, by name or uid",
+            ))?
+            .arg(perms_option(alloc))?
+            .arg(required_word(
+                alloc,
+                "listing",
+                "LISTING",
+                "What getfacl -R printed, or - for standard input",
+            ))?
+            .arg(required_word(
+                alloc,
+                "path",
+                "PATH",
+                "The file's path, as the listing writes it",
+            ))
+    }
+}
+
+/// The path that is asked about.
+fn path_field<'a>(matches: &ArgMatches<'a>) -> &'a str
+    ensures { result.now ≡ path_in (rows_of (found_of matches.now)) }
+{
+    text_field(matches, "path").unwrap_or("")
+}
+
+/// The one who is asked about.
+fn read_user<'a>(
+    alloc: Global,
+    host: &Host,
+    matches: &ArgMatches<'a>,
+) -> Result<Person, Failure<'a>>
+    ensures read { IfOk result (λ person. user_in host.now (rows_of (found_of matches.now))
+        ≡ Ok person) }
+    ensures refused { IfErr result
+        (Explains (user_in host.now (rows_of (found_of matches.now)))) }
+{
+    read_person(alloc, host, text_field(matches, "user").unwrap_or(""))
+}
+
+/// Writes an answer, and what stands beside it.
+fn write_made<'n, W: Write, E: Write + Drop>(
+    made: &Made,
+    out: &mut W,
+    err: &mut ErrorOutput<E>,
+) -> Result<Ending, Failure<'n>>
+    ensures written { IfOk result (λ ending. WentOut (λ answer. answer ≡ made.now) ending
+        (W.contents out.old) (W.contents out.new) err.old err.new) }
+    ensures cut { OnErr result (FrontWentOut (λ answer. answer ≡ made.now) (W.contents out.old)
+        (W.contents out.new) err.old err.new) }
+    ensures failed { IfErr result (λ failure. failure ≡ failed_write) }
+{
+    err.write_text(made.beside.as_slice());
+    write_text(made.text.as_slice(), out)?;
+    Ok(made.ending)
+}
+
+/// Writes the answer about the path's file of the listing of this name.
+fn tell_why<'n, F, I, W, E>(
+    alloc: Global,
+    files: &F,
+    name: &'n str,
+    path: &'n str,
+    question: &Question<'_>,
+    input: &mut I,
+    out: &mut W,
+    err: &mut ErrorOutput<E>,
+) -> Result<Ending, Failure<'n>>
+where
+    F: OpenFiles,
+    I: Read,
+    W: Write,
+    E: Write + Drop,
+    ensures { Comes (path_meaning (asked_by question.now) (F.bytes_of files.now)
+        (I.remaining input.old) name.entry.now path.entry.now) result (W.contents out.old)
+        (W.contents out.new) err.old err.new input.old input.new }
+{
+    let made = seek_named(alloc, files, name, path, question, input)?;
+    write_made(&made, out, err)
+}
+
+impl CliCommand for Why {
+    ghost use Rattle.std.specs.Prelude.{true};
+    ghost use Rattle.acl_listing_queries.specs.WhyMeaning.{why_meaning};
+
+    ghost meaning = { why_meaning };
+
+    ghost helps = { true };
+
+    fn answers_help() -> bool {
+        true
+    }
+
+    fn answer<'a, F: OpenFiles, I: Read, W: Write, E: Write + Drop>(
+        &self,
+        alloc: Global,
+        files: &F,
+        matches: &ArgMatches<'a>,
+        input: &mut I,
+        out: &mut W,
+        err: &mut ErrorOutput<E>,
+    ) -> Result<Ending, Failure<'a>> {
+        let perms = perms_field(matches)?;
+        let host = read_host(alloc, files, matches)?;
+        let person = read_user(alloc, &host, matches)?;
+        let question = Question {
+            host: &host,
+            requester: &person.requester,
+            perms,
+        };
+        let name = listing_field(matches);
+        tell_why(
+            alloc,
+            files,
+            name,
+            path_field(matches),
+            &question,
+            input,
+            out,
+            err,
+        )
+    }
+}

@@ -1,0 +1,13 @@
+//! What is asked about a file.
+
+use crate::host::Host;
+use acl_names::Requester;
+use acl_posix::Perms;
+
+/// By whose names blocks are read, who asks, and for which permissions.
+#[derive(Clone, Copy)]
+pub(super) struct Question<'t> {
+    pub host: &'t Host,
+    pub requester: &'t Requester,
+    pub perms: Perms,
+}

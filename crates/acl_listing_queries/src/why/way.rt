@@ -1,0 +1,78 @@
+//! The way to a path, as far as a listing was read.
+ghost use Rattle.std.specs.Prelude.{◌≡◌, ◌++◌, ◌∷◌, [], ℕ, IfErr, IfOk, List, OnOk, Some};
+ghost use Rattle.acl_names.specs.Names.{Names};
+ghost use Rattle.acl_listing_queries.specs.Readings.{Reading, reading_of};
+ghost use Rattle.acl_listing_queries.specs.Ways.{known_way, way_of};
+ghost use Rattle.acl_listing_queries.specs.WhySteps.{IsUnknown, IsWayTo, IsWayTold, asked_by};
+
+use super::folders::{Folders, tell_folders};
+use super::question::Question;
+use crate::above::{is_above, may_be_above};
+use acl_listings::{BlockFault, FileFault, path_of};
+use std::alloc::{AllocError, Global};
+
+/// The way to a path, behind blocks of a listing.
+#[derive(Drop)]
+pub(super) struct Way {
+    /// The blocks of the folders above it, the outermost first.
+    folders: Vec<Vec<u8>>,
+    /// Whether a block's path didn't read, which may be above all that comes after it.
+    lost: bool,
+}
+
+impl Way {
+    /// No block was met.
+    pub fn new(alloc: Global) -> Way
+        ensures { (names : Names) (path : List ℕ) → IsWayTo names path [] result }
+    {
+        Way {
+            folders: Vec::new(alloc),
+            lost: false,
+        }
+    }
+
+    /// Goes on to the block with this text, on the way to the path. It fails only if memory runs
+    /// out.
+    pub fn go_on(&mut self, alloc: Global, path: &[u8], text: &[u8]) -> Result<(), AllocError>
+        ensures { (names : Names) (earlier : List Reading) → IsWayTo names path.now earlier self.old
+            → OnOk result (IsWayTo names path.now (earlier ++ reading_of names text.now ∷ [])
+            self.new) }
+    {
+        if self.lost {
+            return Ok(());
+        }
+        let Some(here) = path_of(text) else {
+            self.lost = true;
+            return Ok(());
+        };
+        self.folders
+            .retain(|folder| may_be_above(folder.as_slice(), here));
+        if is_above(here, path) {
+            let folder = Vec::from_slice(alloc, text)?;
+            self.folders.push(folder)?;
+        }
+        Ok(())
+    }
+
+    /// What is told of the folders on the way to the path, if they are known.
+    pub fn tell(
+        &self,
+        alloc: Global,
+        question: &Question<'_>,
+        path: &[u8],
+    ) -> Result<Folders<'_>, FileFault>
+        ensures told { (earlier : List Reading) (here : Reading)
+            → IsWayTo (asked_by question.now).names path.now earlier self.now
+            → here.path ≡ Some path.now
+            → IfOk result (IsWayTold (asked_by question.now) (way_of earlier here) here) }
+        ensures refused { (earlier : List Reading) (here : Reading)
+            → IsWayTo (asked_by question.now).names path.now earlier self.now
+            → here.path ≡ Some path.now
+            → IfErr result (IsUnknown (known_way (way_of earlier here) here)) }
+    {
+        if self.lost {
+            return Err(FileFault::Block(BlockFault::UnknownWay));
+        }
+        tell_folders(alloc, question, self.folders.as_slice(), path)
+    }
+}

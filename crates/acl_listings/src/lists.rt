@@ -1,0 +1,54 @@
+//! The lists of a block, in the form of its first entry.
+
+ghost use Rattle.acl_names.specs.Pieces.{pieces};
+ghost use Rattle.acl_nfs4.specs.NamedAces.{ace_by};
+ghost use Rattle.acl_forms.specs.NamedEntries.{entry_by};
+ghost use Rattle.acl_listings.specs.BlockLists.{lists_by, nfs4_by};
+ghost use Rattle.acl_listings.specs.Faults.{ReadsAs};
+
+use crate::access::read_posix;
+use crate::fault::FileFault;
+use acl_forms::{Form, form_of, read_entries_by};
+use acl_names::ResolveNames;
+use acl_nfs4::{Acl4, read_aces_by};
+use acl_posix::Acl;
+use std::alloc::Global;
+
+/// The access control lists of a file.
+#[derive(Debug, Drop)]
+pub enum Lists {
+    /// The list that access is decided by, and the one that a folder hands on to what is made in
+    /// it.
+    Posix { access: Acl, default: Option<Acl> },
+    /// The list that access is decided by, of which a folder hands on some entries.
+    Nfs4 { acl: Acl4 },
+}
+
+/// The lists that the lines behind a block's header spell, all in the form of the first entry.
+pub(crate) fn read_lists<N: ResolveNames>(
+    alloc: Global,
+    list: &[u8],
+    names: &N,
+) -> Result<Lists, FileFault>
+    ensures { ReadsAs (lists_by (N.names names.now) list.now) result }
+{
+    match form_of(list) {
+        Form::Posix => read_posix(alloc, list, names),
+        Form::Nfs4 => read_nfs4(alloc, list, names),
+        Form::Freebsd => read_freebsd(alloc, list, names),
+    }
+}
+
+fn read_nfs4<N: ResolveNames>(alloc: Global, list: &[u8], names: &N) -> Result<Lists, FileFault>
+    ensures { ReadsAs (nfs4_by (ace_by (N.names names.now)) (pieces list.now)) result }
+{
+    let acl = read_aces_by(alloc, list, names)?;
+    Ok(Lists::Nfs4 { acl })
+}
+
+fn read_freebsd<N: ResolveNames>(alloc: Global, list: &[u8], names: &N) -> Result<Lists, FileFault>
+    ensures { ReadsAs (nfs4_by (entry_by (N.names names.now)) (pieces list.now)) result }
+{
+    let acl = read_entries_by(alloc, list, names)?;
+    Ok(Lists::Nfs4 { acl })
+}

@@ -1,0 +1,24 @@
+use Rattle.std.proofs.Common.{◌≡◌, ◌∙◌, ap, codes}
+use Rattle.std.proofs.lemmas.Result.{IfOk-weaker}
+use Rattle.clap.specs.Words.{app_of, new_app}
+use Rattle.clap.specs.Simple.{app_of_fields}
+use Rattle.acl_cli.proofs.CommandLemmas.{app_of-arg}
+use Rattle.acl_tree_queries.specs.ImpactLine.{impact_line}
+use Rattle.acl_tree_queries.proofs.impact_command.command_line.ImpactCommandLine.command.Goals as goal
+
+pub returns : goal.returns
+unfolding impact_line
+returns c =
+    let described : app_of c.after_help.result ≡ new_app
+    (codes "impact") = ap app_of_fields c.after_help.ensures ∙ ap app_of_fields c.about.ensures
+    ∙ ap app_of_fields c.in_ok-bin_name.ensures.0 ∙ c.new.ensures.app in
+    let accounts = app_of-arg _ c.in_ok-arg.field-0 _ c.in_ok-arg.ensures c.accounts_option.ensures.local described c.accounts_option.ensures.rule in
+    let setup = app_of-arg _ c.in_ok-arg-2.field-0 _ c.in_ok-arg-2.ensures c.setup_option.ensures.local accounts c.setup_option.ensures.rule in
+    let all = app_of-arg _ c.in_ok-arg-3.field-0 _ c.in_ok-arg-3.ensures c.all_option.ensures.local setup c.all_option.ensures.rule in
+    let user = app_of-arg _ c.in_ok-arg-4.field-0 _ c.in_ok-arg-4.ensures c.user_option.ensures.local all c.user_option.ensures.rule in
+    let written = app_of-arg _ c.in_ok-arg-5.field-0 _ c.in_ok-arg-5.ensures c.text_option.ensures.local user c.text_option.ensures.rule in
+    let code = app_of-arg _ c.in_ok-arg-6.field-0 _ c.in_ok-arg-6.ensures c.exit_code_option.ensures.local written c.exit_code_option.ensures.rule in
+    let before = app_of-arg _ c.in_ok-arg-7.field-0 _ c.in_ok-arg-7.ensures c.optional_option.ensures.local code c.optional_option.ensures.rule in
+    let session = app_of-arg _ c.in_ok-arg-8.field-0 _ c.in_ok-arg-8.ensures c.optional_option-2.ensures.local before c.optional_option-2.ensures.rule in
+    let listing = app_of-arg _ c.in_ok-arg-9.field-0 _ c.in_ok-arg-9.ensures c.optional_word.ensures.local session c.optional_word.ensures.rule in
+    IfOk-weaker c.arg-10.result _ _ (λ command added. app_of-arg _ command _ added c.optional_word-2.ensures.local listing c.optional_word-2.ensures.rule) c.arg-10.ensures

@@ -1,5 +1,0 @@
-use Rattle.acl_tree_queries.proofs.WayLawLemmas.{ways_are_all_above}
-use Rattle.acl_tree_queries.proofs.laws.way_laws.Goals as goal
-
-pub returns : goal.returns
-returns c = record { above = ways_are_all_above }

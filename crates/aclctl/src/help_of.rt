@@ -1,0 +1,51 @@
+//! The help of a command, where it alone is asked for.
+
+use acl_cli::{Command as CliCommand, CommandLine, Ending, ErrorOutput, Failure, OpenFiles};
+use clap::{ArgMatches, Command};
+use std::alloc::{AllocError, Global};
+use std::io::{Read, Write};
+
+/// A command of which help is asked for. Its line is the command's, and help is an answer, on
+/// standard output and with status 0, whatever it is to the command itself.
+#[derive(Clone, Copy)]
+pub struct HelpOf<'c, C: CommandLine> {
+    pub command: &'c C,
+}
+
+impl<'c, C: CommandLine> CommandLine for HelpOf<'c, C> {
+    ghost line = { C.line };
+
+    ghost line_simple = { C.line_simple };
+
+    ghost line_free = { C.line_free };
+
+    fn command<'a>(alloc: Global) -> Result<Command<'a>, AllocError> {
+        C::command(alloc)
+    }
+}
+
+impl<'c, C: CommandLine> CliCommand for HelpOf<'c, C> {
+    ghost use Rattle.std.specs.Prelude.{true};
+    ghost use Rattle.aclctl.specs.HelpOf.{no_fields};
+
+    ghost meaning = { λ _ _. no_fields };
+
+    ghost helps = { true };
+
+    fn answers_help() -> bool {
+        true
+    }
+
+    /// Words that ask for no help have no answer.
+    fn answer<'a, F: OpenFiles, I: Read, W: Write, E: Write + Drop>(
+        &self,
+        _alloc: Global,
+        _files: &F,
+        _matches: &ArgMatches<'a>,
+        _input: &mut I,
+        _out: &mut W,
+        _err: &mut ErrorOutput<E>,
+    ) -> Result<Ending, Failure<'a>> {
+        Err(Failure::NoCommand)
+    }
+}

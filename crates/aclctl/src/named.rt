@@ -1,0 +1,109 @@
+//! The commands, by their names.
+ghost use Rattle.std.specs.Prelude.{◌≡◌, map};
+ghost use Rattle.aclctl.specs.Names.{asked, help_about, name_of, named};
+
+use std::convert::AsStr;
+
+/// The commands, and what the program says of itself.
+#[derive(Clone, Copy, Debug, PartialEq, Eq)]
+pub enum Named {
+    Decide,
+    Explain,
+    Compare,
+    Run,
+    Who,
+    Why,
+    Impact,
+    Restore,
+    Translate,
+    Dump,
+    Lint,
+    Help,
+    Version,
+}
+
+impl Named {
+    /// The command of this name, if there is one.
+    pub fn of(word: &str) -> Option<Named>
+        ensures { result ≡ named word.now }
+    {
+        match word {
+            "decide" => Some(Named::Decide),
+            "explain" => Some(Named::Explain),
+            "compare" => Some(Named::Compare),
+            "run" => Some(Named::Run),
+            "who" => Some(Named::Who),
+            "why" => Some(Named::Why),
+            "impact" => Some(Named::Impact),
+            "restore" => Some(Named::Restore),
+            "translate" => Some(Named::Translate),
+            "dump" => Some(Named::Dump),
+            "lint" => Some(Named::Lint),
+            "help" | "--help" | "-h" => Some(Named::Help),
+            "--version" => Some(Named::Version),
+            _ => None,
+        }
+    }
+
+    /// Its name.
+    pub fn name(self) -> &'static str
+        ensures { result.now ≡ name_of self }
+    {
+        match self {
+            Named::Decide => "decide",
+            Named::Explain => "explain",
+            Named::Compare => "compare",
+            Named::Run => "run",
+            Named::Who => "who",
+            Named::Why => "why",
+            Named::Impact => "impact",
+            Named::Restore => "restore",
+            Named::Translate => "translate",
+            Named::Dump => "dump",
+            Named::Lint => "lint",
+            Named::Help => "--help",
+            Named::Version => "--version",
+        }
+    }
+}
+
+/// What words ask for.
+#[derive(Clone, Copy, Debug, PartialEq, Eq)]
+pub enum Asked {
+    Command(Named),
+    /// The help of a command.
+    HelpOf(Named),
+    /// No command has the name that they begin with, or there is no word.
+    Nothing,
+}
+
+impl Asked {
+    /// What `help` with these words behind it asks for.
+    fn help_about<S: AsStr>(words: &[S]) -> Asked
+        ensures { result ≡ help_about (map S.text words.now) }
+    {
+        let Some(word) = words.first() else {
+            return Asked::Command(Named::Help);
+        };
+        match Named::of(word.as_str()) {
+            Some(command) => Asked::HelpOf(command),
+            None => Asked::Nothing,
+        }
+    }
+
+    /// What the words ask for. The first is the name of a command, or `help` with a name behind it.
+    pub fn of<S: AsStr>(words: &[S]) -> Asked
+        ensures { result ≡ asked (map S.text words.now) }
+    {
+        let Some((first, more)) = words.split_first() else {
+            return Asked::Nothing;
+        };
+        if first.as_str() == "help" {
+            return Asked::help_about(more);
+        }
+        match Named::of(first.as_str()) {
+            Some(command) => Asked::Command(command),
+            None => Asked::Nothing,
+        }
+    }
+}

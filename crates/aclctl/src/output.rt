@@ -1,0 +1,50 @@
+//! Where answers and faults go, if the reader of an answer may leave.
+
+use std::cell::Cell;
+use std::io::{self, Write};
+
+/// Standard output. It notes whether its reader is gone, as `head` is once it has its lines.
+#[derive(Drop)]
+pub struct Output<'a, W: Write + Drop> {
+    pub is_left: &'a Cell<bool>,
+    pub out: W,
+}
+
+impl<'a, W: Write + Drop> Write for Output<'a, W> {
+    ghost contents = { λ output. W.contents output.out };
+
+    fn write(&mut self, buffer: &[u8]) -> io::Result<usize> {
+        let written = self.out.write(buffer);
+        if let Err(error) = &written {
+            if error.kind() == io::ErrorKind::BrokenPipe {
+                self.is_left.set(true);
+            }
+        }
+        written
+    }
+
+    fn flush(&mut self) -> io::Result<()> {
+        self.out.flush()
+    }
+}
+
+/// Standard error, which says nothing any more once the reader of the answer is gone: whoever reads
+/// a few lines has all that was wanted. No contract says what goes there.
+#[derive(Drop)]
+pub struct Faults<'a, W: Write + Drop> {
+    pub is_left: &'a Cell<bool>,
+    pub out: W,
+}
+
+impl<'a, W: Write + Drop> Write for Faults<'a, W> {
+    fn write(&mut self, buffer: &[u8]) -> io::Result<usize> {
+        if self.is_left.get() {
+            return Ok(buffer.len());
+        }
+        self.out.write(buffer)
+    }
+
+    fn flush(&mut self) -> io::Result<()> {
+        self.out.flush()
+    }
+}

@@ -1,0 +1,145 @@
+"""The command: its words, the questions to the program, and the page on standard output."""
+
+import argparse
+import os
+import shutil
+import subprocess
+import sys
+import tempfile
+import time
+from pathlib import Path
+
+from reporting.accounts import Accounts
+from reporting.answers import Unread
+from reporting.asking import NoPage, as_file, ask
+from reporting.changes import Changes
+from reporting.folders import Tree
+from reporting.html import moment, several, shown
+from reporting.listing import Survey
+from reporting.page import Found, page_of
+from reporting.sums import Sums
+
+# Whose accounts are taken without --accounts, as the program takes them.
+OWN_ACCOUNTS = ("/etc/passwd", "/etc/group")
+
+
+def words_given():
+    """The words that the script was given."""
+    about = "Writes a page of who reaches what of a listing, to hand on, to standard output."
+    parser = argparse.ArgumentParser(description=about)
+    accounts = "who there is, as `getent passwd; getent group` prints it; this host's without it"
+    parser.add_argument("--accounts", metavar="FILE", help=accounts)
+    parser.add_argument("--before", metavar="LISTING", help="an earlier listing: the page tells what changed since")
+    parser.add_argument("listing", metavar="LISTING", help="what getfacl -R printed; - is standard input")
+    given = parser.parse_args()
+    if [given.accounts, given.before, given.listing].count("-") > 1:
+        parser.error("- is given twice")
+    return given
+
+
+def program_of(here):
+    """The program: the one beside the script, or else the one on the path."""
+    beside = here / "aclctl"
+    found = str(beside) if beside.is_file() else shutil.which("aclctl")
+    if not found:
+        raise NoPage("cannot find aclctl")
+    return found
+
+
+def accounts_of(name):
+    """Who there is, by a file or by this host's own."""
+    accounts = Accounts()
+    for file in [name] if name else OWN_ACCOUNTS:
+        try:
+            with open(file, "rb") as lines:
+                accounts.read(lines)
+        except OSError as fault:
+            raise NoPage(f"cannot read {file}: {fault.strerror}") from None
+    return accounts
+
+
+def made(name):
+    """When a listing was made: the time of its file, or now if it came through a pipe."""
+    seconds = os.stat(name).st_mtime
+    return time.strftime("%Y-%m-%d %H:%M UTC", time.gmtime(seconds))
+
+
+def survey_of(listing, accounts):
+    """What the listing has."""
+    try:
+        with open(listing, "rb") as file:
+            return Survey(accounts).read(file)
+    except OSError as fault:
+        raise NoPage(f"cannot read {listing}: {fault.strerror}") from None
+
+
+class Asker:
+    """The program with the words that all questions share. The one of a checkout is built first, and says so."""
+
+    def __init__(self, here, accounts, names):
+        self.program, self.names = program_of(here), names
+        self.whom = ["--accounts", accounts] if accounts else []
+        if subprocess.run([self.program, "--version"], stdout=subprocess.DEVNULL).returncode:
+            raise NoPage(f"cannot run {self.program}")
+
+    def ask(self, listing, read, command, *words):
+        """Asks a question about a listing, and has the answer read."""
+        return ask(self.program, [command, *self.whom, *words, "-"], listing, self.names, read)
+
+
+def share_of(folder):
+    """The folder that all is in which a folder has: it, or the only one in it."""
+    while len(folder.inner) == 1 and folder.inner[0].files == folder.files:
+        folder = folder.inner[0]
+    return folder
+
+
+def name_of(tree):
+    """The name of what the listing is of: its roots, without what is only above the share."""
+    roots = [share_of(it) for it in tree.whole.inner]
+    if not roots:
+        return several(tree.whole.files, "file", "files")
+    more = f" and {len(roots) - 3} more" if len(roots) > 3 else ""
+    return ", ".join(shown(it.name) for it in roots[:3]) + more
+
+
+def found_by(given, here, room):
+    """What the page tells of."""
+    listing, accounts_file, before = (it and as_file(it, room) for it in (given.listing, given.accounts, given.before))
+    accounts = accounts_of(accounts_file)
+    survey = survey_of(listing, accounts)
+    sums, changes = Sums(Tree(survey)), None
+    names = {"-": given.listing, accounts_file: given.accounts, before: given.before}
+    asker = Asker(here, accounts_file, {word: name for word, name in names.items() if word})
+    said = asker.ask(listing, sums.read, "who", "--reach")
+    nobody, opened = str(survey.nobody()), []
+    asker.ask(listing, lambda answer: opened.extend(sums.read_anybody(answer)), "who", "--reach", "--user", nobody)
+    if before:
+        changes = Changes()
+        of_change = asker.ask(listing, changes.read, "impact", "--all", before)
+        said.add(of_change, given.listing)
+    sums.tree.add_up()
+    since = before and f"{shown(os.fsencode(given.before))} of {moment(made(before))}"
+    return Found(name_of(sums.tree), moment(made(listing)), accounts, survey, sums.tree, sums.users, *opened, changes, since, said)
+
+
+def tell(text):
+    """Writes a line to standard error, after this script's name, which it is installed by."""
+    print(f"{Path(sys.argv[0]).name}: {text}", file=sys.stderr)
+
+
+def main(here):
+    """Writes the page, and returns the exit status."""
+    given = words_given()
+    try:
+        with tempfile.TemporaryDirectory(prefix="aclctl-report-") as room:
+            page = page_of(found_by(given, here, room))
+        with open(1, "w", encoding="utf-8", errors="backslashreplace", closefd=False) as out:
+            out.write(page)
+    except (NoPage, Unread) as fault:
+        tell(fault)
+        return 1
+    except OSError as fault:
+        tell(f"cannot write the page: {fault.strerror}")
+        return 1
+    return 0

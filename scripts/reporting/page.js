@@ -1,0 +1,147 @@
+(function () {
+  "use strict";
+  var byId = function (id) { return document.getElementById(id); };
+  var all = function (query, from) { return Array.prototype.slice.call((from || document).querySelectorAll(query)); };
+  var table = byId("folders"), body = table.tBodies[0], section = byId("reach");
+  var heads = all("thead th", table).slice(1);
+  var users = heads.map(function (it) { return [it.title || it.textContent, it.dataset.also || ""].join(" ").toLowerCase(); });
+  // Folders are open down to this level at first.
+  var OPEN = 2;
+  // How many users stand beside each other on paper, at most.
+  var ON_PAPER = 12;
+
+  // Of each row: its level, the row above it, its path, whether it is open, and whether something is in it.
+  var rows = [], above = [];
+  all("tr", body).forEach(function (tr, at) {
+    var level = Number(tr.dataset.l), name = tr.querySelector("th span").textContent;
+    above.length = level;
+    var over = at ? above[level - 1] : null;
+    var path = level > 1 && at ? rows[over].path + "/" + name : level ? name : "";
+    if (over !== null) { rows[over].inner += 1; }
+    rows.push({ tr: tr, level: level, over: over, path: path, open: level < OPEN, inner: 0 });
+    above[level] = at;
+  });
+  rows.forEach(function (row) {
+    var th = row.tr.querySelector("th");
+    if (!row.inner) { th.classList.add("leaf"); return; }
+    row.button = document.createElement("button");
+    row.button.className = "turn";
+    row.button.type = "button";
+    row.button.addEventListener("click", function () { row.open = !row.open; draw(); });
+    th.insertBefore(row.button, th.firstChild);
+  });
+
+  var wanted = { user: "", path: "" };
+  var sheet = document.styleSheets[0], rule = -1;
+
+  // Shows the rows whose path is wanted and those above them; without a wanted path those in open folders.
+  function drawRows() {
+    var path = wanted.path.toLowerCase(), count = 0;
+    rows.forEach(function (row) {
+      var over = row.over === null ? null : rows[row.over];
+      row.shown = path ? row.path.toLowerCase().indexOf(path) >= 0 : !over || over.shown && over.open;
+      count += row.shown;
+    });
+    for (var at = path ? rows.length - 1 : 0; at > 0; at -= 1) {
+      if (rows[at].shown) { rows[rows[at].over].shown = true; }
+    }
+    rows.forEach(function (row) {
+      row.tr.hidden = !row.shown;
+      if (row.button) {
+        row.button.textContent = row.open || path ? "\u25be" : "\u25b8";
+        row.button.setAttribute("aria-expanded", String(Boolean(row.open || path)));
+        row.button.setAttribute("aria-label", "Unfold " + row.path);
+      }
+    });
+    return count;
+  }
+
+  // Shows the columns of the users that are wanted.
+  function drawColumns() {
+    var user = wanted.user.toLowerCase(), hidden = [];
+    users.forEach(function (name, at) {
+      heads[at].dataset.gone = user && name.indexOf(user) < 0 ? "1" : "";
+      if (heads[at].dataset.gone) { hidden.push("#folders tr>:nth-child(" + (at + 2) + ")"); }
+    });
+    if (rule >= 0) { sheet.deleteRule(rule); rule = -1; }
+    if (hidden.length) { rule = sheet.insertRule(hidden.join() + "{display:none}", sheet.cssRules.length); }
+    table.style.setProperty("--n", String(users.length - hidden.length));
+    return users.length - hidden.length;
+  }
+
+  // Shows the rows of the other tables that have what is wanted.
+  function drawLists() {
+    all(".list tbody tr, .paths li").forEach(function (it) {
+      it.hidden = ["user", "path"].some(function (kind) {
+        var cells = all("." + kind.charAt(0), it).concat(it.classList.contains(kind.charAt(0)) ? [it] : []);
+        var text = wanted[kind].toLowerCase();
+        return text && cells.length && cells.every(function (cell) { return cell.textContent.toLowerCase().indexOf(text) < 0; });
+      });
+    });
+  }
+
+  function draw() {
+    var shown = drawRows(), columns = drawColumns();
+    drawLists();
+    byId("count").textContent = wanted.user || wanted.path ? columns + " of " + users.length + " columns, " + shown + " of " + rows.length + " rows" : "";
+  }
+
+  // What is wanted stands in the address too, so that it can be handed on.
+  function read() {
+    var words = new URLSearchParams(location.hash.slice(1));
+    ["user", "path"].forEach(function (kind) { wanted[kind] = byId(kind).value = words.get(kind) || ""; });
+    draw();
+  }
+  function keep() {
+    var words = new URLSearchParams();
+    ["user", "path"].forEach(function (kind) {
+      wanted[kind] = byId(kind).value;
+      if (wanted[kind]) { words.set(kind, wanted[kind]); }
+    });
+    try { history.replaceState(null, "", "#" + words); } catch (fault) { /* The address stays as it is. */ }
+    draw();
+  }
+  function turnAll(open) {
+    rows.forEach(function (row) { row.open = open || row.level < OPEN; });
+    draw();
+  }
+
+  // On paper the columns stand below each other, some at once.
+  function part(from, columns) {
+    var made = document.createElement("table"), take = function (tr, to) {
+      var line = to.appendChild(document.createElement("tr"));
+      [0].concat(columns).forEach(function (at) { line.appendChild(tr.cells[at].cloneNode(true)); });
+    };
+    made.className = "part";
+    made.style.setProperty("--n", String(columns.length));
+    take(table.tHead.rows[0], made.createTHead());
+    var into = made.createTBody();
+    rows.forEach(function (row) { if (row.shown) { take(row.tr, into); } });
+    from.appendChild(made);
+  }
+  function beforePrint() {
+    afterPrint();
+    var printed = document.createElement("div"), columns = [];
+    printed.id = "printed";
+    heads.forEach(function (it, at) { if (!it.dataset.gone) { columns.push(at + 1); } });
+    var most = Math.ceil(columns.length / Math.ceil(columns.length / ON_PAPER));
+    for (var at = 0; at < columns.length; at += most) { part(printed, columns.slice(at, at + most)); }
+    section.appendChild(printed);
+    section.classList.add("has-parts");
+  }
+  function afterPrint() {
+    var printed = byId("printed");
+    if (printed) { printed.remove(); }
+    section.classList.remove("has-parts");
+  }
+
+  byId("bar").hidden = false;
+  byId("user").addEventListener("input", keep);
+  byId("path").addEventListener("input", keep);
+  byId("unfold").addEventListener("click", function () { turnAll(true); });
+  byId("fold").addEventListener("click", function () { turnAll(false); });
+  window.addEventListener("hashchange", read);
+  window.addEventListener("beforeprint", beforePrint);
+  window.addEventListener("afterprint", afterPrint);
+  read();
+})();

@@ -1,0 +1,164 @@
+"""The parts of scripts/report: how lines are cut, which folders there are, and how much a page has at most."""
+
+import io
+import random
+import sys
+import unittest
+from pathlib import Path
+from unittest.mock import patch
+
+SCRIPTS = Path(__file__).resolve().parent.parent
+sys.path.insert(0, str(SCRIPTS))
+
+from report_page import Page  # noqa: E402
+from reporting import answers, listing, matrix  # noqa: E402
+from reporting.accounts import Accounts  # noqa: E402
+from reporting.answers import IMPACT, WHO, Runs, Unread  # noqa: E402
+from reporting.folders import Tree  # noqa: E402
+from reporting.html import text_of  # noqa: E402
+from reporting.listing import Survey, blocks_of, place_of  # noqa: E402
+from reporting.sums import Sums  # noqa: E402
+
+# Paths of which some end as others do, or as a line of an answer does.
+PATHS = [b"x", b"a x", b"rwx al x", b"new x", b"differ al 7 5,6 - r x", b"al x", b" x", b"x ", b"d/" * 900, b"gone x", b"y"]
+HEADS = {
+    WHO: [b"rwx al", b"r-- al", b"--x bo", b"rw- a\\040b", b"r-- " + b"n" * 255],
+    IMPACT: [b"new", b"gone", b"differ al 7 5,6 - r", b"differ - 65534 - rw -", b"differ bo 8 - w x"],
+}
+ACCOUNTS = Accounts().read([b"root:x:0:0::/:\n", b"alice:x:1000:100::/:\n", b"users:x:100:\n"])
+
+
+class Slow(io.RawIOBase):
+    """A stream that gives some bytes at a time."""
+
+    def __init__(self, data, rng):
+        super().__init__()
+        self.data, self.rng = data, rng
+
+    def read(self, size):
+        size = min(size, self.rng.choice((1, 7, 100, 5000)))
+        piece, self.data = self.data[:size], self.data[size:]
+        return piece
+
+    read1 = read
+
+
+def block(path, *more):
+    """A block of a listing, as bytes."""
+    return b"# file: " + path + b"\n# owner: root\n# group: root\n" + b"".join(it + b"\n" for it in more) + b"other::r-x\n\n"
+
+
+def tree_of(*blocks):
+    """The tree of a listing."""
+    return Tree(Survey(ACCOUNTS).read(io.BytesIO(b"".join(blocks))))
+
+
+class Lines(unittest.TestCase):
+    def test_runs_are_those_that_were_written(self):
+        for form, heads in HEADS.items():
+            for seed in range(150):
+                rng = random.Random(seed)
+                kinds = [[rng.choice(heads) for _ in range(rng.choice((1, 1, 2, 5, 40)))] for _ in range(4)]
+                wanted = []
+                for _ in range(60):
+                    path = rng.choice(PATHS)
+                    if not wanted or wanted[-1][0] != path:
+                        wanted.append((path, b"\n".join(rng.choice(kinds))))
+                data = b"".join(head + b" " + path + b"\n" for path, text in wanted for head in text.split(b"\n"))
+                self.assertEqual([*Runs(Slow(data, rng), form)], wanted, seed)
+
+    def test_texts_are_forgotten_where_there_are_many(self):
+        wanted = [(b"%d" % it, b"r-- u%d" % it) for it in range(3000)]
+        data = b"".join(text + b" " + path + b"\n" for path, text in wanted)
+        with patch.object(answers, "MOST_KEPT", 100):
+            runs = Runs(io.BytesIO(data), WHO)
+            self.assertEqual([*runs], wanted)
+            self.assertLessEqual(len(runs.texts), 100)
+
+    def test_paths_that_end_as_another_does_are_let_go(self):
+        wanted = [(b"x", b"r-- al\nrw- bo"), *((b"%d x" % it, b"r-- al") for it in range(3000))]
+        data = b"".join(head + b" " + path + b"\n" for path, text in wanted for head in text.split(b"\n"))
+        with patch.object(answers, "CHUNK", 100):
+            runs, most = Runs(io.BytesIO(data), WHO), 0
+            for it in wanted:
+                self.assertEqual(next(iter(runs)), it)
+                most = max(most, len(runs.buffer))
+        self.assertLess(most, 1000)
+
+    def test_lines_of_another_form_are_refused(self):
+        for form, text in ((WHO, b"rwx al"), (WHO, b"rwx al a"), (WHO, b"rwx al a\nfault x 1 a\n"), (WHO, b"al a b\n"), (IMPACT, b"differ a b\n"), (IMPACT, b"old a\n")):
+            with self.assertRaises(Unread, msg=text):
+                [*Runs(io.BytesIO(text), form)]
+
+
+class Listings(unittest.TestCase):
+    def test_blocks_are_cut_at_empty_lines(self):
+        text = b"\n\na\nb\n\n\n\nc\n\n \nd"
+        for seed in range(20):
+            self.assertEqual([*blocks_of(Slow(text, random.Random(seed)))], [b"a\nb", b"c", b" \nd"])
+
+    def test_a_block_without_end_takes_no_memory(self):
+        text = (b"x" * 999 + b"\n") * 5000 + b"\n# file: a\n"
+        got = [*blocks_of(io.BytesIO(text))]
+        self.assertEqual((len(got), got[1]), (2, b"# file: a"))
+        self.assertLessEqual(len(got[0]), 2 * listing.CHUNK + 2)
+
+    def test_places_are_paths_without_idle_steps(self):
+        for path, place in ((b".", b""), (b"./a", b"a"), (b"a//b/./c/", b"a/b/c"), (b"/", b"/"), (b"//a", b"/a"), (b"a/.", b"a"), (b"a/.b", b"a/.b"), (b"..", b".."), (b".a", b".a")):
+            self.assertEqual(place_of(path), place)
+
+    def test_folders_are_in_one_another_by_steps(self):
+        tree = tree_of(block(b"."), block(b"a"), block(b"./a//b"), block(b"a/b/c"), block(b"ab"), block(b"/x"), block(b"/x/y"))
+        levels = [(it.name, it.level, it.files) for it in tree.in_order()]
+        self.assertEqual(levels, [(b"", 0, 0), (b".", 1, 1), (b"a", 2, 0), (b"./a//b", 3, 1), (b"/x", 1, 1)])
+        tree.add_up()
+        self.assertEqual([it.files for it in tree.in_order()], [3, 2, 1, 1, 1])
+
+    def test_a_folder_behind_what_is_in_it_and_one_that_comes_twice(self):
+        tree = tree_of(block(b"a/b/c"), block(b"a/b"), block(b"a"), block(b"a"), block(b"a/d"), block(b"alone"))
+        tree.add_up()
+        self.assertEqual([(it.name, it.files) for it in tree.in_order()], [(b"", 3), (b"a", 2), (b"a/b", 1)])
+
+    def test_files_of_a_folder_that_the_listing_lacks(self):
+        tree = tree_of(block(b"a"), block(b"a/b/c"), block(b"a/b/d"), block(b"e/f"))
+        tree.add_up()
+        self.assertEqual([(it.name, it.files) for it in tree.in_order()], [(b"", 4)])
+        tree = tree_of(block(b"a"), block(b"a/x"), block(b"a/b/c"), block(b"a/b/d"))
+        tree.add_up()
+        self.assertEqual([(it.name, it.files) for it in tree.in_order()], [(b"", 3), (b"a", 3)])
+
+
+class Names(unittest.TestCase):
+    def test_what_cannot_be_seen_is_in_octal_digits(self):
+        for raw, text in ((b"a b", "a b"), (b" a", "\\040a"), (b"a ", "a\\040"), (b"", ""), (b"\t", "\\011"), ("\u00e9".encode(), "\u00e9"), (b"\xe9", "\\351"), ("\u200b\u2028".encode(), "\\342\\200\\213\\342\\200\\250"), (b"\\012", "\\012"), ("a\u00a0b".encode(), "a\\302\\240b")):
+            self.assertEqual(text_of(raw), text)
+
+
+class Room(unittest.TestCase):
+    def matrix_of(self, most):
+        """The table of a tree of four levels and two users, where a page has so many cells."""
+        paths = [b"s", *(b"s/%d" % it for it in range(3)), *(b"s/%d/%d" % (it, other) for it in range(3) for other in range(4))]
+        blocks = [block(it, b"default:other::r-x") for it in sorted(paths)]
+        sums = Sums(tree_of(*blocks, *(block(b"s/%d/%d/file" % (it, other)) for it in range(3) for other in range(4))))
+        answer = b"".join(b"r-x al %s\nrwx bo %s\n" % (it, it) for it in paths)
+        sums.read(io.BytesIO(answer + b"".join(b"r-- al s/%d/%d/file\n" % (it, other) for it in range(3) for other in range(4))))
+        sums.tree.add_up()
+        with patch.object(matrix, "MOST_CELLS", most):
+            text, columns = matrix.matrix(sums.tree, sums.users)
+        return text, columns, Page(f"<section id=reach>{text}</section>").folders()
+
+    def test_folders_are_summed_up_where_there_is_no_room(self):
+        for most, rows, level in ((200, 16, None), (95, 4, 2), (23, 1, 1), (1, 1, 0)):
+            text, columns, folders = self.matrix_of(most)
+            self.assertEqual((columns, len(folders)), (3, rows), most)
+            self.assertEqual(f"So folders below level {level} have no rows of their own" in text, level is not None)
+            self.assertEqual(folders["s"], ("12 files", {"anyone": "", "al": "r-x r all", "bo": "rwx"}))
+
+    def test_the_cells_of_a_page_take_five_megabytes(self):
+        text, columns, folders = self.matrix_of(1000)
+        cells = (text.count("<td") + 3 * len(folders))
+        self.assertLess(len(text[text.index("<tbody>") :]) / cells * matrix.MOST_CELLS, 5_000_000)
+
+
+if __name__ == "__main__":
+    unittest.main()
