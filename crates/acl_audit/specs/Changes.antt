@@ -82,6 +82,18 @@ pub record IsAlikeTo (before after : File) (requester : Identity) : Type 0 where
 abbrev pub IsAlikeToAll : File → File → Type 0
 IsAlikeToAll before after = (requester : Identity) → IsAlikeTo before after requester
 
+-- the lists that decide access are the same
+abbrev pub HasSameAccess : NodeAcl → NodeAcl → Type 0
+HasSameAccess (Posix access default) (Posix other inherited) = access ≡ other
+HasSameAccess (Nfs4 acl) (Nfs4 other) = acl ≡ other
+HasSameAccess _ _ = ⊥
+
+-- and so are owner and group
+pub record IsSameFile (before after : File) : Type 0 where
+  pub owner : before.owner ≡ after.owner
+  pub group : before.group ≡ after.group
+  pub access : HasSameAccess before.acl after.acl
+
 -- of these bits, the requester loses what is granted only before and gains what is granted only
 -- after, and there is one
 pub record ChangesBits (before after : Decider) (bits : ℕ) (requester : Identity) (change : Change)

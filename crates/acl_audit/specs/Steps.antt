@@ -29,12 +29,6 @@ abbrev pub IsComparedIn : NodeAcl → ℕ → Type 0
 IsComparedIn (Posix access default) bits = (bits ≡ mode_bits) ⊎ (bits ≡ permission_bits)
 IsComparedIn (Nfs4 acl) bits = ⊤
 
--- the lists that decide access are the same
-abbrev pub HasSameAccess : NodeAcl → NodeAcl → Type 0
-HasSameAccess (Posix access default) (Posix other inherited) = access ≡ other
-HasSameAccess (Nfs4 acl) (Nfs4 other) = acl ≡ other
-HasSameAccess _ _ = ⊥
-
 -- what is told of a difference, of whom none is a user
 abbrev pub impact_of_somebody : Option Difference → Option Impact
 impact_of_somebody None = None

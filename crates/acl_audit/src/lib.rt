@@ -22,6 +22,7 @@ pub use reach::{
     both, is_set, letters_at, letters_of_each, places_of_those_who_may, push_letters_of_each,
     push_those_at, reaches, way_in, which_may,
 };
+pub use same::is_same_file;
 pub use saved::push_saved;
 pub use who::{
     push_letters, push_letters_line, push_letters_on, push_may_line, push_those_on,

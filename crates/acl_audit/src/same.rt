@@ -1,13 +1,12 @@
 //! Files whose lists are the same, which need no comparison.
-ghost use Rattle.std.specs.Prelude.{IsTrue};
-ghost use Rattle.acl_audit.specs.Changes.{IsAlikeToAll, file_of};
-ghost use Rattle.acl_audit.specs.Steps.{HasSameAccess};
+ghost use Rattle.std.specs.Prelude.{◌↔◌, IsTrue};
+ghost use Rattle.acl_audit.specs.Changes.{HasSameAccess, IsAlikeToAll, IsSameFile, file_of};
 
 use acl_tree::{Node, NodeAcl};
 
 /// Whether the lists that decide access have the same entries.
 fn has_same_access(before: &NodeAcl, after: &NodeAcl) -> bool
-    ensures { IsTrue result → HasSameAccess before.now after.now }
+    ensures { IsTrue result ↔ HasSameAccess before.now after.now }
 {
     match (before, after) {
         (NodeAcl::Posix { access: first, .. }, NodeAcl::Posix { access: second, .. }) => {
@@ -20,10 +19,11 @@ fn has_same_access(before: &NodeAcl, after: &NodeAcl) -> bool
     }
 }
 
-/// Whether owner, group and lists are the same, so that everyone is decided about alike. It takes
-/// no memory.
-pub(crate) fn is_same_file(before: &Node, after: &Node) -> bool
-    ensures { IsTrue result → IsAlikeToAll (file_of before.now) (file_of after.now) }
+/// Whether two files have the same owner, group, and entries in the list that decides access, in one
+/// order. Then everyone is decided about alike. It takes no memory.
+pub fn is_same_file(before: &Node, after: &Node) -> bool
+    ensures same { IsTrue result ↔ IsSameFile (file_of before.now) (file_of after.now) }
+    ensures alike { IsTrue result → IsAlikeToAll (file_of before.now) (file_of after.now) }
 {
     before.owner == after.owner
         && before.group == after.group

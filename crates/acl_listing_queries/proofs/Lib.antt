@@ -22,6 +22,7 @@ pub mod ResultLemmas
 pub mod TellerLemmas
 pub mod ComesLemmas
 pub mod FirstPathLemmas
+pub mod AlikeLemmas
 pub mod ImpactLemmas
 pub mod WhyWayLemmas
 pub mod WhySeekLemmas

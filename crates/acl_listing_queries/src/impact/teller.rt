@@ -13,6 +13,7 @@ use crate::between::ChangeTeller;
 use crate::files::node_of;
 use crate::host::Host;
 use crate::people::People;
+use acl_audit::is_same_file;
 use acl_listings::{BlockFault, File, FileFault, faulty_line, read_file};
 use acl_tree::Node;
 use std::alloc::{AllocError, Global};
@@ -53,6 +54,10 @@ impl<'t> ImpactTeller<'t> {
         ensures { OnOk result (Tells (TellsImpact (asking_by self.now) before.now after.now
             path.now) out.old.items out.new.items) }
     {
+        // Nobody is asked about where owner, group and list are the same, however many there are.
+        if is_same_file(before, after) {
+            return Ok(());
+        }
         let kept = out.len();
         push_those(self.each, before, after, self.people, path, out)?;
         let now = out.len();
@@ -182,6 +187,10 @@ impl<'t> ChangeTeller for ImpactTeller<'t> {
     ) -> Result<Option<BlockFault>, AllocError> {
         match read_file(alloc, text, self.host) {
             Ok(after) => {
+                // The one before isn't read where the block stays as it is.
+                if old == text {
+                    return Ok(None);
+                }
                 self.push_old(alloc, old, after, out)?;
                 Ok(None)
             }

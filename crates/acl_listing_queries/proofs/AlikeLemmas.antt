@@ -1,0 +1,91 @@
+-- Of files that are decided about alike nothing is told, nor of one that stays as it is.
+use Rattle.std.proofs.Common.{◌≡◌, ◌∙◌, ◌&&◌, ℕ, Bool, true, false, List, [], ◌∷◌, None, Ok, Result, ap, append-nil, inl, refl, subst, sym}
+use Rattle.std.specs.List.{AllByRecursion}
+use Rattle.acl_names.specs.Requester.{Identity}
+use Rattle.acl_bridge.specs.Comparison.{Granter}
+use Rattle.acl_audit.specs.Changes.{File, IsAlikeToAll, file_of, granter_of, requests_between}
+use Rattle.acl_tree.specs.declared.node.Node.{Node}
+use Rattle.acl_listings.specs.Block.{FileValue, file_by}
+use Rattle.acl_listings.specs.declared.fault.BlockFault.{BlockFault}
+use Rattle.acl_listing_queries.specs.Files.{node_of}
+use Rattle.acl_listing_queries.specs.ImpactSteps.{Tells, TellsRead}
+use Rattle.acl_listing_queries.specs.Impacting.{ImpactAsking, TellsAnybody, TellsChange, TellsFirst, TellsImpact, TellsPersons, TellsThose}
+use Rattle.acl_listing_queries.specs.Person.{Person}
+use Rattle.acl_listing_queries.specs.WrittenChanges.{IsChanged, changed_text}
+use Rattle.acl_listing_queries.specs.declared.impact.changed.Changed.{Changed}
+
+-- ---- files that are decided about alike
+
+module _ (before after : Node) (path : List ℕ) (alike : IsAlikeToAll (file_of before) (file_of after)) where
+  none_of_all : (persons : List Person) → TellsPersons before after path persons []
+  none_of_all [] = refl
+  none_of_all (person ∷ persons) = ([], [], inl (alike person.who, refl), none_of_all persons, refl)
+
+  none_first : (persons : List Person) → TellsFirst before after path persons []
+  none_first [] = refl
+  none_first (person ∷ persons) = inl (alike person.who, none_first persons)
+
+  none_of_those : (each : Bool) (persons : List Person) → TellsThose each before after path persons []
+  none_of_those true persons = none_of_all persons
+  none_of_those false persons = none_first persons
+
+  nobody_else : (asked : Bool) → TellsAnybody asked before after path []
+  nobody_else true = (None, alike, refl)
+  nobody_else false = refl
+
+  nobody : (asking : ImpactAsking) → TellsImpact asking before after path []
+  nobody asking = record {
+    lines = [];
+    lines_are = none_of_those asking.each asking.persons;
+    other = [];
+    other_is = nobody_else (asking.somebody && true);
+    text_is = refl;
+  }
+
+  pub nobody_told : (asking : ImpactAsking) (out : List ℕ) → Tells (TellsImpact asking before after path) out out
+  nobody_told asking out = record { text = []; is = nobody asking; out_is = sym (append-nil out) }
+
+-- ---- a file that stays as it is
+
+granted_alike : (granter : Granter) (requester : Identity) (requests : List ℕ)
+    → AllByRecursion (λ request. granter requester request ≡ granter requester request) requests
+granted_alike granter requester [] = tt
+granted_alike granter requester (request ∷ requests) = (refl, granted_alike granter requester requests)
+
+alike_itself : (file : File) → IsAlikeToAll file file
+alike_itself file requester = record {
+  bits = λ bit is. refl;
+  requests = granted_alike (granter_of file) requester (requests_between file.acl file.acl);
+}
+
+unchanged : Changed
+unchanged = record { owner = false; group = false; flags = false; access = false; default = false }
+
+is_unchanged : (file : FileValue) → IsChanged file file unchanged
+is_unchanged file = record {
+  owner = (λ is. absurd is, λ differs. differs refl);
+  group = (λ is. absurd is, λ differs. differs refl);
+  flags = (λ is. absurd is, λ differs. differs refl);
+  access = (λ is. absurd is, λ differs. differs refl);
+  default = (λ is. absurd is, λ differs. differs refl);
+}
+
+nothing_written : (asked : Bool) (path : List ℕ) → [] ≡ changed_text asked unchanged path
+nothing_written true path = refl
+nothing_written false path = refl
+
+stays : (asking : ImpactAsking) (file : FileValue) → TellsChange asking file file []
+stays asking file = record {
+  impact = [];
+  impact_is = nobody (node_of file) (node_of file) file.path (alike_itself (file_of (node_of file))) asking;
+  written = [];
+  written_is = (unchanged, is_unchanged file, nothing_written asking.written file.path);
+  text_is = refl;
+}
+
+-- of a block that has the text of the one before
+pub nothing_changed : (asking : ImpactAsking) (old text : List ℕ) (file : FileValue) → old ≡ text → file_by asking.names text ≡ Ok file
+    → (out : List ℕ) → Tells (TellsRead asking (file_by asking.names old) file) out out
+nothing_changed asking old text file same reads out =
+    subst (λ (reading : Result FileValue BlockFault). Tells (TellsRead asking reading file) out out) (sym (ap (file_by asking.names) same ∙ reads))
+    (record { text = []; is = stays asking file; out_is = sym (append-nil out) })
