@@ -19,8 +19,8 @@ fn has_same_access(before: &NodeAcl, after: &NodeAcl) -> bool
     }
 }
 
-/// Whether two files have the same owner, group, and entries in the list that decides access, in one
-/// order. Then everyone is decided about alike. It takes no memory.
+/// Whether two files have one owner, one group, and the same entries in the lists that decide
+/// access, in one order. Then everyone is decided about alike. It takes no memory.
 pub fn is_same_file(before: &Node, after: &Node) -> bool
     ensures same { IsTrue result ↔ IsSameFile (file_of before.now) (file_of after.now) }
     ensures alike { IsTrue result → IsAlikeToAll (file_of before.now) (file_of after.now) }

@@ -1,6 +1,6 @@
 -- All faults that the program tells: the exit status and the line of each.
-use Rattle.std.specs.Prelude.{◌≡◌, ◌≢◌, ⊤, ℕ, Bool, false, true, ◌&&◌, List, [], Option, Some, None}
-use Rattle.std.specs.Prelude.{Result, Err, ◌++◌, codes, option_map}
+use Rattle.std.specs.Prelude.{◌≡◌, ◌≢◌, ◌⊎◌, ⊤, ℕ, Bool, false, true, ◌&&◌, List, [], Option, Some}
+use Rattle.std.specs.Prelude.{None, Result, Err, ◌++◌, codes, option_map}
 use Rattle.clap.specs.Words.{IsAmong, Kinds, kind_of}
 use Rattle.clap.specs.declared.error.Error.{Error}
 use Rattle.clap.specs.declared.error.kind.ErrorKind.{ErrorKind}
@@ -84,6 +84,10 @@ out_of_memory = Lacks Memory
 
 abbrev pub failed_write : Failure
 failed_write = Lacks Output
+
+-- an answer lacks memory, or can't be written
+abbrev pub IsAnswerLack : Failure → Type 0
+IsAnswerLack failure = (failure ≡ out_of_memory) ⊎ (failure ≡ failed_write)
 
 -- a setup is refused, unless memory ran out
 abbrev pub failure_of_setup : SetupError → Failure

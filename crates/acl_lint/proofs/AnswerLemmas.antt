@@ -5,14 +5,14 @@ use Rattle.std.specs.Io.KnownBytes.{Appends, Keeps}
 use Rattle.clap.specs.Words.{Row, Text}
 use Rattle.acl_cli.specs.Commands.{Answer, Comes}
 use Rattle.acl_cli.specs.ErrorOutput.{ErrorText}
-use Rattle.acl_cli.specs.Failures.{status_of}
+use Rattle.acl_cli.specs.Failures.{IsAnswerLack, status_of}
 use Rattle.acl_cli.specs.Output.{AppendsFront}
 use Rattle.acl_cli.specs.SessionFiles.{HasBytes, HaveBytes, input_count, setup_in}
 use Rattle.acl_cli.specs.declared.command.Ending.TheVariants.{Answered}
 use Rattle.acl_cli.specs.declared.failure.Failure.{Failure}
 use Rattle.acl_cli.proofs.TellingLemmas.{Tells-nothing}
 use Rattle.acl_service.specs.RunWords.{CanRun, sessions_in}
-use Rattle.acl_lint.specs.LintAnswer.{AnswersRows, IsAnswerLack, IsLint, lint_meaning}
+use Rattle.acl_lint.specs.LintAnswer.{AnswersRows, IsLint, lint_meaning}
 
 -- what an answer lacks has the status 3
 late : (failure : Failure) → IsAnswerLack failure → status_of failure ≡ 3

@@ -7,7 +7,7 @@ use Rattle.acl_names.specs.Bytes.{hyphen, newline, space}
 use Rattle.acl_names.specs.Directory.{Known}
 use Rattle.acl_tree.specs.Tree.{NodesUnderUmask}
 use Rattle.acl_cli.specs.Commands.{Answer, Meaning}
-use Rattle.acl_cli.specs.Failures.{failed_write, out_of_memory}
+use Rattle.acl_cli.specs.Failures.{IsAnswerLack}
 use Rattle.acl_setup.specs.Opened.{Opens}
 use Rattle.acl_service.specs.Files.{IsFilesFailure}
 use Rattle.acl_service.specs.RunWords.{CanRun, sessions_in}
@@ -59,10 +59,6 @@ pub record AnswersRows (bytes_of : Text → Option (List ℕ)) (input : Option (
   pub answers : IsLint (setup_in rows) setup (sessions_in rows) texts answer.text
   pub quiet : answer.beside ≡ []
   pub whole : answer.ending ≡ Answered
-
--- an answer lacks memory, or can't be written
-abbrev pub IsAnswerLack : Failure → Type 0
-IsAnswerLack failure = (failure ≡ out_of_memory) ⊎ (failure ≡ failed_write)
 
 -- what the fields of `lint` mean
 abbrev pub lint_meaning : (Text → Option (List ℕ)) → Option (List ℕ) → List Row → Meaning

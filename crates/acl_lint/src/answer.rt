@@ -3,7 +3,8 @@ ghost use Rattle.std.specs.Prelude.{◌≡◌, ◌≤◌, ◌⊎◌, ℕ, All, I
 ghost use Rattle.std.specs.Io.KnownBytes.{Appends, Keeps};
 ghost use Rattle.acl_lang.specs.declared.limits.TheConstants.{MAX_TEXT_LEN};
 ghost use Rattle.acl_cli.specs.Output.{AppendsFront};
-ghost use Rattle.acl_lint.specs.LintAnswer.{IsAnswerLack, IsLint};
+ghost use Rattle.acl_cli.specs.Failures.{IsAnswerLack};
+ghost use Rattle.acl_lint.specs.LintAnswer.{IsLint};
 
 use crate::sessions::write_sessions;
 use crate::setup::write_setup;

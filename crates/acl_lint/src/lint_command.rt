@@ -33,6 +33,7 @@ use std::io::{Read, Write};
 /// than 64 sessions or two of them `-`, before any file is opened; and 3 if memory runs out or
 /// `out` can't be written. At 1 and 2 nothing was written, and at 3 nothing or a front of the
 /// answer.
+#[derive(Clone, Copy)]
 pub struct Lint;
 
 impl Command for Lint {

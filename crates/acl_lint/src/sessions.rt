@@ -3,7 +3,7 @@ ghost use Rattle.std.specs.Prelude.{◌≡◌, ◌≤◌, All, IfErr, OnErr, OnO
 ghost use Rattle.std.specs.Io.KnownBytes.{Appends};
 ghost use Rattle.acl_lang.specs.declared.limits.TheConstants.{MAX_TEXT_LEN};
 ghost use Rattle.acl_cli.specs.Output.{AppendsFront};
-ghost use Rattle.acl_lint.specs.LintAnswer.{IsAnswerLack};
+ghost use Rattle.acl_cli.specs.Failures.{IsAnswerLack};
 ghost use Rattle.acl_lint.specs.LintText.{session_text, sessions_text};
 
 use crate::line::push_line;

@@ -2,7 +2,8 @@
 ghost use Rattle.std.specs.Prelude.{◌≡◌, ◌++◌, ◌⊎◌, IfErr, IfOk, OnErr, OnOk};
 ghost use Rattle.std.specs.Io.KnownBytes.{Appends, Keeps};
 ghost use Rattle.acl_cli.specs.Output.{AppendsFront};
-ghost use Rattle.acl_lint.specs.LintAnswer.{IsAnswerLack, setup_text, with_hyphens};
+ghost use Rattle.acl_cli.specs.Failures.{IsAnswerLack};
+ghost use Rattle.acl_lint.specs.LintAnswer.{setup_text, with_hyphens};
 
 use crate::place::push_place;
 use acl_cli::{Failure, write_text};

@@ -28,6 +28,7 @@ use std::io::{Read, Write};
 /// The exit status is 0 with the answer, and with help, which goes to `out` too; 1 if a field
 /// doesn't read, 2 if the parser of command lines refuses the words, and 3 if memory runs out or
 /// the answer can't be written.
+#[derive(Clone, Copy)]
 pub struct Compare;
 
 impl Command for Compare {

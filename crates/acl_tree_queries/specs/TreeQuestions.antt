@@ -3,7 +3,7 @@ use Rattle.std.specs.Prelude.{◌≡◌, ◌<◌, ◌⊎◌, ◌++◌, ◌∷◌
 use Rattle.std.specs.Prelude.{IsOk}
 use Rattle.clap.specs.Words.{Row, Text}
 use Rattle.acl_cli.specs.Commands.{Answer, Meaning}
-use Rattle.acl_cli.specs.Failures.{Explains, IsUnexplained, failed_write, out_of_memory}
+use Rattle.acl_cli.specs.Failures.{Explains, IsAnswerLack, IsUnexplained}
 use Rattle.acl_cli.specs.SessionFiles.{IsSetupFailure, setup_in}
 use Rattle.acl_cli.specs.declared.command.Ending.TheVariants.{Answered}
 use Rattle.acl_cli.specs.declared.failure.Failure.{Failure}
@@ -24,10 +24,6 @@ pub record AnswersOfTrees {Q : Type 0} (asked_in : List Row → Result Q FieldFa
   pub answers : IsAnswer question trees answer.text
   pub quiet : answer.beside ≡ []
   pub whole : answer.ending ≡ Answered
-
--- an answer lacks memory, or can't be written
-abbrev pub IsAnswerLack : Failure → Type 0
-IsAnswerLack failure = (failure ≡ out_of_memory) ⊎ (failure ≡ failed_write)
 
 -- an answer is refused, which is so only of such trees, or lacks something
 abbrev pub IsAnswerFailure : Type 0 → Failure → Type 0

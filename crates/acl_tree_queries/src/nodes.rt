@@ -2,10 +2,10 @@
 ghost use Rattle.std.specs.Prelude.{◌≡◌, ◌++◌, ℕ, IfErr, List, OnErr, OnOk};
 ghost use Rattle.std.specs.FinMap as map;
 ghost use Rattle.std.specs.Io.KnownBytes.{Appends};
+ghost use Rattle.acl_cli.specs.Failures.{IsAnswerLack};
 ghost use Rattle.acl_cli.specs.Output.{AppendsFront};
 ghost use Rattle.acl_tree.specs.Entries.{Entry};
 ghost use Rattle.acl_tree_queries.specs.Nodes.{TellsOfEach, TellsOfFirst};
-ghost use Rattle.acl_tree_queries.specs.TreeQuestions.{IsAnswerLack};
 
 use acl_cli::{ErrorOutput, Failure, Telling, tell_each};
 use acl_tree::{Node, Tree};

@@ -4,10 +4,12 @@
 
 mod broken;
 mod command;
+mod on_shelf;
 mod sheet;
 mod shelf;
 
 pub use broken::Broken;
 pub use command::Command;
+pub use on_shelf::OnShelf;
 pub use sheet::Sheet;
 pub use shelf::Shelf;

@@ -1,5 +1,5 @@
 //! What `lint` is refused for, and what it lacks.
-use crate::fixture::Lint;
+use crate::fixture::lint;
 use acl_cli::ErrorOutput;
 use std::alloc::Global;
 use std::test::Fail;
@@ -38,7 +38,10 @@ const FAULTS: [(&[&str], u8, &str); 4] = [
 #[test]
 fn faults_of_files(rt: HostRuntime) {
     for (words, status, fault) in FAULTS {
-        assert!(rt; Lint.ends(rt.alloc(), words, status, "", fault), "{fault}");
+        assert!(rt;
+            lint().ends(rt.alloc(), words, status, "", fault),
+            "{fault}"
+        );
     }
 }
 
@@ -48,7 +51,7 @@ fn words_that_are_refused(rt: HostRuntime) -> Result<(), Fail> {
     let mut out = Vec::new(rt.alloc());
     let mut input = Sheet::new("x\n");
     let words = ["lint", "--setup", "office"];
-    let (status, err) = Lint.ask(rt.alloc(), &words, &mut input, &mut out);
+    let (status, err) = lint().ask(rt.alloc(), &words, &mut input, &mut out);
     assert_eq!(rt; status, 2);
     assert!(rt; out.is_empty());
     assert!(rt; !err.is_empty());
@@ -62,7 +65,7 @@ fn standard_input_is_left_as_it_is(rt: HostRuntime) -> Result<(), Fail> {
     let mut out = Vec::new(rt.alloc());
     let mut input = Sheet::new("x\n");
     let words = ["lint", "--setup", "office", "good"];
-    let (status, _err) = Lint.ask(rt.alloc(), &words, &mut input, &mut out);
+    let (status, _err) = lint().ask(rt.alloc(), &words, &mut input, &mut out);
     assert_eq!(rt; status, 0);
     assert_eq!(rt; input.left(), 2);
     Ok(())
@@ -81,7 +84,7 @@ fn is_cut(alloc: Global, words: &[&str], front: &str) -> bool {
     let mut out = room.as_mut_slice();
     let mut err = Vec::new(alloc);
     let told = &mut ErrorOutput::new(&mut err);
-    let status = Lint.run(alloc, words, &mut Sheet::new(""), &mut out, told);
+    let status = lint().run(alloc, words, &mut Sheet::new(""), &mut out, told);
     status == 3
         && room.as_slice() == front.as_bytes()
         && err.as_slice() == b"aclctl: run: output\n".as_slice()

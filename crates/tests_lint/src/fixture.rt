@@ -1,8 +1,6 @@
 //! An office and sessions over it, as files at hand.
-use acl_cli::{ErrorOutput, run_command};
-use std::alloc::Global;
-use std::io::{Read, Write};
-use tests_files::{Command, Shelf};
+use acl_lint::Lint;
+use tests_files::OnShelf;
 
 const OFFICE: &str =
     "domain = \"example.org\"\numask = \"022\"\nroot = { owner = \"root\", group = \"root\", mode = \"755\", style = \"posix\" }\nuser = [ { name = \"root\", uid = 0, groups = [\"root\"] }, { name = \"alice\", uid = 1000, groups = [\"staff\"] }, { name = \"bob\", uid = 1001, groups = [\"staff\", \"ops\"] } ]\ngroup = [ { name = \"root\", gid = 0 }, { name = \"staff\", gid = 50 }, { name = \"ops\", gid = 60 } ]\n";
@@ -144,26 +142,6 @@ const FILES: &[(&str, &str)] = &[
 ];
 
 /// `lint`, over the files.
-#[derive(Clone, Copy)]
-pub struct Lint;
-
-impl Command for Lint {
-    fn run<I: Read, W: Write, E: Write + Drop>(
-        &self,
-        alloc: Global,
-        words: &[&str],
-        input: &mut I,
-        out: &mut W,
-        err: &mut ErrorOutput<E>,
-    ) -> u8 {
-        run_command(
-            &acl_lint::Lint,
-            alloc,
-            &Shelf::new(FILES),
-            words,
-            input,
-            out,
-            err,
-        )
-    }
+pub fn lint() -> OnShelf<Lint> {
+    OnShelf::new(Lint, FILES)
 }

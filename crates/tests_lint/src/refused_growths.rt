@@ -4,7 +4,7 @@
 //! `rt try --test --fail-alloc N` refuses the growth N of a test. Each test here passes whichever
 //! growth that is, and prints how many refusals it was told of: one up to the last growth that it
 //! asks for, and none from then on.
-use crate::fixture::Lint;
+use crate::fixture::lint;
 use std::test::Fail;
 use tests_files::Command;
 
@@ -14,7 +14,7 @@ const OF_SESSIONS: &[u8] =
 #[test]
 fn sessions_under_a_refused_growth(rt: HostRuntime) -> Result<(), Fail> {
     let words = ["lint", "--setup", "office", "faulty", "long"];
-    let told = Lint.refusals(rt.alloc(), &words, OF_SESSIONS);
+    let told = lint().refusals(rt.alloc(), &words, OF_SESSIONS);
     assert!(rt; told.is_some());
     println!(rt; "refusals: {}", told.unwrap_or(0))?;
     Ok(())
@@ -25,7 +25,7 @@ const OF_SETUP: &[u8] = b"no-uid: bad-field user[2].uid\n";
 #[test]
 fn a_setup_under_a_refused_growth(rt: HostRuntime) -> Result<(), Fail> {
     let words = ["lint", "--setup", "no-uid", "faulty", "long"];
-    let told = Lint.refusals(rt.alloc(), &words, OF_SETUP);
+    let told = lint().refusals(rt.alloc(), &words, OF_SETUP);
     assert!(rt; told.is_some());
     println!(rt; "refusals: {}", told.unwrap_or(0))?;
     Ok(())

@@ -1,5 +1,5 @@
 //! What is told of sessions.
-use crate::fixture::Lint;
+use crate::fixture::lint;
 use acl_cli::ErrorOutput;
 use std::test::Fail;
 use tests_files::{Command, Sheet};
@@ -8,7 +8,7 @@ use tests_files::{Command, Sheet};
 #[test]
 fn nothing_is_wrong(rt: HostRuntime) {
     let words = ["lint", "--setup", "office", "good", "empty"];
-    assert!(rt; Lint.ends(rt.alloc(), &words, 0, "", ""));
+    assert!(rt; lint().ends(rt.alloc(), &words, 0, "", ""));
 }
 
 /// The words that `run` answers, with the numbers of their lines: comments and blank lines count.
@@ -17,7 +17,7 @@ fn faults_of_lines(rt: HostRuntime) {
     let words = ["lint", "--setup", "office", "faulty"];
     let text =
         "faulty:4: syntax -\nfaulty:5: unknown-name -\nfaulty:6: bad-mode -\nfaulty:8: bad-path -\nfaulty:9: bad-perms -\n";
-    assert!(rt; Lint.ends(rt.alloc(), &words, 0, text, ""));
+    assert!(rt; lint().ends(rt.alloc(), &words, 0, text, ""));
 }
 
 /// The piece at fault is the first that doesn't read, and stands there without the blanks round it.
@@ -27,7 +27,7 @@ fn pieces_of_posix_lists(rt: HostRuntime) {
     let words = ["lint", "--setup", "office", "posix"];
     let text =
         "posix:1: bad-acl 1 user:bob:rwz\nposix:2: bad-acl 3 user:bob:rwz\nposix:3: unknown-name 4 u:eve:r\nposix:4: bad-acl 2 -\nposix:5: invalid-acl -\nposix:6: bad-acl 2 user : bob : rwz\nposix:7: bad-path -\nposix:9: syntax -\nposix:10: syntax -\n";
-    assert!(rt; Lint.ends(rt.alloc(), &words, 0, text, ""));
+    assert!(rt; lint().ends(rt.alloc(), &words, 0, text, ""));
 }
 
 #[test]
@@ -35,7 +35,7 @@ fn pieces_of_nfs4_lists(rt: HostRuntime) {
     let words = ["lint", "--setup", "office", "aces"];
     let text =
         "aces:1: bad-acl 1 X::OWNER@:r\naces:2: unknown-name 2 A::bob@elsewhere.org:r\naces:3: inherit-only 2 A:i:EVERYONE@:r\naces:5: unknown-name 2 A::eve:r\n";
-    assert!(rt; Lint.ends(rt.alloc(), &words, 0, text, ""));
+    assert!(rt; lint().ends(rt.alloc(), &words, 0, text, ""));
 }
 
 /// A piece that would be one too many isn't read.
@@ -44,14 +44,14 @@ fn lists_that_are_too_long(rt: HostRuntime) {
     let words = ["lint", "--setup", "office", "many"];
     let text =
         "many:1: too-many -\nmany:2: too-many -\nmany:3: bad-acl 64 o::z\nmany:4: too-many -\n";
-    assert!(rt; Lint.ends(rt.alloc(), &words, 0, text, ""));
+    assert!(rt; lint().ends(rt.alloc(), &words, 0, text, ""));
 }
 
 /// A comment may be too long, too.
 #[test]
 fn lines_that_are_too_long(rt: HostRuntime) {
     let words = ["lint", "--setup", "office", "long"];
-    assert!(rt; Lint.ends(rt.alloc(), &words, 0, "long:2: line-too-long -\n", ""));
+    assert!(rt; lint().ends(rt.alloc(), &words, 0, "long:2: line-too-long -\n", ""));
 }
 
 /// Sessions are told in the order of the words, each by its name; `-` is standard input.
@@ -60,7 +60,7 @@ fn several_sessions(rt: HostRuntime) -> Result<(), Fail> {
     let mut out = Vec::new(rt.alloc());
     let mut input = Sheet::new("\nset /a nfs4 A::OWNER@:z\n");
     let words = ["lint", "--setup", "office", "long", "good", "-", "long"];
-    let (status, err) = Lint.ask(rt.alloc(), &words, &mut input, &mut out);
+    let (status, err) = lint().ask(rt.alloc(), &words, &mut input, &mut out);
     let text = "long:2: line-too-long -\n-:2: bad-acl 1 A::OWNER@:z\nlong:2: line-too-long -\n";
     assert_eq!(rt; status, 0);
     assert!(rt; out.as_slice() == text.as_bytes());
@@ -78,7 +78,7 @@ fn a_long_answer(rt: HostRuntime) -> Result<(), Fail> {
     }
     let mut out = Vec::new(rt.alloc());
     let mut err = Vec::new(rt.alloc());
-    let status = Lint.run(
+    let status = lint().run(
         rt.alloc(),
         &["lint", "--setup", "office", "-"],
         &mut text.as_slice(),

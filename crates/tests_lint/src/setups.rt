@@ -1,5 +1,5 @@
 //! What is told of setups that are refused.
-use crate::fixture::Lint;
+use crate::fixture::lint;
 use tests_files::Command;
 
 /// The setup, and what is told of it.
@@ -50,6 +50,6 @@ const REFUSED: [(&str, &str); 30] = [
 fn setups_that_are_refused(rt: HostRuntime) {
     for (setup, text) in REFUSED {
         let words = ["lint", "--setup", setup, "faulty"];
-        assert!(rt; Lint.ends(rt.alloc(), &words, 0, text, ""), "{setup}");
+        assert!(rt; lint().ends(rt.alloc(), &words, 0, text, ""), "{setup}");
     }
 }

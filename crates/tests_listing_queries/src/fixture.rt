@@ -1,9 +1,8 @@
 //! Accounts and listings at hand, and how commands are asked about them.
-use acl_cli::{ErrorOutput, run_command};
+use acl_cli::ErrorOutput;
 use acl_listing_queries::{ImpactOfListings, Restore, Translate, WhoOfListing, Why};
 use std::alloc::Global;
-use std::io::{Read, Write};
-use tests_files::{Command, Shelf};
+use tests_files::{Command, OnShelf};
 
 /// Three users beside root: two are of staff, and one of these is of ops too.
 const OFFICE: &str =
@@ -108,87 +107,28 @@ const FILES: &[(&str, &str)] = &[
 ];
 
 /// `who` of a listing, over the files.
-#[derive(Clone, Copy)]
-pub struct Who;
-
-impl Command for Who {
-    fn run<I: Read, W: Write, E: Write + Drop>(
-        &self,
-        alloc: Global,
-        words: &[&str],
-        input: &mut I,
-        out: &mut W,
-        err: &mut ErrorOutput<E>,
-    ) -> u8 {
-        run_command(
-            &WhoOfListing,
-            alloc,
-            &Shelf::new(FILES),
-            words,
-            input,
-            out,
-            err,
-        )
-    }
+pub fn who() -> OnShelf<WhoOfListing> {
+    OnShelf::new(WhoOfListing, FILES)
 }
 
 /// `why` of a file of a listing, over the files.
-#[derive(Clone, Copy)]
-pub struct Whys;
-
-impl Command for Whys {
-    fn run<I: Read, W: Write, E: Write + Drop>(
-        &self,
-        alloc: Global,
-        words: &[&str],
-        input: &mut I,
-        out: &mut W,
-        err: &mut ErrorOutput<E>,
-    ) -> u8 {
-        run_command(&Why, alloc, &Shelf::new(FILES), words, input, out, err)
-    }
-}
-
-/// `restore` of two listings, over the files.
-#[derive(Clone, Copy)]
-pub struct Restores;
-
-impl Command for Restores {
-    fn run<I: Read, W: Write, E: Write + Drop>(
-        &self,
-        alloc: Global,
-        words: &[&str],
-        input: &mut I,
-        out: &mut W,
-        err: &mut ErrorOutput<E>,
-    ) -> u8 {
-        run_command(&Restore, alloc, &Shelf::new(FILES), words, input, out, err)
-    }
+pub fn why() -> OnShelf<Why> {
+    OnShelf::new(Why, FILES)
 }
 
 /// `impact` of two listings, over the files.
-#[derive(Clone, Copy)]
-pub struct Impacts;
+pub fn impact() -> OnShelf<ImpactOfListings> {
+    OnShelf::new(ImpactOfListings, FILES)
+}
 
-impl Command for Impacts {
-    fn run<I: Read, W: Write, E: Write + Drop>(
-        &self,
-        alloc: Global,
-        words: &[&str],
-        input: &mut I,
-        out: &mut W,
-        err: &mut ErrorOutput<E>,
-    ) -> u8 {
-        run_command(
-            &ImpactOfListings,
-            alloc,
-            &Shelf::new(FILES),
-            words,
-            input,
-            out,
-            err,
-        )
-    }
+/// `restore` of two listings, over the files.
+pub fn restore() -> OnShelf<Restore> {
+    OnShelf::new(Restore, FILES)
+}
+
+/// `translate` of a listing, over the files.
+pub fn translate() -> OnShelf<Translate> {
+    OnShelf::new(Translate, FILES)
 }
 
 /// Whether the words end so with this listing on standard input: with this status, and with these
@@ -205,31 +145,6 @@ pub fn ends(
     let mut out = Vec::new(alloc);
     let mut err = Vec::new(alloc);
     let told = &mut ErrorOutput::new(&mut err);
-    let ended = Who.run(alloc, words, &mut input, &mut out, told);
+    let ended = who().run(alloc, words, &mut input, &mut out, told);
     ended == status && out.as_slice() == text.as_bytes() && err.as_slice() == faults.as_bytes()
-}
-
-/// `translate`, over the files.
-#[derive(Clone, Copy)]
-pub struct Translating;
-
-impl Command for Translating {
-    fn run<I: Read, W: Write, E: Write + Drop>(
-        &self,
-        alloc: Global,
-        words: &[&str],
-        input: &mut I,
-        out: &mut W,
-        err: &mut ErrorOutput<E>,
-    ) -> u8 {
-        run_command(
-            &Translate,
-            alloc,
-            &Shelf::new(FILES),
-            words,
-            input,
-            out,
-            err,
-        )
-    }
 }

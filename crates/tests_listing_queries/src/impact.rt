@@ -1,5 +1,5 @@
 //! `impact` of two listings.
-use crate::fixture::Impacts;
+use crate::fixture::impact;
 use acl_cli::ErrorOutput;
 use std::alloc::Global;
 use std::test::Fail;
@@ -132,7 +132,7 @@ const ANSWERS: [(&[&str], u8, &str, &str); 11] = [
 fn what_changed_for_whom(rt: HostRuntime) {
     for (words, status, text, said) in ANSWERS {
         assert!(rt;
-            Impacts.ends(rt.alloc(), words, status, text, said),
+            impact().ends(rt.alloc(), words, status, text, said),
             "{said}"
         );
     }
@@ -141,7 +141,7 @@ fn what_changed_for_whom(rt: HostRuntime) {
 /// Whether the answer to these words is one line of somebody who is none of the users.
 fn tells_of_somebody(alloc: Global, words: &[&str]) -> bool {
     let mut out = Vec::new(alloc);
-    let (status, err) = Impacts.ask(alloc, words, &mut Sheet::new(""), &mut out);
+    let (status, err) = impact().ask(alloc, words, &mut Sheet::new(""), &mut out);
     let text = out.as_slice();
     status == 0 && err.is_empty() && text.starts_with(b"differ - ") && text.ends_with(b" r - x\n")
 }
@@ -166,7 +166,7 @@ fn somebody_else(rt: HostRuntime) {
 fn reads_nothing(alloc: Global, words: &[&str], fault: &str) -> bool {
     let mut out = Vec::new(alloc);
     let mut input = Sheet::new("# file: a\n");
-    let (ended, err) = Impacts.ask(alloc, words, &mut input, &mut out);
+    let (ended, err) = impact().ask(alloc, words, &mut input, &mut out);
     ended == 2 && out.is_empty() && err.ends_with(fault.as_bytes()) && input.left() == 10
 }
 
@@ -188,7 +188,7 @@ fn standard_input_is_named_once(rt: HostRuntime) {
 fn help_is_an_answer(rt: HostRuntime) {
     let mut out = Vec::new(rt.alloc());
     let words = ["impact", "--help"];
-    let (status, err) = Impacts.ask(rt.alloc(), &words, &mut Sheet::new(""), &mut out);
+    let (status, err) = impact().ask(rt.alloc(), &words, &mut Sheet::new(""), &mut out);
     assert!(rt; status == 0 && !out.is_empty() && err.is_empty());
 }
 
@@ -197,7 +197,7 @@ fn help_is_an_answer(rt: HostRuntime) {
 fn a_listing_that_fails(rt: HostRuntime) -> Result<(), Fail> {
     let mut out = Vec::new(rt.alloc());
     let mut err = Vec::new(rt.alloc());
-    let status = Impacts.run(
+    let status = impact().run(
         rt.alloc(),
         &["impact", "--accounts", "office", "before", "-"],
         &mut Broken::new(b"# file: srv\n"),

@@ -1,5 +1,5 @@
 //! Who may do what with each file.
-use crate::fixture::{Who, ends};
+use crate::fixture::{ends, who};
 use tests_files::Command;
 
 /// Two files with the same entries, of which somebody asked about owns one. What one group grants
@@ -96,6 +96,6 @@ const FILES: [(&[&str], &str); 7] = [
 #[test]
 fn whose_letters(rt: HostRuntime) {
     for (words, text) in FILES {
-        assert!(rt; Who.ends(rt.alloc(), words, 0, text, ""), "{text}");
+        assert!(rt; who().ends(rt.alloc(), words, 0, text, ""), "{text}");
     }
 }

@@ -1,5 +1,5 @@
 //! Who reaches a file: who may also search each folder above it.
-use crate::fixture::{Who, ends};
+use crate::fixture::{ends, who};
 use tests_files::Command;
 
 /// Bob is in the group of the inner folder, which may not search it, and carol is outside of both.
@@ -8,7 +8,7 @@ fn a_closed_folder(rt: HostRuntime) {
     let words = ["who", "--accounts", "office", "--reach", "closed"];
     let text =
         "rwx alice srv\nr-x bob srv\nrwx alice srv/in\nr-- alice srv/in/file\nr-- alice srv//./next\nr-- bob srv//./next\n";
-    assert!(rt; Who.ends(rt.alloc(), &words, 0, text, ""));
+    assert!(rt; who().ends(rt.alloc(), &words, 0, text, ""));
 }
 
 /// Without reach the file alone decides.
@@ -17,7 +17,7 @@ fn the_file_alone(rt: HostRuntime) {
     let words = ["who", "--accounts", "office", "--perms", "r", "closed"];
     let text =
         "alice srv\nbob srv\nalice srv/in\ncarol srv/in\nalice srv/in/file\nbob srv/in/file\ncarol srv/in/file\nalice srv//./next\nbob srv//./next\ncarol srv//./next\n";
-    assert!(rt; Who.ends(rt.alloc(), &words, 0, text, ""));
+    assert!(rt; who().ends(rt.alloc(), &words, 0, text, ""));
 }
 
 /// A folder further above is listed and the nearest isn't; then a folder doesn't read; then a

@@ -4,7 +4,7 @@
 //! `rt try --test --fail-alloc N` refuses the growth N of a test. Each test here passes whichever
 //! growth that is, and prints how many refusals it was told of: one up to the last growth that it
 //! asks for, and none from then on.
-use crate::fixture::{Impacts, Restores, Translating, Who, Whys};
+use crate::fixture::{impact, restore, translate, who, why};
 use acl_cli::ErrorOutput;
 use std::alloc::Global;
 use std::io::{self, Read};
@@ -24,7 +24,7 @@ fn who_of_a_listing_under_a_refused_growth(rt: HostRuntime) -> Result<(), Fail> 
         "plan",
     ];
     let answer = b"r-- bob srv/plan\n--x 4242 srv/plan\n";
-    let told = Who.refusals(rt.alloc(), &words, answer.as_slice());
+    let told = who().refusals(rt.alloc(), &words, answer.as_slice());
     assert!(rt; told.is_some());
     println!(rt; "refusals: {}", told.unwrap_or(0))?;
     Ok(())
@@ -37,7 +37,7 @@ fn who_of_a_listing_by_reach_under_a_refused_growth(rt: HostRuntime) -> Result<(
     ];
     let answer =
         b"alice srv\nbob srv\nalice srv/in\nalice srv/in/file\nalice srv//./next\nbob srv//./next\n";
-    let told = Who.refusals(rt.alloc(), &words, answer.as_slice());
+    let told = who().refusals(rt.alloc(), &words, answer.as_slice());
     assert!(rt; told.is_some());
     println!(rt; "refusals: {}", told.unwrap_or(0))?;
     Ok(())
@@ -48,7 +48,7 @@ fn restore_of_a_listing_under_a_refused_growth(rt: HostRuntime) -> Result<(), Fa
     let words = ["restore", "plan", "planned"];
     let answer =
         b"# file: srv/plan\n# owner: alice\n# group: staff\nuser::rw-\ngroup::r--\nother::--x\n\n";
-    let told = Restores.refusals(rt.alloc(), &words, answer.as_slice());
+    let told = restore().refusals(rt.alloc(), &words, answer.as_slice());
     assert!(rt; told.is_some());
     println!(rt; "refusals: {}", told.unwrap_or(0))?;
     Ok(())
@@ -69,7 +69,7 @@ fn why_of_a_listing_under_a_refused_growth(rt: HostRuntime) -> Result<(), Fail> 
     ];
     let answer =
         b"denied\nfolder srv granted\nclass group\nentry group::r-x r-x ---\nfolder srv/in denied\nclass group\nentry group::--- --- --x\nfile srv/in/file granted\nclass owner\nentry user::rw- rw- ---\n";
-    let told = Whys.refusals(rt.alloc(), &words, answer.as_slice());
+    let told = why().refusals(rt.alloc(), &words, answer.as_slice());
     assert!(rt; told.is_some());
     println!(rt; "refusals: {}", told.unwrap_or(0))?;
     Ok(())
@@ -86,7 +86,7 @@ fn impact_of_a_listing_under_a_refused_growth(rt: HostRuntime) -> Result<(), Fai
         "planned",
     ];
     let answer = b"differ carol 1002 70 x - srv/plan\nchanged access srv/plan\n";
-    let told = Impacts.refusals(rt.alloc(), &words, answer.as_slice());
+    let told = impact().refusals(rt.alloc(), &words, answer.as_slice());
     assert!(rt; told.is_some());
     println!(rt; "refusals: {}", told.unwrap_or(0))?;
     Ok(())
@@ -97,7 +97,7 @@ fn translate_of_a_listing_under_a_refused_growth(rt: HostRuntime) -> Result<(), 
     let words = ["translate", "--accounts", "office", "--attributes", "plan"];
     let answer =
         b"# file: srv/plan\n# owner: alice\n# group: staff\nA::OWNER@:rwa\nD::OWNER@:x\nA::GROUP@:r\nD::GROUP@:wax\nA::EVERYONE@:x\nA::OWNER@:tTnNcCoy\nA::EVERYONE@:tncy\n\n";
-    let told = Translating.refusals(rt.alloc(), &words, answer.as_slice());
+    let told = translate().refusals(rt.alloc(), &words, answer.as_slice());
     assert!(rt; told.is_some());
     println!(rt; "refusals: {}", told.unwrap_or(0))?;
     Ok(())
@@ -143,7 +143,7 @@ fn runs_out_in_part(alloc: Global) -> Option<bool> {
     let words = ["who", "--accounts", "office", "-"];
     let mut listing = FAULTY.chain(io::repeat(b'x').take(MANY)).chain(GOOD);
     let told = &mut ErrorOutput::new(&mut err);
-    let status = Who.run(alloc, &words, &mut listing, &mut out, told);
+    let status = who().run(alloc, &words, &mut listing, &mut out, told);
     let written = ROOM.saturating_sub(out.len());
     let said = ROOM.saturating_sub(err.len());
     ran_out_in_part(status, &room[..written], &lines[..said])

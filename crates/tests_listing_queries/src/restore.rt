@@ -1,5 +1,5 @@
 //! `restore` of two listings.
-use crate::fixture::Restores;
+use crate::fixture::restore;
 use acl_cli::ErrorOutput;
 use std::alloc::Global;
 use std::test::Fail;
@@ -48,7 +48,7 @@ const ANSWERS: [(&[&str], u8, &str, &str); 6] = [
 fn what_brings_back_the_lists(rt: HostRuntime) {
     for (words, status, text, said) in ANSWERS {
         assert!(rt;
-            Restores.ends(rt.alloc(), words, status, text, said),
+            restore().ends(rt.alloc(), words, status, text, said),
             "{said}"
         );
     }
@@ -72,7 +72,7 @@ fn is_restored(alloc: Global, size: usize, status: u8, count: usize) -> bool {
     let mut err = Vec::new(alloc);
     let told = &mut ErrorOutput::new(&mut err);
     let words = ["restore", "-", "long"];
-    let ended = Restores.run(alloc, &words, &mut input, &mut out, told);
+    let ended = restore().run(alloc, &words, &mut input, &mut out, told);
     ended == status && out.len() == count
 }
 
@@ -87,7 +87,7 @@ fn long_blocks(rt: HostRuntime) {
 fn reads_nothing(alloc: Global, words: &[&str], fault: &str) -> bool {
     let mut out = Vec::new(alloc);
     let mut input = Sheet::new("# file: a\n");
-    let (ended, err) = Restores.ask(alloc, words, &mut input, &mut out);
+    let (ended, err) = restore().ask(alloc, words, &mut input, &mut out);
     ended == 2 && out.is_empty() && err.ends_with(fault.as_bytes()) && input.left() == 10
 }
 
@@ -109,7 +109,7 @@ fn standard_input_is_named_once(rt: HostRuntime) {
 fn answers(alloc: Global, after: &'static str, status: u8, text: &str, said: &str) -> bool {
     let mut out = Vec::new(alloc);
     let words = ["restore", "once", "-"];
-    let (ended, err) = Restores.ask(alloc, &words, &mut Sheet::new(after), &mut out);
+    let (ended, err) = restore().ask(alloc, &words, &mut Sheet::new(after), &mut out);
     ended == status && out.as_slice() == text.as_bytes() && err.ends_with(said.as_bytes())
 }
 
@@ -126,7 +126,7 @@ fn the_listing_after_is_standard_input(rt: HostRuntime) {
 fn help_is_an_answer(rt: HostRuntime) {
     let mut out = Vec::new(rt.alloc());
     let words = ["restore", "--help"];
-    let (status, err) = Restores.ask(rt.alloc(), &words, &mut Sheet::new(""), &mut out);
+    let (status, err) = restore().ask(rt.alloc(), &words, &mut Sheet::new(""), &mut out);
     assert!(rt; status == 0 && !out.is_empty() && err.is_empty());
 }
 
@@ -135,7 +135,7 @@ fn help_is_an_answer(rt: HostRuntime) {
 fn a_listing_that_fails(rt: HostRuntime) -> Result<(), Fail> {
     let mut out = Vec::new(rt.alloc());
     let mut err = Vec::new(rt.alloc());
-    let status = Restores.run(
+    let status = restore().run(
         rt.alloc(),
         &["restore", "-", "after"],
         &mut Broken::new(b"# file: srv\n"),

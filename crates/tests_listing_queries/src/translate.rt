@@ -1,5 +1,5 @@
 //! Listings with an NFSv4 list for each file. What these are was worked out by hand.
-use crate::fixture::Translating;
+use crate::fixture::translate;
 use acl_cli::ErrorOutput;
 use std::alloc::Global;
 use tests_files::Command;
@@ -51,7 +51,7 @@ fn ends(
     let mut out = Vec::new(alloc);
     let mut err = Vec::new(alloc);
     let told = &mut ErrorOutput::new(&mut err);
-    let ended = Translating.run(alloc, words, &mut input, &mut out, told);
+    let ended = translate().run(alloc, words, &mut input, &mut out, told);
     ended == status && out.as_slice() == text.as_bytes() && err.as_slice() == faults.as_bytes()
 }
 

@@ -1,5 +1,5 @@
 //! `why` of a file of a listing.
-use crate::fixture::Whys;
+use crate::fixture::why;
 use acl_cli::ErrorOutput;
 use std::alloc::Global;
 use std::test::Fail;
@@ -81,7 +81,10 @@ fn what_decides_on_the_way_and_at_the_end(rt: HostRuntime) {
             "nested",
             path,
         ];
-        assert!(rt; Whys.ends(rt.alloc(), &words, status, text, said), "{path}");
+        assert!(rt;
+            why().ends(rt.alloc(), &words, status, text, said),
+            "{path}"
+        );
     }
 }
 
@@ -127,7 +130,7 @@ const FAULTS: [(&[&str], u8, &str); 5] = [
 #[test]
 fn faults_of_files_and_fields(rt: HostRuntime) {
     for (words, status, fault) in FAULTS {
-        assert!(rt; Whys.ends(rt.alloc(), words, status, "", fault), "{fault}");
+        assert!(rt; why().ends(rt.alloc(), words, status, "", fault), "{fault}");
     }
 }
 
@@ -135,7 +138,7 @@ fn faults_of_files_and_fields(rt: HostRuntime) {
 fn reads_nothing(alloc: Global, words: &[&str]) -> bool {
     let mut out = Vec::new(alloc);
     let mut input = Sheet::new("# file: a\n");
-    let (ended, err) = Whys.ask(alloc, words, &mut input, &mut out);
+    let (ended, err) = why().ask(alloc, words, &mut input, &mut out);
     ended == 2 && out.is_empty() && !err.is_empty() && input.left() == 10
 }
 
@@ -150,7 +153,7 @@ fn nothing_is_read_in_vain(rt: HostRuntime) {
 fn help_is_an_answer(rt: HostRuntime) {
     let mut out = Vec::new(rt.alloc());
     let words = ["why", "--help"];
-    let (status, err) = Whys.ask(rt.alloc(), &words, &mut Sheet::new(""), &mut out);
+    let (status, err) = why().ask(rt.alloc(), &words, &mut Sheet::new(""), &mut out);
     assert!(rt; status == 0 && !out.is_empty() && err.is_empty());
 }
 
@@ -160,7 +163,7 @@ fn an_answer_that_cannot_be_written(rt: HostRuntime) -> Result<(), Fail> {
     let mut room = [0; 9];
     let mut out = room.as_mut_slice();
     let mut err = Vec::new(rt.alloc());
-    let status = Whys.run(
+    let status = why().run(
         rt.alloc(),
         &["why", "--user", "alice", "--perms", "r", "plan", "srv/plan"],
         &mut Sheet::new(""),
@@ -178,7 +181,7 @@ fn an_answer_that_cannot_be_written(rt: HostRuntime) -> Result<(), Fail> {
 fn a_listing_that_fails(rt: HostRuntime) -> Result<(), Fail> {
     let mut out = Vec::new(rt.alloc());
     let mut err = Vec::new(rt.alloc());
-    let status = Whys.run(
+    let status = why().run(
         rt.alloc(),
         &["why", "--user", "alice", "--perms", "r", "-", "b"],
         &mut Broken::new(b"# file: a\n"),

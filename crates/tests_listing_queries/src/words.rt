@@ -1,5 +1,5 @@
 //! What is refused before anything is told, help, and answers that are cut off.
-use crate::fixture::{Who, ends};
+use crate::fixture::{ends, who};
 use acl_cli::ErrorOutput;
 use std::alloc::Global;
 use std::test::Fail;
@@ -67,7 +67,7 @@ const FAULTS: [(&[&str], u8, &str); 11] = [
 #[test]
 fn faults_of_files_and_fields(rt: HostRuntime) {
     for (words, status, fault) in FAULTS {
-        assert!(rt; Who.ends(rt.alloc(), words, status, "", fault), "{fault}");
+        assert!(rt; who().ends(rt.alloc(), words, status, "", fault), "{fault}");
     }
 }
 
@@ -75,7 +75,7 @@ fn faults_of_files_and_fields(rt: HostRuntime) {
 fn reads_nothing(alloc: Global, words: &[&str], status: u8) -> bool {
     let mut out = Vec::new(alloc);
     let mut input = Sheet::new("# file: a\n");
-    let (ended, err) = Who.ask(alloc, words, &mut input, &mut out);
+    let (ended, err) = who().ask(alloc, words, &mut input, &mut out);
     ended == status && out.is_empty() && !err.is_empty() && input.left() == 10
 }
 
@@ -91,7 +91,7 @@ fn nothing_is_read_in_vain(rt: HostRuntime) {
 /// Whether these words are answered by help on standard output.
 fn helps(alloc: Global, words: &[&str]) -> bool {
     let mut out = Vec::new(alloc);
-    let (status, err) = Who.ask(alloc, words, &mut Sheet::new(""), &mut out);
+    let (status, err) = who().ask(alloc, words, &mut Sheet::new(""), &mut out);
     status == 0 && !out.is_empty() && err.is_empty()
 }
 
@@ -107,7 +107,7 @@ fn an_answer_that_cannot_be_written(rt: HostRuntime) -> Result<(), Fail> {
     let mut room = [0; 9];
     let mut out = room.as_mut_slice();
     let mut err = Vec::new(rt.alloc());
-    let status = Who.run(
+    let status = who().run(
         rt.alloc(),
         &["who", "plan"],
         &mut Sheet::new(""),
@@ -125,7 +125,7 @@ fn an_answer_that_cannot_be_written(rt: HostRuntime) -> Result<(), Fail> {
 fn a_listing_that_fails(rt: HostRuntime) -> Result<(), Fail> {
     let mut out = Vec::new(rt.alloc());
     let mut err = Vec::new(rt.alloc());
-    let status = Who.run(
+    let status = who().run(
         rt.alloc(),
         &["who", "-"],
         &mut Broken::new(b"# file: a\n"),

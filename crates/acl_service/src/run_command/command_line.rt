@@ -26,6 +26,7 @@ A session has a command a line, and each answer tells its line's number:
 The commands are get, set, chmod, create, check, check4 and translate.";
 
 /// The command line of `run`.
+#[derive(Clone, Copy)]
 pub struct RunLine;
 
 impl CommandLine for RunLine {
