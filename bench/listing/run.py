@@ -1,14 +1,14 @@
 #!/usr/bin/env python3
-"""Times `who` of a listing of a million files, for one user and for a thousand, and `impact` of two, by the built program, and tells
-the most memory that each took.
+"""Times `who` of a listing of a million files, and `impact` of two, for one user and for a thousand, and `restore` and `translate`, by
+the built program, and tells the most memory that each took.
 
     bench/listing/run.py [TIMES [FILES]]
 
 A listing is as `getfacl -R` prints it, some 120 bytes a file: files of folders that share one of some hundred lists, as on a share,
-each folder in front of its files, and, as another listing, each file with a list that no other has. For `impact` every thousandth
-file of the first has another owner and list in a later one. Before a time is taken the answer is looked at: how many lines it has. Each work is done TIMES times in turn (5, unless
-told), the listings read from files, and the least and the middle milliseconds and the most MiB are printed, the start of the program
-among them.
+each folder in front of its files, and, as another listing, each file with a list that no other has; and both so with NFSv4 lists. For
+`impact` every thousandth file of the first has another owner and list in a later one. Before a time is taken the answer is looked at: how many lines it has.
+Each work is done TIMES times in turn (5, unless told), the listings read from files, and the least and the middle milliseconds and
+the most MiB are printed, the start of the program among them.
 """
 import os
 import statistics
@@ -29,25 +29,56 @@ root = { owner = "u1000", group = "g50", mode = "755", style = "posix" }
 """
 # How many users there are at the most, and how many groups, of which each user is in two.
 USERS, GROUPS = 1000, 64
+# What entries grant.
+PERMS = ("rwx", "rw-", "r--", "r-x", "---")
+# What an NFSv4 list allows for these.
+MASKS = {"rwx": "rwaxtcy", "rw-": "rwatcy", "r--": "rtcy", "r-x": "rxtcy", "---": "tcy"}
 # A folder that everybody may search.
 OPEN = "# owner: 0\n# group: 50\nuser::rwx\ngroup::r-x\nother::r-x\n\n"
+
+
+def gids_of(place):
+    """The groups of the user at the place."""
+    return 50 + place % GROUPS, 50 + (place + 13) % GROUPS
 
 
 def setup_of(users):
     """Who there is, and a root that no question here asks about."""
     groups = "".join(f'[[group]]\nname = "g{50 + it}"\ngid = {50 + it}\n' for it in range(GROUPS))
-    member = lambda it: f'"g{50 + it % GROUPS}", "g{50 + (it + 13) % GROUPS}"'
+    member = lambda it: ", ".join(f'"g{gid}"' for gid in gids_of(it))
     return HEAD + groups + "".join(f'[[user]]\nname = "u{1000 + it}"\nuid = {1000 + it}\ngroups = [{member(it)}]\n' for it in range(users))
+
+
+def list_of(variant):
+    """The owner of a file, and what its group, 50, and group 60 may do."""
+    return 1000 + variant % 7, PERMS[variant % 5], PERMS[variant // 5 % 5]
 
 
 def block(place, variant, id):
     """The block of a file, as `getfacl -Rn` prints it: of some 120 bytes. It names the user of this id."""
-    perms = ("rwx", "rw-", "r--", "r-x", "---")
-    head = f"# file: srv/share/{place // FILES_OF_FOLDER}/report-{place}.txt\n# owner: {1000 + variant % 7}\n# group: 50\n"
-    return f"{head}user::rw-\nuser:{id}:r--\ngroup::{perms[variant % 5]}\ngroup:60:{perms[variant // 5 % 5]}\nmask::rwx\nother::---\n\n"
+    owner, of_50, of_60 = list_of(variant)
+    head = f"# file: srv/share/{place // FILES_OF_FOLDER}/report-{place}.txt\n# owner: {owner}\n# group: 50\n"
+    return f"{head}user::rw-\nuser:{id}:r--\ngroup::{of_50}\ngroup:60:{of_60}\nmask::rwx\nother::---\n\n"
 
 
-def write_listing(path, files, variant_of, id_of=lambda place: 5000):
+def nfs4_block(place, variant, id):
+    """The same with an NFSv4 list, as `nfs4_getfacl` prints one."""
+    owner, of_50, of_60 = list_of(variant)
+    head = f"# file: srv/share/{place // FILES_OF_FOLDER}/report-{place}.txt\n# owner: {owner}\n# group: 50\n"
+    entries = ("A::OWNER@:rwatTcCy", f"A::{id}:rtcy", f"A:g:GROUP@:{MASKS[of_50]}", f"A:g:60:{MASKS[of_60]}", "A::EVERYONE@:tcy")
+    return head + "".join(f"{entry}\n" for entry in entries) + "\n"
+
+
+def granted(variant, place):
+    """Which requests a file grants the user at the place, who is none that its list names."""
+    owner, of_50, of_60 = list_of(variant)
+    gids = gids_of(place)
+    of_groups = [perms for gid, perms in ((50, of_50), (60, of_60)) if gid in gids] or ["---"]
+    entries = ["rw-"] if 1000 + place == owner else of_groups
+    return [any(set(request) <= set(perms) for perms in entries) for request in ("r", "w", "x", "rw", "rx", "wx", "rwx")]
+
+
+def write_listing(path, files, variant_of, id_of=lambda place: 5000, block=block):
     with open(path, "w") as file:
         file.write(f"# file: srv\n{OPEN}# file: srv/share\n{OPEN}")
         for start in range(0, files, FILES_OF_FOLDER):
@@ -85,16 +116,24 @@ def main():
     times = int((sys.argv[1:] + ["5"])[0])
     files = int((sys.argv[2:] + ["1000000"])[0])
     with tempfile.TemporaryDirectory() as folder:
-        one, many, shared, each, later = (f"{folder}/{it}" for it in ("one.toml", "many.toml", "shared", "each", "later"))
+        one, many = f"{folder}/one.toml", f"{folder}/many.toml"
+        shared, each, later, nfs4, nfs4_each = (f"{folder}/{it}" for it in ("shared", "each", "later", "nfs4", "nfs4-each"))
         for name, users in ((one, 1), (many, USERS)):
             with open(name, "w") as file:
                 file.write(setup_of(users))
         folder_of = lambda place: place // FILES_OF_FOLDER
         write_listing(shared, files, folder_of)
         write_listing(each, files, lambda place: place, lambda place: 5000 + place)
+        write_listing(nfs4, files, folder_of, block=nfs4_block)
+        write_listing(nfs4_each, files, lambda place: place, lambda place: 5000 + place, nfs4_block)
         # Another variant has another owner: so the one before, in no groups, may no longer read or write.
         write_listing(later, files, lambda place: folder_of(place) + (place % FILES_OF_CHANGE == 0))
         changed = len(range(0, files, FILES_OF_CHANGE))
+        concerned = sum(
+            granted(folder_of(place), user) != granted(folder_of(place) + 1, user)
+            for place in range(0, files, FILES_OF_CHANGE)
+            for user in range(USERS)
+        )
         listed = files + 2 + len(range(0, files, FILES_OF_FOLDER))
         who = lambda setup, *options: ("who", "--setup", setup, *options)
         works = {
@@ -106,7 +145,12 @@ def main():
             f"{USERS} users: the same, `--reach --perms w`": (None, *who(many, "--reach", "--perms", "w"), shared),
             f"{USERS} users: each file with a list of its own, `--perms w`": (None, *who(many, "--perms", "w"), each),
             f"`impact` of two listings, {changed} files changed, one user": (changed, "impact", "--setup", one, shared, later),
+            f"`impact --all` of the same, {USERS} users": (concerned, "impact", "--all", "--setup", many, shared, later),
             "`restore` of the same": (10 * changed, "restore", shared, later),
+            "one user: NFSv4 lists, those of a folder alike, letters": (listed, *who(one), nfs4),
+            "one user: each file with an NFSv4 list of its own, letters": (listed, *who(one), nfs4_each),
+            "`translate` of files of a folder with one list": (None, "translate", shared),
+            "`translate`, each file with a list of its own": (None, "translate", each),
         }
         for name, (lines, *words) in works.items():
             if lines is not None and lines_of(words) != lines:

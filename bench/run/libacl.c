@@ -2,12 +2,11 @@
    an acl_t each, and what libacl has a call for is that call: acl_from_text and acl_valid for `set`, acl_to_any_text for `get`,
    and its entries one after the other for `check` and for modes. Nothing touches a file. The users, the groups and the umask
    are those of bench.c's setup. It knows no default lists and no NFSv4 lists. */
-#include <acl/libacl.h>
 #include <stdint.h>
 #include <stdio.h>
 #include <stdlib.h>
 #include <string.h>
-#include <sys/acl.h>
+#include "../libacl.h"
 
 struct user { const char *name; uid_t uid; gid_t gids[2]; int count; };
 struct group { const char *name; gid_t gid; };
@@ -54,23 +53,6 @@ static void add_node(const char *path, size_t length, int is_dir, uid_t owner, g
     *slot = node_count;
 }
 
-static int perms_of(acl_entry_t entry)
-{
-    acl_permset_t set;
-    acl_get_permset(entry, &set);
-    return (acl_get_perm(set, ACL_READ) ? 4 : 0) | (acl_get_perm(set, ACL_WRITE) ? 2 : 0) | (acl_get_perm(set, ACL_EXECUTE) ? 1 : 0);
-}
-
-static void set_perms(acl_entry_t entry, int perms)
-{
-    acl_permset_t set;
-    acl_get_permset(entry, &set);
-    acl_clear_perms(set);
-    if (perms & 4) acl_add_perm(set, ACL_READ);
-    if (perms & 2) acl_add_perm(set, ACL_WRITE);
-    if (perms & 1) acl_add_perm(set, ACL_EXECUTE);
-}
-
 /* The entries of a mode: the group's is the mask where there is one. */
 struct classes { acl_entry_t user, group, other; };
 
@@ -88,42 +70,6 @@ static struct classes classes_of(acl_t acl)
         else if (tag == ACL_GROUP_OBJ && !masked) of.group = entry;
     }
     return of;
-}
-
-/* Draft 17's check over the entries. */
-static int grants(const struct node *node, uid_t uid, const gid_t *gids, int count, int want)
-{
-    acl_entry_t entry;
-    int mask = 7, user_obj = 0, other = 0, in_group = 0, group_has = 0, named = -1;
-    for (int got = acl_get_entry(node->acl, ACL_FIRST_ENTRY, &entry); got == 1; got = acl_get_entry(node->acl, ACL_NEXT_ENTRY, &entry)) {
-        acl_tag_t tag;
-        acl_get_tag_type(entry, &tag);
-        int perms = perms_of(entry);
-        if (tag == ACL_USER_OBJ) user_obj = perms;
-        else if (tag == ACL_OTHER) other = perms;
-        else if (tag == ACL_MASK) mask = perms;
-        else if (tag == ACL_USER) {
-            uid_t *id = acl_get_qualifier(entry);
-            if (*id == uid) named = perms;
-            acl_free(id);
-        } else {
-            gid_t gid = node->group;
-            if (tag == ACL_GROUP) {
-                gid_t *id = acl_get_qualifier(entry);
-                gid = *id;
-                acl_free(id);
-            }
-            for (int i = 0; i < count; i++)
-                if (gids[i] == gid) {
-                    in_group = 1;
-                    if ((perms & want) == want) group_has = 1;
-                }
-        }
-    }
-    if (uid == node->owner) return (user_obj & want) == want;
-    if (named >= 0) return (named & mask & want) == want;
-    if (in_group) return group_has && (mask & want) == want;
-    return (other & want) == want;
 }
 
 /* The next word of the line, ended by a zero byte; NULL where there is none. */
@@ -305,7 +251,7 @@ static const char *check(char *rest)
     if (!read_perms(letters, &perms)) return "error 4 bad-perms\n";
     const struct node *node = find(path, length);
     if (!node) return "error 20 no-such-path\n";
-    return grants(node, user.uid, user.gids, user.count, perms) ? "granted\n" : "denied\n";
+    return libacl_grants(node->acl, node->owner, node->group, user.uid, user.gids, user.count, perms) ? "granted\n" : "denied\n";
 }
 
 static char *get(char *out, char *rest)

@@ -1,5 +1,6 @@
 pub mod HostLemmas
 pub mod PeopleLemmas
+pub mod SetupPeopleLemmas
 pub mod BlocksLemmas
 pub mod WaysLemmas
 pub mod AnswersLemmas

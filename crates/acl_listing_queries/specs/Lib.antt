@@ -2,6 +2,7 @@ pub mod Host
 pub mod HostFailures
 pub mod Person
 pub mod People
+pub mod PeopleLaws
 pub mod Asked
 pub mod Files
 pub mod Readings

@@ -1,4 +1,5 @@
 //! The laws of what is answered, over the definitions alone.
+ghost use Rattle.acl_listing_queries.specs.PeopleLaws.{EveryoneIsInTheSetup};
 ghost use Rattle.acl_listing_queries.specs.WayLaws.{WaysAreAllAbove};
 
 /// In a listing where a folder stands before what is in it, and all of that before anything else,
@@ -6,4 +7,11 @@ ghost use Rattle.acl_listing_queries.specs.WayLaws.{WaysAreAllAbove};
 /// nothing to run here: a proof cites the contract.
 pub fn way_laws()
     ensures above { WaysAreAllAbove }
+{}
+
+/// By a setup everyone is asked about whom its text has as a user, by name, uid and the gids of the
+/// groups, and nobody else; of these uid 0 is left out. There is nothing to run here: a proof cites
+/// the contract.
+pub fn people_laws()
+    ensures setup { EveryoneIsInTheSetup }
 {}
