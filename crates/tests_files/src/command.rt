@@ -1,4 +1,5 @@
 //! Commands over files at hand, and how they end.
+use crate::broken::Broken;
 use crate::sheet::Sheet;
 use acl_cli::ErrorOutput;
 use std::alloc::Global;
@@ -7,8 +8,17 @@ use std::io::{Read, Write};
 /// What standard error has if memory ran out.
 const MEMORY: &[u8] = b"aclctl: run: memory\n";
 
+/// What standard error has if an answer can't be written.
+const OUTPUT: &[u8] = b"aclctl: run: output\n";
+
+/// What standard error has if standard input fails while it is read.
+const UNREAD: &[u8] = b"aclctl: cannot read -\n";
+
 /// How much of an answer there is room for where a growth may be refused.
 const ROOM: usize = 512;
+
+/// How much where an answer can't be written.
+const SHORT: usize = 9;
 
 /// Whether memory ran out: none if a command ended in any other way than with its answer or with
 /// the line that says so.
@@ -61,6 +71,61 @@ pub trait Command {
         let mut out = Vec::new(alloc);
         let (ended, err) = self.ask(alloc, words, &mut Sheet::new(""), &mut out);
         ended == status && out.as_slice() == text.as_bytes() && err.as_slice() == fault.as_bytes()
+    }
+
+    /// Whether the words end so with these bytes on standard input.
+    final fn ends_on(
+        &self,
+        alloc: Global,
+        words: &[&str],
+        bytes: &[u8],
+        status: u8,
+        text: &str,
+        fault: &str,
+    ) -> bool {
+        let mut input = bytes;
+        let mut out = Vec::new(alloc);
+        let mut err = Vec::new(alloc);
+        let told = &mut ErrorOutput::new(&mut err);
+        let ended = self.run(alloc, words, &mut input, &mut out, told);
+        ended == status && out.as_slice() == text.as_bytes() && err.as_slice() == fault.as_bytes()
+    }
+
+    /// Whether the words are answered by help on standard output.
+    final fn helps(&self, alloc: Global, words: &[&str]) -> bool {
+        let mut out = Vec::new(alloc);
+        let (status, err) = self.ask(alloc, words, &mut Sheet::new(""), &mut out);
+        status == 0 && !out.is_empty() && err.is_empty()
+    }
+
+    /// Whether the words are refused with this status and a fault that ends so, and nothing of
+    /// standard input was read.
+    final fn reads_nothing(&self, alloc: Global, words: &[&str], status: u8, fault: &str) -> bool {
+        let mut out = Vec::new(alloc);
+        let mut input = Sheet::new("# file: a\n");
+        let (ended, err) = self.ask(alloc, words, &mut input, &mut out);
+        let is_told = !err.is_empty() && err.ends_with(fault.as_bytes());
+        ended == status && out.is_empty() && is_told && input.left() == 10
+    }
+
+    /// Whether the words end with this front of their answer, where there is room for no more than
+    /// 9 bytes.
+    final fn is_cut(&self, alloc: Global, words: &[&str], front: &str) -> bool {
+        let mut room = [0; SHORT];
+        let mut out = room.as_mut_slice();
+        let mut err = Vec::new(alloc);
+        let told = &mut ErrorOutput::new(&mut err);
+        let status = self.run(alloc, words, &mut Sheet::new(""), &mut out, told);
+        status == 3 && room.as_slice() == front.as_bytes() && err.as_slice() == OUTPUT
+    }
+
+    /// Whether nothing is told but the fault, where standard input fails after these bytes.
+    final fn fails_behind(&self, alloc: Global, words: &[&str], bytes: &[u8]) -> bool {
+        let mut out = Vec::new(alloc);
+        let mut err = Vec::new(alloc);
+        let told = &mut ErrorOutput::new(&mut err);
+        let status = self.run(alloc, words, &mut Broken::new(bytes), &mut out, told);
+        status == 3 && out.is_empty() && err.as_slice() == UNREAD
     }
 
     /// Whether memory ran out in the command of these words, on writers that take no memory.

@@ -1,7 +1,5 @@
 //! What `lint` is refused for, and what it lacks.
 use crate::fixture::lint;
-use acl_cli::ErrorOutput;
-use std::alloc::Global;
 use std::test::Fail;
 use tests_files::{Command, Sheet};
 
@@ -47,16 +45,8 @@ fn faults_of_files(rt: HostRuntime) {
 
 /// The parser of command lines refuses words before anything is read.
 #[test]
-fn words_that_are_refused(rt: HostRuntime) -> Result<(), Fail> {
-    let mut out = Vec::new(rt.alloc());
-    let mut input = Sheet::new("x\n");
-    let words = ["lint", "--setup", "office"];
-    let (status, err) = lint().ask(rt.alloc(), &words, &mut input, &mut out);
-    assert_eq!(rt; status, 2);
-    assert!(rt; out.is_empty());
-    assert!(rt; !err.is_empty());
-    assert_eq!(rt; input.left(), 2);
-    Ok(())
+fn words_that_are_refused(rt: HostRuntime) {
+    assert!(rt; lint().reads_nothing(rt.alloc(), &["lint", "--setup", "office"], 2, ""));
 }
 
 /// Nobody else reads standard input.
@@ -77,22 +67,9 @@ const CUT: [(&[&str], &str); 2] = [
     (&["lint", "--setup", "no-uid", "faulty"], "no-uid: b"),
 ];
 
-/// Whether the words end with this front of their answer, where there is room for no more than 9
-/// bytes.
-fn is_cut(alloc: Global, words: &[&str], front: &str) -> bool {
-    let mut room = [0; 9];
-    let mut out = room.as_mut_slice();
-    let mut err = Vec::new(alloc);
-    let told = &mut ErrorOutput::new(&mut err);
-    let status = lint().run(alloc, words, &mut Sheet::new(""), &mut out, told);
-    status == 3
-        && room.as_slice() == front.as_bytes()
-        && err.as_slice() == b"aclctl: run: output\n".as_slice()
-}
-
 #[test]
 fn an_answer_that_cannot_be_written(rt: HostRuntime) {
     for (words, front) in CUT {
-        assert!(rt; is_cut(rt.alloc(), words, front), "{front}");
+        assert!(rt; lint().is_cut(rt.alloc(), words, front), "{front}");
     }
 }

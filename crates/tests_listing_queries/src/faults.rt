@@ -1,5 +1,6 @@
 //! What is said on standard error of blocks that don't read.
-use crate::fixture::ends;
+use crate::fixture::who;
+use tests_files::Command;
 
 /// One block reads. Of the others each breaks another rule, and the last has a long path.
 const FAULTY: &[u8] =
@@ -31,6 +32,9 @@ const FAULTS: [(&[u8], &str, &str); 4] = [
 fn faults_of_blocks(rt: HostRuntime) {
     let words = ["who", "--accounts", "office", "-"];
     for (listing, text, said) in FAULTS {
-        assert!(rt; ends(rt.alloc(), &words, listing, 4, text, said), "{said}");
+        assert!(rt;
+            who().ends_on(rt.alloc(), &words, listing, 4, text, said),
+            "{said}"
+        );
     }
 }

@@ -1,8 +1,6 @@
 //! Accounts and listings at hand, and how commands are asked about them.
-use acl_cli::ErrorOutput;
 use acl_listing_queries::{ImpactOfListings, Restore, Translate, WhoOfListing, Why};
-use std::alloc::Global;
-use tests_files::{Command, OnShelf};
+use tests_files::OnShelf;
 
 /// Three users beside root: two are of staff, and one of these is of ops too.
 const OFFICE: &str =
@@ -129,22 +127,4 @@ pub fn restore() -> OnShelf<Restore> {
 /// `translate` of a listing, over the files.
 pub fn translate() -> OnShelf<Translate> {
     OnShelf::new(Translate, FILES)
-}
-
-/// Whether the words end so with this listing on standard input: with this status, and with these
-/// texts on the output and for faults.
-pub fn ends(
-    alloc: Global,
-    words: &[&str],
-    listing: &[u8],
-    status: u8,
-    text: &str,
-    faults: &str,
-) -> bool {
-    let mut input = listing;
-    let mut out = Vec::new(alloc);
-    let mut err = Vec::new(alloc);
-    let told = &mut ErrorOutput::new(&mut err);
-    let ended = who().run(alloc, words, &mut input, &mut out, told);
-    ended == status && out.as_slice() == text.as_bytes() && err.as_slice() == faults.as_bytes()
 }

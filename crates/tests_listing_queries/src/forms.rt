@@ -1,5 +1,6 @@
 //! Blocks of NFSv4 lists.
-use crate::fixture::ends;
+use crate::fixture::who;
+use tests_files::Command;
 
 /// The owner may append too, a group's member may execute, and one may write and not append.
 const NFS4: &[u8] =
@@ -37,7 +38,10 @@ const ANSWERS: [(&[&str], &[u8], &str); 4] = [
 #[test]
 fn who_of_nfs4_lists(rt: HostRuntime) {
     for (words, listing, text) in ANSWERS {
-        assert!(rt; ends(rt.alloc(), words, listing, 0, text, ""), "{text}");
+        assert!(rt;
+            who().ends_on(rt.alloc(), words, listing, 0, text, ""),
+            "{text}"
+        );
     }
 }
 
@@ -49,7 +53,7 @@ const MIXED: &[u8] =
 fn reach_through_both_styles(rt: HostRuntime) {
     let words = ["who", "--accounts", "office", "--reach", "-"];
     let text = "r-x alice d\n--x bob d\nr-- alice d/f\nr-- bob d/f\n";
-    assert!(rt; ends(rt.alloc(), &words, MIXED, 0, text, ""));
+    assert!(rt; who().ends_on(rt.alloc(), &words, MIXED, 0, text, ""));
 }
 
 /// A default list that doesn't read, and entries of two forms.
@@ -61,5 +65,5 @@ fn faults_of_lists(rt: HostRuntime) {
     let words = ["who", "--accounts", "office", "-"];
     let said =
         "aclctl: -:8: unknown-name: default:user:gone:rwx\naclctl: -:14: bad-acl: owner@:r::allow\naclctl: -: is it a listing?\naclctl: -: 2 of 2 files were not answered\n";
-    assert!(rt; ends(rt.alloc(), &words, FAULTY, 4, "", said));
+    assert!(rt; who().ends_on(rt.alloc(), &words, FAULTY, 4, "", said));
 }

@@ -1,5 +1,6 @@
 //! What is guessed of a text of which no block reads.
-use crate::fixture::ends;
+use crate::fixture::who;
+use tests_files::Command;
 
 /// The text, and what is said of it.
 const GUESSES: [(&[u8], &str); 8] = [
@@ -41,6 +42,9 @@ const GUESSES: [(&[u8], &str); 8] = [
 fn texts_that_are_no_listing(rt: HostRuntime) {
     let words = ["who", "--accounts", "office", "-"];
     for (text, said) in GUESSES {
-        assert!(rt; ends(rt.alloc(), &words, text, 4, "", said), "{said}");
+        assert!(rt;
+            who().ends_on(rt.alloc(), &words, text, 4, "", said),
+            "{said}"
+        );
     }
 }

@@ -1,9 +1,7 @@
 //! `impact` of two listings.
 use crate::fixture::impact;
-use acl_cli::ErrorOutput;
 use std::alloc::Global;
-use std::test::Fail;
-use tests_files::{Broken, Command, Sheet};
+use tests_files::{Command, Sheet};
 
 /// The words, the status, what is told, and what is said.
 const ANSWERS: [(&[&str], u8, &str, &str); 11] = [
@@ -162,50 +160,23 @@ fn somebody_else(rt: HostRuntime) {
     assert!(rt; tells_of_somebody(rt.alloc(), &all));
 }
 
-/// Whether the words are refused so, and nothing of standard input was read.
-fn reads_nothing(alloc: Global, words: &[&str], fault: &str) -> bool {
-    let mut out = Vec::new(alloc);
-    let mut input = Sheet::new("# file: a\n");
-    let (ended, err) = impact().ask(alloc, words, &mut input, &mut out);
-    ended == 2 && out.is_empty() && err.ends_with(fault.as_bytes()) && input.left() == 10
-}
-
 /// Standard input may be one of the listings, and not both.
 #[test]
 fn standard_input_is_named_once(rt: HostRuntime) {
-    let twice = "aclctl: - is given twice\n";
-    assert!(rt;
-        reads_nothing(
-            rt.alloc(),
-            &["impact", "--accounts", "absent", "-", "-"],
-            twice
-        )
-    );
-    assert!(rt; reads_nothing(rt.alloc(), &["impact", "-"], ""));
+    let twice = ["impact", "--accounts", "absent", "-", "-"];
+    let fault = "aclctl: - is given twice\n";
+    assert!(rt; impact().reads_nothing(rt.alloc(), &twice, 2, fault));
+    assert!(rt; impact().reads_nothing(rt.alloc(), &["impact", "-"], 2, ""));
 }
 
 #[test]
 fn help_is_an_answer(rt: HostRuntime) {
-    let mut out = Vec::new(rt.alloc());
-    let words = ["impact", "--help"];
-    let (status, err) = impact().ask(rt.alloc(), &words, &mut Sheet::new(""), &mut out);
-    assert!(rt; status == 0 && !out.is_empty() && err.is_empty());
+    assert!(rt; impact().helps(rt.alloc(), &["impact", "--help"]));
 }
 
 /// A listing after that fails is told of behind a front of the answer.
 #[test]
-fn a_listing_that_fails(rt: HostRuntime) -> Result<(), Fail> {
-    let mut out = Vec::new(rt.alloc());
-    let mut err = Vec::new(rt.alloc());
-    let status = impact().run(
-        rt.alloc(),
-        &["impact", "--accounts", "office", "before", "-"],
-        &mut Broken::new(b"# file: srv\n"),
-        &mut out,
-        &mut ErrorOutput::new(&mut err),
-    );
-    assert_eq!(rt; status, 3);
-    assert!(rt; out.is_empty());
-    assert!(rt; err.as_slice() == b"aclctl: cannot read -\n".as_slice());
-    Ok(())
+fn a_listing_that_fails(rt: HostRuntime) {
+    let words = ["impact", "--accounts", "office", "before", "-"];
+    assert!(rt; impact().fails_behind(rt.alloc(), &words, b"# file: srv\n"));
 }

@@ -1,5 +1,5 @@
 //! Who may do what with each file.
-use crate::fixture::{ends, who};
+use crate::fixture::who;
 use tests_files::Command;
 
 /// Two files with the same entries, of which somebody asked about owns one. What one group grants
@@ -49,7 +49,10 @@ const ANSWERS: [(&[&str], &[u8], &str); 5] = [
 #[test]
 fn who_may_do_what(rt: HostRuntime) {
     for (words, listing, text) in ANSWERS {
-        assert!(rt; ends(rt.alloc(), words, listing, 0, text, ""), "{text}");
+        assert!(rt;
+            who().ends_on(rt.alloc(), words, listing, 0, text, ""),
+            "{text}"
+        );
     }
 }
 

@@ -1,5 +1,6 @@
 //! Names as `getfacl` writes them, and users of many groups or of one uid.
-use crate::fixture::ends;
+use crate::fixture::who;
+use tests_files::Command;
 
 /// The owner and the group with octal digits, and then as they are.
 const WRITTEN: &[u8] =
@@ -63,6 +64,9 @@ const ANSWERS: [(&[&str], &[u8], &str); 6] = [
 #[test]
 fn names_and_groups(rt: HostRuntime) {
     for (words, listing, text) in ANSWERS {
-        assert!(rt; ends(rt.alloc(), words, listing, 0, text, ""), "{text}");
+        assert!(rt;
+            who().ends_on(rt.alloc(), words, listing, 0, text, ""),
+            "{text}"
+        );
     }
 }

@@ -1,5 +1,5 @@
 //! Who reaches a file: who may also search each folder above it.
-use crate::fixture::{ends, who};
+use crate::fixture::who;
 use tests_files::Command;
 
 /// Bob is in the group of the inner folder, which may not search it, and carol is outside of both.
@@ -39,7 +39,7 @@ fn ways_that_are_unknown(rt: HostRuntime) {
     let text = "alice srv\nbob srv\nalice plan\n";
     let faults =
         "aclctl: -:8: unknown-way: # file: srv/gone/file\naclctl: -:16: unknown-name: # owner: nobody\naclctl: -:22: unknown-way: # file: other/file\naclctl: -:36: bad-header: # owner: alice\naclctl: -:38: unknown-way: # file: last\naclctl: -: 5 of 7 files were not answered\n";
-    assert!(rt; ends(rt.alloc(), &words, UNKNOWN, 4, text, faults));
+    assert!(rt; who().ends_on(rt.alloc(), &words, UNKNOWN, 4, text, faults));
 }
 
 /// The folder where the listing was made is above what has no path from the root.
@@ -50,7 +50,7 @@ const HERE: &[u8] =
 fn where_the_listing_was_made(rt: HostRuntime) {
     let words = ["who", "--accounts", "office", "--reach", "-"];
     let text = "rwx alice .\nr-- bob .\nr-- alice a\nr-- alice /a\nrw- bob /a\n";
-    assert!(rt; ends(rt.alloc(), &words, HERE, 0, text, ""));
+    assert!(rt; who().ends_on(rt.alloc(), &words, HERE, 0, text, ""));
 }
 
 /// A block whose way alone is unknown reads, so it isn't asked what the text may be.
@@ -61,5 +61,5 @@ fn a_lost_listing_is_one(rt: HostRuntime) {
     let words = ["who", "--accounts", "office", "--reach", "-"];
     let faults =
         "aclctl: -:1: bad-header: # owner: alice\naclctl: -:3: unknown-way: # file: a\naclctl: -: 2 of 2 files were not answered\n";
-    assert!(rt; ends(rt.alloc(), &words, LOST, 4, "", faults));
+    assert!(rt; who().ends_on(rt.alloc(), &words, LOST, 4, "", faults));
 }

@@ -2,8 +2,7 @@
 use crate::fixture::restore;
 use acl_cli::ErrorOutput;
 use std::alloc::Global;
-use std::test::Fail;
-use tests_files::{Broken, Command, Sheet};
+use tests_files::{Command, Sheet};
 
 /// The blocks before of what changed, in the order of the listing after, byte for byte.
 const RESTORED: &str =
@@ -83,26 +82,15 @@ fn long_blocks(rt: HostRuntime) {
     assert!(rt; is_restored(rt.alloc(), 65_537, 4, 0));
 }
 
-/// Whether the words are refused so, and nothing of standard input was read.
-fn reads_nothing(alloc: Global, words: &[&str], fault: &str) -> bool {
-    let mut out = Vec::new(alloc);
-    let mut input = Sheet::new("# file: a\n");
-    let (ended, err) = restore().ask(alloc, words, &mut input, &mut out);
-    ended == 2 && out.is_empty() && err.ends_with(fault.as_bytes()) && input.left() == 10
-}
-
 /// Standard input may be one of the listings, and not both.
 #[test]
 fn standard_input_is_named_once(rt: HostRuntime) {
-    assert!(rt;
-        reads_nothing(
-            rt.alloc(),
-            &["restore", "-", "-"],
-            "aclctl: - is given twice\n"
-        )
-    );
-    assert!(rt; reads_nothing(rt.alloc(), &["restore", "-"], ""));
-    assert!(rt; reads_nothing(rt.alloc(), &["restore", "-", "before", "after"], ""));
+    let twice = ["restore", "-", "-"];
+    let fault = "aclctl: - is given twice\n";
+    let more = ["restore", "-", "before", "after"];
+    assert!(rt; restore().reads_nothing(rt.alloc(), &twice, 2, fault));
+    assert!(rt; restore().reads_nothing(rt.alloc(), &["restore", "-"], 2, ""));
+    assert!(rt; restore().reads_nothing(rt.alloc(), &more, 2, ""));
 }
 
 /// Whether this listing after, on standard input, is answered so beside the one with the block `a`.
@@ -124,26 +112,11 @@ fn the_listing_after_is_standard_input(rt: HostRuntime) {
 
 #[test]
 fn help_is_an_answer(rt: HostRuntime) {
-    let mut out = Vec::new(rt.alloc());
-    let words = ["restore", "--help"];
-    let (status, err) = restore().ask(rt.alloc(), &words, &mut Sheet::new(""), &mut out);
-    assert!(rt; status == 0 && !out.is_empty() && err.is_empty());
+    assert!(rt; restore().helps(rt.alloc(), &["restore", "--help"]));
 }
 
 /// A listing before that fails is told of, and no block is.
 #[test]
-fn a_listing_that_fails(rt: HostRuntime) -> Result<(), Fail> {
-    let mut out = Vec::new(rt.alloc());
-    let mut err = Vec::new(rt.alloc());
-    let status = restore().run(
-        rt.alloc(),
-        &["restore", "-", "after"],
-        &mut Broken::new(b"# file: srv\n"),
-        &mut out,
-        &mut ErrorOutput::new(&mut err),
-    );
-    assert_eq!(rt; status, 3);
-    assert!(rt; out.is_empty());
-    assert!(rt; err.as_slice() == b"aclctl: cannot read -\n".as_slice());
-    Ok(())
+fn a_listing_that_fails(rt: HostRuntime) {
+    assert!(rt; restore().fails_behind(rt.alloc(), &["restore", "-", "after"], b"# file: srv\n"));
 }

@@ -1,7 +1,5 @@
 //! Listings with an NFSv4 list for each file. What these are was worked out by hand.
 use crate::fixture::translate;
-use acl_cli::ErrorOutput;
-use std::alloc::Global;
 use tests_files::Command;
 
 /// A file with a mask, and a folder with flags and a default list.
@@ -37,23 +35,6 @@ const EMPTY_MASK: &[u8] =
 
 const EMPTY_MASK_AS_NFS4: &str =
     "# file: a\n# owner: alice\n# group: staff\nA::OWNER@:rwa\nD::OWNER@:x\nD::GROUP@:rwax\nA::EVERYONE@:r\n\n";
-
-/// Whether the words end so with this listing on standard input.
-fn ends(
-    alloc: Global,
-    words: &[&str],
-    listing: &[u8],
-    status: u8,
-    text: &str,
-    faults: &str,
-) -> bool {
-    let mut input = listing;
-    let mut out = Vec::new(alloc);
-    let mut err = Vec::new(alloc);
-    let told = &mut ErrorOutput::new(&mut err);
-    let ended = translate().run(alloc, words, &mut input, &mut out, told);
-    ended == status && out.as_slice() == text.as_bytes() && err.as_slice() == faults.as_bytes()
-}
 
 /// The words, the listing, and what is told.
 const ANSWERS: [(&[&str], &[u8], &str); 8] = [
@@ -105,7 +86,10 @@ const ANSWERS: [(&[&str], &[u8], &str); 8] = [
 #[test]
 fn translations(rt: HostRuntime) {
     for (words, listing, text) in ANSWERS {
-        assert!(rt; ends(rt.alloc(), words, listing, 0, text, ""), "{text}");
+        assert!(rt;
+            translate().ends_on(rt.alloc(), words, listing, 0, text, ""),
+            "{text}"
+        );
     }
 }
 
@@ -114,9 +98,9 @@ fn translations(rt: HostRuntime) {
 fn translations_again(rt: HostRuntime) {
     let words = ["translate", "--accounts", "office", "-"];
     let listing = AS_FREEBSD.as_bytes();
-    assert!(rt; ends(rt.alloc(), &words, listing, 0, AS_NFS4, ""));
+    assert!(rt; translate().ends_on(rt.alloc(), &words, listing, 0, AS_NFS4, ""));
     let listing = AS_NFS4.as_bytes();
-    assert!(rt; ends(rt.alloc(), &words, listing, 0, AS_NFS4, ""));
+    assert!(rt; translate().ends_on(rt.alloc(), &words, listing, 0, AS_NFS4, ""));
 }
 
 /// A block that doesn't read, a form that there isn't, and help.
@@ -128,10 +112,10 @@ fn refused(rt: HostRuntime) {
     let text = "# file: b\n# owner: 0\n# group: 0\nA::OWNER@:r\nD::OWNER@:wax\nD::GROUP@:rwax\n\n";
     let said =
         "aclctl: -:2: unknown-name: # owner: gone\naclctl: -: 1 of 2 files were not answered\n";
-    assert!(rt; ends(rt.alloc(), &words, listing, 4, text, said));
+    assert!(rt; translate().ends_on(rt.alloc(), &words, listing, 4, text, said));
     let words = ["translate", "--accounts", "office", "--form", "posix", "-"];
-    assert!(rt; ends(rt.alloc(), &words, listing, 1, "", "aclctl: bad-style\n"));
+    assert!(rt; translate().ends_on(rt.alloc(), &words, listing, 1, "", "aclctl: bad-style\n"));
     let words = ["translate", "--accounts", "absent", "-"];
     let said = "aclctl: cannot read absent: No such file or directory\n";
-    assert!(rt; ends(rt.alloc(), &words, listing, 1, "", said));
+    assert!(rt; translate().ends_on(rt.alloc(), &words, listing, 1, "", said));
 }

@@ -1,9 +1,6 @@
 //! `why` of a file of a listing.
 use crate::fixture::why;
-use acl_cli::ErrorOutput;
-use std::alloc::Global;
-use std::test::Fail;
-use tests_files::{Broken, Command, Sheet};
+use tests_files::Command;
 
 /// Of alice, and of bob, about one file: the second folder above it grants neither of them x.
 const ALICE: &str =
@@ -134,62 +131,35 @@ fn faults_of_files_and_fields(rt: HostRuntime) {
     }
 }
 
-/// Whether the words are refused by their parser, and nothing of standard input was read.
-fn reads_nothing(alloc: Global, words: &[&str]) -> bool {
-    let mut out = Vec::new(alloc);
-    let mut input = Sheet::new("# file: a\n");
-    let (ended, err) = why().ask(alloc, words, &mut input, &mut out);
-    ended == 2 && out.is_empty() && !err.is_empty() && input.left() == 10
-}
-
 #[test]
 fn nothing_is_read_in_vain(rt: HostRuntime) {
-    assert!(rt; reads_nothing(rt.alloc(), &["why", "--user", "alice", "-", "a"]));
-    assert!(rt; reads_nothing(rt.alloc(), &["why", "--perms", "r", "-", "a"]));
-    assert!(rt; reads_nothing(rt.alloc(), &["why", "--user", "alice", "--perms", "r", "-"]));
+    assert!(rt; why().reads_nothing(rt.alloc(), &["why", "--user", "alice", "-", "a"], 2, ""));
+    assert!(rt; why().reads_nothing(rt.alloc(), &["why", "--perms", "r", "-", "a"], 2, ""));
+    assert!(rt;
+        why().reads_nothing(
+            rt.alloc(),
+            &["why", "--user", "alice", "--perms", "r", "-"],
+            2,
+            ""
+        )
+    );
 }
 
 #[test]
 fn help_is_an_answer(rt: HostRuntime) {
-    let mut out = Vec::new(rt.alloc());
-    let words = ["why", "--help"];
-    let (status, err) = why().ask(rt.alloc(), &words, &mut Sheet::new(""), &mut out);
-    assert!(rt; status == 0 && !out.is_empty() && err.is_empty());
+    assert!(rt; why().helps(rt.alloc(), &["why", "--help"]));
 }
 
 /// A front of the answer went out.
 #[test]
-fn an_answer_that_cannot_be_written(rt: HostRuntime) -> Result<(), Fail> {
-    let mut room = [0; 9];
-    let mut out = room.as_mut_slice();
-    let mut err = Vec::new(rt.alloc());
-    let status = why().run(
-        rt.alloc(),
-        &["why", "--user", "alice", "--perms", "r", "plan", "srv/plan"],
-        &mut Sheet::new(""),
-        &mut out,
-        &mut ErrorOutput::new(&mut err),
-    );
-    assert_eq!(rt; status, 3);
-    assert!(rt; room == *b"granted\nf");
-    assert!(rt; err.as_slice() == b"aclctl: run: output\n".as_slice());
-    Ok(())
+fn an_answer_that_cannot_be_written(rt: HostRuntime) {
+    let words = ["why", "--user", "alice", "--perms", "r", "plan", "srv/plan"];
+    assert!(rt; why().is_cut(rt.alloc(), &words, "granted\nf"));
 }
 
 /// A listing that fails before the path is met.
 #[test]
-fn a_listing_that_fails(rt: HostRuntime) -> Result<(), Fail> {
-    let mut out = Vec::new(rt.alloc());
-    let mut err = Vec::new(rt.alloc());
-    let status = why().run(
-        rt.alloc(),
-        &["why", "--user", "alice", "--perms", "r", "-", "b"],
-        &mut Broken::new(b"# file: a\n"),
-        &mut out,
-        &mut ErrorOutput::new(&mut err),
-    );
-    assert_eq!(rt; status, 3);
-    assert!(rt; out.is_empty());
-    assert!(rt; err.as_slice() == b"aclctl: cannot read -\n".as_slice());
-    Ok(())
+fn a_listing_that_fails(rt: HostRuntime) {
+    let words = ["why", "--user", "alice", "--perms", "r", "-", "b"];
+    assert!(rt; why().fails_behind(rt.alloc(), &words, b"# file: a\n"));
 }

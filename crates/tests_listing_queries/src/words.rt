@@ -1,9 +1,6 @@
 //! What is refused before anything is told, help, and answers that are cut off.
-use crate::fixture::{ends, who};
-use acl_cli::ErrorOutput;
-use std::alloc::Global;
-use std::test::Fail;
-use tests_files::{Broken, Command, Sheet};
+use crate::fixture::who;
+use tests_files::Command;
 
 /// The words, the status, and what standard error has.
 const FAULTS: [(&[&str], u8, &str); 11] = [
@@ -71,69 +68,29 @@ fn faults_of_files_and_fields(rt: HostRuntime) {
     }
 }
 
-/// Whether the words are refused so, and nothing of standard input was read.
-fn reads_nothing(alloc: Global, words: &[&str], status: u8) -> bool {
-    let mut out = Vec::new(alloc);
-    let mut input = Sheet::new("# file: a\n");
-    let (ended, err) = who().ask(alloc, words, &mut input, &mut out);
-    ended == status && out.is_empty() && !err.is_empty() && input.left() == 10
-}
-
 /// The parser of command lines refuses words before anything is read; nor is a listing read if the
 /// accounts can't be.
 #[test]
 fn nothing_is_read_in_vain(rt: HostRuntime) {
-    assert!(rt; reads_nothing(rt.alloc(), &["who", "--accounts", "office"], 2));
-    assert!(rt; reads_nothing(rt.alloc(), &["who", "-", "plan"], 2));
-    assert!(rt; reads_nothing(rt.alloc(), &["who", "--accounts", "bad", "-"], 1));
-}
-
-/// Whether these words are answered by help on standard output.
-fn helps(alloc: Global, words: &[&str]) -> bool {
-    let mut out = Vec::new(alloc);
-    let (status, err) = who().ask(alloc, words, &mut Sheet::new(""), &mut out);
-    status == 0 && !out.is_empty() && err.is_empty()
+    assert!(rt; who().reads_nothing(rt.alloc(), &["who", "--accounts", "office"], 2, ""));
+    assert!(rt; who().reads_nothing(rt.alloc(), &["who", "-", "plan"], 2, ""));
+    assert!(rt; who().reads_nothing(rt.alloc(), &["who", "--accounts", "bad", "-"], 1, ""));
 }
 
 #[test]
 fn help_is_an_answer(rt: HostRuntime) {
-    assert!(rt; helps(rt.alloc(), &["who", "--help"]));
-    assert!(rt; helps(rt.alloc(), &["who", "--accounts", "absent", "-h"]));
+    assert!(rt; who().helps(rt.alloc(), &["who", "--help"]));
+    assert!(rt; who().helps(rt.alloc(), &["who", "--accounts", "absent", "-h"]));
 }
 
 /// A front of the answer went out.
 #[test]
-fn an_answer_that_cannot_be_written(rt: HostRuntime) -> Result<(), Fail> {
-    let mut room = [0; 9];
-    let mut out = room.as_mut_slice();
-    let mut err = Vec::new(rt.alloc());
-    let status = who().run(
-        rt.alloc(),
-        &["who", "plan"],
-        &mut Sheet::new(""),
-        &mut out,
-        &mut ErrorOutput::new(&mut err),
-    );
-    assert_eq!(rt; status, 3);
-    assert!(rt; room == *b"rw- alice");
-    assert!(rt; err.as_slice() == b"aclctl: run: output\n".as_slice());
-    Ok(())
+fn an_answer_that_cannot_be_written(rt: HostRuntime) {
+    assert!(rt; who().is_cut(rt.alloc(), &["who", "plan"], "rw- alice"));
 }
 
 /// Nothing is said of how many blocks there were.
 #[test]
-fn a_listing_that_fails(rt: HostRuntime) -> Result<(), Fail> {
-    let mut out = Vec::new(rt.alloc());
-    let mut err = Vec::new(rt.alloc());
-    let status = who().run(
-        rt.alloc(),
-        &["who", "-"],
-        &mut Broken::new(b"# file: a\n"),
-        &mut out,
-        &mut ErrorOutput::new(&mut err),
-    );
-    assert_eq!(rt; status, 3);
-    assert!(rt; out.is_empty());
-    assert!(rt; err.as_slice() == b"aclctl: cannot read -\n".as_slice());
-    Ok(())
+fn a_listing_that_fails(rt: HostRuntime) {
+    assert!(rt; who().fails_behind(rt.alloc(), &["who", "-"], b"# file: a\n"));
 }
