@@ -1,6 +1,7 @@
 -- Of files that are decided about alike nothing is told, nor of one that stays as it is.
 use Rattle.std.proofs.Common.{◌≡◌, ◌∙◌, ◌&&◌, ℕ, Bool, true, false, List, [], ◌∷◌, None, Ok, Result, ap, append-nil, inl, refl, subst, sym}
 use Rattle.std.specs.List.{AllByRecursion}
+use Rattle.std.proofs.lemmas.Bool.{true≢false}
 use Rattle.acl_names.specs.Requester.{Identity}
 use Rattle.acl_bridge.specs.Comparison.{Granter}
 use Rattle.acl_audit.specs.Changes.{File, IsAlikeToAll, file_of, granter_of, requests_between}
@@ -58,16 +59,16 @@ alike_itself file requester = record {
   requests = granted_alike (granter_of file) requester (requests_between file.acl file.acl);
 }
 
-unchanged : Changed
+abbrev unchanged : Changed
 unchanged = record { owner = false; group = false; flags = false; access = false; default = false }
 
 is_unchanged : (file : FileValue) → IsChanged file file unchanged
 is_unchanged file = record {
-  owner = (λ is. absurd is, λ differs. differs refl);
-  group = (λ is. absurd is, λ differs. differs refl);
-  flags = (λ is. absurd is, λ differs. differs refl);
-  access = (λ is. absurd is, λ differs. differs refl);
-  default = (λ is. absurd is, λ differs. differs refl);
+  owner = (λ is. absurd (true≢false (sym is)), λ differs. absurd (differs refl));
+  group = (λ is. absurd (true≢false (sym is)), λ differs. absurd (differs refl));
+  flags = (λ is. absurd (true≢false (sym is)), λ differs. absurd (differs refl));
+  access = (λ is. absurd (true≢false (sym is)), λ differs. absurd (differs refl));
+  default = (λ is. absurd (true≢false (sym is)), λ differs. absurd (differs refl));
 }
 
 nothing_written : (asked : Bool) (path : List ℕ) → [] ≡ changed_text asked unchanged path

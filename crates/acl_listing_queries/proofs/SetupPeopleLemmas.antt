@@ -4,7 +4,7 @@ use Rattle.std.specs.Prelude.{◌↔◌, ◌==◌, IsSome, option_and_then}
 use Rattle.std.specs.Cmp.Lexicographic.{slice_cmp}
 use Rattle.std.specs.List.{Contains, filter_map, list_any, zip}
 use Rattle.std.specs.Option.{option_map_or}
-use Rattle.std.proofs.lemmas.Bool.{or_parts}
+use Rattle.std.proofs.lemmas.Bool.{or_parts, true≢false}
 use Rattle.std.proofs.lemmas.Bool.Decides.{Decides-eqb}
 use Rattle.std.proofs.lemmas.Cmp.{nat_cmp_total, nat_list_cmp_total}
 use Rattle.std.proofs.lemmas.Slice.Eq.{bytes_eq-Decides}
@@ -164,7 +164,7 @@ not_refused known None is none = refl
 not_refused known (Some fault) is none = absurd (by (key_of_parts known.domain known.users known.groups fault) (tells_the_part.some known fault is) none)
   where
     by : (key : Option Key) → IsSome key → option_map (Parts fault) key ≡ None → ⊥
-    by None some none = some
+    by None some none = absurd (true≢false (sym some))
     by (Some key) some none = cc
 
 module _ (said : setup.Setup) (directory : Known) (tree : NodesUnderUmask) where
@@ -198,7 +198,7 @@ module _ (said : setup.Setup) (directory : Known) (tree : NodesUnderUmask) where
 pub everyone_is_in_the_setup : EveryoneIsInTheSetup
 everyone_is_in_the_setup bytes directory opens =
     let opened : Opens bytes directory opens.tree = subst (λ text. Opens text directory opens.tree) opens.setup_is opens.opened in
-    (opened.0, opened.1, by (setup_in opened.0) refl opened.2)
+    (opened.0, opened.1, by opened.0 (setup_in opened.0) refl opened.2)
   where
     people : (said : setup.Setup) → (fault_of said.known ≡ None) × AnswersAs directory said.known → (one : Person) → Contains (everyone (Setup directory)) one ↔ IsUserOf said.known one
     people said (none, answers) one =
@@ -207,7 +207,7 @@ everyone_is_in_the_setup bytes directory opens =
         let once = users_once said.known none in
         (is_in_parts directory said.known answers names once.0 once.1 one, is_in_known directory said.known answers names once.0 once.1 one)
 
-    by : {table : Members} (reading : Result setup.Setup Key) → setup_in table ≡ reading → IsOpened (map_fault BadField reading >>= opened_by) directory opens.tree
+    by : (table : Members) (reading : Result setup.Setup Key) → setup_in table ≡ reading → IsOpened (map_fault BadField reading >>= opened_by) directory opens.tree
         → (said : setup.Setup) × (setup_in table ≡ Ok said) × ((one : Person) → Contains (everyone (Setup directory)) one ↔ IsUserOf said.known one)
-    by (Err key) is opened = absurd opened
-    by (Ok said) is opened = (said, is, people said (opened_as said directory opens.tree opened))
+    by table (Err key) is opened = absurd opened
+    by table (Ok said) is opened = (said, is, people said (opened_as said directory opens.tree opened))

@@ -1,9 +1,13 @@
-use Rattle.std.proofs.Common.{rules, ◌≡◌, ◌∙◌, ◌&&◌, ap, length}
+use Rattle.std.proofs.Common.{rules, ◌≡◌, ◌∙◌, ◌&&◌, ap, length, refl}
 use Rattle.std.specs.Prelude.{nat_eq}
 use Rattle.std.proofs.lemmas.Result.{on_ok_weaker}
 use Rattle.acl_listing_queries.specs.ImpactSteps.{asking_by}
+use Rattle.acl_listing_queries.proofs.AlikeLemmas.{nobody_told}
 use Rattle.acl_listing_queries.proofs.ImpactLemmas.{impact_told}
 use Rattle.acl_listing_queries.proofs.impact.teller.ImpactTeller.push_impact.Goals as goal
+
+pub returns-then-is_same_file : goal.returns-then-is_same_file
+returns-then-is_same_file c = nobody_told c.args.before.now c.args.after.now c.args.path.now (c.if-is_same_file.ensures.alike refl) (asking_by c.args.self.now) c.args.out.now.items
 
 pub returns : goal.returns
 returns c =
