@@ -10,3 +10,4 @@ pub mod GroupsLemmas
 pub mod ParentLemmas
 pub mod DumpLemmas
 pub mod ReachLemmas
+pub mod GrantedLemmas

@@ -7,10 +7,14 @@ use Rattle.acl_tree.specs.Nodes.{may}
 use Rattle.acl_tree.specs.declared.node.Node.{Node}
 use Rattle.acl_audit.specs.Letters.{effective}
 
+-- `LETTERS NAME PATH`, of letters that are written so
+abbrev pub written_line : (ℕ → List ℕ) → List ℕ → List ℕ → ℕ → List ℕ
+written_line text path name letters = text letters ++ codes " " ++ name ++ codes " " ++ path
+    ++ codes "\n"
+
 -- `rwx NAME PATH`
 abbrev pub letters_line : List ℕ → List ℕ → ℕ → List ℕ
-letters_line path name perms = perms_text perms ++ codes " " ++ name ++ codes " " ++ path
-    ++ codes "\n"
+letters_line path name perms = written_line perms_text path name perms
 
 -- `NAME PATH`
 abbrev pub may_line : List ℕ → List ℕ → List ℕ

@@ -36,7 +36,7 @@ fn permission_bits() -> Mask
 }
 
 /// The bits that stand for permissions.
-fn mode_bits() -> Mask
+pub(crate) fn mode_bits() -> Mask
     ensures { mask_bits result ≡ mode_bits }
 {
     Mask::READ_DATA.union(Mask::WRITE_DATA.union(Mask::APPEND_DATA.union(Mask::EXECUTE)))

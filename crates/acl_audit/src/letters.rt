@@ -1,12 +1,20 @@
 //! What somebody may do with a node, letter by letter.
-ghost use Rattle.std.specs.Prelude.{◌≡◌};
+ghost use Rattle.std.specs.Prelude.{◌≡◌, ◌==◌, ◌++◌, List, OnOk, ℕ};
+ghost use Rattle.acl_names.specs.Requester.{Identity};
+ghost use Rattle.acl_nfs4.specs.Mask.{mask_bits};
 ghost use Rattle.acl_posix.specs.Perms.{bits_of};
-ghost use Rattle.acl_audit.specs.Letters.{effective, if_may};
+ghost use Rattle.acl_tree.specs.declared.node.Node.{Node as NodeValue};
+ghost use Rattle.acl_audit.specs.Letters.{effective, granted_mask, if_may};
 
+use crate::allowed::allowed;
+use crate::changes::mode_bits;
+use acl_forms::Places;
 use acl_names::Requester;
+use acl_nfs4::Mask;
 use acl_posix::Perms;
-use acl_tree::Node;
+use acl_tree::{Node, NodeAcl};
 use bitflags::Flags;
+use std::alloc::AllocError;
 
 /// The permission, if it is granted by itself.
 fn if_may(node: &Node, requester: &Requester, perm: Perms) -> Perms
@@ -26,4 +34,101 @@ pub fn effective(node: &Node, requester: &Requester) -> Perms
     if_may(node, requester, Perms::READ)
         | if_may(node, requester, Perms::WRITE)
         | if_may(node, requester, Perms::EXECUTE)
+}
+
+/// The bits of a mask that the node's list grants the requester, each by itself: of a POSIX list
+/// those that its permissions stand for. It takes no memory.
+pub fn granted_mask(node: &Node, requester: &Requester) -> Mask
+    ensures { mask_bits result ≡ granted_mask node.now requester.now }
+{
+    match &node.acl {
+        NodeAcl::Posix { .. } => allowed(node, requester, mode_bits()),
+        NodeAcl::Nfs4 { .. } => allowed(node, requester, Mask::all()),
+    }
+}
+
+/// Letters in which it is told what is granted, each by itself: the permissions of a file mode, or
+/// the bits of a mask.
+pub trait LetterSet: Copy + Drop {
+    /// The number whose bits they are.
+    ghost number: { Self → ℕ };
+
+    /// Those that a node grants somebody, by their number.
+    ghost granted: { NodeValue → Identity → ℕ };
+
+    /// How those of a number are written.
+    ghost text: { ℕ → List ℕ };
+
+    /// None of them.
+    fn none() -> Self
+        ensures { number result ≡ 0 };
+
+    /// Whether there is none.
+    fn is_none(&self) -> bool
+        ensures { result ≡ (number self.now == 0) };
+
+    /// Those that the node grants the requester. It takes no memory.
+    fn granted(node: &Node, requester: &Requester) -> Self
+        ensures { number result ≡ granted node.now requester.now };
+
+    /// Appends how they are written.
+    fn push(&self, out: &mut Vec<u8>) -> Result<(), AllocError>
+        ensures { OnOk result (out.new.items ≡ out.old.items ++ text (number self.now)) };
+}
+
+/// The permissions: `rwx`, with `-` for each that is denied.
+impl LetterSet for Perms {
+    ghost use Rattle.acl_posix.specs.Perms.{bits_of};
+    ghost use Rattle.acl_posix.specs.PermsText.{perms_text};
+    ghost use Rattle.acl_audit.specs.Letters.{effective};
+
+    ghost number = { bits_of };
+
+    ghost granted = { effective };
+
+    ghost text = { perms_text };
+
+    fn none() -> Perms {
+        Perms::empty()
+    }
+
+    fn is_none(&self) -> bool {
+        self.is_empty()
+    }
+
+    fn granted(node: &Node, requester: &Requester) -> Perms {
+        effective(node, requester)
+    }
+
+    fn push(&self, out: &mut Vec<u8>) -> Result<(), AllocError> {
+        acl_posix::push_perms(*self, out)
+    }
+}
+
+/// The bits of a mask: `rwxpdDaARWcCos`, with `-` for each that is denied.
+impl LetterSet for Mask {
+    ghost use Rattle.acl_nfs4.specs.Mask.{mask_bits};
+    ghost use Rattle.acl_audit.specs.Letters.{granted_mask, mask_text};
+
+    ghost number = { mask_bits };
+
+    ghost granted = { granted_mask };
+
+    ghost text = { mask_text };
+
+    fn none() -> Mask {
+        Mask::empty()
+    }
+
+    fn is_none(&self) -> bool {
+        self.is_empty()
+    }
+
+    fn granted(node: &Node, requester: &Requester) -> Mask {
+        granted_mask(node, requester)
+    }
+
+    fn push(&self, out: &mut Vec<u8>) -> Result<(), AllocError> {
+        acl_forms::push_perms(Places::Full, *self, out)
+    }
 }

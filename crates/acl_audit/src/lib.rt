@@ -17,7 +17,7 @@ pub use changes::{Change, change_for, change_for_anybody};
 pub use dump::{close, push_creation, push_lists};
 pub use impact::{Impact, impact_at, impact_of, impact_on, requesters_of};
 pub use laws::{dump_laws, impact_laws, letter_laws, saved_laws};
-pub use letters::effective;
+pub use letters::{LetterSet, effective, granted_mask};
 pub use reach::{
     both, is_set, letters_at, letters_of_each, places_of_those_who_may, push_letters_of_each,
     push_those_at, reaches, way_in, which_may,

@@ -7,15 +7,13 @@ ghost use Rattle.acl_tree.specs.Nodes.{may};
 ghost use Rattle.acl_tree.specs.Path.{or_root};
 ghost use Rattle.acl_audit.specs.Answers.{both, is_set, letters_at, letters_lines, mark_in_both};
 ghost use Rattle.acl_audit.specs.Answers.{may_line_at, may_lines};
-ghost use Rattle.acl_audit.specs.Letters.{effective};
 ghost use Rattle.acl_audit.specs.Reach.{places_from, reaches, way_in};
 
-use crate::letters::effective;
+use crate::letters::LetterSet;
 use crate::who::{push_letters_line, push_may_line};
 use acl_names::{Requester, User};
 use acl_posix::Perms;
 use acl_tree::{Node, Tree};
-use bitflags::Flags;
 use std::alloc::{AllocError, Global};
 
 /// Of each of the requesters, in their order, whether the node grants the permissions. It fails
@@ -38,17 +36,17 @@ pub fn which_may(
 
 /// Of each of the requesters, in their order, the letters that a check of the node grants. It fails
 /// only if memory runs out.
-pub fn letters_of_each(
+pub fn letters_of_each<L: LetterSet>(
     alloc: Global,
     requesters: &[Requester],
     node: &Node,
-) -> Result<Vec<Perms>, AllocError>
-    ensures { IfOk result (λ letters. map bits_of letters.items
-        ≡ map (effective node.now) requesters.now) }
+) -> Result<Vec<L>, AllocError>
+    ensures { IfOk result (λ letters. map L.number letters.items
+        ≡ map (L.granted node.now) requesters.now) }
 {
     let mut letters = Vec::with_capacity(alloc, requesters.len())?;
     for requester in requesters {
-        letters.push(effective(node, requester))?;
+        letters.push(L::granted(node, requester))?;
     }
     Ok(letters)
 }
@@ -108,13 +106,13 @@ pub fn is_set(marks: &[bool], place: usize) -> bool
 }
 
 /// The letters at a place, if it is one of those that are set.
-pub fn letters_at(letters: &[Perms], reach: &[bool], place: usize) -> Perms
-    ensures { bits_of result ≡ letters_at (map bits_of letters.now) reach.now place }
+pub fn letters_at<L: LetterSet>(letters: &[L], reach: &[bool], place: usize) -> L
+    ensures { L.number result ≡ letters_at (map L.number letters.now) reach.now place }
 {
     if is_set(reach, place) {
-        letters.get(place).copied().unwrap_or(Perms::empty())
+        letters.get(place).copied().unwrap_or(L::none())
     } else {
-        Perms::empty()
+        L::none()
     }
 }
 

@@ -5,28 +5,28 @@ ghost use Rattle.acl_posix.specs.Perms.{bits_of};
 ghost use Rattle.acl_tree.specs.Nodes.{may};
 ghost use Rattle.acl_audit.specs.Letters.{effective};
 ghost use Rattle.acl_audit.specs.Reach.{node_lines_on, node_lines_on_of_those_who_may, reaches};
-ghost use Rattle.acl_audit.specs.Who.{letters_line, may_line, node_lines};
-ghost use Rattle.acl_audit.specs.Who.{node_lines_of_those_who_may};
+ghost use Rattle.acl_audit.specs.Who.{may_line, node_lines, node_lines_of_those_who_may};
+ghost use Rattle.acl_audit.specs.Who.{written_line};
 
-use crate::letters::effective;
+use crate::letters::{LetterSet, effective};
 use crate::reach::reaches;
 use acl_names::{Directory, Requester, Uid, User};
-use acl_posix::{Perms, push_perms};
+use acl_posix::Perms;
 use acl_tree::Node;
 use bitflags::Flags;
 use std::alloc::{AllocError, Global};
 
 /// Appends the line that says which letters a user has.
-pub fn push_letters_line(
+pub fn push_letters_line<L: LetterSet>(
     path: &[u8],
     name: &[u8],
-    perms: Perms,
+    letters: L,
     out: &mut Vec<u8>,
 ) -> Result<(), AllocError>
     ensures { OnOk result (out.new.items ≡ out.old.items
-        ++ letters_line path.now name.now (bits_of perms)) }
+        ++ written_line L.text path.now name.now (L.number letters)) }
 {
-    push_perms(perms, out)?;
+    letters.push(out)?;
     out.push(b' ')?;
     out.extend_from_slice(name)?;
     out.push(b' ')?;

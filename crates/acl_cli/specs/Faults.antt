@@ -10,7 +10,7 @@ use Rattle.acl_cli.specs.declared.field_fault.FieldFault.TheVariants.{UnknownUse
 use Rattle.acl_cli.specs.declared.mismatch.Mismatch.{Mismatch}
 use Rattle.acl_cli.specs.declared.mismatch.Mismatch.TheVariants.{AccountsAndSetup, NoListing}
 use Rattle.acl_cli.specs.declared.mismatch.Mismatch.TheVariants.{OneListing, SessionAndListing}
-use Rattle.acl_cli.specs.declared.mismatch.Mismatch.TheVariants.{NoText}
+use Rattle.acl_cli.specs.declared.mismatch.Mismatch.TheVariants.{LettersAndPerms, NoText}
 
 abbrev pub field_fault_words : FieldFault → List ℕ
 field_fault_words BadId = codes "bad-id"
@@ -24,6 +24,7 @@ field_fault_words RootUser = codes "root"
 
 abbrev pub mismatch_words : Mismatch → List ℕ
 mismatch_words AccountsAndSetup = codes "--accounts and --setup exclude each other"
+mismatch_words LettersAndPerms = codes "--letters and --perms exclude each other"
 mismatch_words NoListing = codes "no LISTING, and no --session"
 mismatch_words OneListing = codes "one LISTING, and two are wanted"
 mismatch_words SessionAndListing = codes "--session and LISTING exclude each other"

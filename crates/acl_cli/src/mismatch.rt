@@ -6,6 +6,8 @@ ghost use Rattle.std.specs.Prelude.{◌≡◌};
 pub enum Mismatch {
     /// Users and groups are taken from two places.
     AccountsAndSetup,
+    /// All letters are asked for, and who may do something.
+    LettersAndPerms,
     /// There is nothing to ask about.
     NoListing,
     /// There is one listing where two are wanted.
@@ -25,6 +27,7 @@ impl Mismatch {
     {
         match self {
             Mismatch::AccountsAndSetup => "--accounts and --setup exclude each other",
+            Mismatch::LettersAndPerms => "--letters and --perms exclude each other",
             Mismatch::NoListing => "no LISTING, and no --session",
             Mismatch::OneListing => "one LISTING, and two are wanted",
             Mismatch::SessionAndListing => "--session and LISTING exclude each other",

@@ -14,6 +14,7 @@ mod tags;
 
 pub use form::{Form, form_of};
 pub use laws::entries_have_shapes;
+pub use marks::push_perms;
 pub use named::{NamedEntryReader, read_entries_by};
 pub use printing::{Places, print_entries, push_entry};
 pub use reading::{EntryReader, read_entries, read_entry};

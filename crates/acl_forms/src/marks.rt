@@ -183,8 +183,8 @@ fn stands_in(letter: u8, text: &[u8]) -> bool
     text.iter().any(|byte| *byte == letter)
 }
 
-/// Appends the mask's letters.
-pub(crate) fn push_perms(places: Places, mask: Mask, out: &mut Vec<u8>) -> Result<(), AllocError>
+/// Appends the mask's letters. If memory runs out, what was there stays.
+pub fn push_perms(places: Places, mask: Mask, out: &mut Vec<u8>) -> Result<(), AllocError>
     ensures { PushesInRoom (marks_text places perm_table (mask_bits mask)) result out.old out.new }
 {
     push_marks(places, &PERM_TABLE, mask.bits(), out)
