@@ -35,23 +35,30 @@ abbrev pub marks_text : Places → List Letter → ℕ → List ℕ
 marks_text Compact = letters_text
 marks_text Full = places_text
 
--- the tag, with the name if there is one, else with the decimal
+-- the tag, with a user or a group as its id is written
+abbrev pub tag_by : (ℕ → List ℕ) → (ℕ → List ℕ) → Who → List ℕ
+tag_by user group Owner = codes "owner@"
+tag_by user group Group = codes "group@"
+tag_by user group Everyone = codes "everyone@"
+tag_by user group (User uid) = codes "user:" ++ user uid
+tag_by user group (NamedGroup gid) = codes "group:" ++ group gid
+
+-- the name if there is one, else the decimal
 abbrev pub tag_text : Known → Who → List ℕ
-tag_text known Owner = codes "owner@"
-tag_text known Group = codes "group@"
-tag_text known Everyone = codes "everyone@"
-tag_text known (User uid) = codes "user:" ++ id_text (user_name known) uid
-tag_text known (NamedGroup gid) = codes "group:" ++ id_text (group_name known) gid
+tag_text known = tag_by (id_text (user_name known)) (id_text (group_name known))
 
 -- the flags but for that of a group, which the tag says
 abbrev pub marks_of_flags : ℕ → ℕ
 marks_of_flags flags = flags ∩ 0x3F
 
--- `tag:perms:flags:type`
-abbrev pub entry_text : Places → Known → Nfsace4 → List ℕ
-entry_text places known ace = join_with_byte colon
-    (tag_text known ace.who ∷ marks_text places perm_table ace.mask
+-- `tag:perms:flags:type`, with the tag as it is written
+abbrev pub fields_text : Places → List ℕ → Nfsace4 → List ℕ
+fields_text places tag ace = join_with_byte colon
+    (tag ∷ marks_text places perm_table ace.mask
     ∷ marks_text places mark_table (marks_of_flags ace.flags) ∷ type_text ace.kind ∷ [])
+
+abbrev pub entry_text : Places → Known → Nfsace4 → List ℕ
+entry_text places known ace = fields_text places (tag_text known ace.who) ace
 
 -- one entry per line
 abbrev pub line_text : Places → Known → Nfsace4 → List ℕ

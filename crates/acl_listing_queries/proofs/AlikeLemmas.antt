@@ -1,16 +1,19 @@
 -- Of files that are decided about alike nothing is told, nor of one that stays as it is.
-use Rattle.std.proofs.Common.{◌≡◌, ◌∙◌, ◌&&◌, ℕ, Bool, true, false, List, [], ◌∷◌, None, Ok, Result, ap, append-nil, inl, refl, subst, sym}
+use Rattle.std.proofs.Common.{◌≡◌, ◌∙◌, ◌↔◌, ◌&&◌, ℕ, Bool, true, false, List, [], ◌∷◌, ◌++◌, None, Some, Ok, Result, ap, ap₂, append-nil, inl, inr, refl, subst, sym}
 use Rattle.std.specs.List.{AllByRecursion}
-use Rattle.std.proofs.lemmas.Bool.{true≢false}
+use Rattle.acl_names.specs.Asker.{identity_of}
 use Rattle.acl_names.specs.Requester.{Identity}
 use Rattle.acl_bridge.specs.Comparison.{Granter}
-use Rattle.acl_audit.specs.Changes.{File, IsAlikeToAll, file_of, granter_of, requests_between}
+use Rattle.acl_audit.specs.Changes.{File, IsAlikeToAll, IsChangeFor, change_of, file_of, granter_of, requests_between}
+use Rattle.acl_audit.specs.declared.changes.Change.{Change}
+use Rattle.acl_audit.proofs.ImpactLemmas.{changes_are_not_alike}
+use Rattle.acl_cli.specs.Telling.{is_empty}
 use Rattle.acl_tree.specs.declared.node.Node.{Node}
 use Rattle.acl_listings.specs.Block.{FileValue, file_by}
 use Rattle.acl_listings.specs.declared.fault.BlockFault.{BlockFault}
 use Rattle.acl_listing_queries.specs.Files.{node_of}
 use Rattle.acl_listing_queries.specs.ImpactSteps.{Tells, TellsRead}
-use Rattle.acl_listing_queries.specs.Impacting.{ImpactAsking, TellsAnybody, TellsChange, TellsFirst, TellsImpact, TellsPersons, TellsThose}
+use Rattle.acl_listing_queries.specs.Impacting.{ImpactAsking, TellsAnybody, TellsChange, TellsFirst, TellsImpact, TellsPerson, TellsPersons, TellsThose}
 use Rattle.acl_listing_queries.specs.Person.{Person}
 use Rattle.acl_listing_queries.specs.WrittenChanges.{IsChanged, changed_text}
 use Rattle.acl_listing_queries.specs.declared.impact.changed.Changed.{Changed}
@@ -34,7 +37,7 @@ module _ (before after : Node) (path : List ℕ) (alike : IsAlikeToAll (file_of 
   nobody_else true = (None, alike, refl)
   nobody_else false = refl
 
-  nobody : (asking : ImpactAsking) → TellsImpact asking before after path []
+  pub nobody : (asking : ImpactAsking) → TellsImpact asking before after path []
   nobody asking = record {
     lines = [];
     lines_are = none_of_those asking.each asking.persons;
@@ -46,6 +49,42 @@ module _ (before after : Node) (path : List ℕ) (alike : IsAlikeToAll (file_of 
   pub nobody_told : (asking : ImpactAsking) (out : List ℕ) → Tells (TellsImpact asking before after path) out out
   nobody_told asking out = record { text = []; is = nobody asking; out_is = sym (append-nil out) }
 
+  -- and whatever is told of them is nothing
+
+  unlike : (requester : Identity) (change : Change) → IsChangeFor (file_of before) (file_of after) requester change → ⊥
+  unlike requester change is = changes_are_not_alike (file_of before) (file_of after) requester change (alike requester) is
+
+  nothing_of : (person : Person) (text : List ℕ) → TellsPerson before after path person text → text ≡ []
+  nothing_of person text (inl (same, none)) = none
+  nothing_of person text (inr (change, is, told)) = absurd (unlike person.who change is)
+
+  nothing_of_all : (persons : List Person) (text : List ℕ) → TellsPersons before after path persons text → text ≡ []
+  nothing_of_all [] text is = is
+  nothing_of_all (person ∷ persons) text (first, rest, one, others, whole) =
+      whole ∙ ap₂ (λ (a b : List ℕ). a ++ b) (nothing_of person first one) (nothing_of_all persons rest others)
+
+  nothing_first : (persons : List Person) (text : List ℕ) → TellsFirst before after path persons text → text ≡ []
+  nothing_first [] text is = is
+  nothing_first (person ∷ persons) text (inl (same, later)) = nothing_first persons text later
+  nothing_first (person ∷ persons) text (inr (change, is, told)) = absurd (unlike person.who change is)
+
+  nothing_of_those : (each : Bool) (persons : List Person) (text : List ℕ) → TellsThose each before after path persons text → text ≡ []
+  nothing_of_those true persons text is = nothing_of_all persons text is
+  nothing_of_those false persons text is = nothing_first persons text is
+
+  nothing_else : (asked : Bool) (text : List ℕ) → TellsAnybody asked before after path text → text ≡ []
+  nothing_else false text is = is
+  nothing_else true text (None, found, is) = is
+  nothing_else true text (Some difference, found, is) = absurd (unlike (identity_of difference.asker) (change_of difference) found)
+
+  pub tells_nothing : (asking : ImpactAsking) (text : List ℕ) → TellsImpact asking before after path text ↔ (text ≡ [])
+  tells_nothing asking text = (
+    λ tells. tells.text_is
+        ∙ ap₂ (λ (a b : List ℕ). a ++ b) (nothing_of_those asking.each asking.persons tells.lines tells.lines_are)
+        (nothing_else (asking.somebody && is_empty tells.lines) tells.other tells.other_is),
+    λ none. subst (TellsImpact asking before after path) (sym none) (nobody asking),
+  )
+
 -- ---- a file that stays as it is
 
 granted_alike : (granter : Granter) (requester : Identity) (requests : List ℕ)
@@ -53,22 +92,22 @@ granted_alike : (granter : Granter) (requester : Identity) (requests : List ℕ)
 granted_alike granter requester [] = tt
 granted_alike granter requester (request ∷ requests) = (refl, granted_alike granter requester requests)
 
-alike_itself : (file : File) → IsAlikeToAll file file
+pub alike_itself : (file : File) → IsAlikeToAll file file
 alike_itself file requester = record {
   bits = λ bit is. refl;
   requests = granted_alike (granter_of file) requester (requests_between file.acl file.acl);
 }
 
-abbrev unchanged : Changed
+abbrev pub unchanged : Changed
 unchanged = record { owner = false; group = false; flags = false; access = false; default = false }
 
-is_unchanged : (file : FileValue) → IsChanged file file unchanged
+pub is_unchanged : (file : FileValue) → IsChanged file file unchanged
 is_unchanged file = record {
-  owner = (λ is. absurd (true≢false (sym is)), λ differs. absurd (differs refl));
-  group = (λ is. absurd (true≢false (sym is)), λ differs. absurd (differs refl));
-  flags = (λ is. absurd (true≢false (sym is)), λ differs. absurd (differs refl));
-  access = (λ is. absurd (true≢false (sym is)), λ differs. absurd (differs refl));
-  default = (λ is. absurd (true≢false (sym is)), λ differs. absurd (differs refl));
+  owner = (λ is same. cc, λ differs. absurd (differs refl));
+  group = (λ is same. cc, λ differs. absurd (differs refl));
+  flags = (λ is same. cc, λ differs. absurd (differs refl));
+  access = (λ is same. cc, λ differs. absurd (differs refl));
+  default = (λ is same. cc, λ differs. absurd (differs refl));
 }
 
 nothing_written : (asked : Bool) (path : List ℕ) → [] ≡ changed_text asked unchanged path

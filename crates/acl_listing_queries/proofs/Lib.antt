@@ -24,6 +24,7 @@ pub mod TellerLemmas
 pub mod ComesLemmas
 pub mod FirstPathLemmas
 pub mod AlikeLemmas
+pub mod UnchangedLemmas
 pub mod ImpactLemmas
 pub mod WhyWayLemmas
 pub mod WhySeekLemmas

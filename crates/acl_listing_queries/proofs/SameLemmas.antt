@@ -11,13 +11,16 @@ use Rattle.acl_posix.specs.Validity.{IsValid}
 use Rattle.acl_nfs4.specs.Ace.{Nfsace4, ace_of, decides, is_allow, is_deny}
 use Rattle.acl_nfs4.specs.Evaluation.{Grants, allows, speaks}
 use Rattle.acl_nfs4.specs.Flags.{inherit_only}
-use Rattle.acl_nfs4.specs.Mask.{execute_permission, mask_of, read_permission, write_permission}
+use Rattle.acl_nfs4.specs.Mask.{execute_permission, mask_of, mode_bits, read_permission, write_permission}
 use Rattle.acl_nfs4.specs.Who.{matches}
 use Rattle.acl_nfs4.specs.declared.ace.AceType.TheVariants.{Allow}
 use Rattle.acl_nfs4.specs.declared.who.Who.{Who}
 use Rattle.acl_nfs4.specs.declared.who.Who.TheVariants.{Owner, Everyone}
+use Rattle.acl_nfs4.proofs.MaskOfModes.{mask_of-within}
+use Rattle.acl_bridge.specs.Comparison.{DecidesEachBit}
 use Rattle.acl_bridge.specs.Translation.{only_inheriting_flags, translation, with_flags}
 use Rattle.acl_bridge.specs.TranslationLaws.{AgreeOn, DecideAlike}
+use Rattle.acl_bridge.proofs.ComparisonLemmas.{translation_decides_each_bit}
 use Rattle.acl_bridge.proofs.TranslationDecides.{translation_decides_alike}
 use Rattle.acl_listings.specs.declared.lists.Lists.TheVariants.{Posix}
 use Rattle.acl_listing_queries.specs.Translated.{aces_of, attributes_if, below_of}
@@ -95,43 +98,43 @@ apart a b bit none there = go (has a bit) (has b bit) (sym (has-and a b bit) ∙
     go true y e is = e
     go false y e is = absurd (cc)
 
-to_read_apart : (mask_of (2 ^ read_permission) ∩ owner_ace.mask ≡ 0) × (mask_of (2 ^ read_permission) ∩ everyone_ace.mask ≡ 0)
-unfolding mask_of has
-to_read_apart = (refl, refl)
-
-to_write_apart : (mask_of (2 ^ write_permission) ∩ owner_ace.mask ≡ 0) × (mask_of (2 ^ write_permission) ∩ everyone_ace.mask ≡ 0)
-unfolding mask_of has
-to_write_apart = (refl, refl)
-
-to_execute_apart : (mask_of (2 ^ execute_permission) ∩ owner_ace.mask ≡ 0) × (mask_of (2 ^ execute_permission) ∩ everyone_ace.mask ≡ 0)
-unfolding mask_of has
-to_execute_apart = (refl, refl)
+mode_apart : (mode_bits ∩ owner_ace.mask ≡ 0) × (mode_bits ∩ everyone_ace.mask ≡ 0)
+unfolding has
+mode_apart = (refl, refl)
 
 module _ (attributes : Bool) (access : List EntryValue) (default : Option (List EntryValue)) where
-  granted_same : (applies : Who → Bool) (mask : ℕ) → mask ∩ owner_ace.mask ≡ 0 → mask ∩ everyone_ace.mask ≡ 0
-      → Grants applies (translation (linux_list access)) mask ↔ Grants applies (aces_of attributes (Posix access default)) mask
-  granted_same applies mask owner everyone = (
-    λ grants bit there. subst IsTrue (sym (same bit there)) (grants bit there),
-    λ grants bit there. subst IsTrue (same bit there) (grants bit there),
-  )
-    where
-      same : (bit : ℕ) → IsTrue (has mask bit) → allows applies bit (aces_of attributes (Posix access default)) ≡ allows applies bit (translation (linux_list access))
-      same bit there =
-          allowed_same applies bit (translation (linux_list access)) (below_of default ++ attributes_if attributes)
-          (more_silent applies bit attributes default (apart mask owner_ace.mask bit owner there) (apart mask everyone_ace.mask bit everyone there))
+  abbrev all : List Nfsace4
+  all = aces_of attributes (Posix access default)
 
-  agreed : (perms : ℕ) → mask_of perms ∩ owner_ace.mask ≡ 0 → mask_of perms ∩ everyone_ace.mask ≡ 0
-      → AgreeOn (linux_list access) (translation (linux_list access)) perms → AgreeOn (linux_list access) (aces_of attributes (Posix access default)) perms
-  agreed perms owner everyone agree = λ own group requester.
-      let same = granted_same (matches own group requester) (mask_of perms) owner everyone in
+  -- of a file mode's bits the whole list allows what the translation does
+  same_allowed : (applies : Who → Bool) (bit : ℕ) → IsTrue (has mode_bits bit) → allows applies bit all ≡ allows applies bit (translation (linux_list access))
+  same_allowed applies bit of_mode =
+      allowed_same applies bit (translation (linux_list access)) (below_of default ++ attributes_if attributes)
+      (more_silent applies bit attributes default (apart mode_bits owner_ace.mask bit (mode_apart).0 of_mode) (apart mode_bits everyone_ace.mask bit (mode_apart).1 of_mode))
+
+  granted_same : (applies : Who → Bool) (perms : ℕ) → Grants applies (translation (linux_list access)) (mask_of perms) ↔ Grants applies all (mask_of perms)
+  granted_same applies perms = (
+    λ grants bit there. subst IsTrue (sym (same_allowed applies bit (mask_of-within perms bit there))) (grants bit there),
+    λ grants bit there. subst IsTrue (same_allowed applies bit (mask_of-within perms bit there)) (grants bit there),
+  )
+
+  agreed : (perms : ℕ) → AgreeOn (linux_list access) (translation (linux_list access)) perms → AgreeOn (linux_list access) all perms
+  agreed perms agree = λ own group requester.
+      let same = granted_same (matches own group requester) perms in
       let here = agree own group requester in
       (λ granted. same.0 (here.0 granted), λ granted. here.1 (same.1 granted))
 
-  pub decide_alike : IsValid (linux_list access) → DecideAlike (linux_list access) (aces_of attributes (Posix access default))
+  pub decide_alike : IsValid (linux_list access) → DecideAlike (linux_list access) all
   decide_alike valid =
       let alike = translation_decides_alike (linux_list access) valid in
       record {
-        to_read = agreed (2 ^ read_permission) (to_read_apart).0 (to_read_apart).1 alike.to_read;
-        to_write = agreed (2 ^ write_permission) (to_write_apart).0 (to_write_apart).1 alike.to_write;
-        to_execute = agreed (2 ^ execute_permission) (to_execute_apart).0 (to_execute_apart).1 alike.to_execute;
+        to_read = agreed (2 ^ read_permission) alike.to_read;
+        to_write = agreed (2 ^ write_permission) alike.to_write;
+        to_execute = agreed (2 ^ execute_permission) alike.to_execute;
       }
+
+  -- each of these bits is decided as the permission that it stands for
+  pub decides_each_bit : IsValid (linux_list access) → DecidesEachBit (linux_list access) all
+  decides_each_bit valid own group requester bit of_mode =
+      translation_decides_each_bit (linux_list access) valid own group requester bit of_mode
+      ∙ sym (same_allowed (matches own group requester) bit of_mode)

@@ -36,6 +36,7 @@ pub mod Impacting
 pub mod ImpactSteps
 pub mod ImpactLine
 pub mod ImpactMeaning
+pub mod TranslateLaws
 pub mod WhyText
 pub mod WhyLine
 pub mod WhyMeaning

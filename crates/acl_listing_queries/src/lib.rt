@@ -27,6 +27,8 @@ pub use host::Host;
 pub use impact::{IMPACT_ANSWERS, ImpactOfListings};
 pub use laws::{people_laws, way_laws};
 pub use restore::{Restore, restore_brings_back};
-pub use translate::{Translate, translations_are_read_again, translations_decide_alike};
+pub use translate::{
+    Translate, translations_are_read_again, translations_change_nothing, translations_decide_alike,
+};
 pub use who::{WHO_ANSWERS, WhoOfListing};
 pub use why::Why;

@@ -9,4 +9,6 @@ mod printing;
 mod teller;
 
 pub use command::Translate;
-pub use laws::{translations_are_read_again, translations_decide_alike};
+pub use laws::{
+    translations_are_read_again, translations_change_nothing, translations_decide_alike,
+};

@@ -14,4 +14,6 @@ pub mod FaultyLemmas
 pub mod RefusedLemmas
 pub mod ListsLemmas
 pub mod FormLemmas
+pub mod AceForms
 pub mod Nfs4Lemmas
+pub mod ValidLemmas

@@ -1,37 +1,26 @@
 -- A block with NFSv4 entries in the place of its lists says the same file with these.
 use Rattle.std.proofs.Common.{◌≡◌, ◌∙◌, ◌≤◌, ◌<◌, ◌+◌, ℕ, Bool, true, false, cond, nat_le, List, [], ◌∷◌, ◌++◌, length, map, Option, Some, None, Result, Ok, Err, All, ap, arith, append_assoc, codes, drop, flat_map, length-append, option_and_then, refl, subst, sym, take, unwrap_or}
-use Rattle.std.specs.List.{join_with_byte}
+use Rattle.std.proofs.lemmas.Bool.{true≢false}
 use Rattle.std.proofs.lemmas.Bool.Decides.{nat_tests}
 use Rattle.std.proofs.lemmas.List.Elements.{All-cons, All-head, All-nil, All-tail}
 use Rattle.std.proofs.lemmas.List.Splits.{slice_split_at}
 use Rattle.std.proofs.lemmas.Slice.Eq.{bytes_eq-Decides}
-use Rattle.acl_names.specs.Bytes.{colon, newline}
+use Rattle.acl_names.specs.Bytes.{newline}
 use Rattle.acl_names.specs.ListText.{PiecesSay, Spells}
 use Rattle.acl_names.specs.Names.{Names}
-use Rattle.acl_names.specs.Pieces.{parts, pieces, trim}
-use Rattle.acl_names.specs.Plain.{IsField, IsPlain}
-use Rattle.acl_names.proofs.Fields.{joined_plain, tested_field}
+use Rattle.acl_names.specs.Pieces.{pieces}
+use Rattle.acl_names.specs.Plain.{IsPlain, is_plain}
 use Rattle.acl_names.specs.Steps.{◌>>=◌, or_fault}
 use Rattle.acl_names.proofs.PlainJoined.{IsPlainPiece}
 use Rattle.acl_names.proofs.PlainLines.{IsMark, nothing, pieces_of_lines, plain_lacks_newline}
 use Rattle.acl_names.proofs.StepLemmas.{bind_ok, given, some_from_cond}
 use Rattle.acl_nfs4.specs.Ace.{Nfsace4}
-use Rattle.acl_nfs4.specs.AceText as nfs4
 use Rattle.acl_nfs4.specs.Acl.{AreAces}
-use Rattle.acl_nfs4.specs.NamedAces.{ReadNumbers, ace_by}
-use Rattle.acl_nfs4.specs.PrintedText.{HaveIds, short_ace, short_who, type_text}
-use Rattle.acl_nfs4.specs.Letters.{flag_table, mask_table}
+use Rattle.acl_nfs4.specs.PrintedText.{HaveIds}
 use Rattle.acl_nfs4.specs.Who.{HasId}
-use Rattle.acl_nfs4.specs.declared.ace.AceType.{AceType}
-use Rattle.acl_nfs4.specs.declared.ace.AceType.TheVariants as kind
 use Rattle.acl_nfs4.specs.declared.limits.TheConstants.{MAX_ACES}
-use Rattle.acl_nfs4.proofs.LetterLemmas.{flags-field, mask-field}
-use Rattle.acl_nfs4.proofs.NamedAgain.{short_again, short_cut, short_field}
 use Rattle.acl_nfs4.proofs.NamedLemmas.{IsRead}
-use Rattle.acl_names.specs.Letters.{letters_text}
-use Rattle.acl_forms.specs.FormText as freebsd
-use Rattle.acl_forms.specs.Forms.{form_of_fields, form_of_piece, form_of_pieces, is_type}
-use Rattle.acl_forms.specs.declared.form.Form.TheVariants as form
+use Rattle.acl_forms.specs.Forms.{form_of_pieces}
 use Rattle.acl_listings.specs.Block.{FileValue, file_by, owners_by, within_limit}
 use Rattle.acl_listings.specs.BlockLists.{lists_by, lists_in}
 use Rattle.acl_listings.specs.FileFlags.{flags_by, flags_in, no_flags}
@@ -45,6 +34,7 @@ use Rattle.acl_listings.specs.declared.file_flags.FileFlags.{FileFlags}
 use Rattle.acl_listings.specs.declared.limits.TheConstants.{MAX_BLOCK}
 use Rattle.acl_listings.specs.declared.lists.Lists.TheVariants.{Nfs4}
 use Rattle.acl_listings.proofs.AccessLemmas.{ended, line_pieces}
+use Rattle.acl_listings.proofs.AceForms.{IsAceForm}
 use Rattle.acl_listings.proofs.ExtentLemmas.{LacksNewline, is_newline}
 use Rattle.acl_listings.proofs.HandedLemmas.{from_block, from_header, from_ids, from_lists}
 use Rattle.acl_listings.proofs.LineLemmas.{first-alone, first-of, first_line-cons}
@@ -71,204 +61,174 @@ flags_no_piece (byte ∷ bytes) is =
     let hash_first : byte ≡ 35 = cc in
     subst (λ x. line_pieces (x ∷ bytes) ≡ []) (sym hash_first) refl
 
+-- a plain piece is no line of the flags
+plain_no_flags : (piece : List ℕ) → IsPlainPiece piece → after_prefix (codes "# flags: ") piece ≡ None
+plain_no_flags [] is = absurd (omega (arith, is.0))
+plain_no_flags (byte ∷ bytes) is = go (begins (codes "# flags: ") (byte ∷ bytes)) refl
+  where
+    go : (b : Bool) → begins (codes "# flags: ") (byte ∷ bytes) ≡ b → cond b (Some (drop (length (codes "# flags: ")) (byte ∷ bytes))) None ≡ None
+    go false other = refl
+    go true same =
+        let front : take 9 (byte ∷ bytes) ≡ codes "# flags: " = (bytes_eq-Decides (take 9 (byte ∷ bytes)) (codes "# flags: ")).0 same in
+        let hash_first : byte ≡ 35 = cc in
+        absurd (true≢false (sym (All-head (λ (x : ℕ). is_plain x ≡ true) byte bytes is.1) ∙ ap is_plain hash_first))
+
 -- ---- the entries
 
-module _ (names : Names) (numbers : ReadNumbers names) where
-  are_read : (aces : List Nfsace4) → AreAces aces → All IsRead aces
-  are_read aces are = λ k d inside. record { is_ace = are.each k d inside; effective = are.effective k d inside }
+are_read : (aces : List Nfsace4) → AreAces aces → All IsRead aces
+are_read aces are = λ k d inside. record { is_ace = are.each k d inside; effective = are.effective k d inside }
 
-  each_again : (aces : List Nfsace4) → All IsRead aces → HaveIds aces → PiecesSay (ace_by names) (map short_ace aces) aces
+abbrev HasIdOf : Nfsace4 → Type 0
+HasIdOf ace = HasId ace.who
+
+module _ (names : Names) (print : Nfsace4 → List ℕ) (of : IsAceForm names print) where
+  each_again : (aces : List Nfsace4) → All IsRead aces → HaveIds aces → PiecesSay of.said (map print aces) aces
   each_again [] are have = refl
   each_again (ace ∷ aces) are have =
       rw (
-        short_again names numbers ace (All-head IsRead ace aces are) (All-head (λ (a : Nfsace4). HasId a.who) ace aces have),
-        each_again aces (All-tail IsRead ace aces are) (All-tail (λ (a : Nfsace4). HasId a.who) ace aces have),
+        of.again ace (All-head IsRead ace aces are) (All-head HasIdOf ace aces have),
+        each_again aces (All-tail IsRead ace aces are) (All-tail HasIdOf ace aces have),
       ) refl
 
-type_field : (kind : AceType) → IsField (type_text kind)
-type_field kind.Allow = tested_field (codes "A") refl
-type_field kind.Deny = tested_field (codes "D") refl
-type_field kind.Audit = tested_field (codes "U") refl
-type_field kind.Alarm = tested_field (codes "L") refl
+  abbrev IsLine : Nfsace4 → Type 0
+  IsLine ace = (0 < length (print ace)) × IsPlain (print ace) × IsMark []
 
-type_again : (kind : AceType) → nfs4.type_of (type_text kind) ≡ Some kind
-type_again kind.Allow = refl
-type_again kind.Deny = refl
-type_again kind.Audit = refl
-type_again kind.Alarm = refl
+  are_lines : (aces : List Nfsace4) → HaveIds aces → All IsLine aces
+  are_lines [] have = All-nil IsLine
+  are_lines (ace ∷ aces) have =
+      let piece = of.piece ace (All-head HasIdOf ace aces have) in
+      All-cons IsLine ace aces (piece.0, piece.1, nothing) (are_lines aces (All-tail HasIdOf ace aces have))
 
-short_piece : (ace : Nfsace4) → HasId ace.who → IsPlainPiece (short_ace ace)
-short_piece ace has_id =
-    let rest = letters_text flag_table ace.flags ∷ short_who ace.who ∷ letters_text mask_table ace.mask ∷ [] in (
-      omega (arith, length-append (type_text ace.kind) (colon ∷ join_with_byte colon rest)),
-      joined_plain (type_text ace.kind) rest (type_field ace.kind, (flags-field ace.flags, (short_field ace.who has_id, (mask-field ace.mask, tt)))),
-    )
+  lines_ended : (aces : List Nfsace4) → aces_lines print aces ≡ ended (map print aces)
+  lines_ended [] = refl
+  lines_ended (ace ∷ aces) = ap (λ rest. (print ace ++ newline ∷ []) ++ rest) (lines_ended aces)
 
-abbrev IsLine : Nfsace4 → Type 0
-IsLine ace = (0 < length (short_ace ace)) × IsPlain (short_ace ace) × IsMark []
+  module _ (first : Nfsace4) (more : List Nfsace4) (are : AreAces (first ∷ more)) (have : HaveIds (first ∷ more)) where
+    abbrev aces : List Nfsace4
+    aces = first ∷ more
 
-are_lines : (aces : List Nfsace4) → HaveIds aces → All IsLine aces
-are_lines [] have = All-nil IsLine
-are_lines (ace ∷ aces) have =
-    let piece : IsPlainPiece (short_ace ace) = short_piece ace (All-head (λ (a : Nfsace4). HasId a.who) ace aces have) in
-    All-cons IsLine ace aces (piece.0, piece.1, nothing) (are_lines aces (All-tail (λ (a : Nfsace4). HasId a.who) ace aces have))
+    abbrev lines : List ℕ
+    lines = joined (map print (first ∷ more))
 
-lines_ended : (aces : List Nfsace4) → aces_lines aces ≡ ended (map short_ace aces)
-lines_ended [] = refl
-lines_ended (ace ∷ aces) = ap (λ rest. (short_ace ace ++ newline ∷ []) ++ rest) (lines_ended aces)
+    lines-pieces : pieces lines ≡ map print aces
+    lines-pieces =
+        sym (pieces-ended lines)
+        ∙ ap pieces (sym (lines_ended aces ∙ ended-joined (print first) (map print more)))
+        ∙ pieces_of_lines print (λ _. []) aces (are_lines aces have)
 
--- the type of the first entry is that of nfs4
-form_nfs4 : (each : List (List ℕ)) (fields : nfs4.AceFields) (kind : AceType) → nfs4.as_fields (map trim each) ≡ Some fields → nfs4.type_of fields.kind ≡ Some kind
-    → form_of_fields each ≡ form.Nfs4
-form_nfs4 [] fields kind cut is = cc
-form_nfs4 (a ∷ []) fields kind cut is = cc
-form_nfs4 (a ∷ b ∷ []) fields kind cut is = cc
-form_nfs4 (a ∷ b ∷ c ∷ []) fields kind cut is = cc
-form_nfs4 (a ∷ b ∷ c ∷ d ∷ []) fields kind cut is =
-    let four : Some (record { kind = trim a; flags = trim b; who = trim c; letters = trim d }) ≡ Some fields = cut in
-    let same : record { kind = trim a; flags = trim b; who = trim c; letters = trim d } ≡ fields = cc in
-    let typed : is_type (nfs4.type_of (trim a)) ≡ true = ap is_type (ap (λ (f : nfs4.AceFields). nfs4.type_of f.kind) same ∙ is) in
-    ap (λ b. cond b form.Nfs4 (cond (is_type (freebsd.type_of (trim d))) form.Freebsd form.Posix)) typed
-form_nfs4 (a ∷ b ∷ c ∷ d ∷ e ∷ more) fields kind cut is = cc
+    first_has : HasId first.who
+    first_has = All-head HasIdOf first more have
 
-form_first : (ace : Nfsace4) → HasId ace.who → form_of_piece (short_ace ace) ≡ form.Nfs4
-form_first ace has_id =
-    form_nfs4 (parts colon (short_ace ace)) (record { kind = type_text ace.kind; flags = letters_text flag_table ace.flags; who = short_who ace.who; letters = letters_text mask_table ace.mask }) ace.kind
-    (short_cut ace has_id) (type_again ace.kind)
+    first_is : LacksNewline (print first)
+    first_is = plain_lacks_newline (print first) (of.piece first first_has).1
 
--- and no line of it tells of flags
-no_flags_line : (kind : AceType) (fields : List (List ℕ)) → after_prefix (codes "# flags: ") (join_with_byte colon (type_text kind ∷ fields)) ≡ None
-no_flags_line kind.Allow [] = refl
-no_flags_line kind.Allow (field ∷ fields) = refl
-no_flags_line kind.Deny [] = refl
-no_flags_line kind.Deny (field ∷ fields) = refl
-no_flags_line kind.Audit [] = refl
-no_flags_line kind.Audit (field ∷ fields) = refl
-no_flags_line kind.Alarm [] = refl
-no_flags_line kind.Alarm (field ∷ fields) = refl
+    -- behind the flags of another list
+    abbrev behind : Bool → List ℕ → List ℕ
+    behind b list = cond b (first_line list ++ newline ∷ []) [] ++ lines
 
-module _ (names : Names) (numbers : ReadNumbers names) (first : Nfsace4) (more : List Nfsace4) (are : AreAces (first ∷ more)) (have : HaveIds (first ∷ more)) where
-  abbrev aces : List Nfsace4
-  aces = first ∷ more
+    behind-pieces : (list : List ℕ) (b : Bool) → begins (codes "# flags: ") (first_line list) ≡ b → pieces (behind b list) ≡ map print aces
+    behind-pieces list false is = lines-pieces
+    behind-pieces list true is =
+        ap pieces (append_assoc (first_line list) (newline ∷ []) lines)
+        ∙ ap (flat_map line_pieces) (slice_split_at is_newline (first_line list) newline lines (first-lacks list) refl)
+        ∙ ap (λ front. front ++ pieces lines) (flags_no_piece (first_line list) is)
+        ∙ lines-pieces
 
-  abbrev lines : List ℕ
-  lines = joined (map short_ace (first ∷ more))
+    lists_again : (list : List ℕ) (b : Bool) → begins (codes "# flags: ") (first_line list) ≡ b → lists_by names (behind b list) ≡ Ok (Nfs4 aces)
+    lists_again list b is =
+        let texts = behind-pieces list b is in
+        let spelt : Spells of.said MAX_ACES (behind b list) aces =
+        record { said = ap (map of.said) texts ∙ each_again aces (are_read aces are) have; within = are.within } in
+        ap (λ form. lists_in form names (behind b list)) (ap form_of_pieces texts ∙ of.form_is first first_has)
+        ∙ of.lists_are (behind b list)
+        ∙ nfs4_read of.said (behind b list) aces spelt
 
-  lines-pieces : pieces lines ≡ map short_ace aces
-  lines-pieces =
-      sym (pieces-ended lines)
-      ∙ ap pieces (sym (lines_ended aces ∙ ended-joined (short_ace first) (map short_ace more)))
-      ∙ pieces_of_lines short_ace (λ _. []) aces (are_lines aces have)
-
-  first_is : LacksNewline (short_ace first)
-  first_is = plain_lacks_newline (short_ace first) (short_piece first (All-head (λ (a : Nfsace4). HasId a.who) first more have)).1
-
-  -- behind the flags of another list
-  abbrev behind : Bool → List ℕ → List ℕ
-  behind b list = cond b (first_line list ++ newline ∷ []) [] ++ lines
-
-  behind-pieces : (list : List ℕ) (b : Bool) → begins (codes "# flags: ") (first_line list) ≡ b → pieces (behind b list) ≡ map short_ace aces
-  behind-pieces list false is = lines-pieces
-  behind-pieces list true is =
-      ap pieces (append_assoc (first_line list) (newline ∷ []) lines)
-      ∙ ap (flat_map line_pieces) (slice_split_at is_newline (first_line list) newline lines (first-lacks list) refl)
-      ∙ ap (λ front. front ++ pieces lines) (flags_no_piece (first_line list) is)
-      ∙ lines-pieces
-
-  lists_again : (list : List ℕ) (b : Bool) → begins (codes "# flags: ") (first_line list) ≡ b → lists_by names (behind b list) ≡ Ok (Nfs4 aces)
-  lists_again list b is =
-      let texts = behind-pieces list b is in
-      let spelt : Spells (ace_by names) MAX_ACES (behind b list) aces =
-      record { said = ap (map (ace_by names)) texts ∙ each_again names numbers aces (are_read names numbers aces are) have; within = are.within } in
-      ap (λ of. lists_in of names (behind b list)) (ap form_of_pieces texts ∙ form_first first (All-head (λ (a : Nfsace4). HasId a.who) first more have))
-      ∙ nfs4_read (ace_by names) (behind b list) aces spelt
-
-  first-lines : first_line lines ≡ short_ace first
-  first-lines = by_more more
-    where
-      by_more : (more : List Nfsace4) → first_line (joined (map short_ace (first ∷ more))) ≡ short_ace first
-      by_more [] = first-alone (short_ace first) first_is
-      by_more (next ∷ more) = first-of (short_ace first) (joined (map short_ace (next ∷ more))) first_is
-
-  abbrev flags_at : List ℕ → FileFlags
-  flags_at line = unwrap_or (option_and_then flags_in (after_prefix (codes "# flags: ") line)) no_flags
-
-  flags_again : (list : List ℕ) (b : Bool) → begins (codes "# flags: ") (first_line list) ≡ b → flags_by (behind b list) ≡ flags_by list
-  flags_again list true is =
-      ap flags_at (ap first_line (append_assoc (first_line list) (newline ∷ []) lines) ∙ first-of (first_line list) lines (first-lacks list))
-  flags_again list false is =
-      ap flags_at first-lines
-      ∙ ap (λ found. unwrap_or (option_and_then flags_in found) no_flags) (no_flags_line first.kind (letters_text flag_table first.flags ∷ short_who first.who ∷ letters_text mask_table first.mask ∷ []))
-      ∙ sym (ap (λ b. unwrap_or (option_and_then flags_in (cond b (Some (drop (length (codes "# flags: ")) (first_line list))) None)) no_flags) is)
-
-  other_list : (path owner group : Option (List ℕ)) (list other : List ℕ) (header : Header) → as_header path owner group list ≡ Some header
-      → as_header path owner group other ≡ Some (record header { list = other })
-  other_list (Some path) (Some owner) (Some group) list other header is = ap (λ found. with_other found) is
-    where
-      with_other : Option Header → Option Header
-      with_other (Some header) = Some (record header { list = other })
-      with_other None = None
-  other_list (Some path) (Some owner) None list other header is = cc
-  other_list (Some path) None group list other header is = cc
-  other_list None owner group list other header is = cc
-
-  abbrev with_lists : Result FileValue BlockFault → Result FileValue BlockFault
-  with_lists (Ok file) = Ok (record file { lists = Nfs4 aces })
-  with_lists (Err fault) = Err fault
-
-  module _ (text : List ℕ) where
-    abbrev second : List ℕ
-    second = after_line text
-
-    abbrev third : List ℕ
-    third = after_line second
-
-    abbrev list : List ℕ
-    list = after_line third
-
-    abbrev has_flags : Bool
-    has_flags = begins (codes "# flags: ") (first_line list)
-
-    -- the block, without its last newline
-    abbrev pub body : List ℕ
-    body = headed (first_line text) (first_line second) (first_line third) (behind has_flags list)
-
-    pub body-cut : nfs4_block text aces ≡ body ++ newline ∷ []
-    body-cut = ap (λ rest. front_of text ++ rest) (lines_ended aces ∙ ended-joined (short_ace first) (map short_ace more)) ∙ regrouped (first_line text) (first_line second) (first_line third) (flags_line list) lines (newline ∷ [])
+    first-lines : first_line lines ≡ print first
+    first-lines = by_more more
       where
-        regrouped : (one two three flags rest end : List ℕ) → ((one ++ newline ∷ []) ++ ((two ++ newline ∷ []) ++ ((three ++ newline ∷ []) ++ flags))) ++ (rest ++ end)
-            ≡ (one ++ newline ∷ (two ++ newline ∷ (three ++ newline ∷ (flags ++ rest)))) ++ end
-        regrouped one two three flags rest end = simp append_assoc
+        by_more : (more : List Nfsace4) → first_line (joined (map print (first ∷ more))) ≡ print first
+        by_more [] = first-alone (print first) first_is
+        by_more (next ∷ more) = first-of (print first) (joined (map print (next ∷ more))) first_is
 
-    pub body_again : (file : FileValue) → file_by names text ≡ Ok file → length body ≤ MAX_BLOCK → file_by names body ≡ Ok (record file { lists = Nfs4 aces })
-    body_again file is short =
-        let (block, taken, of_block) = bind_ok (or_fault TooLong (within_limit text)) (from_block names) file is in
-        let (_, own) = some_from_cond (nat_le (length text) MAX_BLOCK) text block (given TooLong (within_limit text) block taken) in
-        let (header, read, of_header) = bind_ok (or_fault BadHeader (header_of block)) (from_header names) file of_block in
-        let (ids, its, of_ids) = bind_ok (owners_by names header) (from_ids names header) file of_header in
-        let (lists, listed, made) = bind_ok (lists_by names header.list) (from_lists header ids) file of_ids in
-        let header_is : header_of text ≡ Some header = ap header_of own ∙ given BadHeader (header_of block) header read in
-        let list_is : header.list ≡ list = headed_list names _ _ _ list header header_is in
-        let other : Header = record header { list = behind has_flags list } in
-        let other_is : header_of body ≡ Some other =
-        header-headed (first_line text) (first_line second) (first_line third) (behind has_flags list) (first-lacks text) (first-lacks second) (first-lacks third)
-        ∙ other_list _ _ _ list (behind has_flags list) header header_is in
-        let fits : nat_le (length body) MAX_BLOCK ≡ true = grind (arith, nat_tests) in
-        ap (λ b. or_fault TooLong (cond b (Some body) None) >>= from_block names) fits
-        ∙ ap (λ found. or_fault BadHeader found >>= from_header names) other_is
-        ∙ ap (λ ids. ids >>= from_ids names other) its
-        ∙ ap (λ found. found >>= from_lists other ids) (lists_again list has_flags refl)
-        ∙ ap (λ flags. Ok (record { path = header.path; owner = ids.0; group = ids.1; flags = flags; lists = Nfs4 aces })) (flags_again list has_flags refl ∙ ap flags_by (sym list_is))
-        ∙ ap with_lists made
+    abbrev flags_at : List ℕ → FileFlags
+    flags_at line = unwrap_or (option_and_then flags_in (after_prefix (codes "# flags: ") line)) no_flags
+
+    flags_again : (list : List ℕ) (b : Bool) → begins (codes "# flags: ") (first_line list) ≡ b → flags_by (behind b list) ≡ flags_by list
+    flags_again list true is =
+        ap flags_at (ap first_line (append_assoc (first_line list) (newline ∷ []) lines) ∙ first-of (first_line list) lines (first-lacks list))
+    flags_again list false is =
+        ap flags_at first-lines
+        ∙ ap (λ found. unwrap_or (option_and_then flags_in found) no_flags) (plain_no_flags (print first) (of.piece first first_has))
+        ∙ sym (ap (λ b. unwrap_or (option_and_then flags_in (cond b (Some (drop (length (codes "# flags: ")) (first_line list))) None)) no_flags) is)
+
+    other_list : (path owner group : Option (List ℕ)) (list other : List ℕ) (header : Header) → as_header path owner group list ≡ Some header
+        → as_header path owner group other ≡ Some (record header { list = other })
+    other_list (Some path) (Some owner) (Some group) list other header is = ap (λ found. with_other found) is
+      where
+        with_other : Option Header → Option Header
+        with_other (Some header) = Some (record header { list = other })
+        with_other None = None
+    other_list (Some path) (Some owner) None list other header is = cc
+    other_list (Some path) None group list other header is = cc
+    other_list None owner group list other header is = cc
+
+    abbrev with_lists : Result FileValue BlockFault → Result FileValue BlockFault
+    with_lists (Ok file) = Ok (record file { lists = Nfs4 aces })
+    with_lists (Err fault) = Err fault
+
+    module _ (text : List ℕ) where
+      abbrev second : List ℕ
+      second = after_line text
+
+      abbrev third : List ℕ
+      third = after_line second
+
+      abbrev list : List ℕ
+      list = after_line third
+
+      abbrev has_flags : Bool
+      has_flags = begins (codes "# flags: ") (first_line list)
+
+      -- the block, without its last newline
+      abbrev pub body : List ℕ
+      body = headed (first_line text) (first_line second) (first_line third) (behind has_flags list)
+
+      pub body-cut : nfs4_block print text aces ≡ body ++ newline ∷ []
+      body-cut = ap (λ rest. front_of text ++ rest) (lines_ended aces ∙ ended-joined (print first) (map print more)) ∙ regrouped (first_line text) (first_line second) (first_line third) (flags_line list) lines (newline ∷ [])
+        where
+          regrouped : (one two three flags rest end : List ℕ) → ((one ++ newline ∷ []) ++ ((two ++ newline ∷ []) ++ ((three ++ newline ∷ []) ++ flags))) ++ (rest ++ end)
+              ≡ (one ++ newline ∷ (two ++ newline ∷ (three ++ newline ∷ (flags ++ rest)))) ++ end
+          regrouped one two three flags rest end = simp append_assoc
+
+      pub body_again : (file : FileValue) → file_by names text ≡ Ok file → length body ≤ MAX_BLOCK → file_by names body ≡ Ok (record file { lists = Nfs4 aces })
+      body_again file is short =
+          let (block, taken, of_block) = bind_ok (or_fault TooLong (within_limit text)) (from_block names) file is in
+          let (_, own) = some_from_cond (nat_le (length text) MAX_BLOCK) text block (given TooLong (within_limit text) block taken) in
+          let (header, read, of_header) = bind_ok (or_fault BadHeader (header_of block)) (from_header names) file of_block in
+          let (ids, its, of_ids) = bind_ok (owners_by names header) (from_ids names header) file of_header in
+          let (lists, listed, made) = bind_ok (lists_by names header.list) (from_lists header ids) file of_ids in
+          let header_is : header_of text ≡ Some header = ap header_of own ∙ given BadHeader (header_of block) header read in
+          let list_is : header.list ≡ list = headed_list names _ _ _ list header header_is in
+          let other : Header = record header { list = behind has_flags list } in
+          let other_is : header_of body ≡ Some other =
+          header-headed (first_line text) (first_line second) (first_line third) (behind has_flags list) (first-lacks text) (first-lacks second) (first-lacks third)
+          ∙ other_list _ _ _ list (behind has_flags list) header header_is in
+          let fits : nat_le (length body) MAX_BLOCK ≡ true = grind (arith, nat_tests) in
+          ap (λ b. or_fault TooLong (cond b (Some body) None) >>= from_block names) fits
+          ∙ ap (λ found. or_fault BadHeader found >>= from_header names) other_is
+          ∙ ap (λ ids. ids >>= from_ids names other) its
+          ∙ ap (λ found. found >>= from_lists other ids) (lists_again list has_flags refl)
+          ∙ ap (λ flags. Ok (record { path = header.path; owner = ids.0; group = ids.1; flags = flags; lists = Nfs4 aces })) (flags_again list has_flags refl ∙ ap flags_by (sym list_is))
+          ∙ ap with_lists made
 
 -- a block of entries says the file with them
-pub block_again : (names : Names) → ReadNumbers names → (text : List ℕ) (file : FileValue) (aces : List Nfsace4) → AreAces aces → HaveIds aces → 0 < length aces
-    → file_by names text ≡ Ok file → length (nfs4_block text aces) ≤ MAX_BLOCK + 1
-    → (block : List ℕ) × (nfs4_block text aces ≡ block ++ newline ∷ []) × (file_by names block ≡ Ok (record file { lists = Nfs4 aces }))
-block_again names numbers text file [] are have some is short = absurd (omega arith)
-block_again names numbers text file (first ∷ more) are have some is short =
-    let cut = body-cut names numbers first more are have text in
-    let whole = body names numbers first more are have text in
+pub block_again : (names : Names) (print : Nfsace4 → List ℕ) → IsAceForm names print → (text : List ℕ) (file : FileValue) (aces : List Nfsace4) → AreAces aces → HaveIds aces
+    → 0 < length aces → file_by names text ≡ Ok file → length (nfs4_block print text aces) ≤ MAX_BLOCK + 1
+    → (block : List ℕ) × (nfs4_block print text aces ≡ block ++ newline ∷ []) × (file_by names block ≡ Ok (record file { lists = Nfs4 aces }))
+block_again names print of text file [] are have some is short = absurd (omega arith)
+block_again names print of text file (first ∷ more) are have some is short =
+    let cut = body-cut names print of first more are have text in
+    let whole = body names print of first more are have text in
     let one : length (newline ∷ []) ≡ 1 = refl in
     let fits : length whole ≤ MAX_BLOCK = omega (arith, short, ap length cut, length-append whole (newline ∷ []), one) in
-    (whole, cut, body_again names numbers first more are have text file is fits)
+    (whole, cut, body_again names print of first more are have text file is fits)
