@@ -6,8 +6,8 @@ ghost use Rattle.acl_audit.specs.Letters.{BitsAreGranted, LetterIsChecked};
 ghost use Rattle.acl_audit.specs.Letters.{LettersStandForBits};
 ghost use Rattle.acl_audit.specs.Saved.{FilesNeverInherit, SavedListsComeBack};
 
-/// A letter is told of a user exactly if the tree's own check of it is answered `granted`, and a bit
-/// of a mask exactly if it is granted by itself. Of a POSIX list they are those that the letters
+/// A letter is told of a user exactly if the tree's own check of it is answered `granted`. A bit of
+/// a mask is told exactly if it is granted by itself; of a POSIX list these are those that letters
 /// stand for. There is nothing to run here: a proof cites the contract.
 pub fn letter_laws()
     ensures read { LetterIsChecked 4 }

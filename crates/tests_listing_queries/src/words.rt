@@ -6,7 +6,7 @@ use std::test::Fail;
 use tests_files::{Broken, Command, Sheet};
 
 /// The words, the status, and what standard error has.
-const FAULTS: [(&[&str], u8, &str); 11] = [
+const FAULTS: [(&[&str], u8, &str); 12] = [
     (
         &["who", "--accounts", "office", "--user", "nobody", "plan"],
         1,
@@ -61,6 +61,19 @@ const FAULTS: [(&[&str], u8, &str); 11] = [
         &["who", "--accounts", "office", "--setup", "setup", "plan"],
         2,
         "aclctl: --accounts and --setup exclude each other\n",
+    ),
+    (
+        &[
+            "who",
+            "--accounts",
+            "office",
+            "--letters",
+            "--perms",
+            "z",
+            "plan",
+        ],
+        2,
+        "aclctl: --letters and --perms exclude each other\n",
     ),
 ];
 
