@@ -5,16 +5,19 @@ use Rattle.std.specs.List.{enumerate_from, flat_map}
 use Rattle.std.specs.declared.alloc.Global.{Global}
 use Rattle.acl_names.specs.Requester.{Identity}
 use Rattle.acl_audit.specs.Answers.{is_set}
-use Rattle.acl_audit.specs.Letters.{effective}
+use Rattle.acl_audit.specs.Letters.{effective, granted_mask, mask_text}
 use Rattle.acl_audit.specs.Reach.{places_from, reaches}
 use Rattle.acl_audit.specs.Who.{may_line}
+use Rattle.acl_nfs4.specs.Mask.{mask_bits}
+use Rattle.acl_nfs4.specs.declared.mask.Mask.{Mask}
 use Rattle.acl_posix.specs.Perms.{bits_of}
+use Rattle.acl_posix.specs.PermsText.{perms_text}
 use Rattle.acl_posix.specs.declared.perms.Perms.{Perms}
 use Rattle.acl_tree.specs.Nodes.{may}
 use Rattle.acl_tree.specs.declared.node.Node.{Node}
 use Rattle.acl_listing_queries.specs.WhoSteps.{IsGranted, letters_line_at, letters_lines, may_line_at, may_line_of, may_lines, persons_of}
-use Rattle.acl_listing_queries.specs.WhoText.{letters_line_if, person_line, person_line_if, who_text}
-use Rattle.acl_listing_queries.specs.declared.who.answers.Granted.TheVariants.{Letters, Those}
+use Rattle.acl_listing_queries.specs.WhoText.{AllLetters, Asked, Request, ThreeLetters, letters_line_if, person_line, person_line_if, who_text}
+use Rattle.acl_listing_queries.specs.declared.who.answers.Granted.TheVariants.{Letters, Masks, Those}
 
 -- what stands behind some items
 name_there : (before after : List (List ℕ)) (name : List ℕ) → slice_get (before ++ name ∷ after) (length before) ≡ Some name
@@ -35,39 +38,42 @@ module _ (way : List Node) (path : List ℕ) (node : Node) where
   abbrev reach : List Identity → List Bool
   reach whos = map (reaches way) whos
 
-  abbrev letters : List Identity → List ℕ
-  letters whos = map (effective node) whos
+  -- letters that are written and granted so
 
-  -- the line of somebody at a place
-  one_letters : (whos before after : List Identity) (name : List ℕ) (who : Identity) (place : ℕ) → whos ≡ before ++ who ∷ after → place ≡ length before
-      → letters_line_at path (letters whos) (reach whos) (place, name) ≡ person_line way path node (record { name = name; who = who })
-  one_letters whos before after name who place is there =
-      ap (λ place. letters_line_at path (letters whos) (reach whos) (place, name)) there
-      ∙ ap (λ whos. letters_line_at path (letters whos) (reach whos) (length before, name)) is
-      ∙ ap (λ b. letters_line_if path name (cond b (get_or (letters (before ++ who ∷ after)) (length before) 0) 0)) (at_place (reaches way) false before after who)
-      ∙ ap (λ perms. letters_line_if path name (cond (reaches way who) perms 0)) (at_place (effective node) 0 before after who)
+  module _ (text : ℕ → List ℕ) (granted : Node → Identity → ℕ) where
+    abbrev letters : List Identity → List ℕ
+    letters whos = map (granted node) whos
 
-  -- where nobody is any more there is no line
-  no_letters : (whos : List Identity) (names : List (List ℕ)) (more : ℕ) → flat_map (letters_line_at path (letters whos) (reach whos)) (enumerate_from (length whos + more) names) ≡ []
-  no_letters whos [] more = refl
-  no_letters whos (name ∷ names) more =
-      let next : length whos + more + 1 ≡ length whos + (more + 1) = omega arith in
-      ap (λ b. letters_line_if path name (cond b (get_or (letters whos) (length whos + more) 0) 0) ++ flat_map (letters_line_at path (letters whos) (reach whos)) (enumerate_from (length whos + more + 1) names))
-      (none_there (reaches way) false whos more)
-      ∙ ap (λ place. flat_map (letters_line_at path (letters whos) (reach whos)) (enumerate_from place names)) next ∙ no_letters whos names (more + 1)
+    -- the line of somebody at a place
+    one_letters : (whos before after : List Identity) (name : List ℕ) (who : Identity) (place : ℕ) → whos ≡ before ++ who ∷ after → place ≡ length before
+        → letters_line_at text path (letters whos) (reach whos) (place, name) ≡ person_line text granted way path node (record { name = name; who = who })
+    one_letters whos before after name who place is there =
+        ap (λ place. letters_line_at text path (letters whos) (reach whos) (place, name)) there
+        ∙ ap (λ whos. letters_line_at text path (letters whos) (reach whos) (length before, name)) is
+        ∙ ap (λ b. letters_line_if text path name (cond b (get_or (letters (before ++ who ∷ after)) (length before) 0) 0)) (at_place (reaches way) false before after who)
+        ∙ ap (λ perms. letters_line_if text path name (cond (reaches way who) perms 0)) (at_place (granted node) 0 before after who)
 
-  letters_behind : (whos before after : List Identity) (names : List (List ℕ)) (place : ℕ) → whos ≡ before ++ after → place ≡ length before
-      → flat_map (letters_line_at path (letters whos) (reach whos)) (enumerate_from place names) ≡ flat_map (person_line way path node) (persons_of names after)
-  letters_behind whos before after [] place is there = refl
-  letters_behind whos before [] (name ∷ names) place is there =
-      let whole : before ≡ whos = sym (append-nil before) ∙ sym is in
-      let at : place ≡ length whos + 0 = there ∙ ap length whole ∙ omega arith in
-      ap (λ place. flat_map (letters_line_at path (letters whos) (reach whos)) (enumerate_from place (name ∷ names))) at ∙ no_letters whos (name ∷ names) 0
-  letters_behind whos before (who ∷ after) (name ∷ names) place is there =
-      let next : place + 1 ≡ length (before ++ who ∷ []) = simp length-append (omega (arith, there)) in
-      ap (λ line. line ++ flat_map (letters_line_at path (letters whos) (reach whos)) (enumerate_from (place + 1) names)) (one_letters whos before after name who place is there)
-      ∙ ap (λ lines. person_line way path node (record { name = name; who = who }) ++ lines)
-      (letters_behind whos (before ++ who ∷ []) after names (place + 1) (is ∙ sym (append_assoc before (who ∷ []) after)) next)
+    -- where nobody is any more there is no line
+    no_letters : (whos : List Identity) (names : List (List ℕ)) (more : ℕ) → flat_map (letters_line_at text path (letters whos) (reach whos)) (enumerate_from (length whos + more) names) ≡ []
+    no_letters whos [] more = refl
+    no_letters whos (name ∷ names) more =
+        let next : length whos + more + 1 ≡ length whos + (more + 1) = omega arith in
+        ap (λ b. letters_line_if text path name (cond b (get_or (letters whos) (length whos + more) 0) 0) ++ flat_map (letters_line_at text path (letters whos) (reach whos)) (enumerate_from (length whos + more + 1) names))
+        (none_there (reaches way) false whos more)
+        ∙ ap (λ place. flat_map (letters_line_at text path (letters whos) (reach whos)) (enumerate_from place names)) next ∙ no_letters whos names (more + 1)
+
+    letters_behind : (whos before after : List Identity) (names : List (List ℕ)) (place : ℕ) → whos ≡ before ++ after → place ≡ length before
+        → flat_map (letters_line_at text path (letters whos) (reach whos)) (enumerate_from place names) ≡ flat_map (person_line text granted way path node) (persons_of names after)
+    letters_behind whos before after [] place is there = refl
+    letters_behind whos before [] (name ∷ names) place is there =
+        let whole : before ≡ whos = sym (append-nil before) ∙ sym is in
+        let at : place ≡ length whos + 0 = there ∙ ap length whole ∙ omega arith in
+        ap (λ place. flat_map (letters_line_at text path (letters whos) (reach whos)) (enumerate_from place (name ∷ names))) at ∙ no_letters whos (name ∷ names) 0
+    letters_behind whos before (who ∷ after) (name ∷ names) place is there =
+        let next : place + 1 ≡ length (before ++ who ∷ []) = simp length-append (omega (arith, there)) in
+        ap (λ line. line ++ flat_map (letters_line_at text path (letters whos) (reach whos)) (enumerate_from (place + 1) names)) (one_letters whos before after name who place is there)
+        ∙ ap (λ lines. person_line text granted way path node (record { name = name; who = who }) ++ lines)
+        (letters_behind whos (before ++ who ∷ []) after names (place + 1) (is ∙ sym (append_assoc before (who ∷ []) after)) next)
 
   -- of those who may
 
@@ -135,18 +141,30 @@ module _ (way : List Node) (path : List ℕ) (node : Node) where
         ]
 
 module _ (names : List (List ℕ)) (whos : List Identity) (way : List Node) (path : List ℕ) (node : Node) (marks : List Bool) (marks_are : marks ≡ map (reaches way) whos) where
-  pub letters_text : (perms : Option ℕ) (letters : Vec Perms Global) → IsGranted whos perms node (Letters letters)
-      → letters_lines path names (map bits_of letters.items) marks ≡ who_text (persons_of names whos) perms way path node
-  letters_text None letters is =
-      ap (λ marks. letters_lines path names (map bits_of letters.items) marks) marks_are
-      ∙ ap (λ letters. letters_lines path names letters (map (reaches way) whos)) is
-      ∙ letters_behind way path node whos [] whos names 0 refl refl
-  letters_text (Some perms) letters is = absurd is
+  lettered : (text : ℕ → List ℕ) (granted : Node → Identity → ℕ) (letters : List ℕ) → letters ≡ map (granted node) whos
+      → letters_lines text path names letters marks ≡ flat_map (person_line text granted way path node) (persons_of names whos)
+  lettered text granted letters is =
+      ap (λ marks. letters_lines text path names letters marks) marks_are
+      ∙ ap (λ letters. letters_lines text path names letters (map (reaches way) whos)) is
+      ∙ letters_behind way path node text granted whos [] whos names 0 refl refl
 
-  pub those_text : (perms : Option ℕ) (places : Vec ℕ Global) → IsGranted whos perms node (Those places)
-      → may_lines path names places.items marks ≡ who_text (persons_of names whos) perms way path node
-  those_text None places is = absurd is
-  those_text (Some perms) places is =
+  pub letters_text : (asked : Asked) (letters : Vec Perms Global) → IsGranted whos asked node (Letters letters)
+      → letters_lines perms_text path names (map bits_of letters.items) marks ≡ who_text (persons_of names whos) asked way path node
+  letters_text ThreeLetters letters is = lettered perms_text effective (map bits_of letters.items) is
+  letters_text AllLetters letters is = absurd is
+  letters_text (Request perms) letters is = absurd is
+
+  pub masks_text : (asked : Asked) (masks : Vec Mask Global) → IsGranted whos asked node (Masks masks)
+      → letters_lines mask_text path names (map mask_bits masks.items) marks ≡ who_text (persons_of names whos) asked way path node
+  masks_text ThreeLetters masks is = absurd is
+  masks_text AllLetters masks is = lettered mask_text granted_mask (map mask_bits masks.items) is
+  masks_text (Request perms) masks is = absurd is
+
+  pub those_text : (asked : Asked) (places : Vec ℕ Global) → IsGranted whos asked node (Those places)
+      → may_lines path names places.items marks ≡ who_text (persons_of names whos) asked way path node
+  those_text ThreeLetters places is = absurd is
+  those_text AllLetters places is = absurd is
+  those_text (Request perms) places is =
       ap (λ marks. may_lines path names places.items marks) marks_are
       ∙ ap (λ places. may_lines path names places (map (reaches way) whos)) is
       ∙ lines_behind way path node perms names [] names whos [] whos 0 refl refl refl refl

@@ -229,7 +229,7 @@ folder_at users answers place text way marks file asks same reads at shown =
 -- what is told of a file on a way of which these marks are
 pub told_on_way : (asking : Asking) (whos : List Identity) (text : List ℕ) (way : Option (List Node)) (marks : List Bool) (file : FileValue) → file_by asking.names text ≡ Ok file
     → Some marks ≡ marks_of whos way → (above : List Node) × (marks ≡ map (reaches above) whos)
-    × (part_by asking (file_by asking.names text) way ≡ Ok (who_text asking.persons asking.perms above file.path (node_of file)))
+    × (part_by asking (file_by asking.names text) way ≡ Ok (who_text asking.persons asking.asked above file.path (node_of file)))
 told_on_way asking whos text way marks file reads shown =
     let known = some_way whos way marks shown in
     (known.0, known.2, ap (λ said. part_by asking said way) reads ∙ ap (part_by asking (Ok file)) known.1)

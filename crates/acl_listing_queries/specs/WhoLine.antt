@@ -4,12 +4,12 @@ use Rattle.clap.specs.Words.{App, is_simple, is_simple_and_free, new_app, with_r
 use Rattle.clap.proofs.OnLiterals.{clap_on_literals}
 use Rattle.acl_cli.specs.CommandLine.{flag, optional_option, repeated_option, required_word}
 
--- `who [--accounts FILE] [--setup FILE] [--perms P] [--reach] [--user NAME].. LISTING`
+-- `who [--accounts FILE] [--setup FILE] [--perms P] [--letters] [--reach] [--user NAME].. LISTING`
 unfoldable pub who_line : App
 who_line = fold with_rule (new_app (codes "who"))
     (optional_option (codes "accounts") ∷ optional_option (codes "setup")
-    ∷ optional_option (codes "perms") ∷ flag (codes "reach") ∷ repeated_option (codes "user")
-    ∷ required_word (codes "listing") ∷ [])
+    ∷ optional_option (codes "perms") ∷ flag (codes "letters") ∷ flag (codes "reach")
+    ∷ repeated_option (codes "user") ∷ required_word (codes "listing") ∷ [])
 
 -- its parser is known
 pub who_line-simple : is_simple who_line ≡ true

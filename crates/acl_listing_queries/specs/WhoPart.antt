@@ -11,20 +11,20 @@ use Rattle.acl_listing_queries.specs.Listed.{Part}
 use Rattle.acl_listing_queries.specs.Person.{Person}
 use Rattle.acl_listing_queries.specs.Readings.{Reading, reading_of}
 use Rattle.acl_listing_queries.specs.Ways.{known_way, way_of}
-use Rattle.acl_listing_queries.specs.WhoText.{who_text}
+use Rattle.acl_listing_queries.specs.WhoText.{Asked, who_text}
 
--- by which names blocks are read, who is asked about, which permissions, if they are told, else
--- letters; and whether only those count who may search each folder above
+-- by which names blocks are read, who is asked about, what is asked for, and whether only those
+-- count who may search each folder above
 pub record Asking : Type 0 where
   pub names : Names
   pub persons : List Person
-  pub perms : Option ℕ
+  pub asked : Asked
   pub reach : Bool
 
 -- what is told of a file on this way, if it is known
 abbrev pub part_on : Asking → FileValue → Option (List Node) → Part
 part_on asking file (Some way) =
-    Ok (who_text asking.persons asking.perms way file.path (node_of file))
+    Ok (who_text asking.persons asking.asked way file.path (node_of file))
 part_on asking file None = Err UnknownWay
 
 -- of a block that says this

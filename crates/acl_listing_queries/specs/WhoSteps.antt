@@ -6,13 +6,14 @@ use Rattle.std.specs.List.{enumerate_from, flat_map, fold, list_all, list_any, z
 use Rattle.acl_names.specs.Names.{Names}
 use Rattle.acl_names.specs.Requester.{Identity}
 use Rattle.acl_audit.specs.Answers.{is_set, letters_at}
-use Rattle.acl_audit.specs.Letters.{effective}
+use Rattle.acl_audit.specs.Letters.{effective, granted_mask}
 use Rattle.acl_audit.specs.Reach.{places_from, reaches}
 use Rattle.acl_audit.specs.Who.{may_line}
 use Rattle.acl_listings.specs.Block.{FileValue, file_by}
 use Rattle.acl_listings.specs.Lines.{after_line}
 use Rattle.acl_listings.specs.declared.fault.FileFault.{FileFault}
 use Rattle.acl_listings.specs.declared.fault.FileFault.TheVariants as file
+use Rattle.acl_nfs4.specs.Mask.{mask_bits}
 use Rattle.acl_posix.specs.Perms.{bits_of}
 use Rattle.acl_tree.specs.Nodes.{may}
 use Rattle.acl_tree.specs.declared.node.Node.{Node}
@@ -23,20 +24,24 @@ use Rattle.acl_listing_queries.specs.Readings.{Reading, reading_of}
 use Rattle.acl_listing_queries.specs.Ways.{folder_of, known_way, may_be_above, way_on}
 use Rattle.acl_listing_queries.specs.Ways.{with_folder}
 use Rattle.acl_listing_queries.specs.WhoPart.{Asking}
+use Rattle.acl_listing_queries.specs.WhoText.{AllLetters, Asked, Request, ThreeLetters}
 use Rattle.acl_listing_queries.specs.WhoText.{letters_line_if}
 use Rattle.acl_listing_queries.specs.declared.people.People.{People}
 use Rattle.acl_listing_queries.specs.declared.who.answers.Answers.{Answers}
 use Rattle.acl_listing_queries.specs.declared.who.answers.Granted.{Granted}
-use Rattle.acl_listing_queries.specs.declared.who.answers.Granted.TheVariants.{Letters, Those}
+use Rattle.acl_listing_queries.specs.declared.who.answers.Granted.TheVariants.{Letters, Masks}
+use Rattle.acl_listing_queries.specs.declared.who.answers.Granted.TheVariants.{Those}
 use Rattle.acl_listing_queries.specs.declared.who.answers.Kept.{Kept}
 use Rattle.acl_listing_queries.specs.declared.who.answers.TheConstants.{PLACES}
 use Rattle.acl_listing_queries.specs.declared.who.answers.Users.{Users}
+use Rattle.acl_listing_queries.specs.declared.who.asked.Asked.{Asked as AskedValue}
+use Rattle.acl_listing_queries.specs.declared.who.asked.Asked.TheVariants as asked
 use Rattle.acl_listing_queries.specs.declared.who.listed.ListedTeller.{ListedTeller}
 use Rattle.acl_listing_queries.specs.declared.who.reach.Before.{Before}
 use Rattle.acl_listing_queries.specs.declared.who.reach.ReachTeller.{ReachTeller}
 use Rattle.acl_listing_queries.specs.declared.who.way.Folder.{Folder}
 
--- ---- who is asked about
+-- ---- who is asked about, and what for
 
 abbrev pub persons_of : List (List ℕ) → List Identity → List Person
 persons_of names whos = map (λ one. record { name = one.0; who = one.1 }) (zip names whos)
@@ -50,20 +55,25 @@ whos_of users = users.people.now.requesters.items
 abbrev pub names_by : Users → Names
 names_by users = names_of_host users.host.now
 
+abbrev pub asked_of : AskedValue → Asked
+asked_of asked.Letters = ThreeLetters
+asked_of asked.AllLetters = AllLetters
+asked_of (asked.Perms perms) = Request (bits_of perms)
+
 abbrev pub asking_of : Users → Asking
 asking_of users = record {
   names = names_by users;
   persons = persons_of (names_of_people users.people.now) (whos_of users);
-  perms = option_map bits_of users.perms;
+  asked = asked_of users.asked;
   reach = users.reach;
 }
 
 -- ---- the lines of a file
 
--- the line of the name at a place
-abbrev pub letters_line_at : List ℕ → List ℕ → List Bool → ℕ × List ℕ → List ℕ
-letters_line_at path letters reach here =
-    letters_line_if path here.1 (letters_at letters reach here.0)
+-- the line of the name at a place, of letters that are written so
+abbrev pub letters_line_at : (ℕ → List ℕ) → List ℕ → List ℕ → List Bool → ℕ × List ℕ → List ℕ
+letters_line_at text path letters reach here =
+    letters_line_if text path here.1 (letters_at letters reach here.0)
 
 abbrev pub may_line_of : List ℕ → Option (List ℕ) → List ℕ
 may_line_of path None = []
@@ -75,9 +85,9 @@ may_line_at path names reach place =
     if is_set reach place then may_line_of path (slice_get names place) else []
 
 -- the lines of all names, and of those at the places
-abbrev pub letters_lines : List ℕ → List (List ℕ) → List ℕ → List Bool → List ℕ
-letters_lines path names letters reach =
-    flat_map (letters_line_at path letters reach) (enumerate_from 0 names)
+abbrev pub letters_lines : (ℕ → List ℕ) → List ℕ → List (List ℕ) → List ℕ → List Bool → List ℕ
+letters_lines text path names letters reach =
+    flat_map (letters_line_at text path letters reach) (enumerate_from 0 names)
 
 abbrev pub may_lines : List ℕ → List (List ℕ) → List ℕ → List Bool → List ℕ
 may_lines path names places reach = flat_map (may_line_at path names reach) places
@@ -85,12 +95,14 @@ may_lines path names places reach = flat_map (may_line_at path names reach) plac
 -- ---- what is kept of a file
 
 -- of all of these what the node grants: the letters, or the places of those who are granted it all
-abbrev pub IsGranted : List Identity → Option ℕ → Node → Granted → Type 0
-IsGranted whos None node (Letters letters) = map bits_of letters.items ≡ map (effective node) whos
-IsGranted whos None node (Those places) = ⊥
-IsGranted whos (Some perms) node (Letters letters) = ⊥
-IsGranted whos (Some perms) node (Those places) =
+abbrev pub IsGranted : List Identity → Asked → Node → Granted → Type 0
+IsGranted whos ThreeLetters node (Letters letters) =
+    map bits_of letters.items ≡ map (effective node) whos
+IsGranted whos AllLetters node (Masks masks) =
+    map mask_bits masks.items ≡ map (granted_mask node) whos
+IsGranted whos (Request perms) node (Those places) =
     places.items ≡ places_from (λ who. may node who perms) 0 whos
+IsGranted whos _ node _ = ⊥
 
 -- and, if it is asked, of each whether the node may be searched
 abbrev pub IsSearch : List Identity → Bool → Node → List Bool → Type 0
@@ -98,8 +110,7 @@ IsSearch whos false node marks = ⊤
 IsSearch whos true node marks = marks ≡ map (λ who. may node who 1) whos
 
 pub record AreAnswersOf (users : Users) (file : FileValue) (kept : Kept) : Type 0 where
-  pub granted : IsGranted (whos_of users) (option_map bits_of users.perms) (node_of file)
-      kept.granted
+  pub granted : IsGranted (whos_of users) (asked_of users.asked) (node_of file) kept.granted
   pub search : IsSearch (whos_of users) users.reach (node_of file) kept.search.items
 
 -- the answers are those of the file of a block with these lines behind its first

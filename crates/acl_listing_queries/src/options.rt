@@ -35,6 +35,15 @@ pub fn user_option<'a>(alloc: Global) -> Arg<'a>
     repeated_option(alloc, "user", "NAME", help)
 }
 
+/// The option `--letters`: whether all letters are told.
+pub fn letters_option<'a>(alloc: Global) -> Arg<'a>
+    ensures rule { rule_of result ≡ flag (codes "letters") }
+    ensures local { result.global ≡ false }
+{
+    let help = "All fourteen letters of an NFSv4 list, rwxpdDaARWcCos, in place of r, w and x";
+    flag(alloc, "letters", help)
+}
+
 /// The option `--all`: whether each has a line.
 pub fn all_option<'a>(alloc: Global) -> Arg<'a>
     ensures rule { rule_of result ≡ flag (codes "all") }

@@ -1,6 +1,7 @@
 //! `who` of a listing.
 
 mod answers;
+mod asked;
 mod command;
 mod lines;
 mod listed;

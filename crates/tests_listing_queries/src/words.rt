@@ -3,7 +3,7 @@ use crate::fixture::who;
 use tests_files::Command;
 
 /// The words, the status, and what standard error has.
-const FAULTS: [(&[&str], u8, &str); 11] = [
+const FAULTS: [(&[&str], u8, &str); 12] = [
     (
         &["who", "--accounts", "office", "--user", "nobody", "plan"],
         1,
@@ -58,6 +58,19 @@ const FAULTS: [(&[&str], u8, &str); 11] = [
         &["who", "--accounts", "office", "--setup", "setup", "plan"],
         2,
         "aclctl: --accounts and --setup exclude each other\n",
+    ),
+    (
+        &[
+            "who",
+            "--accounts",
+            "office",
+            "--letters",
+            "--perms",
+            "z",
+            "plan",
+        ],
+        2,
+        "aclctl: --letters and --perms exclude each other\n",
     ),
 ];
 

@@ -6,20 +6,21 @@ ghost use Rattle.acl_audit.specs.Reach.{reaches};
 ghost use Rattle.acl_listings.specs.Block.{FileValue, file_by};
 ghost use Rattle.acl_listings.specs.Faults.{IsFaultOf};
 ghost use Rattle.acl_listings.specs.Lines.{after_line};
-ghost use Rattle.acl_posix.specs.Perms.{bits_of};
 ghost use Rattle.acl_tree.specs.declared.node.Node.{Node};
 ghost use Rattle.acl_listing_queries.specs.Files.{node_of};
 ghost use Rattle.acl_listing_queries.specs.WhoSteps.{AreAnswersOf, AreRight, IsAnsweredAt};
-ghost use Rattle.acl_listing_queries.specs.WhoSteps.{IsGranted, IsSearch, asking_of, kept_at};
-ghost use Rattle.acl_listing_queries.specs.WhoSteps.{names_by, whos_of};
+ghost use Rattle.acl_listing_queries.specs.WhoSteps.{IsGranted, IsSearch, asked_of, asking_of};
+ghost use Rattle.acl_listing_queries.specs.WhoSteps.{kept_at, names_by, whos_of};
 ghost use Rattle.acl_listing_queries.specs.WhoText.{who_text};
 
+use super::asked::Asked;
 use super::lines::{push_letters_lines, push_may_lines};
 use crate::files::node_of;
 use crate::host::Host;
 use crate::people::People;
 use acl_audit::{letters_of_each, places_of_those_who_may, which_may};
 use acl_listings::{FileFault, MAX_BLOCK, lines_behind, path_of, read_file};
+use acl_nfs4::Mask;
 use acl_posix::Perms;
 use acl_tree::Node;
 use std::alloc::{AllocError, Global};
@@ -33,8 +34,10 @@ const FACTOR: u64 = 0x9e37_79b9_7f4a_7c15;
 /// What a file grants the users.
 #[derive(Drop)]
 pub(super) enum Granted {
-    /// Of each user the letters.
+    /// Of each user the letters `r`, `w` and `x`.
     Letters(Vec<Perms>),
+    /// Of each user all the letters.
+    Masks(Vec<Mask>),
     /// The places of those users who are granted what is asked.
     Those(Vec<usize>),
 }
@@ -80,8 +83,7 @@ pub(super) struct Users<'t> {
     /// By whose names blocks are read.
     pub host: &'t Host,
     pub people: &'t People,
-    /// What is asked for: permissions, or the letters.
-    pub perms: Option<Perms>,
+    pub asked: Asked,
     /// Whether it is asked who may search a file.
     pub reach: bool,
 }
@@ -89,13 +91,13 @@ pub(super) struct Users<'t> {
 impl<'t> Users<'t> {
     /// What the node grants the users. It fails only if memory runs out.
     fn granted(&self, alloc: Global, node: &Node) -> Result<Granted, AllocError>
-        ensures { IfOk result (IsGranted (whos_of self.now) (option_map bits_of self.now.perms)
-            node.now) }
+        ensures { IfOk result (IsGranted (whos_of self.now) (asked_of self.now.asked) node.now) }
     {
         let requesters = self.people.requesters.as_slice();
-        match self.perms {
-            None => Ok(Granted::Letters(letters_of_each(alloc, requesters, node)?)),
-            Some(perms) => {
+        match self.asked {
+            Asked::Letters => Ok(Granted::Letters(letters_of_each(alloc, requesters, node)?)),
+            Asked::AllLetters => Ok(Granted::Masks(letters_of_each(alloc, requesters, node)?)),
+            Asked::Perms(perms) => {
                 let places = places_of_those_who_may(alloc, requesters, node, perms)?;
                 Ok(Granted::Those(places))
             }
@@ -150,12 +152,15 @@ impl<'t> Users<'t> {
         ensures { (file : FileValue) (way : List Node) → AreAnswersOf self.now file kept.now
             → reach.now ≡ map (reaches way) (whos_of self.now)
             → OnOk result (out.new.items ≡ out.old.items ++ who_text (asking_of self.now).persons
-            (asking_of self.now).perms way path.now (node_of file)) }
+            (asking_of self.now).asked way path.now (node_of file)) }
     {
         let names = self.people.names.as_slice();
         match &kept.granted {
             Granted::Letters(letters) => {
                 push_letters_lines(names, letters.as_slice(), reach, path, out)
+            }
+            Granted::Masks(masks) => {
+                push_letters_lines(names, masks.as_slice(), reach, path, out)
             }
             Granted::Those(places) => push_may_lines(names, places.as_slice(), reach, path, out),
         }
@@ -238,7 +243,7 @@ impl<'t> Answers<'t> {
             → IsAnsweredAt self.now place file
             → reach.now ≡ map (reaches way) (whos_of self.now.users)
             → OnOk result (out.new.items ≡ out.old.items
-            ++ who_text (asking_of self.now.users).persons (asking_of self.now.users).perms way
+            ++ who_text (asking_of self.now.users).persons (asking_of self.now.users).asked way
             file.path (node_of file)) }
     {
         match (self.at(place), path_of(text)) {

@@ -6,18 +6,16 @@ ghost use Rattle.acl_listing_queries.specs.WhoPart.{who_part};
 ghost use Rattle.acl_listing_queries.specs.WhoSteps.{IsEveryone, asking_of};
 
 use super::answers::{Answers, Users};
+use super::asked::asked_field;
 use super::listed::ListedTeller;
 use super::reach::ReachTeller;
 use crate::host::{Host, read_host};
 use crate::named::{listing_field, tell_named};
-use crate::options::{accounts_option, setup_option, user_option};
+use crate::options::{accounts_option, letters_option, setup_option, user_option};
 use crate::people::read_people;
 use acl_cli::fields::flag_field;
 use acl_cli::options::{flag, optional_perms_option, required_word};
-use acl_cli::{
-    Command as CliCommand, CommandLine, Ending, ErrorOutput, Failure, OpenFiles,
-    optional_perms_field,
-};
+use acl_cli::{Command as CliCommand, CommandLine, Ending, ErrorOutput, Failure, OpenFiles};
 use acl_names::Requester;
 use clap::{ArgMatches, Command};
 use std::alloc::{AllocError, Global};
@@ -28,10 +26,11 @@ pub const WHO_ANSWERS: &str = "For example:
   getfacl -Rn /srv/share | aclctl who --reach --perms w -
 A line for each file and each user who may do something with it: LETTERS NAME PATH, where - is a \
 letter that is
-denied by itself. With --perms P only NAME PATH, of those who are granted all of P at once. What \
-isn't answered is
-said on standard error: aclctl: LISTING:LINE: WORD: TEXT. uid 0 isn't asked about: it may do \
-nearly everything.
+denied by itself. With --letters they are all fourteen; of a POSIX list w is w and p there. With \
+--perms P only NAME
+PATH, of those who are granted all of P at once. What isn't answered is said on standard error: \
+aclctl: LISTING:LINE:
+WORD: TEXT. uid 0 isn't asked about: it may do nearly everything.
 Exit status: 0 if every file was answered; 1 if a field or a file doesn't read; 2 if the words are \
 wrong; 3 if memory
 runs out, the listing fails while it is read, or the answer can't be written; 4 if there are files \
@@ -59,6 +58,7 @@ impl CommandLine for WhoOfListing {
             .arg(accounts_option(alloc))?
             .arg(setup_option(alloc))?
             .arg(optional_perms_option(alloc))?
+            .arg(letters_option(alloc))?
             .arg(flag(
                 alloc,
                 "reach",
@@ -135,13 +135,13 @@ impl CliCommand for WhoOfListing {
         out: &mut W,
         err: &mut ErrorOutput<E>,
     ) -> Result<Ending, Failure<'a>> {
-        let perms = optional_perms_field(matches)?;
+        let asked = asked_field(matches)?;
         let host = read_host(alloc, files, matches)?;
         let people = read_people(alloc, &host, matches)?;
         let users = Users {
             host: &host,
             people: &people,
-            perms,
+            asked,
             reach: flag_field(matches, "reach"),
         };
         tell_who(alloc, files, listing_field(matches), users, input, out, err)

@@ -1,25 +1,22 @@
 //! The lines of a file, of people by their places.
 ghost use Rattle.std.specs.Prelude.{◌≡◌, ◌++◌, OnOk, map};
-ghost use Rattle.acl_posix.specs.Perms.{bits_of};
 ghost use Rattle.acl_listing_queries.specs.WhoSteps.{letters_lines, may_line_at, may_lines};
 ghost use Rattle.acl_listing_queries.specs.WhoText.{letters_line_if};
 
-use acl_audit::{is_set, letters_at, push_letters_line, push_may_line};
-use acl_posix::Perms;
-use bitflags::Flags;
+use acl_audit::{LetterSet, is_set, letters_at, push_letters_line, push_may_line};
 use std::alloc::AllocError;
 
 /// Appends the line of somebody who has a letter.
-fn push_letters_if(
+fn push_letters_if<L: LetterSet>(
     path: &[u8],
     name: &[u8],
-    letters: Perms,
+    letters: L,
     out: &mut Vec<u8>,
 ) -> Result<(), AllocError>
     ensures { OnOk result (out.new.items ≡ out.old.items
-        ++ letters_line_if path.now name.now (bits_of letters)) }
+        ++ letters_line_if L.text path.now name.now (L.number letters)) }
 {
-    if letters.is_empty() {
+    if letters.is_none() {
         return Ok(());
     }
     push_letters_line(path, name, letters, out)
@@ -27,15 +24,15 @@ fn push_letters_if(
 
 /// Appends a line for each of the names, in their order: the letters at the name's place, if it is
 /// one of those that reach the file and has any, the name, and the path.
-pub(super) fn push_letters_lines(
+pub(super) fn push_letters_lines<L: LetterSet>(
     names: &[Vec<u8>],
-    letters: &[Perms],
+    letters: &[L],
     reach: &[bool],
     path: &[u8],
     out: &mut Vec<u8>,
 ) -> Result<(), AllocError>
-    ensures { OnOk result (out.new.items ≡ out.old.items ++ letters_lines path.now
-        (map (λ name. name.items) names.now) (map bits_of letters.now) reach.now) }
+    ensures { OnOk result (out.new.items ≡ out.old.items ++ letters_lines L.text path.now
+        (map (λ name. name.items) names.now) (map L.number letters.now) reach.now) }
 {
     for (place, name) in names.iter().enumerate() {
         let here = letters_at(letters, reach, place);

@@ -1,9 +1,10 @@
 use Rattle.std.proofs.Common.{◌≡◌, ◌++◌, map, take}
 use Rattle.std.specs.List.{enumerate_from, flat_map}
-use Rattle.acl_posix.specs.Perms.{bits_of}
 use Rattle.acl_listing_queries.specs.WhoSteps.{letters_line_at}
 use Rattle.acl_listing_queries.proofs.who.lines.push_letters_lines.Given as goal
 
 -- the lines of the names so far
 abbrev pub invariant-loop-place : goal.invariant-loop-place
-invariant-loop-place l = l.out.items ≡ l.fn.out.items ++ flat_map (letters_line_at l.path (map bits_of l.letters) l.reach) (enumerate_from 0 (take l.place (map (λ name. name.items) l.names)))
+invariant-loop-place g l =
+    let Letters = g.L.LetterSet in
+    l.out.items ≡ l.fn.out.items ++ flat_map (letters_line_at Letters.text l.path (map Letters.number l.letters) l.reach) (enumerate_from 0 (take l.place (map (λ name. name.items) l.names)))

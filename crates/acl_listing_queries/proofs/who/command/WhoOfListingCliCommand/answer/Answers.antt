@@ -1,13 +1,12 @@
-use Rattle.std.proofs.Common.{◌≡◌, ◌∙◌, List, ℕ, ap, codes, inr, option_map, subst}
+use Rattle.std.proofs.Common.{◌≡◌, ◌∙◌, List, ℕ, ap, codes, inr, subst}
 use Rattle.clap.specs.Words.{Row, found_of, rows_of}
 use Rattle.acl_cli.specs.Fields.{flag_in}
 use Rattle.acl_cli.proofs.CommandsLemmas.{Comes-as}
-use Rattle.acl_posix.specs.Perms.{bits_of}
 use Rattle.acl_listing_queries.specs.Host.{names_of_host}
 use Rattle.acl_listing_queries.specs.Listed.{AnswersListing, BeginsListing}
 use Rattle.acl_listing_queries.specs.WhoMeaning.{FailsForListing, bytes_named, inputs_of, listing_meaning, who_meaning}
 use Rattle.acl_listing_queries.specs.WhoPart.{Asking, who_part}
-use Rattle.acl_listing_queries.specs.WhoSteps.{names_of_people, persons_of}
+use Rattle.acl_listing_queries.specs.WhoSteps.{asked_of, names_of_people, persons_of}
 use Rattle.acl_listing_queries.proofs.AskedLemmas.{persons_again}
 use Rattle.acl_listing_queries.proofs.who.command.WhoOfListingCliCommand.answer.Goals as goal
 
@@ -17,20 +16,20 @@ returns g c =
     let input = g.I.Read.remaining c.args.input.now in
     let rows : List Row = rows_of (found_of c.args.matches.now) in
     let host = c.in_ok-host.host in
-    let perms = option_map bits_of c.in_ok-perms.perms in
+    let asked_for = asked_of c.in_ok-asked.asked in
     let (persons, people, persons_are) = c.in_ok-people.ensures.read in
     let name = c.listing_field.result.now in
     let name_is = c.listing_field.ensures in
     let told : Asking = record {
       names = names_of_host host;
       persons = persons_of (names_of_people c.in_ok-people.people) c.in_ok-people.people.requesters.items;
-      perms = perms;
+      asked = asked_for;
       reach = c.flag_field.result;
     } in
-    let asked : Asking = record { names = names_of_host host; persons = persons; perms = perms; reach = flag_in (codes "reach") rows } in
+    let asked : Asking = record { names = names_of_host host; persons = persons; asked = asked_for; reach = flag_in (codes "reach") rows } in
     let asking_is : told ≡ asked =
     ap (λ persons. record told { persons = persons }) (persons_again persons c.in_ok-people.people people)
-    ∙ ap (λ reach. record { names = names_of_host host; persons = persons; perms = perms; reach = reach }) c.flag_field.ensures in
+    ∙ ap (λ reach. record { names = names_of_host host; persons = persons; asked = asked_for; reach = reach }) c.flag_field.ensures in
     let part = listing_meaning files input name (names_of_host host) (who_part told) in
     Comes-as part (who_meaning files input rows) c.tell_who.result _ _ _ _ _ _
     (λ answer is. record {
@@ -38,8 +37,8 @@ returns g c =
       host_is = c.in_ok-host.ensures.opened;
       persons = persons;
       persons_are = persons_are;
-      perms = perms;
-      perms_are = c.in_ok-perms.ensures.read;
+      asked = asked_for;
+      asked_is = c.in_ok-asked.ensures.read;
       is = subst (λ (name : List ℕ). AnswersListing name (names_of_host host) (who_part asked) (bytes_named files input name) answer) name_is
           (subst (λ (asking : Asking). AnswersListing name (names_of_host host) (who_part asking) (bytes_named files input name) answer) asking_is is);
     })
@@ -48,8 +47,8 @@ returns g c =
       host_is = c.in_ok-host.ensures.opened;
       persons = persons;
       persons_are = persons_are;
-      perms = perms;
-      perms_are = c.in_ok-perms.ensures.read;
+      asked = asked_for;
+      asked_is = c.in_ok-asked.ensures.read;
       is = subst (λ (name : List ℕ). BeginsListing name (names_of_host host) (who_part asked) (bytes_named files input name) answer) name_is
           (subst (λ (asking : Asking). BeginsListing name (names_of_host host) (who_part asking) (bytes_named files input name) answer) asking_is is);
     })

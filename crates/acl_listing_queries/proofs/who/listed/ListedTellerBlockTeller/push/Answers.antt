@@ -21,8 +21,8 @@ returns-clause-part c = λ earlier stands.
     let marks : c.as_slice.result.now ≡ map (reaches []) (whos_of c.find.new.self.users) =
     c.as_slice.ensures.value ∙ stands.everyone ∙ ap (λ (users : Users). map (reaches []) (whos_of users)) (sym now) in
     let readings = map (reading_of asking.names) earlier in (
-      who_text asking.persons asking.perms [] file.path (node_of file),
+      who_text asking.persons asking.asked [] file.path (node_of file),
       ap (λ b. part_by asking (file_by asking.names text) (way_for b readings (reading_of asking.names text))) stands.reach ∙ ap (λ said. part_by asking said (Some [])) found.1,
       c.in_ok-push_at.ensures file [] reads found.2 marks
-          ∙ ap (λ (users : Users). c.args.out.now.items ++ who_text (asking_of users).persons (asking_of users).perms [] file.path (node_of file)) now,
+          ∙ ap (λ (users : Users). c.args.out.now.items ++ who_text (asking_of users).persons (asking_of users).asked [] file.path (node_of file)) now,
     )

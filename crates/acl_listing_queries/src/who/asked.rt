@@ -1,0 +1,41 @@
+//! What `who` asks of each file.
+ghost use Rattle.std.specs.Prelude.{◌≡◌, IfErr, IfOk, Ok, Err};
+ghost use Rattle.clap.specs.Words.{found_of, rows_of};
+ghost use Rattle.acl_listing_queries.specs.WhoMeaning.{what_in};
+ghost use Rattle.acl_listing_queries.specs.WhoSteps.{asked_of};
+
+use acl_cli::fields::{flag_field, text_field};
+use acl_cli::{Failure, Mismatch, optional_perms_field};
+use acl_posix::Perms;
+use clap::ArgMatches;
+
+/// What is asked for.
+#[derive(Clone, Copy, Debug, PartialEq, Eq)]
+pub(super) enum Asked {
+    /// The letters `r`, `w` and `x` of each user.
+    Letters,
+    /// All fourteen letters of each user.
+    AllLetters,
+    /// Who may do all of this at once.
+    Perms(Perms),
+}
+
+/// What the words ask for. `--letters` and `--perms` exclude each other.
+pub(super) fn asked_field<'a>(matches: &ArgMatches<'a>) -> Result<Asked, Failure<'a>>
+    ensures read { IfOk result (λ asked. what_in (rows_of (found_of matches.now))
+        ≡ Ok (asked_of asked)) }
+    ensures refused { IfErr result (λ failure. what_in (rows_of (found_of matches.now))
+        ≡ Err failure) }
+{
+    if !flag_field(matches, "letters") {
+        return match optional_perms_field(matches) {
+            Ok(Some(perms)) => Ok(Asked::Perms(perms)),
+            Ok(None) => Ok(Asked::Letters),
+            Err(fault) => Err(Failure::Field(fault)),
+        };
+    }
+    if text_field(matches, "perms").is_some() {
+        return Err(Failure::Mismatch(Mismatch::LettersAndPerms));
+    }
+    Ok(Asked::AllLetters)
+}
