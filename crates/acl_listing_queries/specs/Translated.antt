@@ -17,7 +17,7 @@ use Rattle.acl_bridge.specs.Translation.{default_translation, translation}
 use Rattle.acl_forms.specs.ShortForm.{short_entry}
 use Rattle.acl_forms.specs.declared.printing.Places.TheVariants.{Full}
 use Rattle.acl_listings.specs.Block.{file_by}
-use Rattle.acl_listings.specs.Nfs4Block.{front_of}
+use Rattle.acl_listings.specs.Nfs4Block.{nfs4_block}
 use Rattle.acl_listings.specs.declared.fault.BlockFault.{BlockFault}
 use Rattle.acl_listings.specs.declared.fault.BlockFault.TheVariants.{Acl, TooLong}
 use Rattle.acl_listings.specs.declared.limits.TheConstants.{MAX_BLOCK}
@@ -66,13 +66,6 @@ abbrev pub entry_in : AceForm → Nfsace4 → List ℕ
 entry_in form.Nfs4 ace = short_ace ace
 entry_in form.Freebsd ace = short_entry Full ace
 
--- one entry per line
-abbrev pub line_in : AceForm → Nfsace4 → List ℕ
-line_in form ace = entry_in form ace ++ newline ∷ []
-
-abbrev pub lines_in : AceForm → List Nfsace4 → List ℕ
-lines_in form aces = flat_map (line_in form) aces
-
 -- a block of the same file, no longer than one may be, and an empty line
 abbrev pub if_short : List ℕ → Part
 if_short block = if nat_le (length block) (MAX_BLOCK + 1) then Ok (block ++ newline ∷ [])
@@ -90,7 +83,7 @@ pair_in form path aces = spec_in form aces ++ (0 ∷ (unescaped path ++ 0 ∷ []
 
 abbrev pub told_as : Bool → AceForm → List ℕ → List ℕ → List Nfsace4 → Part
 told_as true form text path aces = Ok (pair_in form path aces)
-told_as false form text path aces = if_short (front_of text ++ lines_in form aces)
+told_as false form text path aces = if_short (nfs4_block (entry_in form) text aces)
 
 -- what `translate` tells of a block, by its text
 abbrev pub translated : Translating → List ℕ → Part

@@ -3,10 +3,10 @@ ghost use Rattle.std.specs.Prelude.{◌≡◌, ◌++◌, ◌∷◌, [], OnOk};
 ghost use Rattle.std.specs.List.{flat_map};
 ghost use Rattle.acl_names.specs.Bytes.{comma, newline};
 ghost use Rattle.acl_listings.specs.Guess.{begins};
-ghost use Rattle.acl_listings.specs.Nfs4Block.{ended_line, flags_line, front_of};
+ghost use Rattle.acl_listings.specs.Nfs4Block.{aces_lines, ended_line, flags_line, front_of};
+ghost use Rattle.acl_listings.specs.Nfs4Block.{nfs4_block};
 ghost use Rattle.acl_listing_queries.specs.Telling.{IsPart};
-ghost use Rattle.acl_listing_queries.specs.Translated.{entry_in, if_short, line_in, lines_in};
-ghost use Rattle.acl_listing_queries.specs.Translated.{pair_in, spec_in};
+ghost use Rattle.acl_listing_queries.specs.Translated.{entry_in, if_short, pair_in, spec_in};
 
 use super::escapes::push_unescaped;
 use super::form::AceForm;
@@ -34,7 +34,8 @@ fn push_newline(out: &mut Vec<u8>) -> Result<(), AllocError>
 }
 
 fn push_line(form: AceForm, ace: &Ace, out: &mut Vec<u8>) -> Result<(), AllocError>
-    ensures { OnOk result (out.new.items ≡ out.old.items ++ line_in form ace.now) }
+    ensures { OnOk result (out.new.items
+        ≡ out.old.items ++ (entry_in form ace.now ++ newline ∷ [])) }
 {
     push_entry(form, ace, out)?;
     push_newline(out)
@@ -42,7 +43,8 @@ fn push_line(form: AceForm, ace: &Ace, out: &mut Vec<u8>) -> Result<(), AllocErr
 
 /// Appends a line for each entry.
 fn push_lines(form: AceForm, aces: &[Ace], out: &mut Vec<u8>) -> Result<(), AllocError>
-    ensures { OnOk result (out.new.items ≡ out.old.items ++ lines_in form aces.now) }
+    ensures { OnOk result (out.new.items
+        ≡ out.old.items ++ aces_lines (entry_in form) aces.now) }
 {
     for ace in aces {
         push_line(form, ace, out)?;
@@ -93,8 +95,8 @@ fn push_front_and_lines(
     aces: &[Ace],
     out: &mut Vec<u8>,
 ) -> Result<(), AllocError>
-    ensures { OnOk result (out.new.items ≡ out.old.items
-        ++ (front_of text.now ++ lines_in form aces.now)) }
+    ensures { OnOk result (out.new.items
+        ≡ out.old.items ++ nfs4_block (entry_in form) text.now aces.now) }
 {
     push_front(text, out)?;
     push_lines(form, aces, out)
@@ -108,7 +110,7 @@ pub(super) fn push_block(
     aces: &[Ace],
     out: &mut Vec<u8>,
 ) -> Result<(), FileFault>
-    ensures { IsPart (if_short (front_of text.now ++ lines_in form aces.now)) result out.old.items
+    ensures { IsPart (if_short (nfs4_block (entry_in form) text.now aces.now)) result out.old.items
         out.new.items }
 {
     let old_len = out.len();
