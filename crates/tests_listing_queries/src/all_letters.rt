@@ -1,5 +1,6 @@
 //! All fourteen letters of each user.
-use crate::fixture::ends;
+use crate::fixture::who;
+use tests_files::Command;
 
 /// The owner may do all but delete. Who is in ops may not delete what is in the folder, though a
 /// later entry would let them. Carol may write and not append. Everyone may read the attributes and
@@ -66,6 +67,9 @@ const ANSWERS: [(&[&str], &[u8], &str); 6] = [
 #[test]
 fn all_letters_of_each_user(rt: HostRuntime) {
     for (words, listing, text) in ANSWERS {
-        assert!(rt; ends(rt.alloc(), words, listing, 0, text, ""), "{text}");
+        assert!(rt;
+            who().ends_on(rt.alloc(), words, listing, 0, text, ""),
+            "{text}"
+        );
     }
 }
