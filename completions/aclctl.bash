@@ -7,7 +7,7 @@ _aclctl_options() {
         explain) echo --owner --group --uid --gids --perms --help ;;
         compare) echo --owner --group --help ;;
         run) echo --setup --journal --max-errors --help ;;
-        who) echo --accounts --setup --perms --reach --user --session --help ;;
+        who) echo --accounts --setup --perms --letters --reach --user --session --help ;;
         why) echo --accounts --setup --user --perms --help ;;
         impact) echo --accounts --setup --all --user --text --exit-code --before --session --help ;;
         restore) echo --help ;;
@@ -70,7 +70,7 @@ _aclctl_place() {
             place=$((place + 1))
         elif [[ $word == -- ]]; then
             is_ended=yes
-        elif [[ ! $word =~ =|^--(nfs4|journal|reach|all|text|exit-code|attributes|print0|help)$ ]]; then
+        elif [[ ! $word =~ =|^--(nfs4|journal|letters|reach|all|text|exit-code|attributes|print0|help)$ ]]; then
             option=$word
         fi
     done

@@ -11,6 +11,8 @@ GIDS = (50, 60, 70, 80)
 REQUESTERS = [(uid, gids) for uid in (*UIDS, STRANGER) for count in range(5) for gids in itertools.combinations(GIDS, count)]
 REQUESTS = [set(it) for count in (1, 2, 3) for it in itertools.combinations("rwx", count)]
 LETTERS = "rwaxdDtTnNcCoy"
+# the same in the places in which FreeBSD writes them, by its own letters
+FREEBSD = dict(zip("rwxpdDaARWcCos", "rwxadDtTnNcCoy"))
 # the permission of a POSIX list that each bit of a mode stands for
 MODE_BITS = {"r": "r", "w": "w", "a": "w", "x": "x"}
 
@@ -87,6 +89,17 @@ def nfs4_allows(aces, owner, group, uid, gids, letter):
     return False
 
 
+def nfs4_lines(aces, is_freebsd):
+    """A list as nfs4_getfacl prints it, or as FreeBSD's getfacl does, an entry a line. Who is no user or group is OWNER@ or the like."""
+    if not is_freebsd:
+        return nfs4_text(aces).split(",")
+    kinds = {"A": "allow", "D": "deny", "U": "audit"}
+    tag = lambda who: f"group:{who[1]}" if isinstance(who, tuple) else who.lower() if isinstance(who, str) else f"user:{who}"
+    places = lambda given, letters: "".join(it if letter in given else "-" for it, letter in letters.items())
+    flags = {it: it for it in "fdinSFI"}
+    return [f"{tag(who)}:{places(letters, FREEBSD)}:{places(its, flags)}:{kinds[kind]}" for kind, its, who, letters in aces]
+
+
 class File:
     """Whose it is, its group, and its list."""
 
@@ -104,6 +117,12 @@ class File:
         if self.kind == "posix":
             return posix_grants(self.entries, self.owner, self.group, uid, gids, asked)
         return all(self.allows(uid, gids, letter) for letter, permission in MODE_BITS.items() if permission in asked)
+
+
+def all_letters(file, uid, gids):
+    """All letters that a file grants, each by itself, in FreeBSD's places: a POSIX list grants those of a mode alone."""
+    decided = MODE_BITS if file.kind == "posix" else LETTERS
+    return "".join(it if letter in decided and file.allows(uid, gids, letter) else "-" for it, letter in FREEBSD.items())
 
 
 def letters_of(first, second):

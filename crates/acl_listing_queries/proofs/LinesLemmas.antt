@@ -1,5 +1,5 @@
 -- What is kept of a file tells of it.
-use Rattle.std.proofs.Common.{◌≡◌, ◌∙◌, ◌+◌, ◌++◌, ◌&&◌, ℕ, zero, suc, Bool, true, false, cond, List, [], ◌∷◌, Option, Some, None, ap, append_assoc, append-nil, arith, get_or, length, length-append, map, refl, sym}
+use Rattle.std.proofs.Common.{◌≡◌, ◌∙◌, ◌+◌, ◌++◌, ◌&&◌, ℕ, zero, suc, Bool, true, false, cond, List, [], ◌∷◌, Some, None, ap, append_assoc, append-nil, arith, get_or, length, length-append, map, refl, sym}
 use Rattle.std.specs.Prelude.{Vec, slice_get}
 use Rattle.std.specs.List.{enumerate_from, flat_map}
 use Rattle.std.specs.declared.alloc.Global.{Global}

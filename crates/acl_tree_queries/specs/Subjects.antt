@@ -24,12 +24,12 @@ tree_subject rows =
     else if is_given (codes "user") rows then Err NoText else Ok Tree)
     else Err NoListing
 
--- sessions work on trees alone
+-- sessions work on trees alone, and all letters are asked of listings alone
 abbrev pub who_subject : List Row → Result Subject Mismatch
 who_subject rows =
     if is_given (codes "listing") rows
     then (if is_given (codes "session") rows then Err SessionAndListing else Ok Listing)
-    else tree_subject rows
+    else if flag_in (codes "letters") rows then Err NoText else tree_subject rows
 
 -- two listings are compared
 abbrev pub listings_subject : List Row → Result Subject Mismatch

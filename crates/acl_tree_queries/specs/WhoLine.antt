@@ -4,13 +4,14 @@ use Rattle.clap.specs.Words.{App, is_simple, is_simple_and_free, new_app, with_r
 use Rattle.clap.proofs.OnLiterals.{clap_on_literals}
 use Rattle.acl_cli.specs.CommandLine.{flag, optional_option, optional_word, repeated_option}
 
--- `who [--accounts FILE] [--setup FILE] [--perms P] [--reach] [--user NAME].. [--session SESSION]
--- [LISTING]`
+-- `who [--accounts FILE] [--setup FILE] [--perms P] [--letters] [--reach] [--user NAME]..
+-- [--session SESSION] [LISTING]`
 unfoldable pub who_line : App
 who_line = fold with_rule (new_app (codes "who"))
     (optional_option (codes "accounts") ∷ optional_option (codes "setup")
-    ∷ optional_option (codes "perms") ∷ flag (codes "reach") ∷ repeated_option (codes "user")
-    ∷ optional_option (codes "session") ∷ optional_word (codes "listing") ∷ [])
+    ∷ optional_option (codes "perms") ∷ flag (codes "letters") ∷ flag (codes "reach")
+    ∷ repeated_option (codes "user") ∷ optional_option (codes "session")
+    ∷ optional_word (codes "listing") ∷ [])
 
 -- its parser is known
 pub who_line-simple : is_simple who_line ≡ true

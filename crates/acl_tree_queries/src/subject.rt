@@ -43,13 +43,16 @@ fn tree_subject(matches: &ArgMatches<'_>) -> Result<Subject, Mismatch>
 pub(crate) fn who_subject(matches: &ArgMatches<'_>) -> Result<Subject, Mismatch>
     ensures { result ≡ who_subject (rows_of (found_of matches.now)) }
 {
-    if !is_given(matches, "listing") {
-        return tree_subject(matches);
+    if is_given(matches, "listing") {
+        if is_given(matches, "session") {
+            return Err(Mismatch::SessionAndListing);
+        }
+        return Ok(Subject::Listing);
     }
-    if is_given(matches, "session") {
-        return Err(Mismatch::SessionAndListing);
+    if flag_field(matches, "letters") {
+        return Err(Mismatch::NoText);
     }
-    Ok(Subject::Listing)
+    tree_subject(matches)
 }
 
 /// Two listings, where the words name one.

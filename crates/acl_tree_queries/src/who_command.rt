@@ -14,9 +14,9 @@ use std::alloc::Global;
 use std::io::{Read, Write};
 
 /// Tells who may do what with each file of a listing, or with each node of a tree. The words are
-/// those of the command, its name first: `who [--accounts FILE | --setup FILE] [--perms P]
-/// [--reach] [--user NAME].. LISTING`, which is `WhoOfListing` of acl_listing_queries; or `who
-/// --setup FILE [--perms P] [--reach] [--session SESSION]`, if there is no LISTING.
+/// those of the command, its name first: `who [--accounts FILE | --setup FILE] [--perms P |
+/// --letters] [--reach] [--user NAME].. LISTING`, which is `WhoOfListing` of acl_listing_queries;
+/// or `who --setup FILE [--perms P] [--reach] [--session SESSION]`, if there is no LISTING.
 ///
 /// The tree is the one that the setup opens, or what the session leaves on it. A session `-` is
 /// what `input` has; else nothing of `input` is read. `files` opens the others, the setup first;
@@ -30,9 +30,9 @@ use std::io::{Read, Write};
 ///
 /// The exit status is 0 with the answer, and with help; 1 if P doesn't read, a file can't be opened
 /// or read or is too long, or the setup is refused; 2 if the parser of command lines refuses the
-/// words, or they don't go together: LISTING and a session, or neither a LISTING nor a setup; and 3
-/// if memory runs out or `out` can't be written. 4 is that of listings alone. At 1 and 2 nothing
-/// was written, and at 3 nothing or a front of the answer.
+/// words, or they don't go together: LISTING and a session, `--letters` without LISTING, or neither
+/// a LISTING nor a setup; and 3 if memory runs out or `out` can't be written. 4 is that of listings
+/// alone. At 1 and 2 nothing was written, and at 3 nothing or a front of the answer.
 #[derive(Clone, Copy)]
 pub struct Who;
 

@@ -5,7 +5,7 @@ use std::test::Fail;
 use tests_files::{Command, Sheet};
 
 /// Words that don't go together, and what standard error has.
-const MISMATCHES: [(&[&str], &str); 12] = [
+const MISMATCHES: [(&[&str], &str); 14] = [
     (&["who"], "aclctl: no LISTING, and no --session\n"),
     (
         &["who", "--session", "-"],
@@ -25,6 +25,21 @@ const MISMATCHES: [(&[&str], &str); 12] = [
     ),
     (
         &["who", "--setup", "office", "--user", "alice"],
+        "aclctl: an option of listings, and no LISTING\n",
+    ),
+    (
+        &["who", "--setup", "office", "--letters"],
+        "aclctl: an option of listings, and no LISTING\n",
+    ),
+    (
+        &[
+            "who",
+            "--setup",
+            "office",
+            "--letters",
+            "--session",
+            "alice",
+        ],
         "aclctl: an option of listings, and no LISTING\n",
     ),
     (

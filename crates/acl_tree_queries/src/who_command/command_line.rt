@@ -4,7 +4,7 @@ use super::Who;
 use acl_cli::CommandLine;
 use acl_cli::options::{flag, optional_option, optional_perms_option, optional_word};
 use acl_listing_queries::WHO_ANSWERS;
-use acl_listing_queries::options::{accounts_option, setup_option, user_option};
+use acl_listing_queries::options::{accounts_option, letters_option, setup_option, user_option};
 use clap::Command;
 use std::alloc::{AllocError, Global};
 
@@ -28,6 +28,7 @@ impl CommandLine for Who {
             .arg(accounts_option(alloc))?
             .arg(setup_option(alloc))?
             .arg(optional_perms_option(alloc))?
+            .arg(letters_option(alloc))?
             .arg(flag(
                 alloc,
                 "reach",
