@@ -11,11 +11,12 @@
  * goes with length 0 may be to anything but must not be NULL. malloc, realloc and free are those of one allocator, which aligns
  * as C demands.
  *
- * gids are all groups of the user, the primary one too, in any order. uid 0 has no special right here.
+ * gids are all groups of the user, the primary one too, in any order; one may stand twice, and 0xffffffff is none. uid 0 has no
+ * special right here. Only the list of the file itself counts: not the folders above it, nor how its file system is mounted.
  *
  * Memory: checks of POSIX lists take none. Any other call takes none as long as no POSIX list has more than 8 entries (68 bytes) and
- * no NFSv4 list, neither one that goes in nor the one that comes out, more than 16; calls on texts always do, and meardwyn_nfs4_to_xdr. Else it calls malloc,
- * frees all of it before it returns, and answers MEARDWYN_NO_MEMORY if it gets none.
+ * no NFSv4 list, neither one that goes in nor the one that comes out, more than 16; calls on texts always do, and
+ * meardwyn_nfs4_to_xdr. Else it calls malloc, frees all of it before it returns, and answers MEARDWYN_NO_MEMORY if it gets none.
  */
 #ifndef MEARDWYN_H
 #define MEARDWYN_H
@@ -28,12 +29,17 @@
 extern "C" {
 #endif
 
-/* What calls answer: 0 or more is the answer, below 0 is why there is none. Of several faults of a list the first from its front is
-   told; arguments come before the list, and what is wrong with a POSIX list as a whole after its entries. */
+/* What calls answer: 0 or more is the answer, below 0 is why there is none. An error is true in C: compare an answer with 1.
+
+   Arguments come before the list. Of the bytes of a POSIX list the version comes before their number, that before how many entries
+   there are, the entries come in their order, and then what is wrong with them as a whole: MISSING before REPEATED before NO_MASK.
+   Of NFSv4 entries the first at fault is told. Calls on POSIX bytes may tell -3 to -12; on NFSv4 entries -3, -6, -8 and -13 to -17; on
+   XDR these, -4 and -19; on POSIX texts -6 and -18 to -20; on NFSv4 texts -6 and -17 to -19. Those that put something may also tell -2,
+   those that put an NFSv4 list or a text of one -21, and those that take memory -1. */
 enum meardwyn_error {
     MEARDWYN_NO_MEMORY = -1,     /* malloc gave no memory; this says nothing of the list */
     MEARDWYN_NO_ROOM = -2,       /* the buffer is too small; what is needed is told, and the buffer is as it was */
-    MEARDWYN_BAD_ARGUMENT = -3,  /* an id is 0xffffffff, a mode is above 0777, or a request above 7 */
+    MEARDWYN_BAD_ARGUMENT = -3,  /* the owner, the group or the uid is 0xffffffff, a mode is above 0777, or a request above 7 */
     MEARDWYN_BAD_SIZE = -4,      /* the bytes are no version and a whole number of entries; in XDR they end too early or go on */
     MEARDWYN_BAD_VERSION = -5,   /* the version is not 2 */
     MEARDWYN_TOO_MANY = -6,      /* more than 64 POSIX entries, or 128 NFSv4 entries */
@@ -57,7 +63,8 @@ enum meardwyn_error {
 /* The version of the calls, 0x10000: as long as the upper half is 1, what is here stays. */
 uint32_t meardwyn_version(void);
 
-/* Puts the name of an error, as "no-mask", into a buffer, with no byte 0 behind it; *needed tells its length. */
+/* Puts the name of an error, as "no-mask", into a buffer, with no byte 0 behind it; *needed tells its length, 15 at the most. A number
+   that is no error is "unknown". */
 int32_t meardwyn_error_name(int32_t error, char *out, size_t out_len, size_t *needed);
 
 /* Permissions of a request, and each of the three digits of a mode. */
@@ -73,20 +80,23 @@ enum { MEARDWYN_READ = 4, MEARDWYN_WRITE = 2, MEARDWYN_EXECUTE = 1 };
 int32_t meardwyn_posix_check(const uint8_t *xattr, size_t xattr_len, uint32_t owner, uint32_t group, uint32_t uid,
                              const uint32_t *gids, size_t gids_len, uint32_t request);
 
-/* The same as Linux decides it, which passes over a list whose mask has no permission and goes by the file's mode: whom the list names
-   is then decided by the mode like anybody else, where draft 17 denies. */
+/* The same as Linux decides it, which ignores a list whose mask has no permission and goes by the mode that the list gives: whom the
+   list names is then decided by the mode like anybody else, where draft 17 denies. Linux also holds lists of more than 64 entries, and
+   lists that name a user or a group twice: here they are MEARDWYN_TOO_MANY and MEARDWYN_REPEATED. To read any of them takes a buffer
+   of 65536 bytes. */
 int32_t meardwyn_posix_check_linux(const uint8_t *xattr, size_t xattr_len, uint32_t owner, uint32_t group, uint32_t uid,
                                    const uint32_t *gids, size_t gids_len, uint32_t request);
 
-/* 0 if the bytes are a list, in whatever order. */
+/* 0 if the bytes are a list, in whatever order. The ids of entries that name nobody are not looked at. */
 int32_t meardwyn_posix_valid(const uint8_t *xattr, size_t xattr_len);
 
 /* The mode of a file with the list, 0 to 0777. */
 int32_t meardwyn_posix_mode(const uint8_t *xattr, size_t xattr_len);
 
 /*
- * These put a list into a buffer, and answer 0. What they need, in bytes, they tell in *needed, also with MEARDWYN_NO_ROOM; after any
- * other error *needed is as it was. The list comes in canonical order, in which Linux takes it.
+ * These put a list at the start of a buffer, and answer 0. What they need, in bytes, they tell in *needed, also with MEARDWYN_NO_ROOM;
+ * after any other error *needed is as it was. A list needs 516 bytes at the most; to know what a text needs, ask with length 0 first.
+ * The list comes in canonical order, in which Linux takes it.
  */
 
 /* The list itself. */
@@ -114,8 +124,9 @@ struct meardwyn_asker {
 };
 
 /*
- * 0 if two lists, each for a file of its own owner and group, grant a request to the same requesters, of whatever uid and groups;
- * 1 if the first alone grants it to *who, so that *who loses it from the first to the second; 2 if the second alone does.
+ * 0 if two lists, each for a file of its own owner and group, grant a request to the same requesters, of whatever uid and groups, as
+ * meardwyn_posix_check decides; 1 if the first alone grants it to *who, so that *who loses it from the first to the second; 2 if the
+ * second alone does.
  */
 int32_t meardwyn_posix_compare(const uint8_t *first, size_t first_len, uint32_t owner, uint32_t group, const uint8_t *second,
                                size_t second_len, uint32_t other_owner, uint32_t other_group, uint32_t request,
@@ -125,13 +136,17 @@ int32_t meardwyn_posix_compare(const uint8_t *first, size_t first_len, uint32_t 
  * NFSv4 lists, RFC 8881, as arrays of entries, of which the first decides first.
  *
  * ACE4_INHERITED_ACE, ACE4_WRITE_RETENTION and ACE4_WRITE_RETENTION_HOLD decide nothing that is asked here. Calls that only decide
- * (check, allowed, valid, mode, compare) pass over them; a call that puts a list or a text can't keep them, and refuses the list.
+ * (check, allowed, valid, mode, compare) ignore them; a call that puts a list or a text can't keep them, and refuses the list.
  */
+enum meardwyn_type { MEARDWYN_ALLOW = 0, MEARDWYN_DENY = 1, MEARDWYN_AUDIT = 2, MEARDWYN_ALARM = 3 };
+enum meardwyn_special { MEARDWYN_BY_ID = 0, MEARDWYN_OWNER = 1, MEARDWYN_GROUP = 2, MEARDWYN_EVERYONE = 3 };
+enum { MEARDWYN_ID_IS_A_GROUP = 0x40 };
+
 struct meardwyn_ace {
-    uint32_t type;        /* 0 ALLOW, 1 DENY, 2 AUDIT, 3 ALARM */
-    uint32_t flag;        /* ACE4_FILE_INHERIT_ACE 1 and on; 0x40 says that id is a group */
-    uint32_t access_mask; /* ACE4_READ_DATA 1 and on */
-    uint32_t special;     /* 1 OWNER@, 2 GROUP@, 3 EVERYONE@; 0 whom id names */
+    uint32_t type;        /* of enum meardwyn_type */
+    uint32_t flag;        /* the bits of RFC 8881, 6.2.1.4: ACE4_FILE_INHERIT_ACE 1 and on; MEARDWYN_ID_IS_A_GROUP among them */
+    uint32_t access_mask; /* the bits of RFC 8881, 6.2.1.3: ACE4_READ_DATA 1, ACE4_WRITE_DATA 2 and on */
+    uint32_t special;     /* of enum meardwyn_special: OWNER@, GROUP@, EVERYONE@, or whom id names */
     uint32_t id;          /* if special is 0; else it is not looked at, and 0 where a call puts it */
 };
 
@@ -166,8 +181,8 @@ int32_t meardwyn_nfs4_from_xdr(const uint8_t *xdr, size_t xdr_len, struct meardw
 /* Such bytes of a list: they are read as that list again. It takes memory. */
 int32_t meardwyn_nfs4_to_xdr(const struct meardwyn_ace *aces, size_t aces_len, uint8_t *out, size_t out_len, size_t *needed);
 
-/* The list of a text as this project writes it, "A::OWNER@:rwx,A:g:50:r", with ids in decimal, and such a text of a list. These take
-   memory. */
+/* The list of a text, "A::OWNER@:rwx,A:g:50:r", and such a text of a list: type A, D, U or L, flags of fdnigSF, who, with ids in decimal,
+   and mask letters of rwaxdDtTnNcCoy, as nfs4_acl(5) has them. These take memory. */
 int32_t meardwyn_nfs4_from_text(const char *text, size_t text_len, struct meardwyn_ace *out, size_t out_len, size_t *needed);
 int32_t meardwyn_nfs4_to_text(const struct meardwyn_ace *aces, size_t aces_len, char *out, size_t out_len, size_t *needed);
 
@@ -182,7 +197,8 @@ int32_t meardwyn_nfs4_compare(const struct meardwyn_ace *first, size_t first_len
                               const struct meardwyn_ace *second, size_t second_len, uint32_t other_owner, uint32_t other_group,
                               uint32_t bits, struct meardwyn_difference *difference);
 
-/* A POSIX list as an NFSv4 list that decides each single permission alike for everybody. Never over 125 entries. */
+/* A POSIX list as an NFSv4 list that decides each single permission for everybody as meardwyn_posix_check decides it, and not as
+   meardwyn_posix_check_linux does where the mask is empty. Never over 125 entries. */
 int32_t meardwyn_posix_to_nfs4(const uint8_t *xattr, size_t xattr_len, struct meardwyn_ace *out, size_t out_len, size_t *needed);
 
 /* A default list as one that takes effect only on what is made below. */

@@ -26,7 +26,7 @@ int main(int count, char **words)
 
     struct stat file;
     if (stat(words[4], &file)) return perror(words[4]), 1;
-    uint8_t list[516]; /* the most bytes that a list has here: 64 entries */
+    static uint8_t list[65536]; /* Linux may hold more than is a list here */
     ssize_t got = getxattr(words[4], "system.posix_acl_access", list, sizeof list);
     if (got >= 0) length = got;
     else if (errno != ENODATA && errno != EOPNOTSUPP) return perror(words[4]), 1;
