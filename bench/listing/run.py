@@ -134,21 +134,23 @@ def main():
             for place in range(0, files, FILES_OF_CHANGE)
             for user in range(USERS)
         )
-        listed = files + 2 + len(range(0, files, FILES_OF_FOLDER))
+        folders = 2 + len(range(0, files, FILES_OF_FOLDER))
+        # The files of which the one user has a letter; everybody has those of a folder.
+        with_letters = lambda variant_of: folders + sum(any(granted(variant_of(place), 0)) for place in range(files))
         who = lambda setup, *options: ("who", "--setup", setup, *options)
         works = {
-            "one user: files of a folder with one list, letters": (listed, *who(one), shared),
+            "one user: files of a folder with one list, letters": (with_letters(folder_of), *who(one), shared),
             "the same, `--perms w`": (None, *who(one, "--perms", "w"), shared),
             "the same, `--reach --perms w`": (None, *who(one, "--reach", "--perms", "w"), shared),
-            "one user: each file with a list of its own, letters": (listed, *who(one), each),
+            "one user: each file with a list of its own, letters": (with_letters(lambda place: place), *who(one), each),
             f"{USERS} users: files of a folder with one list, `--perms w`": (None, *who(many, "--perms", "w"), shared),
             f"{USERS} users: the same, `--reach --perms w`": (None, *who(many, "--reach", "--perms", "w"), shared),
             f"{USERS} users: each file with a list of its own, `--perms w`": (None, *who(many, "--perms", "w"), each),
             f"`impact` of two listings, {changed} files changed, one user": (changed, "impact", "--setup", one, shared, later),
             f"`impact --all` of the same, {USERS} users": (concerned, "impact", "--all", "--setup", many, shared, later),
             "`restore` of the same": (10 * changed, "restore", shared, later),
-            "one user: NFSv4 lists, those of a folder alike, letters": (listed, *who(one), nfs4),
-            "one user: each file with an NFSv4 list of its own, letters": (listed, *who(one), nfs4_each),
+            "one user: NFSv4 lists, those of a folder alike, letters": (with_letters(folder_of), *who(one), nfs4),
+            "one user: each file with an NFSv4 list of its own, letters": (with_letters(lambda place: place), *who(one), nfs4_each),
             "`translate` of files of a folder with one list": (None, "translate", shared),
             "`translate`, each file with a list of its own": (None, "translate", each),
         }

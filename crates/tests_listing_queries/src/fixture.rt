@@ -78,7 +78,8 @@ const ONCE: &str =
 const TWICE: &str =
     "# file: a\nuser::rwx\n\n# file: a\nuser::---\n\n# file: c\nuser::r--\n\n# file: c\nuser::r--\n";
 
-const FILES: &[(&str, &str)] = &[
+/// The files, by their names.
+pub const FILES: &[(&str, &str)] = &[
     ("before", BEFORE),
     ("after", AFTER),
     ("once", ONCE),

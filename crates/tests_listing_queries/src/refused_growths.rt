@@ -4,12 +4,13 @@
 //! `rt try --test --fail-alloc N` refuses the growth N of a test. Each test here passes whichever
 //! growth that is, and prints how many refusals it was told of: one up to the last growth that it
 //! asks for, and none from then on.
-use crate::fixture::{impact, restore, translate, who, why};
-use acl_cli::ErrorOutput;
+use crate::fixture::{FILES, impact, restore, translate, who, why};
+use acl_cli::{ErrorOutput, run_command};
+use acl_listing_queries::WhoOfListing;
 use std::alloc::Global;
 use std::io::{self, Read};
 use std::test::Fail;
-use tests_files::Command;
+use tests_files::{Command, Shelf};
 
 #[test]
 fn who_of_a_listing_under_a_refused_growth(rt: HostRuntime) -> Result<(), Fail> {
@@ -143,7 +144,9 @@ fn runs_out_in_part(alloc: Global) -> Option<bool> {
     let words = ["who", "--accounts", "office", "-"];
     let mut listing = FAULTY.chain(io::repeat(b'x').take(MANY)).chain(GOOD);
     let told = &mut ErrorOutput::new(&mut err);
-    let status = who().run(alloc, &words, &mut listing, &mut out, told);
+    let files = Shelf::new(FILES);
+    let input = &mut listing;
+    let status = run_command(&WhoOfListing, alloc, &files, &words, input, &mut out, told);
     let written = ROOM.saturating_sub(out.len());
     let said = ROOM.saturating_sub(err.len());
     ran_out_in_part(status, &room[..written], &lines[..said])
