@@ -16,12 +16,12 @@ use Rattle.acl_tree.specs.declared.node_acl.NodeAcl.TheVariants.{Posix, Nfs4}
 use Rattle.acl_audit.specs.Changes.{ChangesBits, ChangesFirst, FindsAnybody, RequestsAlikeTo, change_of, file_with}
 
 -- a difference is what its asker loses and gains
-bits_change : (before after : Decider) (bits : ℕ) (difference : Difference) → IsDifference before after bits difference
+pub bits_change : (before after : Decider) (bits : ℕ) (difference : Difference) → IsDifference before after bits difference
     → ChangesBits before after bits (identity_of difference.asker) (change_of difference)
 bits_change before after bits difference is = record { lost = is.lost; gained = is.gained; some = is.some }
 
 -- the first request that isn't granted alike to all is one that the asker of its difference loses or gains
-first_change : (before after : Granter) (requests : List ℕ) (difference : Difference) → IsFirstDifference before after requests difference
+pub first_change : (before after : Granter) (requests : List ℕ) (difference : Difference) → IsFirstDifference before after requests difference
     → ChangesFirst before after requests (identity_of difference.asker) (change_of difference)
 first_change before after [] difference never = never
 first_change before after (request ∷ more) difference (inl is) = inl (record { apart = is.apart; lost = is.lost; gained = is.gained })
@@ -29,7 +29,7 @@ first_change before after (request ∷ more) difference (inr (same, later)) =
     inr (same (identity_of difference.asker), first_change before after more difference later)
 
 -- requests that are granted alike to all are granted alike to each
-alike_to : (before after : Granter) (requests : List ℕ) (requester : Identity) → AllByRecursion (GrantAlikeToAll before after) requests
+pub alike_to : (before after : Granter) (requests : List ℕ) (requester : Identity) → AllByRecursion (GrantAlikeToAll before after) requests
     → RequestsAlikeTo before after requests requester
 alike_to before after [] requester all = tt
 alike_to before after (request ∷ more) requester (here, later) = (here requester, alike_to before after more requester later)

@@ -1,9 +1,8 @@
 //! What lists decide otherwise, for somebody or for anybody.
 ghost use Rattle.std.specs.Prelude.{◌≡◌, IfOk, List, MatchOption, Option, map};
-ghost use Rattle.acl_nfs4.specs.Mask.{mask_bits, mode_bits};
+ghost use Rattle.acl_nfs4.specs.Mask.{mask_bits};
 ghost use Rattle.acl_posix.specs.Entry.{EntryValue};
 ghost use Rattle.acl_posix.specs.Perms.{bits_of};
-ghost use Rattle.acl_bridge.specs.Comparison.{permission_bits, mask_for, whole_requests};
 ghost use Rattle.acl_tree.specs.declared.node_acl.NodeAcl.TheVariants.{Posix, Nfs4};
 ghost use Rattle.acl_audit.specs.Changes.{BitsAlikeTo, IsChangeFor, ChangesBits, ChangesFirst};
 ghost use Rattle.acl_audit.specs.Changes.{ChangesRequest, FindsAnybody, IsAlikeTo, RequestsAlikeTo};
@@ -11,9 +10,10 @@ ghost use Rattle.acl_audit.specs.Changes.{bits_between, decider_of, file_of, fil
 ghost use Rattle.acl_audit.specs.Changes.{requests_between};
 
 use crate::allowed::allowed;
+use acl_bridge::bits::{mask_for, mode_bits, permission_bits, whole_requests};
 use acl_bridge::{difference_from_posix, posix_difference, whole_request_difference};
 use acl_names::Requester;
-use acl_nfs4::{Acl4, Difference, Mask, Owners, mask_of};
+use acl_nfs4::{Acl4, Difference, Mask, Owners};
 use acl_posix::{Acl, Perms, without};
 use acl_tree::{Node, NodeAcl};
 use bitflags::Flags;
@@ -28,20 +28,6 @@ pub struct Change {
     pub gained: Mask,
 }
 
-/// The bits that stand for permissions, one for each.
-fn permission_bits() -> Mask
-    ensures { mask_bits result ≡ permission_bits }
-{
-    Mask::READ_DATA.union(Mask::WRITE_DATA.union(Mask::EXECUTE))
-}
-
-/// The bits that stand for permissions.
-pub(crate) fn mode_bits() -> Mask
-    ensures { mask_bits result ≡ mode_bits }
-{
-    Mask::READ_DATA.union(Mask::WRITE_DATA.union(Mask::APPEND_DATA.union(Mask::EXECUTE)))
-}
-
 /// Over which bits the lists are compared.
 fn bits_between(before: &NodeAcl, after: &NodeAcl) -> Mask
     ensures { mask_bits result ≡ bits_between before.now after.now }
@@ -51,25 +37,6 @@ fn bits_between(before: &NodeAcl, after: &NodeAcl) -> Mask
         (NodeAcl::Posix { .. }, NodeAcl::Posix { .. }) => permission_bits(),
         _ => mode_bits(),
     }
-}
-
-/// The requests of several permissions, in the order in which they are compared: rw, rx, wx, rwx.
-fn whole_requests() -> [Perms; 4]
-    ensures { map bits_of result ≡ whole_requests }
-{
-    [
-        Perms::READ | Perms::WRITE,
-        Perms::READ | Perms::EXECUTE,
-        Perms::WRITE | Perms::EXECUTE,
-        Perms::READ | Perms::WRITE | Perms::EXECUTE,
-    ]
-}
-
-/// The bits by which a request is told.
-fn mask_for(request: Perms) -> Mask
-    ensures { mask_bits result ≡ mask_for (bits_of request) }
-{
-    mask_of(request).intersection(permission_bits())
 }
 
 /// What the requester loses or gains of the bits that are compared.
@@ -172,21 +139,6 @@ pub fn change_for(before: &Node, after: &Node, requester: &Requester) -> Option<
     }
 }
 
-/// A difference as it is in the other direction.
-fn reverse(difference: Difference) -> Difference
-    ensures { result ≡ record {
-      asker = difference.asker;
-      lost = difference.gained;
-      gained = difference.lost;
-    } }
-{
-    Difference {
-        asker: difference.asker,
-        lost: difference.gained,
-        gained: difference.lost,
-    }
-}
-
 /// Whom a change between POSIX lists concerns: of the permissions by themselves, or else of the
 /// requests of several.
 fn between_posix_lists(
@@ -234,7 +186,7 @@ fn towards_posix(
         (file_with other_owners.now (Posix second.now inherited))) }
 {
     match difference_from_posix(alloc, second, other_owners, first, owners)? {
-        Some(difference) => Ok(Some(reverse(difference))),
+        Some(difference) => Ok(Some(difference.reversed())),
         None => Ok(None),
     }
 }

@@ -7,7 +7,7 @@ ghost use Rattle.acl_tree.specs.declared.node.Node.{Node as NodeValue};
 ghost use Rattle.acl_audit.specs.Letters.{effective, granted_mask, if_may};
 
 use crate::allowed::allowed;
-use crate::changes::mode_bits;
+use acl_bridge::bits::mode_bits;
 use acl_forms::Places;
 use acl_names::Requester;
 use acl_nfs4::Mask;

@@ -1,28 +1,14 @@
 //! Comparing POSIX lists for everyone, through their translations.
 ghost use Rattle.std.specs.Prelude.{◌≡◌, ◌↔◌, None, IfOk, IfSome};
 ghost use Rattle.acl_nfs4.specs.Comparison.{DecideAlike, IsDifference, decided_at};
-ghost use Rattle.acl_nfs4.specs.Mask.{mask_bits, mode_bits};
+ghost use Rattle.acl_nfs4.specs.Mask.{mode_bits};
 ghost use Rattle.acl_bridge.specs.Comparison.{DecidesEachBit, granted_at, permission_bits};
 
+use crate::bits::{mode_bits, permission_bits};
 use crate::translation::translate;
-use acl_nfs4::{Acl4, Difference, Mask, Owners, mask_of};
-use acl_posix::{Acl, Perms};
-use bitflags::Flags;
+use acl_nfs4::{Acl4, Difference, Owners};
+use acl_posix::Acl;
 use std::alloc::{AllocError, Global};
-
-/// The bits that stand for permissions.
-fn mode_bits() -> Mask
-    ensures { mask_bits result ≡ mode_bits }
-{
-    mask_of(Perms::READ | Perms::WRITE | Perms::EXECUTE)
-}
-
-/// The bits that stand for permissions, one for each.
-pub(crate) fn permission_bits() -> Mask
-    ensures { mask_bits result ≡ permission_bits }
-{
-    Mask::READ_DATA.union(Mask::WRITE_DATA.union(Mask::EXECUTE))
-}
 
 /// The list as an NFSv4 list, which decides each of these bits as the list decides its permission.
 fn as_nfs4(alloc: Global, acl: &Acl) -> Result<Acl4, AllocError>

@@ -1,6 +1,7 @@
 //! The two styles of access control list, and POSIX lists as NFSv4 lists that decide alike.
 #![tactic(auto)]
 
+pub mod bits;
 mod comparison;
 mod laws;
 mod passes;

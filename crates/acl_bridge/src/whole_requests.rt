@@ -1,36 +1,16 @@
 //! Comparing POSIX lists for everyone, by the requests of more than one permission.
-ghost use Rattle.std.specs.Prelude.{◌≡◌, MatchOption, map};
+ghost use Rattle.std.specs.Prelude.{MatchOption, map};
 ghost use Rattle.std.specs.List.{AllByRecursion};
-ghost use Rattle.acl_nfs4.specs.Mask.{mask_bits};
 ghost use Rattle.acl_posix.specs.Perms.{bits_of};
 ghost use Rattle.acl_bridge.specs.Comparison.{GrantAlikeToAll, IsFirstDifference};
-ghost use Rattle.acl_bridge.specs.Comparison.{IsWholeDifference, grants_at, mask_for};
+ghost use Rattle.acl_bridge.specs.Comparison.{IsWholeDifference, grants_at};
 ghost use Rattle.acl_bridge.specs.Comparison.{whole_requests};
 
-use crate::comparison::permission_bits;
+use crate::bits::{mask_for, whole_requests};
 use crate::requests::request_difference;
-use acl_nfs4::{Difference, Mask, Owners, mask_of};
+use acl_nfs4::{Difference, Mask, Owners};
 use acl_posix::{Acl, Perms};
 use bitflags::Flags;
-
-/// The requests, in the order in which they are compared: rw, rx, wx, rwx.
-fn whole_requests() -> [Perms; 4]
-    ensures { map bits_of result ≡ whole_requests }
-{
-    [
-        Perms::READ | Perms::WRITE,
-        Perms::READ | Perms::EXECUTE,
-        Perms::WRITE | Perms::EXECUTE,
-        Perms::READ | Perms::WRITE | Perms::EXECUTE,
-    ]
-}
-
-/// The bits that stand for a request.
-fn mask_for(request: Perms) -> Mask
-    ensures { mask_bits result ≡ mask_for (bits_of request) }
-{
-    mask_of(request).intersection(permission_bits())
-}
 
 /// To whom the lists grant one request differently.
 fn difference_in(

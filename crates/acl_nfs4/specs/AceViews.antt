@@ -1,4 +1,4 @@
--- Private steps, which no public clause cites: what the types that read entries stand for.
+-- What the types that read entries stand for.
 use Rattle.acl_names.specs.Views.{view_written}
 use Rattle.acl_nfs4.specs.AceText as text
 use Rattle.acl_nfs4.specs.declared.reading.AceFields.{AceFields}

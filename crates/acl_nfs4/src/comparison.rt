@@ -20,6 +20,23 @@ pub struct Difference {
     pub gained: Mask,
 }
 
+impl Difference {
+    /// The difference where the second list becomes the first.
+    pub fn reversed(self) -> Difference
+        ensures { result ≡ record {
+          asker = self.asker;
+          lost = self.gained;
+          gained = self.lost;
+        } }
+    {
+        Difference {
+            asker: self.asker,
+            lost: self.gained,
+            gained: self.lost,
+        }
+    }
+}
+
 /// Two lists, each for a file of its own owners, as they are compared in these bits.
 #[derive(Drop)]
 struct Lists<'a> {

@@ -46,3 +46,4 @@ pub use printing::push_ace;
 pub use reading::{AceReader, PieceFault, read_aces};
 pub use short::push_short_ace;
 pub use who::Who;
+pub use written_who::WrittenWho;

@@ -14,7 +14,7 @@ ghost use Rattle.acl_nfs4.specs.declared.limits.TheConstants.{INLINE_ACES};
 use crate::front::fields_in_front;
 use crate::letters::{read_flags, read_letters};
 use crate::limits::MAX_ACES;
-use crate::written_who::{read_who, resolve};
+use crate::written_who::{WrittenWho, resolve};
 use crate::{Ace, AceFault, AceType, Acl4};
 use acl_names::{Directory, ListFault, Parts, PieceReader, read_list, trim_blanks};
 use std::alloc::Global;
@@ -77,7 +77,7 @@ fn value_of_fields(directory: &Directory, fields: AceFields<'_>) -> Result<Ace, 
 {
     let kind = read_type(fields.kind).ok_or(PieceFault::Syntax)?;
     let flags = read_flags(fields.flags).ok_or(PieceFault::Syntax)?;
-    let written = read_who(fields.who).ok_or(PieceFault::Syntax)?;
+    let written = WrittenWho::read(fields.who).ok_or(PieceFault::Syntax)?;
     let mask = read_letters(fields.letters).ok_or(PieceFault::Syntax)?;
     let who = resolve(directory, flags.has_identifier_group(), written).ok_or(
         PieceFault::UnknownName,

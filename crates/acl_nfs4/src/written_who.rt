@@ -13,32 +13,41 @@ use acl_names::{Directory, Parts, WrittenId, is_domain, read_decimal};
 /// Whom a text names: a special identifier, an id, or a name in a domain, whether or not anyone has
 /// it.
 #[derive(Clone, Copy, Debug)]
-pub(crate) enum WrittenWho<'a> {
+pub enum WrittenWho<'a> {
+    /// `OWNER@`.
     Owner,
+    /// `GROUP@`.
     Group,
+    /// `EVERYONE@`.
     Everyone,
+    /// An id in decimal, or a name alone.
     Id(WrittenId<'a>),
+    /// A name, and the domain in which it stands.
     At(&'a str, &'a [u8]),
 }
 
-/// Whom the text names. A decimal and a special identifier, as most are, are told at one look.
-pub(crate) fn read_who(text: &[u8]) -> Option<WrittenWho<'_>>
-    ensures { option_map view_who result ≡ written_who text.now }
-{
-    if let Some(number) = read_decimal(text) {
-        return Some(WrittenWho::Id(WrittenId::Number(number)));
-    }
-    if let [word @ .., last] = text {
-        if *last == b'@' {
-            if let Some(special) = read_special(word) {
-                return Some(special);
+impl<'a> WrittenWho<'a> {
+    /// Whom the text names: a special identifier, an id of 1 to 10 digits, or a text with the shape
+    /// of a name, alone or before `@` and a text with the shape of a domain.
+    pub fn read(text: &'a [u8]) -> Option<WrittenWho<'a>>
+        ensures { option_map view_who result ≡ written_who text.now }
+    {
+        // A decimal and a special identifier, as most are, are told at one look.
+        if let Some(number) = read_decimal(text) {
+            return Some(WrittenWho::Id(WrittenId::Number(number)));
+        }
+        if let [word @ .., last] = text {
+            if *last == b'@' {
+                if let Some(special) = read_special(word) {
+                    return Some(special);
+                }
             }
         }
+        read_who_of_parts(text)
     }
-    read_who_of_parts(text)
 }
 
-/// The same of any text, by its parts round each `@`.
+/// Whom any text names, by its parts round each `@`.
 fn read_who_of_parts(text: &[u8]) -> Option<WrittenWho<'_>>
     ensures { option_map view_who result ≡ written_who text.now }
 {

@@ -15,8 +15,10 @@ use std::alloc::Global;
 
 /// An access control list of either style.
 #[derive(Drop)]
-pub(crate) enum AnyAcl {
+pub enum AnyAcl {
+    /// A POSIX list.
     Posix(Acl),
+    /// An NFSv4 list.
     Nfs4(Acl4),
 }
 

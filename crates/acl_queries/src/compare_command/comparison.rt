@@ -1,5 +1,5 @@
 //! What the words of `compare` ask, and the answer.
-ghost use Rattle.std.specs.Prelude.{◌≡◌, IfOk, MatchOption, Ok};
+ghost use Rattle.std.specs.Prelude.{IfOk, MatchOption, Ok};
 ghost use Rattle.acl_queries.specs.declared.command.list.AnyAcl.TheVariants as list;
 ghost use Rattle.acl_queries.specs.Comparing.{between};
 ghost use Rattle.acl_queries.specs.Differences.{AreAlike, Differ};
@@ -37,21 +37,6 @@ impl Model for Comparison {
         comparison.second };
 }
 
-/// A difference as it is in the other direction.
-fn reverse(difference: Difference) -> Difference
-    ensures { result ≡ record {
-      asker = difference.asker;
-      lost = difference.gained;
-      gained = difference.lost;
-    } }
-{
-    Difference {
-        asker: difference.asker,
-        lost: difference.gained,
-        gained: difference.lost,
-    }
-}
-
 /// What two POSIX lists decide differently: of the permissions by themselves, or else of the
 /// requests of several.
 fn between_posix_lists(
@@ -86,7 +71,7 @@ fn towards_posix(
         (list.Posix second.now)))) }
 {
     match difference_from_posix(alloc, second, owners, first, owners)? {
-        Some(difference) => Ok(Some(reverse(difference))),
+        Some(difference) => Ok(Some(difference.reversed())),
         None => Ok(None),
     }
 }

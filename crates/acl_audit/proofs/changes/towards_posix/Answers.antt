@@ -17,5 +17,5 @@ returns-in-Some c = λ inherited.
     let is : IsDifference before after mode_bits c.in-Some.difference =
     subst (λ (found : Option Difference). IfSome found (IsDifference before after mode_bits)) c.in-Some.is c.in_ok-difference.ensures.some in
     subst (λ (difference : Difference). FindsAnybody (file_with owners (Nfs4 c.args.first.now)) (file_with other_owners (Posix c.args.second.now inherited)) (Some difference))
-    (sym c.reverse.ensures)
+    (sym c.reversed.ensures)
     (towards_posix_some owners other_owners c.in-Some.difference c.args.first.now c.args.second.now inherited is)

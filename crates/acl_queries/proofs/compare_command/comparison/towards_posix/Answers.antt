@@ -12,4 +12,4 @@ returns-in-Some c =
     let after = decided_by c.args.first.now c.args.owners.now.owner c.args.owners.now.group in
     let is : IsDifference before after mode_bits c.in-Some.difference =
     subst (λ (found : Option Difference). IfSome found (IsDifference before after mode_bits)) c.in-Some.is c.in_ok-difference.ensures.some in
-    inl (subst (IsDifference after before mode_bits) (sym c.reverse.ensures) (swapped_is before after mode_bits c.in-Some.difference is))
+    inl (subst (IsDifference after before mode_bits) (sym c.reversed.ensures) (swapped_is before after mode_bits c.in-Some.difference is))

@@ -1,7 +1,7 @@
 use Rattle.std.proofs.Common.{◌∙◌, sym, ap, option_map}
 use Rattle.acl_nfs4.specs.AceViews.{view_who}
 use Rattle.acl_nfs4.proofs.WhoLemmas.{decimal_who, special_text}
-use Rattle.acl_nfs4.proofs.written_who.read_who.Goals as goal
+use Rattle.acl_nfs4.proofs.written_who.WrittenWho.read.Goals as goal
 
 pub returns-in-Some : goal.returns-in-Some
 returns-in-Some c = sym (decimal_who c.args.text.now c.in-Some.number (sym c.in-Some.ensures))
