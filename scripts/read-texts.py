@@ -21,7 +21,7 @@ from texts import SetupNames, entry, fields, pieces
 
 USERS = {"root": 0, "alice": 1000, "bob": 1001, "carol": 1002}
 GROUPS = {"root": 0, "staff": 50, "ops": 60, "guest": 70}
-DOMAIN = "example.org"
+DOMAIN = b"example.org"
 MODE_SET = b"A::OWNER@:rwatTcC,A::bob@example.org:rwa,A:g:ops@example.org:r,A::EVERYONE@:r"
 LONG_FORMS = b"user : : rwx , g::r-x\nmask:rwx # all\nother:r"
 # How a newline is shown where each byte of a text has a column.
@@ -43,12 +43,8 @@ def ace(piece):
     names = GROUPS if b"g" in flags else USERS
     if who in (b"OWNER@", b"GROUP@", b"EVERYONE@"):
         known = True
-    elif b"@" in who:
-        name, domain = who.split(b"@", 1)
-        shaped = re.fullmatch(rb"[a-z0-9.-]{1,255}", domain) and re.fullmatch(rb"[A-Za-z_][A-Za-z0-9._-]{0,31}", name)
-        known = None if not shaped else domain.decode() == DOMAIN and name.decode() in names
     else:
-        found = SetupNames(names).read(who)
+        found = SetupNames(names, DOMAIN).read(who)
         known = None if found == "S" else found != "U"
     if known is None:
         return "S"

@@ -22,18 +22,20 @@ def fields(piece):
 
 
 class SetupNames:
-    """Ids by the names of a setup, as texts write both."""
+    """Ids by the names of a setup, as texts write both; names may stand in the domain, if there is one."""
 
-    def __init__(self, ids):
-        self.ids = ids
+    def __init__(self, ids, domain=None):
+        self.ids, self.domain = ids, domain
 
     def read(self, text):
         """The id that a text writes: S if it is neither a decimal nor a name, and U if the name is unknown."""
         if re.fullmatch(rb"[0-9]{1,10}", text):
             return int(text) if int(text) <= 4294967294 else "S"
-        if re.fullmatch(rb"[A-Za-z_][A-Za-z0-9._-]{0,31}", text):
-            return self.ids.get(text.decode(), "U")
-        return "S"
+        name, at, domain = text.partition(b"@") if self.domain else (text, b"", b"")
+        shaped = re.fullmatch(rb"[A-Za-z_][A-Za-z0-9._-]{0,31}", name) and (not at or re.fullmatch(rb"[a-z0-9.-]{1,255}", domain))
+        if not shaped:
+            return "S"
+        return self.ids.get(name.decode(), "U") if not at or domain == self.domain else "U"
 
 
 class AccountNames:

@@ -1,3 +1,4 @@
+pub mod SetupNamesLemmas
 pub mod HostLemmas
 pub mod PeopleLemmas
 pub mod SetupPeopleLemmas
@@ -26,6 +27,7 @@ pub mod FirstPathLemmas
 pub mod AlikeLemmas
 pub mod UnchangedLemmas
 pub mod ImpactLemmas
+pub mod CompareLemmas
 pub mod WhyWayLemmas
 pub mod WhySeekLemmas
 pub mod WhyPartLemmas

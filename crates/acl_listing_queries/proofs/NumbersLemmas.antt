@@ -1,7 +1,7 @@
 -- Whoever there is, a decimal is read as its id.
 use Rattle.std.proofs.Common.{◌≡◌, ◌∙◌, ◌≤◌, ℕ, Bool, true, false, cond, nat_le, List, Option, Some, None, Ok, ap, arith, decimal}
 use Rattle.std.proofs.lemmas.Bool.Decides.{nat_tests}
-use Rattle.acl_names.specs.Ids.{Name, Number, Written, decimal_value, has_name_shape, id_of_written, number_or_name, written_id}
+use Rattle.acl_names.specs.Ids.{Name, Number, Written, decimal_value, has_name_shape, id_of_written, number_or_name}
 use Rattle.acl_names.specs.Names.{resolved}
 use Rattle.acl_names.specs.Steps.{◌>>=◌, or_fault}
 use Rattle.acl_names.specs.declared.directory.resolve.NameFault.TheVariants.{Malformed, Unknown}
@@ -13,8 +13,10 @@ use Rattle.acl_accounts.specs.Names.{written_account}
 use Rattle.acl_accounts.proofs.FrontLemmas.{written_number}
 use Rattle.acl_nfs4.specs.NamedAces.{ReadNumbers}
 use Rattle.acl_listing_queries.specs.Host.{names_of_host}
+use Rattle.acl_listing_queries.specs.SetupNames.{written_in}
 use Rattle.acl_listing_queries.specs.declared.host.Host.{Host}
 use Rattle.acl_listing_queries.specs.declared.host.Host.TheVariants.{Accounts, Setup}
+use Rattle.acl_listing_queries.proofs.SetupNamesLemmas.{id_alone}
 
 decimal_read : (id : ℕ) → id ≤ MAX_ID → decimal_value (decimal id) ≡ Some id
 decimal_read id small = go (decimal_value (decimal id)) (has_name_shape (decimal id)) (written_decimal id small)
@@ -39,12 +41,15 @@ number_read written_in id_of id small is =
 account_number : (id : ℕ) → id ≤ MAX_ID → written_account (decimal id) ≡ Some (Number id)
 account_number id small = written_number (decimal id) id (decimal_read id small)
 
+setup_number : (domain : List ℕ) (id : ℕ) → id ≤ MAX_ID → written_in domain (decimal id) ≡ Some (Number id)
+setup_number domain id small = id_alone domain (decimal id) (Number id) (written_decimal id small)
+
 pub numbers_of_host : (host : Host) → ReadNumbers (names_of_host host)
 numbers_of_host (Accounts known) = record {
   uids = λ uid small. number_read written_account (accounts.uid_of known) uid small (account_number uid small);
   gids = λ gid small. number_read written_account (accounts.gid_of known) gid small (account_number gid small);
 }
 numbers_of_host (Setup known) = record {
-  uids = λ uid small. number_read written_id (directory.uid_of known) uid small (written_decimal uid small);
-  gids = λ gid small. number_read written_id (directory.gid_of known) gid small (written_decimal gid small);
+  uids = λ uid small. number_read (written_in known.domain) (directory.uid_of known) uid small (setup_number known.domain uid small);
+  gids = λ gid small. number_read (written_in known.domain) (directory.gid_of known) gid small (setup_number known.domain gid small);
 }

@@ -8,20 +8,20 @@ use Rattle.clap.specs.Words.{Row, Text, first_of}
 use Rattle.acl_names.specs.Ascending.{IsAscending}
 use Rattle.acl_names.specs.Bytes.{newline}
 use Rattle.acl_names.specs.Directory.{Known}
-use Rattle.acl_names.specs.Names as directory
 use Rattle.acl_names.specs.Names.{Names}
 use Rattle.acl_accounts.specs.Accounts as accounts
 use Rattle.acl_accounts.specs.Accounts.{AreOf, KnownAccounts, rows_within}
 use Rattle.acl_accounts.specs.Rows.{Rows}
 use Rattle.acl_setup.specs.Opened.{Opens}
 use Rattle.acl_tree.specs.Tree.{NodesUnderUmask}
+use Rattle.acl_listing_queries.specs.SetupNames.{setup_names}
 use Rattle.acl_listing_queries.specs.declared.host.Host.{Host}
 use Rattle.acl_listing_queries.specs.declared.host.Host.TheVariants.{Accounts, Setup}
 
 -- how texts write users and groups, and who is meant
 abbrev pub names_of_host : Host → Names
 names_of_host (Accounts known) = accounts.names_of known
-names_of_host (Setup known) = directory.names_of known
+names_of_host (Setup known) = setup_names known
 
 -- the files of this host's own accounts
 abbrev pub users_file : Text

@@ -1,5 +1,5 @@
 -- How it is told what changed for somebody.
-use Rattle.std.specs.Prelude.{ℕ, List, [], ◌∷◌, ◌++◌, codes, decimal}
+use Rattle.std.specs.Prelude.{ℕ, Bool, true, false, List, [], ◌∷◌, ◌++◌, codes, decimal}
 use Rattle.std.specs.List.{flat_map}
 use Rattle.acl_names.specs.Bytes.{comma}
 use Rattle.acl_nfs4.specs.Mask.{mask_bits}
@@ -35,3 +35,8 @@ new_text path = codes "new " ++ path ++ codes "\n"
 
 abbrev pub gone_text : List ℕ → List ℕ
 gone_text path = codes "gone " ++ path ++ codes "\n"
+
+-- of a path that is gone, or else new
+abbrev pub path_text : Bool → List ℕ → List ℕ
+path_text true path = gone_text path
+path_text false path = new_text path

@@ -18,7 +18,7 @@ use Rattle.acl_listings.specs.Block.{FileValue, file_by}
 use Rattle.acl_listings.specs.declared.fault.BlockFault.{BlockFault}
 use Rattle.acl_listing_queries.specs.Changes.{Wording}
 use Rattle.acl_listing_queries.specs.Files.{node_of}
-use Rattle.acl_listing_queries.specs.ImpactText.{gone_text, new_text, person_text, somebody_text}
+use Rattle.acl_listing_queries.specs.ImpactText.{path_text, person_text, somebody_text}
 use Rattle.acl_listing_queries.specs.Person.{Person}
 use Rattle.acl_listing_queries.specs.WrittenChanges.{TellsWritten}
 
@@ -108,14 +108,16 @@ abbrev pub lines_if : Bool → (Person → List ℕ) → List Person → List �
 lines_if true line persons = flat_map line persons
 lines_if false line persons = []
 
--- what is told of a file that is new, or gone
+-- what is told of a file that is gone, or else new
+abbrev pub told_of : Bool → ImpactAsking → FileValue → List ℕ
+told_of gone asking file = path_text gone file.path
+    ++ lines_if asking.each (may_line gone file.path (node_of file)) asking.persons
+
 abbrev pub told_new : ImpactAsking → FileValue → List ℕ
-told_new asking file = new_text file.path
-    ++ lines_if asking.each (may_line false file.path (node_of file)) asking.persons
+told_new = told_of false
 
 abbrev pub told_gone : ImpactAsking → FileValue → List ℕ
-told_gone asking file = gone_text file.path
-    ++ lines_if asking.each (may_line true file.path (node_of file)) asking.persons
+told_gone = told_of true
 
 -- what is wrong with a block, as what it says of a file
 abbrev pub fault_of : Result FileValue BlockFault → Option BlockFault

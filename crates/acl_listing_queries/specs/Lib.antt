@@ -1,3 +1,4 @@
+pub mod SetupNames
 pub mod Host
 pub mod HostFailures
 pub mod Person
@@ -36,6 +37,7 @@ pub mod Impacting
 pub mod ImpactSteps
 pub mod ImpactLine
 pub mod ImpactMeaning
+pub mod AlikeLaws
 pub mod TranslateLaws
 pub mod WhyText
 pub mod WhyLine

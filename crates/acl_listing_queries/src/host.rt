@@ -5,6 +5,7 @@ ghost use Rattle.acl_listing_queries.specs.Host.{IsHost};
 ghost use Rattle.acl_listing_queries.specs.HostFailures.{IsHostFailure};
 
 mod accounts;
+pub(crate) mod names;
 mod setup;
 
 use accounts::{read_accounts, read_own_accounts};
@@ -31,28 +32,28 @@ impl ResolveNames for Host {
     fn uid_written(&self, text: &[u8]) -> Result<Uid, NameFault> {
         match self {
             Host::Accounts(accounts) => accounts.uid_written(text),
-            Host::Setup(directory) => directory.uid_written(text),
+            Host::Setup(directory) => names::uid_written(directory, text),
         }
     }
 
     fn gid_written(&self, text: &[u8]) -> Result<Gid, NameFault> {
         match self {
             Host::Accounts(accounts) => accounts.gid_written(text),
-            Host::Setup(directory) => directory.gid_written(text),
+            Host::Setup(directory) => names::gid_written(directory, text),
         }
     }
 
     fn uid_in_front<'t>(&self, text: &'t [u8]) -> Option<(Uid, &'t [u8])> {
         match self {
             Host::Accounts(accounts) => accounts.uid_in_front(text),
-            Host::Setup(directory) => directory.uid_in_front(text),
+            Host::Setup(directory) => names::uid_in_front(directory, text),
         }
     }
 
     fn gid_in_front<'t>(&self, text: &'t [u8]) -> Option<(Gid, &'t [u8])> {
         match self {
             Host::Accounts(accounts) => accounts.gid_in_front(text),
-            Host::Setup(directory) => directory.gid_in_front(text),
+            Host::Setup(directory) => names::gid_in_front(directory, text),
         }
     }
 }

@@ -3,7 +3,6 @@
 mod asked;
 mod changed;
 mod command;
-mod lines;
 mod teller;
 
 pub use command::{IMPACT_ANSWERS, ImpactOfListings};

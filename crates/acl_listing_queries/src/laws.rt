@@ -1,4 +1,6 @@
 //! The laws of what is answered, over the definitions alone.
+ghost use Rattle.acl_listing_queries.specs.AlikeLaws.{AlikeListsAreAlikeFiles};
+ghost use Rattle.acl_listing_queries.specs.AlikeLaws.{DifferencesAreChanges};
 ghost use Rattle.acl_listing_queries.specs.PeopleLaws.{EveryoneIsInTheSetup};
 ghost use Rattle.acl_listing_queries.specs.WayLaws.{WaysAreAllAbove};
 
@@ -14,4 +16,12 @@ pub fn way_laws()
 /// the contract.
 pub fn people_laws()
     ensures setup { EveryoneIsInTheSetup }
+{}
+
+/// Lists are alike to `compare` exactly if to `impact` files of one owner and group that have them
+/// are, and what `compare` tells is a change that its asker has there. There is nothing to run
+/// here: a proof cites the contract.
+pub fn alike_laws()
+    ensures alike { AlikeListsAreAlikeFiles }
+    ensures changes { DifferencesAreChanges }
 {}

@@ -10,6 +10,7 @@ mod everyone;
 mod files;
 mod host;
 mod impact;
+pub mod impact_lines;
 mod laws;
 mod lines;
 mod named;
@@ -25,7 +26,7 @@ mod written;
 
 pub use host::Host;
 pub use impact::{IMPACT_ANSWERS, ImpactOfListings};
-pub use laws::{people_laws, way_laws};
+pub use laws::{alike_laws, people_laws, way_laws};
 pub use restore::{Restore, restore_brings_back};
 pub use translate::{
     Translate, translations_are_read_again, translations_change_nothing, translations_decide_alike,

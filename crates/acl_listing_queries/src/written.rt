@@ -3,18 +3,20 @@ ghost use Rattle.std.specs.Prelude.{◌≡◌, IfErr, IfOk, None, Ok, option_and
 ghost use Rattle.acl_accounts.specs.Names.{written_account};
 ghost use Rattle.acl_accounts.specs.Views.{view_written};
 ghost use Rattle.acl_cli.specs.Failures.{Explains};
-ghost use Rattle.acl_names.specs.Ids.{id_of_written, written_id};
+ghost use Rattle.acl_names.specs.Ids.{id_of_written};
 ghost use Rattle.acl_listing_queries.specs.Host.{names_of_host};
 ghost use Rattle.acl_listing_queries.specs.People.{person_asked, person_written, with_id};
 ghost use Rattle.acl_listing_queries.specs.Person.{stranger};
+ghost use Rattle.acl_listing_queries.specs.SetupNames.{written_in};
 ghost use Rattle.acl_listing_queries.specs.declared.host.Host.TheVariants as of;
 
 use crate::everyone::account_at;
 use crate::host::Host;
+use crate::host::names::read_id;
 use crate::person::{Person, printed_id, printed_name};
 use acl_accounts::{Accounts, WrittenAccount};
 use acl_cli::{Failure, FieldFault};
-use acl_names::{Directory, Uid, WrittenId};
+use acl_names::{Directory, Uid};
 use arrayvec::ArrayVec;
 use std::alloc::{AllocError, Global};
 
@@ -84,9 +86,10 @@ fn setup_user_in(
     text: &[u8],
 ) -> Result<Option<Person>, AllocError>
     ensures { IfOk result (λ found. found
-        ≡ option_and_then (person_written (of.Setup directory.now)) (written_id text.now)) }
+        ≡ option_and_then (person_written (of.Setup directory.now))
+        (written_in directory.now.domain text.now)) }
 {
-    let Some(written) = WrittenId::read(text) else {
+    let Some(written) = read_id(directory, text) else {
         return Ok(None);
     };
     let Some(uid) = directory.uid(written) else {

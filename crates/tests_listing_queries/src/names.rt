@@ -18,8 +18,35 @@ const SHARED_UID: &[u8] =
 const SHARED_GID: &[u8] =
     b"# file: f\n# owner: 1001\n# group: ops\nuser::rw-\ngroup::r--\nother::--x\n";
 
+/// Names in the setup's domain, as `nfs4_getfacl` prints them.
+const IN_DOMAIN: &[u8] =
+    b"# file: x\n# owner: bob@example.org\n# group: root@example.org\nA::OWNER@:rwa\nA:g:ops@example.org:x\nA::alice@example.org:r\nA::EVERYONE@:t\n";
+
+/// A name that nobody has in the domain, one in another, and one in none.
+const IN_NO_DOMAIN: &[u8] =
+    b"# file: a\n# owner: bob\n# group: root\nA::carol@example.org:r\n\n# file: b\n# owner: bob\n# group: root\nuser::r--\nuser:bob@example.com:r--\ngroup::r--\nmask::r--\nother::---\n\n# file: c\n# owner: bob@\n# group: root\nA::OWNER@:r\n";
+
 /// The words, the listing, and what is told.
-const ANSWERS: [(&[&str], &[u8], &str); 6] = [
+const ANSWERS: [(&[&str], &[u8], &str); 8] = [
+    (
+        &["who", "--setup", "setup", "-"],
+        IN_DOMAIN,
+        "r-- alice x\nrwx bob x\n",
+    ),
+    (
+        &[
+            "who",
+            "--setup",
+            "setup",
+            "--perms",
+            "wx",
+            "--user",
+            "bob@example.org",
+            "-",
+        ],
+        IN_DOMAIN,
+        "bob x\n",
+    ),
     (
         &["who", "--accounts", "domain", "-"],
         WRITTEN,
@@ -69,4 +96,12 @@ fn names_and_groups(rt: HostRuntime) {
             "{text}"
         );
     }
+}
+
+#[test]
+fn names_in_no_domain(rt: HostRuntime) {
+    let words = ["who", "--setup", "setup", "-"];
+    let said =
+        "aclctl: -:4: unknown-name: A::carol@example.org:r\naclctl: -:10: unknown-name: user:bob@example.com:r--\naclctl: -:16: bad-header: # owner: bob@\naclctl: -: is it a listing?\naclctl: -: 3 of 3 files were not answered\n";
+    assert!(rt; who().ends_on(rt.alloc(), &words, IN_NO_DOMAIN, 4, "", said));
 }

@@ -1,20 +1,17 @@
 //! Whom a change concerns, of those who are asked about.
 ghost use Rattle.std.specs.Prelude.{◌≡◌, ◌++◌, IfOk, OnOk, map, option_map, slice_get};
 ghost use Rattle.std.specs.List.{flat_map};
-ghost use Rattle.acl_bridge.specs.Comparison.{mask_for, permission_bits};
-ghost use Rattle.acl_nfs4.specs.Mask.{mask_bits};
-ghost use Rattle.acl_posix.specs.Perms.{bits_of};
 ghost use Rattle.acl_listing_queries.specs.ImpactSteps.{Tells, TellsAt, TellsBy, line_at};
 ghost use Rattle.acl_listing_queries.specs.ImpactSteps.{persons_in, view_one};
 ghost use Rattle.acl_listing_queries.specs.Impacting.{TellsAnybody, TellsFirst, TellsPersons};
 ghost use Rattle.acl_listing_queries.specs.Impacting.{TellsThose, lines_if, may_line};
 
-use super::lines::{push_person, push_somebody};
+use crate::impact_lines::{push_person, push_somebody};
 use crate::people::People;
 use acl_audit::{change_for, change_for_anybody, effective};
+use acl_bridge::bits::mask_for;
 use acl_names::Requester;
-use acl_nfs4::{Mask, mask_of};
-use acl_posix::Perms;
+use acl_nfs4::Mask;
 use acl_tree::Node;
 use bitflags::Flags;
 use std::alloc::{AllocError, Global};
@@ -55,20 +52,6 @@ fn one_at(people: &People, place: usize) -> Option<One<'_>>
         return None;
     };
     Some(One { name, requester })
-}
-
-/// The bits that stand for permissions, one for each.
-fn permission_bits() -> Mask
-    ensures { mask_bits result ≡ permission_bits }
-{
-    Mask::READ_DATA.union(Mask::WRITE_DATA.union(Mask::EXECUTE))
-}
-
-/// The letters that somebody is granted, as bits of a mask.
-fn granted_mask(perms: Perms) -> Mask
-    ensures { mask_bits result ≡ mask_for (bits_of perms) }
-{
-    mask_of(perms).intersection(permission_bits())
 }
 
 /// Appends the line of somebody whom it concerns that a file became another, and returns whether it
@@ -211,7 +194,7 @@ fn push_may(
     if perms.is_empty() {
         return Ok(());
     }
-    let bits = granted_mask(perms);
+    let bits = mask_for(perms);
     if gone {
         push_person(one.name, one.requester, bits, Mask::empty(), path, out)
     } else {

@@ -3,15 +3,14 @@ ghost use Rattle.std.specs.Prelude.{◌≡◌, ◌++◌, ◌&&◌, OnOk, nat_eq}
 ghost use Rattle.acl_listings.specs.Block.{file_by};
 ghost use Rattle.acl_listings.specs.Views.{view_file};
 ghost use Rattle.acl_listing_queries.specs.ImpactSteps.{Tells, TellsRead, asking_by};
-ghost use Rattle.acl_listing_queries.specs.Impacting.{TellsChange, TellsImpact, told_gone};
-ghost use Rattle.acl_listing_queries.specs.Impacting.{told_new};
+ghost use Rattle.acl_listing_queries.specs.Impacting.{TellsChange, TellsImpact, told_of};
 
 use super::asked::{push_all_who_may, push_anybody, push_those};
 use super::changed::{changed_between, push_changed};
-use super::lines::{push_apart, push_gone, push_new};
 use crate::between::ChangeTeller;
 use crate::files::node_of;
 use crate::host::Host;
+use crate::impact_lines::{push_apart, push_path};
 use crate::people::People;
 use acl_audit::is_same_file;
 use acl_listings::{BlockFault, File, FileFault, faulty_line, read_file};
@@ -65,36 +64,21 @@ impl<'t> ImpactTeller<'t> {
         push_anybody(alloc, asked, before, after, path, out)
     }
 
-    /// Appends what is told of a new file.
-    fn push_new_file(
+    /// Appends what is told of a file that is gone, or else new.
+    fn push_file(
         &self,
         alloc: Global,
+        gone: bool,
         file: File<'_>,
         out: &mut Vec<u8>,
     ) -> Result<(), AllocError>
         ensures { OnOk result (out.new.items
-            ≡ out.old.items ++ told_new (asking_by self.now) (view_file file.entry)) }
+            ≡ out.old.items ++ told_of gone (asking_by self.now) (view_file file.entry)) }
     {
         let path = file.path;
         let node = node_of(alloc, file)?;
-        push_new(path, out)?;
-        push_all_who_may(self.each, false, &node, self.people, path, out)
-    }
-
-    /// Appends what is told of a gone file.
-    fn push_gone_file(
-        &self,
-        alloc: Global,
-        file: File<'_>,
-        out: &mut Vec<u8>,
-    ) -> Result<(), AllocError>
-        ensures { OnOk result (out.new.items
-            ≡ out.old.items ++ told_gone (asking_by self.now) (view_file file.entry)) }
-    {
-        let path = file.path;
-        let node = node_of(alloc, file)?;
-        push_gone(path, out)?;
-        push_all_who_may(self.each, true, &node, self.people, path, out)
+        push_path(gone, path, out)?;
+        push_all_who_may(self.each, gone, &node, self.people, path, out)
     }
 
     /// Appends what is told of a file that became another.
@@ -169,7 +153,7 @@ impl<'t> ChangeTeller for ImpactTeller<'t> {
     ) -> Result<Option<BlockFault>, AllocError> {
         match read_file(alloc, text, self.host) {
             Ok(file) => {
-                self.push_new_file(alloc, file, out)?;
+                self.push_file(alloc, false, file, out)?;
                 Ok(None)
             }
             Err(FileFault::Block(fault)) => Ok(Some(fault)),
@@ -207,7 +191,7 @@ impl<'t> ChangeTeller for ImpactTeller<'t> {
         _beside: &mut Vec<u8>,
     ) -> Result<(), AllocError> {
         match read_file(alloc, old, self.host) {
-            Ok(file) => self.push_gone_file(alloc, file, out),
+            Ok(file) => self.push_file(alloc, true, file, out),
             Err(FileFault::Block(_)) => Ok(()),
             Err(FileFault::Memory) => Err(AllocError),
         }

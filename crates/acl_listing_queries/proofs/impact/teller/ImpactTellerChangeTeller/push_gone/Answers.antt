@@ -10,9 +10,9 @@ use Rattle.acl_listing_queries.proofs.impact.teller.ImpactTellerChangeTeller.pus
 
 pub returns-in-Ok : goal.returns-in-Ok
 returns-in-Ok c =
-    on_ok_weaker c.push_gone_file.result
-    (gone_told (asking_by c.args.self.now) c.args.old.now (view_file c.in-Ok.file) c.in-Ok.ensures.read c.args.out.now.items c.push_gone_file.new.out.items c.args._beside.now.items)
-    c.push_gone_file.ensures
+    on_ok_weaker c.push_file.result
+    (gone_told (asking_by c.args.self.now) c.args.old.now (view_file c.in-Ok.file) c.in-Ok.ensures.read c.args.out.now.items c.push_file.new.out.items c.args._beside.now.items)
+    c.push_file.ensures
 
 pub returns-in-Err-Block : goal.returns-in-Err-Block
 returns-in-Err-Block c =

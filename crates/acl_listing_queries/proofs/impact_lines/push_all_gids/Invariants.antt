@@ -1,7 +1,7 @@
 use Rattle.std.proofs.Common.{◌≡◌, ◌++◌, ◌∷◌, decimal, take}
 use Rattle.std.specs.List.{flat_map}
 use Rattle.acl_names.specs.Bytes.{comma}
-use Rattle.acl_listing_queries.proofs.impact.lines.push_all_gids.Given as goal
+use Rattle.acl_listing_queries.proofs.impact_lines.push_all_gids.Given as goal
 
 -- the gids so far
 abbrev pub invariant-loop-gid : goal.invariant-loop-gid

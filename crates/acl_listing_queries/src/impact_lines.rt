@@ -1,9 +1,9 @@
-//! The lines of `impact`.
+//! The lines of `impact`, of listings and of trees.
 ghost use Rattle.std.specs.Prelude.{◌≡◌, ◌++◌, OnOk, codes, decimal};
 ghost use Rattle.acl_nfs4.specs.Mask.{mask_bits};
 ghost use Rattle.acl_queries.specs.Differences.{bits_text, gids_text};
 ghost use Rattle.acl_listing_queries.specs.ImpactText.{all_gids_text, differ_text, gone_text};
-ghost use Rattle.acl_listing_queries.specs.ImpactText.{new_text};
+ghost use Rattle.acl_listing_queries.specs.ImpactText.{new_text, path_text};
 ghost use Rattle.acl_listing_queries.specs.Impacting.{apart_line};
 
 use acl_names::{Asker, Gid, Requester, Uid, push_decimal};
@@ -56,8 +56,9 @@ fn push_what(lost: Mask, gained: Mask, path: &[u8], out: &mut Vec<u8>) -> Result
     Ok(())
 }
 
-/// Appends the line of one who is asked about.
-pub(super) fn push_person(
+/// Appends the line of one who is asked about, `differ NAME UID GIDS LOST GAINED PATH`. Fails only
+/// if memory runs out.
+pub fn push_person(
     name: &[u8],
     requester: &Requester,
     lost: Mask,
@@ -73,8 +74,8 @@ pub(super) fn push_person(
     push_what(lost, gained, path, out)
 }
 
-/// Appends the line of somebody else.
-pub(super) fn push_somebody(
+/// Appends the line of somebody else, whose name is `-`. Fails only if memory runs out.
+pub fn push_somebody(
     asker: Asker,
     lost: Mask,
     gained: Mask,
@@ -89,8 +90,8 @@ pub(super) fn push_somebody(
     push_what(lost, gained, path, out)
 }
 
-/// Appends the line of a path that is new.
-pub(super) fn push_new(path: &[u8], out: &mut Vec<u8>) -> Result<(), AllocError>
+/// Appends the line of a path that is new, `new PATH`. Fails only if memory runs out.
+pub fn push_new(path: &[u8], out: &mut Vec<u8>) -> Result<(), AllocError>
     ensures { OnOk result (out.new.items ≡ out.old.items ++ new_text path.now) }
 {
     out.extend_from_slice(b"new ")?;
@@ -100,7 +101,7 @@ pub(super) fn push_new(path: &[u8], out: &mut Vec<u8>) -> Result<(), AllocError>
 }
 
 /// Appends the line of a path that is gone.
-pub(super) fn push_gone(path: &[u8], out: &mut Vec<u8>) -> Result<(), AllocError>
+fn push_gone(path: &[u8], out: &mut Vec<u8>) -> Result<(), AllocError>
     ensures { OnOk result (out.new.items ≡ out.old.items ++ gone_text path.now) }
 {
     out.extend_from_slice(b"gone ")?;
@@ -109,8 +110,19 @@ pub(super) fn push_gone(path: &[u8], out: &mut Vec<u8>) -> Result<(), AllocError
     Ok(())
 }
 
+/// Appends the line of a path that is gone, or else new.
+pub(crate) fn push_path(gone: bool, path: &[u8], out: &mut Vec<u8>) -> Result<(), AllocError>
+    ensures { OnOk result (out.new.items ≡ out.old.items ++ path_text gone path.now) }
+{
+    if gone {
+        push_gone(path, out)
+    } else {
+        push_new(path, out)
+    }
+}
+
 /// Appends the line that says that no path is in both listings, whose first paths these are.
-pub(super) fn push_apart(
+pub(crate) fn push_apart(
     first: &[u8],
     second: &[u8],
     beside: &mut Vec<u8>,
