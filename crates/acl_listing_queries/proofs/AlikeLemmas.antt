@@ -12,8 +12,8 @@ use Rattle.acl_tree.specs.declared.node.Node.{Node}
 use Rattle.acl_listings.specs.Block.{FileValue, file_by}
 use Rattle.acl_listings.specs.declared.fault.BlockFault.{BlockFault}
 use Rattle.acl_listing_queries.specs.Files.{node_of}
-use Rattle.acl_listing_queries.specs.ImpactSteps.{Tells, TellsRead}
-use Rattle.acl_listing_queries.specs.Impacting.{ImpactAsking, TellsAnybody, TellsChange, TellsFirst, TellsImpact, TellsPerson, TellsPersons, TellsThose}
+use Rattle.acl_listing_queries.specs.ImpactSteps.{TellsRead}
+use Rattle.acl_listing_queries.specs.Impacting.{Concern, ImpactAsking, Tells, TellsAnybody, TellsChange, TellsFirst, TellsImpact, TellsPerson, TellsPersons, TellsThose}
 use Rattle.acl_listing_queries.specs.Person.{Person}
 use Rattle.acl_listing_queries.specs.WrittenChanges.{IsChanged, changed_text}
 use Rattle.acl_listing_queries.specs.declared.impact.changed.Changed.{Changed}
@@ -37,17 +37,17 @@ module _ (before after : Node) (path : List ℕ) (alike : IsAlikeToAll (file_of 
   nobody_else true = (None, alike, refl)
   nobody_else false = refl
 
-  pub nobody : (asking : ImpactAsking) → TellsImpact asking before after path []
-  nobody asking = record {
+  pub nobody : (concern : Concern) → TellsImpact concern before after path []
+  nobody concern = record {
     lines = [];
-    lines_are = none_of_those asking.each asking.persons;
+    lines_are = none_of_those concern.each concern.persons;
     other = [];
-    other_is = nobody_else (asking.somebody && true);
+    other_is = nobody_else (concern.somebody && true);
     text_is = refl;
   }
 
-  pub nobody_told : (asking : ImpactAsking) (out : List ℕ) → Tells (TellsImpact asking before after path) out out
-  nobody_told asking out = record { text = []; is = nobody asking; out_is = sym (append-nil out) }
+  pub nobody_told : (concern : Concern) (out : List ℕ) → Tells (TellsImpact concern before after path) out out
+  nobody_told concern out = record { text = []; is = nobody concern; out_is = sym (append-nil out) }
 
   -- and whatever is told of them is nothing
 
@@ -77,12 +77,12 @@ module _ (before after : Node) (path : List ℕ) (alike : IsAlikeToAll (file_of 
   nothing_else true text (None, found, is) = is
   nothing_else true text (Some difference, found, is) = absurd (unlike (identity_of difference.asker) (change_of difference) found)
 
-  pub tells_nothing : (asking : ImpactAsking) (text : List ℕ) → TellsImpact asking before after path text ↔ (text ≡ [])
-  tells_nothing asking text = (
+  pub tells_nothing : (concern : Concern) (text : List ℕ) → TellsImpact concern before after path text ↔ (text ≡ [])
+  tells_nothing concern text = (
     λ tells. tells.text_is
-        ∙ ap₂ (λ (a b : List ℕ). a ++ b) (nothing_of_those asking.each asking.persons tells.lines tells.lines_are)
-        (nothing_else (asking.somebody && is_empty tells.lines) tells.other tells.other_is),
-    λ none. subst (TellsImpact asking before after path) (sym none) (nobody asking),
+        ∙ ap₂ (λ (a b : List ℕ). a ++ b) (nothing_of_those concern.each concern.persons tells.lines tells.lines_are)
+        (nothing_else (concern.somebody && is_empty tells.lines) tells.other tells.other_is),
+    λ none. subst (TellsImpact concern before after path) (sym none) (nobody concern),
   )
 
 -- ---- a file that stays as it is
@@ -117,7 +117,7 @@ nothing_written false path = refl
 stays : (asking : ImpactAsking) (file : FileValue) → TellsChange asking file file []
 stays asking file = record {
   impact = [];
-  impact_is = nobody (node_of file) (node_of file) file.path (alike_itself (file_of (node_of file))) asking;
+  impact_is = nobody (node_of file) (node_of file) file.path (alike_itself (file_of (node_of file))) asking.concern;
   written = [];
   written_is = (unchanged, is_unchanged file, nothing_written asking.written file.path);
   text_is = refl;

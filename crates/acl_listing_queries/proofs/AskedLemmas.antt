@@ -1,8 +1,7 @@
 -- Those who are asked about, place by place.
 use Rattle.std.proofs.Common.{◌≡◌, ◌∙◌, List, [], ◌∷◌, ap, ap₂, map, refl}
-use Rattle.acl_listing_queries.specs.Asked.{ArePeople}
+use Rattle.acl_listing_queries.specs.Asked.{ArePeople, names_of_people, persons_of}
 use Rattle.acl_listing_queries.specs.Person.{Person}
-use Rattle.acl_listing_queries.specs.WhoSteps.{names_of_people, persons_of}
 use Rattle.acl_listing_queries.specs.declared.people.People.{People}
 
 again : (persons : List Person) → persons_of (map (λ one. one.name) persons) (map (λ one. one.who) persons) ≡ persons

@@ -12,10 +12,10 @@ use Rattle.acl_cli.specs.Telling.{is_empty}
 use Rattle.acl_listing_queries.specs.ChangeSteps.{Appended}
 use Rattle.acl_listing_queries.specs.Changes.{TellsIf, TellsOld}
 use Rattle.acl_listing_queries.specs.Files.{node_of}
-use Rattle.acl_listing_queries.specs.ImpactSteps.{Tells, TellsAt, TellsBy, TellsRead, line_at}
-use Rattle.acl_listing_queries.specs.Impacting.{ImpactAsking, TellsAnybody, TellsChange, TellsFirst, TellsImpact, TellsPerson, TellsPersons, TellsThose, fault_of, impacting, told_gone, told_new}
+use Rattle.acl_listing_queries.specs.ImpactSteps.{TellsAt, TellsBy, TellsRead, line_at}
+use Rattle.acl_listing_queries.specs.Impacting.{Concern, ImpactAsking, Tells, TellsAnybody, TellsChange, TellsFirst, TellsImpact, TellsPerson, TellsPersons, TellsThose, fault_of, impacting, told_gone, told_new}
 use Rattle.acl_listing_queries.specs.Person.{Person}
-use Rattle.acl_listing_queries.specs.WhoSteps.{persons_of}
+use Rattle.acl_listing_queries.specs.Asked.{persons_of}
 use Rattle.acl_listing_queries.specs.WrittenChanges.{IsChanged, changed_text}
 use Rattle.acl_listing_queries.specs.declared.impact.changed.Changed.{Changed}
 use Rattle.acl_listing_queries.proofs.TellerLemmas.{nothing_if, told_if}
@@ -158,11 +158,11 @@ same_length out (byte ∷ lines) = by (nat_eq (length (out ++ byte ∷ lines)) (
         let same : length (out ++ byte ∷ lines) ≡ length out = (Decides-eqb (length (out ++ byte ∷ lines)) (length out)).0 is in
         absurd (omega (arith, same, length-append out (byte ∷ lines)))
 
-pub impact_told : (asking : ImpactAsking) (before after : Node) (path out mid out' : List ℕ) → Tells (TellsThose asking.each before after path asking.persons) out mid
-    → (asked : Bool) → asked ≡ (asking.somebody && nat_eq (length mid) (length out)) → Tells (TellsAnybody asked before after path) mid out' → Tells (TellsImpact asking before after path) out out'
-impact_told asking before after path out mid out' those asked asked_is other =
+pub impact_told : (concern : Concern) (before after : Node) (path out mid out' : List ℕ) → Tells (TellsThose concern.each before after path concern.persons) out mid
+    → (asked : Bool) → asked ≡ (concern.somebody && nat_eq (length mid) (length out)) → Tells (TellsAnybody asked before after path) mid out' → Tells (TellsImpact concern before after path) out out'
+impact_told concern before after path out mid out' those asked asked_is other =
     let empty : nat_eq (length mid) (length out) ≡ is_empty those.text = ap (λ text. nat_eq (length text) (length out)) those.out_is ∙ same_length out those.text in
-    let is : asked ≡ (asking.somebody && is_empty those.text) = asked_is ∙ ap (λ b. asking.somebody && b) empty in
+    let is : asked ≡ (concern.somebody && is_empty those.text) = asked_is ∙ ap (λ b. concern.somebody && b) empty in
     record {
       text = those.text ++ other.text;
       is = record {
@@ -177,7 +177,7 @@ impact_told asking before after path out mid out' those asked asked_is other =
 
 -- and behind it what is written otherwise
 pub change_told : (asking : ImpactAsking) (before after : FileValue) (old new : Node) → old ≡ node_of before → new ≡ node_of after → (out mid out' : List ℕ)
-    → Tells (TellsImpact asking old new after.path) out mid → (changed : Changed) → IsChanged before after changed → out' ≡ mid ++ changed_text asking.written changed after.path
+    → Tells (TellsImpact asking.concern old new after.path) out mid → (changed : Changed) → IsChanged before after changed → out' ≡ mid ++ changed_text asking.written changed after.path
     → Tells (TellsChange asking before after) out out'
 change_told asking before after old new old_is new_is out mid out' told changed changed_is is =
     let written : List ℕ = changed_text asking.written changed after.path in
@@ -185,7 +185,7 @@ change_told asking before after old new old_is new_is out mid out' told changed 
       text = told.text ++ written;
       is = record {
         impact = told.text;
-        impact_is = subst (λ (old : Node). TellsImpact asking old (node_of after) after.path told.text) old_is (subst (λ (new : Node). TellsImpact asking old new after.path told.text) new_is told.is);
+        impact_is = subst (λ (old : Node). TellsImpact asking.concern old (node_of after) after.path told.text) old_is (subst (λ (new : Node). TellsImpact asking.concern old new after.path told.text) new_is told.is);
         written = written;
         written_is = (changed, changed_is, refl);
         text_is = refl;

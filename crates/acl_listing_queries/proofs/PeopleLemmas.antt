@@ -1,5 +1,5 @@
 -- All users, place by place, and people one by one.
-use Rattle.std.proofs.Common.{◌≡◌, ◌∙◌, ◌+◌, ◌<◌, ◌≤◌, ◌++◌, ◌∷◌, [], ℕ, zero, suc, true, false, List, Option, Some, None, Ok, Err, Bor, ap, ap₂, drop, refl, sym, map, take, get_or, length, arith, append-nil}
+use Rattle.std.proofs.Common.{◌≡◌, ◌∙◌, ◌+◌, ◌<◌, ◌≤◌, ◌++◌, ◌∷◌, [], ℕ, zero, suc, true, false, List, Option, Some, None, Result, Ok, Err, Bor, ap, ap₂, drop, refl, sym, map, take, get_or, length, arith, append-nil}
 use Rattle.std.specs.Prelude.{not, option_map, slice_get}
 use Rattle.std.specs.List.{zip}
 use Rattle.std.specs.Option.{option_and_then}
@@ -15,7 +15,7 @@ use Rattle.acl_cli.specs.declared.field_fault.FieldFault.{FieldFault}
 use Rattle.acl_names.specs.Requester.{Identity}
 use Rattle.acl_names.specs.Directory.{Known, KnownUser, as_requester}
 use Rattle.acl_accounts.specs.Accounts.{KnownAccount, KnownAccounts}
-use Rattle.acl_listing_queries.specs.People.{asked_of, everyone, people_of, person_asked}
+use Rattle.acl_listing_queries.specs.People.{asked_of, everyone, people_of, person_asked, setup_people_of, setup_person}
 use Rattle.acl_listing_queries.specs.declared.host.Host.{Host}
 use Rattle.acl_listing_queries.specs.declared.host.Host.TheVariants.{Accounts, Setup}
 use Rattle.acl_listing_queries.specs.Person.{Person, is_root, person, without_root}
@@ -123,6 +123,19 @@ pub asked_of_some : (host : Host) (texts : List Text) → 0 < length texts → a
 asked_of_some host [] some = absurd (omega arith)
 asked_of_some host (text ∷ texts) some = refl
 
+pub setup_people_of_none : (known : Known) (texts : List Text) → length texts ≡ 0 → setup_people_of known texts ≡ Ok (everyone (Setup known))
+setup_people_of_none known [] none = refl
+setup_people_of_none known (text ∷ texts) none = absurd (omega arith)
+
+pub setup_people_of_some : (known : Known) (texts : List Text) → 0 < length texts → setup_people_of known texts ≡ each_read (setup_person known) texts
+setup_people_of_some known [] some = absurd (omega arith)
+setup_people_of_some known (text ∷ texts) some = refl
+
+-- one more place has one more of the users
+pub users_more : (all : List Person) (place : ℕ) (one : Person) → slice_get all place ≡ Some one → take (place + 1) all ≡ take place all ++ one ∷ []
+users_more all place one is =
+    take_more all place one (slice_get_within all place one is) ∙ ap (λ x. take place all ++ x ∷ []) (get_or_from_slice_get all place one one is)
+
 -- texts that are read one by one
 module _ (texts : List (Bor (List ℕ))) (place : ℕ) (other : Bor (List ℕ)) (within : place < length texts) where
   abbrev pub text_at : List ℕ
@@ -145,20 +158,20 @@ module _ (texts : List (Bor (List ℕ))) (place : ℕ) (other : Bor (List ℕ)) 
       ap (map (λ (text : Bor (List ℕ)). text.now)) (take_more texts place other within)
       ∙ map-append (λ (text : Bor (List ℕ)). text.now) (take place texts) (get_or texts place other ∷ [])
 
-  module _ (host : Host) (persons : List Person) (said : PiecesSay (person_asked host) texts_before persons) where
-    pub said_more : (one : Person) → person_asked host text_at ≡ Ok one
-        → PiecesSay (person_asked host) (map (λ (text : Bor (List ℕ)). text.now) (take (place + 1) texts)) (persons ++ one ∷ [])
+  module _ (asked : Text → Result Person FieldFault) (persons : List Person) (said : PiecesSay asked texts_before persons) where
+    pub said_more : (one : Person) → asked text_at ≡ Ok one
+        → PiecesSay asked (map (λ (text : Bor (List ℕ)). text.now) (take (place + 1) texts)) (persons ++ one ∷ [])
     said_more one is =
-        ap (map (person_asked host)) texts_more ∙ map-append (person_asked host) texts_before (text_at ∷ [])
+        ap (map asked) texts_more ∙ map-append asked texts_before (text_at ∷ [])
         ∙ ap₂ (λ front last. front ++ last ∷ []) said is ∙ sym (map-append Ok persons (one ∷ []))
 
-    pub refused_at : (fault : FieldFault) → person_asked host text_at ≡ Err fault
-        → each_read (person_asked host) (map (λ (text : Bor (List ℕ)). text.now) texts) ≡ Err fault
-    refused_at fault is = ap (each_read (person_asked host)) texts_apart ∙ each_read-fault (person_asked host) texts_before persons text_at texts_after fault said is
+    pub refused_at : (fault : FieldFault) → asked text_at ≡ Err fault
+        → each_read asked (map (λ (text : Bor (List ℕ)). text.now) texts) ≡ Err fault
+    refused_at fault is = ap (each_read asked) texts_apart ∙ each_read-fault asked texts_before persons text_at texts_after fault said is
 
-pub said_all : (texts : List (Bor (List ℕ))) (place : ℕ) (host : Host) (persons : List Person) → length texts ≤ place
-    → PiecesSay (person_asked host) (map (λ (text : Bor (List ℕ)). text.now) (take place texts)) persons
-    → each_read (person_asked host) (map (λ (text : Bor (List ℕ)). text.now) texts) ≡ Ok persons
-said_all texts place host persons past said =
-    ap (λ (all : List (Bor (List ℕ))). each_read (person_asked host) (map (λ (text : Bor (List ℕ)). text.now) all)) (sym (take_all place texts past))
-    ∙ each_read-said (person_asked host) _ persons said
+pub said_all : (texts : List (Bor (List ℕ))) (place : ℕ) (asked : Text → Result Person FieldFault) (persons : List Person) → length texts ≤ place
+    → PiecesSay asked (map (λ (text : Bor (List ℕ)). text.now) (take place texts)) persons
+    → each_read asked (map (λ (text : Bor (List ℕ)). text.now) texts) ≡ Ok persons
+said_all texts place asked persons past said =
+    ap (λ (all : List (Bor (List ℕ))). each_read asked (map (λ (text : Bor (List ℕ)). text.now) all)) (sym (take_all place texts past))
+    ∙ each_read-said asked _ persons said

@@ -58,7 +58,7 @@ module _ (names : Names) (attributes : Bool) (text : List ℕ) (file : FileValue
   told_alike = lists_alike attributes file.owner file.group file.lists (file_valid names text file reads)
 
   pub told_nothing : TellsNothing (node_of file) (node_of (with_told attributes file))
-  told_nothing asking path text = tells_nothing (node_of file) (node_of (with_told attributes file)) path told_alike asking text
+  told_nothing concern path text = tells_nothing (node_of file) (node_of (with_told attributes file)) path told_alike concern text
 
 -- ---- what is written otherwise
 
@@ -96,11 +96,11 @@ module _ (asking : ImpactAsking) (unasked : asking.written ≡ false) (before af
   change_nothing : (told : List ℕ) → TellsChange asking before after told ↔ (told ≡ [])
   change_nothing told = (
     λ tells. tells.text_is
-        ∙ ap₂ (λ (a b : List ℕ). a ++ b) ((tells_nothing (node_of before) (node_of after) after.path alike asking tells.impact).0 tells.impact_is)
+        ∙ ap₂ (λ (a b : List ℕ). a ++ b) ((tells_nothing (node_of before) (node_of after) after.path alike asking.concern tells.impact).0 tells.impact_is)
         (tells.written_is.2 ∙ unwritten tells.written_is.0),
     λ none. subst (TellsChange asking before after) (sym none) (record {
       impact = [];
-      impact_is = nobody (node_of before) (node_of after) after.path alike asking;
+      impact_is = nobody (node_of before) (node_of after) after.path alike asking.concern;
       written = [];
       written_is = (differs, is_differs, sym (unwritten differs));
       text_is = refl;

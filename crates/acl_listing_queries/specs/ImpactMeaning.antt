@@ -11,7 +11,7 @@ use Rattle.acl_listing_queries.specs.Changes.{IsChangeAnswer, IsChangeBegun, Nam
 use Rattle.acl_listing_queries.specs.Changes.{Wording}
 use Rattle.acl_listing_queries.specs.Host.{IsHost, names_of_host}
 use Rattle.acl_listing_queries.specs.HostFailures.{IsHostFailure}
-use Rattle.acl_listing_queries.specs.Impacting.{ImpactAsking, impacting}
+use Rattle.acl_listing_queries.specs.Impacting.{Concern, ImpactAsking, impacting}
 use Rattle.acl_listing_queries.specs.People.{asked_in}
 use Rattle.acl_listing_queries.specs.Person.{Person}
 use Rattle.acl_listing_queries.specs.WhoMeaning.{bytes_named, inputs_of}
@@ -23,12 +23,17 @@ names_users rows = is_some (all_of (codes "user") rows)
 
 -- Each who is asked about has a line if the words say so, or name these; somebody else has one only
 -- if they name none.
-abbrev pub impact_asked : Host → List Person → List Row → ImpactAsking
-impact_asked host persons rows = record {
-  names = names_of_host host;
+abbrev pub concern_in : List Person → List Row → Concern
+concern_in persons rows = record {
   persons = persons;
   each = flag_in (codes "all") rows || names_users rows;
   somebody = not (names_users rows);
+}
+
+abbrev pub impact_asked : Host → List Person → List Row → ImpactAsking
+impact_asked host persons rows = record {
+  names = names_of_host host;
+  concern = concern_in persons rows;
   written = flag_in (codes "text") rows;
   asks = flag_in (codes "exit-code") rows;
 }

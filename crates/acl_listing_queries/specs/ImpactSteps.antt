@@ -11,21 +11,11 @@ use Rattle.acl_listings.specs.Block.{FileValue}
 use Rattle.acl_listings.specs.declared.fault.BlockFault.{BlockFault}
 use Rattle.acl_listing_queries.specs.Host.{names_of_host}
 use Rattle.acl_listing_queries.specs.ImpactText.{person_text}
+use Rattle.acl_listing_queries.specs.Asked.{persons_in}
 use Rattle.acl_listing_queries.specs.Impacting.{ImpactAsking, TellsChange}
 use Rattle.acl_listing_queries.specs.Person.{Person}
-use Rattle.acl_listing_queries.specs.WhoSteps.{names_of_people, persons_of}
 use Rattle.acl_listing_queries.specs.declared.impact.asked.One.{One}
 use Rattle.acl_listing_queries.specs.declared.impact.teller.ImpactTeller.{ImpactTeller}
-use Rattle.acl_listing_queries.specs.declared.people.People.{People}
-
--- what was appended is this
-pub record Tells (Is : List ℕ → Type 0) (out out' : List ℕ) : Type 0 where
-  pub text : List ℕ
-  pub is : Is text
-  pub out_is : out' ≡ out ++ text
-
-abbrev pub persons_in : People → List Person
-persons_in people = persons_of (names_of_people people) people.requesters.items
 
 abbrev pub view_one : One → Person
 view_one one = record { name = one.name.now; who = one.requester.now }
@@ -33,9 +23,11 @@ view_one one = record { name = one.name.now; who = one.requester.now }
 abbrev pub asking_by : ImpactTeller → ImpactAsking
 asking_by teller = record {
   names = names_of_host teller.host.now;
-  persons = persons_in teller.people.now;
-  each = teller.each;
-  somebody = teller.somebody;
+  concern = record {
+    persons = persons_in teller.people.now;
+    each = teller.each;
+    somebody = teller.somebody;
+  };
   written = teller.written;
   asks = teller.asks;
 }

@@ -22,15 +22,18 @@ use Rattle.acl_listing_queries.specs.ImpactText.{path_text, person_text, somebod
 use Rattle.acl_listing_queries.specs.Person.{Person}
 use Rattle.acl_listing_queries.specs.WrittenChanges.{TellsWritten}
 
--- by which names blocks are read; who is asked about; whether each of these has a line, or only the
--- first whom a change concerns; whether somebody else has one, if it concerns none of them; whether
--- a path has one of which something is written otherwise; and whether the exit status tells that
--- there is a line
-pub record ImpactAsking : Type 0 where
-  pub names : Names
+-- who is asked about; whether each of these has a line, or only the first whom a change concerns;
+-- and whether somebody else has one, if it concerns none of them
+pub record Concern : Type 0 where
   pub persons : List Person
   pub each : Bool
   pub somebody : Bool
+
+-- by which names blocks are read; whom it concerns; whether a path has a line of which something is
+-- written otherwise; and whether the exit status tells that there is a line
+pub record ImpactAsking : Type 0 where
+  pub names : Names
+  pub concern : Concern
   pub written : Bool
   pub asks : Bool
 
@@ -77,22 +80,27 @@ TellsAnybody true before after path text = (found : Option Difference)
     × (text ≡ found_text path found)
 
 -- what is told of a file at a path that became another
-pub record TellsImpact (asking : ImpactAsking) (before after : Node) (path text : List ℕ) : Type 0
-  where
-    pub lines : List ℕ
-    pub lines_are : TellsThose asking.each before after path asking.persons lines
-    pub other : List ℕ
-    pub other_is : TellsAnybody (asking.somebody && is_empty lines) before after path other
-    pub text_is : text ≡ lines ++ other
+pub record TellsImpact (concern : Concern) (before after : Node) (path text : List ℕ) : Type 0 where
+  pub lines : List ℕ
+  pub lines_are : TellsThose concern.each before after path concern.persons lines
+  pub other : List ℕ
+  pub other_is : TellsAnybody (concern.somebody && is_empty lines) before after path other
+  pub text_is : text ≡ lines ++ other
 
 -- and what is told of two blocks of one path
 pub record TellsChange (asking : ImpactAsking) (before after : FileValue) (text : List ℕ) : Type 0
   where
     pub impact : List ℕ
-    pub impact_is : TellsImpact asking (node_of before) (node_of after) after.path impact
+    pub impact_is : TellsImpact asking.concern (node_of before) (node_of after) after.path impact
     pub written : List ℕ
     pub written_is : TellsWritten asking.written before after written
     pub text_is : text ≡ impact ++ written
+
+-- what was appended is this
+pub record Tells (Is : List ℕ → Type 0) (out out' : List ℕ) : Type 0 where
+  pub text : List ℕ
+  pub is : Is text
+  pub out_is : out' ≡ out ++ text
 
 -- the letters that somebody is granted, as bits of a mask
 abbrev pub granted_bits : Node → Person → ℕ
@@ -108,10 +116,13 @@ abbrev pub lines_if : Bool → (Person → List ℕ) → List Person → List �
 lines_if true line persons = flat_map line persons
 lines_if false line persons = []
 
--- what is told of a file that is gone, or else new
+-- what is told of a path whose file is gone, or else new
+abbrev pub told_at : Bool → Concern → List ℕ → Node → List ℕ
+told_at gone concern path node =
+    path_text gone path ++ lines_if concern.each (may_line gone path node) concern.persons
+
 abbrev pub told_of : Bool → ImpactAsking → FileValue → List ℕ
-told_of gone asking file = path_text gone file.path
-    ++ lines_if asking.each (may_line gone file.path (node_of file)) asking.persons
+told_of gone asking file = told_at gone asking.concern file.path (node_of file)
 
 abbrev pub told_new : ImpactAsking → FileValue → List ℕ
 told_new = told_of false

@@ -34,6 +34,7 @@ pub mod RestoreLaws
 pub mod ImpactText
 pub mod WrittenChanges
 pub mod Impacting
+pub mod Concerns
 pub mod ImpactSteps
 pub mod ImpactLine
 pub mod ImpactMeaning

@@ -15,6 +15,7 @@ use Rattle.acl_cli.specs.declared.field_fault.FieldFault.{FieldFault}
 use Rattle.acl_cli.specs.declared.field_fault.FieldFault.TheVariants.{RootUser, UnknownUser}
 use Rattle.acl_listing_queries.specs.Host.{names_of_host}
 use Rattle.acl_listing_queries.specs.Person.{Person, is_root, person, stranger, without_root}
+use Rattle.acl_listing_queries.specs.SetupNames.{written_in}
 use Rattle.acl_listing_queries.specs.declared.host.Host.{Host}
 use Rattle.acl_listing_queries.specs.declared.host.Host.TheVariants.{Accounts, Setup}
 
@@ -63,6 +64,19 @@ person_asked host text = do
   one ← or_fault UnknownUser
       (option_and_then (person_written host) ((names_of_host host).written text))
   unless_root one
+
+-- Of a setup's tree each user may be asked about, uid 0 too, which has no right of its own there.
+abbrev pub setup_person : Known → Text → Result Person FieldFault
+setup_person known text = or_fault UnknownUser
+    (option_and_then (person_written (Setup known)) (written_in known.domain text))
+
+-- those of a setup whom texts ask about, in their order; without a text all users
+abbrev pub setup_people_of : Known → List Text → Result (List Person) FieldFault
+setup_people_of known [] = Ok (everyone (Setup known))
+setup_people_of known (text ∷ texts) = each_read (setup_person known) (text ∷ texts)
+
+abbrev pub setup_people_in : Known → List Row → Result (List Person) FieldFault
+setup_people_in known rows = setup_people_of known (unwrap_or (all_of (codes "user") rows) [])
 
 -- those whom texts ask about, in their order; without a text all people
 abbrev pub asked_of : Host → List Text → Result (List Person) FieldFault

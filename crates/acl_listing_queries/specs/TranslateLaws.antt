@@ -8,7 +8,7 @@ use Rattle.acl_tree.specs.declared.node.Node.{Node}
 use Rattle.acl_listings.specs.Block.{FileValue, file_by}
 use Rattle.acl_listings.specs.declared.lists.Lists.TheVariants.{Nfs4}
 use Rattle.acl_listing_queries.specs.Host.{names_of_host}
-use Rattle.acl_listing_queries.specs.Impacting.{ImpactAsking, TellsImpact, impacting}
+use Rattle.acl_listing_queries.specs.Impacting.{Concern, ImpactAsking, TellsImpact, impacting}
 use Rattle.acl_listing_queries.specs.Translated.{aces_of, translated}
 use Rattle.acl_listing_queries.specs.declared.host.Host.{Host}
 use Rattle.acl_listing_queries.specs.declared.translate.form.AceForm.{AceForm}
@@ -35,8 +35,8 @@ with_told attributes file = record file { lists = Nfs4 (aces_of attributes file.
 -- Of a file that became another `impact` tells exactly nothing, whoever is asked about.
 abbrev pub TellsNothing : Node → Node → Type 0
 TellsNothing before after =
-    (asking : ImpactAsking) (path text : List ℕ)
-    → TellsImpact asking before after path text ↔ (text ≡ [])
+    (concern : Concern) (path text : List ℕ)
+    → TellsImpact concern before after path text ↔ (text ≡ [])
 
 -- Nor does it of a block that became another, unless it is asked what is written otherwise.
 abbrev pub TellsNothingOf : Names → List ℕ → List ℕ → Type 0

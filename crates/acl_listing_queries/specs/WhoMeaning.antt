@@ -17,7 +17,7 @@ use Rattle.acl_listing_queries.specs.People.{asked_in}
 use Rattle.acl_listing_queries.specs.Person.{Person}
 use Rattle.acl_listing_queries.specs.Telling.{IsListingFailure}
 use Rattle.acl_listing_queries.specs.WhoPart.{who_part}
-use Rattle.acl_listing_queries.specs.WhoText.{AllLetters, Asked, Request, ThreeLetters}
+use Rattle.acl_listing_queries.specs.WhoText.{AllLetters, Asked, asked_by}
 use Rattle.acl_listing_queries.specs.declared.host.Host.{Host}
 
 -- the name of the listing, where `-` is standard input
@@ -52,8 +52,7 @@ listing_meaning bytes_of input name names part = record {
 
 -- what is asked for by permissions, if the words tell, else by letters
 abbrev pub asked_for : Result (Option ℕ) FieldFault → Result Asked Failure
-asked_for (Ok None) = Ok ThreeLetters
-asked_for (Ok (Some perms)) = Ok (Request perms)
+asked_for (Ok perms) = Ok (asked_by perms)
 asked_for (Err fault) = Err (Field fault)
 
 -- what the words ask for; all letters and permissions exclude each other

@@ -17,6 +17,7 @@ use Rattle.acl_nfs4.specs.Mask.{mask_bits}
 use Rattle.acl_posix.specs.Perms.{bits_of}
 use Rattle.acl_tree.specs.Nodes.{may}
 use Rattle.acl_tree.specs.declared.node.Node.{Node}
+use Rattle.acl_listing_queries.specs.Asked.{names_of_people, persons_of}
 use Rattle.acl_listing_queries.specs.Files.{node_of}
 use Rattle.acl_listing_queries.specs.Host.{names_of_host}
 use Rattle.acl_listing_queries.specs.Person.{Person}
@@ -42,12 +43,6 @@ use Rattle.acl_listing_queries.specs.declared.who.reach.ReachTeller.{ReachTeller
 use Rattle.acl_listing_queries.specs.declared.who.way.Folder.{Folder}
 
 -- ---- who is asked about, and what for
-
-abbrev pub persons_of : List (List ℕ) → List Identity → List Person
-persons_of names whos = map (λ one. record { name = one.0; who = one.1 }) (zip names whos)
-
-abbrev pub names_of_people : People → List (List ℕ)
-names_of_people people = map (λ name. name.items) people.names.items
 
 abbrev pub whos_of : Users → List Identity
 whos_of users = users.people.now.requesters.items

@@ -1,5 +1,5 @@
 -- Who may do what with a file, line by line.
-use Rattle.std.specs.Prelude.{ℕ, ◌==◌, ◌&&◌, List, [], if◌then◌else◌}
+use Rattle.std.specs.Prelude.{ℕ, ◌==◌, ◌&&◌, List, [], Option, Some, None, if◌then◌else◌}
 use Rattle.std.specs.List.{flat_map}
 use Rattle.acl_names.specs.Requester.{Identity}
 use Rattle.acl_audit.specs.Letters.{effective, granted_mask, mask_text}
@@ -16,6 +16,11 @@ pub data Asked : Type 0 where
   ThreeLetters : Asked
   AllLetters : Asked
   Request : ℕ → Asked
+
+-- who may do all of these permissions, or if there are none the three letters
+abbrev pub asked_by : Option ℕ → Asked
+asked_by None = ThreeLetters
+asked_by (Some perms) = Request perms
 
 -- `LETTERS NAME PATH`, of somebody who has a letter, of letters that are written so
 abbrev pub letters_line_if : (ℕ → List ℕ) → List ℕ → List ℕ → ℕ → List ℕ

@@ -28,7 +28,7 @@ pub(crate) fn account_at(
 }
 
 /// The user of a setup at this place.
-fn setup_user_at(
+pub(crate) fn setup_user_at(
     alloc: Global,
     directory: &Directory,
     place: usize,

@@ -3,6 +3,8 @@
 mod asked;
 mod changed;
 mod command;
+mod concerned;
 mod teller;
 
-pub use command::{IMPACT_ANSWERS, ImpactOfListings};
+pub use command::{IMPACT_ANSWERS, ImpactOfListings, each_has_a_line, names_users};
+pub use concerned::Concerned;

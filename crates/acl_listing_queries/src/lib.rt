@@ -18,6 +18,7 @@ pub mod options;
 mod people;
 mod person;
 mod restore;
+mod setup_people;
 mod tally;
 mod translate;
 mod who;
@@ -25,11 +26,13 @@ mod why;
 mod written;
 
 pub use host::Host;
-pub use impact::{IMPACT_ANSWERS, ImpactOfListings};
+pub use impact::{Concerned, IMPACT_ANSWERS, ImpactOfListings, each_has_a_line, names_users};
 pub use laws::{alike_laws, people_laws, way_laws};
+pub use people::People;
 pub use restore::{Restore, restore_brings_back};
+pub use setup_people::read_setup_people;
 pub use translate::{
     Translate, translations_are_read_again, translations_change_nothing, translations_decide_alike,
 };
-pub use who::{WHO_ANSWERS, WhoOfListing};
+pub use who::{WHO_ANSWERS, WhoOfListing, push_who};
 pub use why::Why;

@@ -6,13 +6,12 @@ ghost use Rattle.acl_cli.specs.Failures.{Explains};
 ghost use Rattle.acl_names.specs.ReadList.{each_read};
 ghost use Rattle.acl_listing_queries.specs.Asked.{ArePeople};
 ghost use Rattle.acl_listing_queries.specs.People.{asked_in, asked_of, everyone, people_of};
-ghost use Rattle.acl_listing_queries.specs.People.{person_asked};
 ghost use Rattle.acl_listing_queries.specs.Person.{Person as PersonValue, without_root};
 
 use crate::everyone::{user_at, user_count};
 use crate::host::Host;
 use crate::person::Person;
-use crate::written::read_person;
+use crate::written::ReadPerson;
 use acl_cli::Failure;
 use acl_names::Requester;
 use clap::ArgMatches;
@@ -20,14 +19,16 @@ use std::alloc::{AllocError, Global};
 
 /// Who is asked about: names as getfacl prints them, and who each of them is, place by place.
 #[derive(Drop)]
-pub(crate) struct People {
+pub struct People {
+    /// The names, as `who` prints them.
     pub names: Vec<Vec<u8>>,
+    /// Each of them as one who asks.
     pub requesters: Vec<Requester>,
 }
 
 impl People {
     /// Nobody.
-    fn new(alloc: Global) -> People
+    pub(crate) fn new(alloc: Global) -> People
         ensures { ArePeople [] result }
     {
         People {
@@ -37,7 +38,7 @@ impl People {
     }
 
     /// Appends one more.
-    fn push(&mut self, person: Person) -> Result<(), AllocError>
+    pub(crate) fn push(&mut self, person: Person) -> Result<(), AllocError>
         ensures { (persons : List PersonValue) → ArePeople persons self.old
             → OnOk result (ArePeople (persons ++ person ∷ []) self.new) }
     {
@@ -78,16 +79,20 @@ fn all_people(alloc: Global, host: &Host) -> Result<People, AllocError>
     Ok(people)
 }
 
-/// Those whom texts ask about.
-fn people_in<'a>(alloc: Global, host: &Host, texts: &[&'a str]) -> Result<People, Failure<'a>>
+/// Those whom texts ask about, as it is read by this one.
+pub(crate) fn people_in<'a, P: ReadPerson>(
+    alloc: Global,
+    reader: &P,
+    texts: &[&'a str],
+) -> Result<People, Failure<'a>>
     ensures read { IfOk result (λ people. (persons : List PersonValue) × ArePeople persons people
-        × (each_read (person_asked host.now) (map (λ text. text.now) texts.now) ≡ Ok persons)) }
+        × (each_read (P.asked reader.now) (map (λ text. text.now) texts.now) ≡ Ok persons)) }
     ensures refused { IfErr result
-        (Explains (each_read (person_asked host.now) (map (λ text. text.now) texts.now))) }
+        (Explains (each_read (P.asked reader.now) (map (λ text. text.now) texts.now))) }
 {
     let mut people = People::new(alloc);
     for text in texts {
-        let person = read_person(alloc, host, *text)?;
+        let person = reader.read_person(alloc, *text)?;
         people.push(person)?;
     }
     Ok(people)

@@ -1,12 +1,15 @@
 //! Users as they are written: by a name, or by an id.
-ghost use Rattle.std.specs.Prelude.{◌≡◌, IfErr, IfOk, None, Ok, option_and_then, option_map};
+ghost use Rattle.std.specs.Prelude.{◌≡◌, IfErr, IfOk, None, Ok, Result, option_and_then};
+ghost use Rattle.std.specs.Prelude.{option_map};
+ghost use Rattle.clap.specs.Words.{Text};
 ghost use Rattle.acl_accounts.specs.Names.{written_account};
 ghost use Rattle.acl_accounts.specs.Views.{view_written};
 ghost use Rattle.acl_cli.specs.Failures.{Explains};
+ghost use Rattle.acl_cli.specs.declared.field_fault.FieldFault.{FieldFault};
 ghost use Rattle.acl_names.specs.Ids.{id_of_written};
 ghost use Rattle.acl_listing_queries.specs.Host.{names_of_host};
-ghost use Rattle.acl_listing_queries.specs.People.{person_asked, person_written, with_id};
-ghost use Rattle.acl_listing_queries.specs.Person.{stranger};
+ghost use Rattle.acl_listing_queries.specs.People.{person_written, with_id};
+ghost use Rattle.acl_listing_queries.specs.Person.{Person as PersonValue, stranger};
 ghost use Rattle.acl_listing_queries.specs.SetupNames.{written_in};
 ghost use Rattle.acl_listing_queries.specs.declared.host.Host.TheVariants as of;
 
@@ -110,20 +113,44 @@ fn user_in(alloc: Global, host: &Host, text: &[u8]) -> Result<Option<Person>, Al
     }
 }
 
-/// The one whom a text asks about.
-pub(crate) fn read_person<'a>(
-    alloc: Global,
-    host: &Host,
-    text: &'a str,
-) -> Result<Person, Failure<'a>>
-    ensures read { IfOk result (λ person. person_asked host.now text.entry.now ≡ Ok person) }
-    ensures refused { IfErr result (Explains (person_asked host.now text.entry.now)) }
-{
-    let Some(person) = user_in(alloc, host, text.as_bytes())? else {
-        return Err(Failure::Field(FieldFault::UnknownUser));
-    };
-    if person.is_root() {
-        return Err(Failure::Field(FieldFault::RootUser));
+/// Whoever reads whom a text asks about.
+pub(crate) trait ReadPerson {
+    /// Whom it is that a text asks about.
+    ghost asked: { Self → Text → Result PersonValue FieldFault };
+
+    /// The one whom a text asks about.
+    fn read_person<'a>(&self, alloc: Global, text: &'a str) -> Result<Person, Failure<'a>>
+        ensures read { IfOk result (λ person. asked self.now text.entry.now ≡ Ok person) }
+        ensures refused { IfErr result (Explains (asked self.now text.entry.now)) };
+}
+
+/// Of listings nobody asks about uid 0.
+impl ReadPerson for Host {
+    ghost use Rattle.acl_listing_queries.specs.People.{person_asked};
+
+    ghost asked = { person_asked };
+
+    fn read_person<'a>(&self, alloc: Global, text: &'a str) -> Result<Person, Failure<'a>> {
+        let Some(person) = user_in(alloc, self, text.as_bytes())? else {
+            return Err(Failure::Field(FieldFault::UnknownUser));
+        };
+        if person.is_root() {
+            return Err(Failure::Field(FieldFault::RootUser));
+        }
+        Ok(person)
     }
-    Ok(person)
+}
+
+/// Of a setup's tree each user may be asked about.
+impl ReadPerson for Directory {
+    ghost use Rattle.acl_listing_queries.specs.People.{setup_person};
+
+    ghost asked = { setup_person };
+
+    fn read_person<'a>(&self, alloc: Global, text: &'a str) -> Result<Person, Failure<'a>> {
+        match setup_user_in(alloc, self, text.as_bytes())? {
+            Some(person) => Ok(person),
+            None => Err(Failure::Field(FieldFault::UnknownUser)),
+        }
+    }
 }

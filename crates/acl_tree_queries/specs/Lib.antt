@@ -7,7 +7,6 @@ pub mod WhoLine
 pub mod WhoAnswer
 pub mod WhoMeaning
 pub mod ImpactLine
-pub mod ImpactText
 pub mod ImpactAnswer
 pub mod ImpactMeaning
 pub mod DumpLine

@@ -16,12 +16,11 @@ abbrev pub is_given : Text → List Row → Bool
 is_given name rows = is_some (first_of name rows)
 
 -- where no listing is named, the tree of a setup is asked about, for which the setup alone says who
--- there is, and of all its users
+-- there is
 abbrev pub tree_subject : List Row → Result Subject Mismatch
 tree_subject rows =
     if is_given (codes "setup") rows
-    then (if is_given (codes "accounts") rows then Err AccountsAndSetup
-    else if is_given (codes "user") rows then Err NoText else Ok Tree)
+    then (if is_given (codes "accounts") rows then Err AccountsAndSetup else Ok Tree)
     else Err NoListing
 
 -- sessions work on trees alone, and all letters are asked of listings alone
@@ -38,10 +37,9 @@ listings_subject rows =
     then Err SessionAndListing
     else if is_given (codes "after") rows then Ok Listing else Err OneListing
 
--- each who is concerned, what is written, and a status are asked of listings alone
+-- what is written, and a status are asked of listings alone
 abbrev pub asks_of_listings : List Row → Bool
-asks_of_listings rows =
-    flag_in (codes "all") rows || flag_in (codes "text") rows || flag_in (codes "exit-code") rows
+asks_of_listings rows = flag_in (codes "text") rows || flag_in (codes "exit-code") rows
 
 -- a session changes a tree
 abbrev pub impact_subject : List Row → Result Subject Mismatch

@@ -4,11 +4,15 @@ use Rattle.std.specs.Prelude.{IsOk}
 use Rattle.clap.specs.Words.{Row, Text}
 use Rattle.acl_cli.specs.Commands.{Answer, Meaning}
 use Rattle.acl_cli.specs.Failures.{Explains, IsAnswerLack, IsUnexplained}
-use Rattle.acl_cli.specs.SessionFiles.{IsSetupFailure, setup_in}
+use Rattle.acl_cli.specs.SessionFiles.{HasBytes, IsSetupFailure, setup_in}
 use Rattle.acl_cli.specs.declared.command.Ending.TheVariants.{Answered}
 use Rattle.acl_cli.specs.declared.failure.Failure.{Failure}
 use Rattle.acl_cli.specs.declared.failure.Failure.TheVariants.{InputTwice, LineTooLong}
 use Rattle.acl_cli.specs.declared.field_fault.FieldFault.{FieldFault}
+use Rattle.acl_listing_queries.specs.People.{setup_people_in}
+use Rattle.acl_names.specs.Directory.{Known}
+use Rattle.acl_setup.specs.Opened.{Opens}
+use Rattle.acl_tree.specs.Tree.{NodesUnderUmask}
 use Rattle.acl_tree_queries.specs.Trees.{AreTreesOf, after_in, before_in, inputs_in}
 use Rattle.acl_tree_queries.specs.declared.trees.Trees.{Trees}
 
@@ -45,10 +49,21 @@ abbrev pub IsNamesFailure : List Row → Failure → Type 0
 IsNamesFailure rows failure = (failure ≡ InputTwice) × (1 < inputs_in rows)
     ⊎ IsUnexplained (Contains (setup_in rows ∷ (before_in rows ++ after_in rows))) failure
 
+-- the setup opens, and none of its users is whom a text asks about
+pub record IsPeopleFailure (bytes_of : Text → Option (List ℕ)) (rows : List Row)
+    (failure : Failure) : Type 0 where
+  pub setup : List ℕ
+  pub setup_is : HasBytes (bytes_of (setup_in rows)) setup
+  pub directory : Known
+  pub tree : NodesUnderUmask
+  pub opened : Opens setup directory tree
+  pub explains : Explains (setup_people_in directory rows) failure
+
 -- the files give no trees for this
 abbrev pub IsTreesFailure : (Text → Option (List ℕ)) → List Row → Failure → Type 0
 IsTreesFailure bytes_of rows failure =
-    IsNamesFailure rows failure ⊎ IsSetupFailure (bytes_of (setup_in rows)) failure
+    IsNamesFailure rows failure
+    ⊎ (IsSetupFailure (bytes_of (setup_in rows)) failure ⊎ IsPeopleFailure bytes_of rows failure)
 
 -- by what the fields ask, by what answers that of trees, or of the first nodes of them, and by the
 -- trees of which it can't be answered

@@ -1,5 +1,5 @@
 -- The trees that a question is about.
-use Rattle.std.specs.Prelude.{◌≡◌, ℕ, ◌+◌, List, [], ◌∷◌, Option, Vec, codes}
+use Rattle.std.specs.Prelude.{◌≡◌, ℕ, ◌+◌, List, [], ◌∷◌, Option, Ok, Vec, codes}
 use Rattle.std.specs.Cmp.Lexicographic.{slice_cmp}
 use Rattle.std.specs.Ordering.{nat_cmp}
 use Rattle.std.specs.declared.alloc.Global.{Global}
@@ -11,6 +11,8 @@ use Rattle.acl_lang.specs.Texts.{requests_of}
 use Rattle.acl_setup.specs.Opened.{Opens}
 use Rattle.acl_service.specs.Runs.{tree_after}
 use Rattle.acl_cli.specs.SessionFiles.{HasBytes, HaveBytes, input_count, names_in, setup_in}
+use Rattle.acl_listing_queries.specs.Asked.{persons_in}
+use Rattle.acl_listing_queries.specs.People.{setup_people_in}
 use Rattle.acl_tree_queries.specs.declared.trees.Trees.{Trees}
 
 -- those of the sessions that come before, and of those after
@@ -32,7 +34,7 @@ tree_left known tree (text ∷ texts) =
 
 -- The files that the words name give these trees: the sessions before leave the one on what the
 -- setup opens, and those after them leave the other on that. The users stand in the order of their
--- names.
+-- names, and the words ask about these people.
 pub record AreTreesOf (bytes_of : Text → Option (List ℕ)) (input : Option (List ℕ))
     (rows : List Row) (trees : Trees) : Type 0 where
   pub setup : List ℕ
@@ -46,3 +48,4 @@ pub record AreTreesOf (bytes_of : Text → Option (List ℕ)) (input : Option (L
   pub users : IsAscending (slice_cmp nat_cmp) (λ user. user.name) trees.directory.users
   pub before : trees.before ≡ tree_left trees.directory tree earlier
   pub after : trees.after ≡ tree_left trees.directory trees.before later
+  pub people : setup_people_in trees.directory rows ≡ Ok (persons_in trees.people)

@@ -1,54 +1,48 @@
 -- What `who` asks of a tree, and what it answers.
-use Rattle.std.specs.Prelude.{◌≡◌, ℕ, Bool, true, false, List, Option, Some, None}
+use Rattle.std.specs.Prelude.{◌≡◌, ℕ, Bool, true, false, List, [], Option}
 use Rattle.std.specs.FinMap as map
 use Rattle.clap.specs.Words.{Row, Text}
-use Rattle.acl_names.specs.Directory.{Known}
 use Rattle.acl_tree.specs.Entries.{Entry}
 use Rattle.acl_tree.specs.Tree.{NodesUnderUmask}
 use Rattle.acl_tree.specs.declared.node.Node.{Node}
-use Rattle.acl_audit.specs.Reach.{node_lines_on, node_lines_on_of_those_who_may, way_in}
-use Rattle.acl_audit.specs.Who.{node_lines, node_lines_of_those_who_may}
+use Rattle.acl_audit.specs.Reach.{way_in}
 use Rattle.acl_cli.specs.Commands.{Meaning}
+use Rattle.acl_listing_queries.specs.Asked.{persons_in}
+use Rattle.acl_listing_queries.specs.Person.{Person}
+use Rattle.acl_listing_queries.specs.WhoText.{asked_by, who_text}
 use Rattle.acl_tree_queries.specs.Nodes.{TellsOfEach, TellsOfFirst}
 use Rattle.acl_tree_queries.specs.TreeQuestions.{IsNeverRefused, tree_meaning}
 use Rattle.acl_tree_queries.specs.WhoAsked.{WhoAsked, who_asked_in}
 use Rattle.acl_tree_queries.specs.declared.trees.Trees.{Trees}
 
--- what is told of a node: each user's letters, or those users who are granted the permissions
-abbrev pub who_text : Known → Option ℕ → Entry → List ℕ
-who_text known None entry = node_lines known known.users entry.0 entry.1
-who_text known (Some perms) entry =
-    node_lines_of_those_who_may known known.users entry.0 entry.1 perms
+-- what is told of a node, as of a file of a listing: of those who reach what lies behind this way
+abbrev pub who_text_on : List Person → Option ℕ → List Node → Entry → List ℕ
+who_text_on persons perms way entry = who_text persons (asked_by perms) way entry.0 entry.1
 
-abbrev pub TellsWho : Known → Option ℕ → Entry → List ℕ → Type 0
-TellsWho known perms entry text = text ≡ who_text known perms entry
+-- of whomever, wherever the node is
+abbrev pub TellsWho : List Person → Option ℕ → Entry → List ℕ → Type 0
+TellsWho persons perms entry text = text ≡ who_text_on persons perms [] entry
 
--- the same of those alone who reach what lies behind this way
-abbrev pub who_text_on : Known → Option ℕ → List Node → Entry → List ℕ
-who_text_on known None way entry = node_lines_on known known.users way entry.0 entry.1
-who_text_on known (Some perms) way entry =
-    node_lines_on_of_those_who_may known known.users way entry.0 entry.1 perms
-
--- of a node of the tree
-abbrev pub TellsWhoReaches : Known → Option ℕ → NodesUnderUmask → Entry → List ℕ → Type 0
-TellsWhoReaches known perms tree entry text =
-    text ≡ who_text_on known perms (way_in tree entry.0) entry
+-- of those who reach it in the tree
+abbrev pub TellsWhoReaches : List Person → Option ℕ → NodesUnderUmask → Entry → List ℕ → Type 0
+TellsWhoReaches persons perms tree entry text =
+    text ≡ who_text_on persons perms (way_in tree entry.0) entry
 
 -- by whether that is asked
-abbrev pub TellsNode : Known → Option ℕ → NodesUnderUmask → Bool → Entry → List ℕ → Type 0
-TellsNode known perms tree false = TellsWho known perms
-TellsNode known perms tree true = TellsWhoReaches known perms tree
+abbrev pub TellsNode : List Person → WhoAsked → NodesUnderUmask → Bool → Entry → List ℕ → Type 0
+TellsNode persons asked tree false = TellsWho persons asked.perms
+TellsNode persons asked tree true = TellsWhoReaches persons asked.perms tree
 
 -- what is told of each node after the sessions, in the order of their paths
 abbrev pub IsWho : WhoAsked → Trees → List ℕ → Type 0
 IsWho asked trees text =
-    TellsOfEach (TellsNode trees.directory asked.perms trees.after asked.reach)
+    TellsOfEach (TellsNode (persons_in trees.people) asked trees.after asked.reach)
     (map.entries trees.after.nodes) text
 
 -- of the first of them
 abbrev pub IsWhoBegun : WhoAsked → Trees → List ℕ → Type 0
 IsWhoBegun asked trees text =
-    TellsOfFirst (TellsNode trees.directory asked.perms trees.after asked.reach)
+    TellsOfFirst (TellsNode (persons_in trees.people) asked trees.after asked.reach)
     (map.entries trees.after.nodes) text
 
 -- what the fields of `who` mean that ask of a tree

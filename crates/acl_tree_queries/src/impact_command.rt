@@ -16,8 +16,8 @@ use std::io::{Read, Write};
 /// Tells what changed between two listings of files, or what a session changes, for anybody at all.
 /// The words are those of the command, its name first: `impact [--accounts FILE | --setup FILE]
 /// [--all] [--user NAME].. [--text] [--exit-code] BEFORE AFTER`, which is `ImpactOfListings` of
-/// acl_listing_queries; or `impact --setup FILE [--before SESSION] --session SESSION`, if there is
-/// no listing.
+/// acl_listing_queries; or `impact --setup FILE [--before SESSION] [--all] [--user NAME]..
+/// --session SESSION`, if there is no listing.
 ///
 /// The tree that the setup opens, or what the session of `--before` leaves on it, is compared with
 /// what SESSION leaves on that. One session may be `-`, which is what `input` has; else nothing of
@@ -26,16 +26,18 @@ use std::io::{Read, Write};
 /// PATH`, and for each where somebody is decided about otherwise, in the order of the paths:
 /// `differ NAME UID GIDS LOST GAINED PATH`. NAME is the first of the setup's users, in the order of
 /// their names, whom it concerns; else it is `-`, and UID and GIDS are somebody in at most two
-/// groups. LOST and GAINED are letters, and `-` is none. A path where everybody is decided about
-/// alike, of whatever uid and groups, has no line; if the style of its list changed, that is said
-/// of `r`, `w`, `a` and `x` each by itself. It is written in pieces of some 64 KiB. What is wrong
-/// goes to `err`; a fault while writing there changes nothing.
+/// groups. LOST and GAINED are letters, and `-` is none. With `--all` each user whom it concerns
+/// has a line, with `--user` these users alone and nobody else, and a new path is followed by lines
+/// of those who may do something with it. A path where everybody is decided about alike, of
+/// whatever uid and groups, has no line; if the style of its list changed, that is said of `r`,
+/// `w`, `a` and `x` each by itself. It is written in pieces of some 64 KiB. What is wrong goes to
+/// `err`; a fault while writing there changes nothing.
 ///
 /// The exit status is 0 with the answer, and with help; 1 if a file can't be opened or read or is
-/// too long, or the setup is refused; 2 if the parser of command lines refuses the words, they
-/// don't go together, or both sessions are `-`, before any file is opened; and 3 if memory runs out
-/// or `out` can't be written. 4 and 5 are those of listings alone. At 1 and 2 nothing was written,
-/// and at 3 nothing or a front of the answer.
+/// too long, the setup is refused, or nobody has the NAME; 2 if the parser of command lines refuses
+/// the words, they don't go together, or both sessions are `-`, before any file is opened; and 3 if
+/// memory runs out or `out` can't be written. 4 and 5 are those of listings alone. At 1 and 2
+/// nothing was written, and at 3 nothing or a front of the answer.
 #[derive(Clone, Copy)]
 pub struct Impact;
 

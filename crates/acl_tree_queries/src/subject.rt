@@ -22,8 +22,7 @@ fn is_given(matches: &ArgMatches<'_>, name: &str) -> bool
     text_field(matches, name).is_some()
 }
 
-/// The tree of a setup, where the words name no listing, and nothing that is asked of listings
-/// alone.
+/// The tree of a setup, where the words name no listing.
 fn tree_subject(matches: &ArgMatches<'_>) -> Result<Subject, Mismatch>
     ensures { result ≡ tree_subject (rows_of (found_of matches.now)) }
 {
@@ -32,9 +31,6 @@ fn tree_subject(matches: &ArgMatches<'_>) -> Result<Subject, Mismatch>
     }
     if is_given(matches, "accounts") {
         return Err(Mismatch::AccountsAndSetup);
-    }
-    if is_given(matches, "user") {
-        return Err(Mismatch::NoText);
     }
     Ok(Subject::Tree)
 }
@@ -72,7 +68,7 @@ fn listings_subject(matches: &ArgMatches<'_>) -> Result<Subject, Mismatch>
 fn asks_of_listings(matches: &ArgMatches<'_>) -> bool
     ensures { result ≡ asks_of_listings (rows_of (found_of matches.now)) }
 {
-    flag_field(matches, "all") || flag_field(matches, "text") || flag_field(matches, "exit-code")
+    flag_field(matches, "text") || flag_field(matches, "exit-code")
 }
 
 /// What the words of `impact` ask about.

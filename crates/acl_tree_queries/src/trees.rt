@@ -18,6 +18,7 @@ use acl_cli::session_files::{
 };
 use acl_cli::{Failure, OpenFiles};
 use acl_lang::MAX_TEXT_LEN;
+use acl_listing_queries::{People, read_setup_people};
 use acl_names::Directory;
 use acl_service::apply_text;
 use acl_setup::read_setup;
@@ -26,11 +27,12 @@ use clap::ArgMatches;
 use std::alloc::{AllocError, Global};
 use std::io::Read;
 
-/// Who there is, and two trees: what the sessions before leave on the setup's, and what the
-/// sessions after them leave on that.
+/// Who there is and is asked about, and two trees: what the sessions before leave on the setup's,
+/// and what the sessions after them leave on that.
 #[derive(Drop)]
 pub(crate) struct Trees {
     pub directory: Directory,
+    pub people: People,
     pub before: Tree,
     pub after: Tree,
 }
@@ -135,12 +137,14 @@ fn apply_texts(
 fn leave_trees(
     alloc: Global,
     directory: Directory,
+    people: People,
     tree: Tree,
     texts: &Texts,
 ) -> Result<Trees, AllocError>
     requires before { All (λ text. length text.items ≤ MAX_TEXT_LEN) texts.now.before.items }
     requires after { All (λ text. length text.items ≤ MAX_TEXT_LEN) texts.now.after.items }
     ensures directory { IfOk result (λ trees. trees.directory ≡ directory) }
+    ensures people { IfOk result (λ trees. trees.people ≡ people) }
     ensures users { OnOk result (IsAscending (slice_cmp nat_cmp) (λ user. user.name)
         directory.users) }
     ensures before { IfOk result (λ trees. trees.before
@@ -156,6 +160,7 @@ fn leave_trees(
     apply_texts(alloc, &directory, &mut after, texts.after.as_slice())?;
     Ok(Trees {
         directory,
+        people,
         before,
         after,
     })
@@ -177,5 +182,6 @@ pub(crate) fn open_trees<'a, F: OpenFiles, I: Read>(
 {
     let texts = read_texts(alloc, files, matches, input)?;
     let (directory, tree) = read_setup(alloc, texts.setup.as_slice())?;
-    Ok(leave_trees(alloc, directory, tree, &texts)?)
+    let people = read_setup_people(alloc, &directory, matches)?;
+    Ok(leave_trees(alloc, directory, people, tree, &texts)?)
 }

@@ -16,23 +16,26 @@ use std::io::{Read, Write};
 /// Tells who may do what with each file of a listing, or with each node of a tree. The words are
 /// those of the command, its name first: `who [--accounts FILE | --setup FILE] [--perms P |
 /// --letters] [--reach] [--user NAME].. LISTING`, which is `WhoOfListing` of acl_listing_queries;
-/// or `who --setup FILE [--perms P] [--reach] [--session SESSION]`, if there is no LISTING.
+/// or `who --setup FILE [--perms P] [--reach] [--user NAME].. [--session SESSION]`, if there is no
+/// LISTING.
 ///
 /// The tree is the one that the setup opens, or what the session leaves on it. A session `-` is
 /// what `input` has; else nothing of `input` is read. `files` opens the others, the setup first;
 /// setup and session have at most 1,048,576 bytes. To `out` goes a line for each node, in the order
-/// of their paths, and each user of the setup, in the order of their names: `LETTERS NAME PATH`,
-/// where LETTERS is `rwx` with `-` for each letter that a check by itself denies. With `--perms`
-/// only `NAME PATH`, of those users who are granted all of P at once. Directories above a node play
+/// of their paths, and each user of the setup who may do something with it, in the order of their
+/// names: `LETTERS NAME PATH`, where LETTERS is `rwx` with `-` for each letter that a check by
+/// itself denies. With `--perms` only `NAME PATH`, of those users who are granted all of P at once.
+/// `--user` asks about these users alone, in the order of the words. Directories above a node play
 /// no part, unless `--reach` asks for those alone who may search each of them. uid 0 has no right
 /// of its own. It is written in pieces of some 64 KiB. What is wrong goes to `err`; a fault while
 /// writing there changes nothing.
 ///
 /// The exit status is 0 with the answer, and with help; 1 if P doesn't read, a file can't be opened
-/// or read or is too long, or the setup is refused; 2 if the parser of command lines refuses the
-/// words, or they don't go together: LISTING and a session, `--letters` without LISTING, or neither
-/// a LISTING nor a setup; and 3 if memory runs out or `out` can't be written. 4 is that of listings
-/// alone. At 1 and 2 nothing was written, and at 3 nothing or a front of the answer.
+/// or read or is too long, the setup is refused, or nobody has the NAME; 2 if the parser of command
+/// lines refuses the words, or they don't go together: LISTING and a session, `--letters` without
+/// LISTING, or neither a LISTING nor a setup; and 3 if memory runs out or `out` can't be written. 4
+/// is that of listings alone. At 1 and 2 nothing was written, and at 3 nothing or a front of the
+/// answer.
 #[derive(Clone, Copy)]
 pub struct Who;
 

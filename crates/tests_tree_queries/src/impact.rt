@@ -52,3 +52,51 @@ fn the_first_user_by_name(rt: HostRuntime) {
     let words = ["impact", "--setup", "office", "--session", "closed"];
     assert!(rt; Query.ends(rt.alloc(), &words, 0, "differ alice 1000 50 rx - /\n", ""));
 }
+
+/// Each user whom a change concerns, in the order of their names.
+#[test]
+fn each_user(rt: HostRuntime) {
+    let words = [
+        "impact",
+        "--setup",
+        "office",
+        "--session",
+        "closed",
+        "--all",
+    ];
+    let text =
+        "differ alice 1000 50 rx - /\ndiffer bob 1001 50,60 rx - /\ndiffer carol 1002 70 rx - /\n";
+    assert!(rt; Query.ends(rt.alloc(), &words, 0, text, ""));
+}
+
+/// One user alone, who may do something with what is new.
+#[test]
+fn one_user(rt: HostRuntime) {
+    let words = [
+        "impact",
+        "--setup",
+        "office",
+        "--session",
+        "alice",
+        "--user",
+        "bob",
+    ];
+    let text =
+        "new /plans\ndiffer bob 1001 50,60 - rwx /plans\nnew /plans/budget\ndiffer bob 1001 50,60 - rw /plans/budget\n";
+    assert!(rt; Query.ends(rt.alloc(), &words, 0, text, ""));
+}
+
+/// Where no user who is named is concerned, nobody else has a line.
+#[test]
+fn nobody_who_is_named(rt: HostRuntime) {
+    let words = [
+        "impact",
+        "--setup",
+        "office",
+        "--session",
+        "strangers",
+        "--user",
+        "root",
+    ];
+    assert!(rt; Query.ends(rt.alloc(), &words, 0, "", ""));
+}

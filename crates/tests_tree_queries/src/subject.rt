@@ -24,10 +24,6 @@ const MISMATCHES: [(&[&str], &str); 14] = [
         "aclctl: --accounts and --setup exclude each other\n",
     ),
     (
-        &["who", "--setup", "office", "--user", "alice"],
-        "aclctl: an option of listings, and no LISTING\n",
-    ),
-    (
         &["who", "--setup", "office", "--letters"],
         "aclctl: an option of listings, and no LISTING\n",
     ),
@@ -67,7 +63,14 @@ const MISMATCHES: [(&[&str], &str); 14] = [
         "aclctl: --session and LISTING exclude each other\n",
     ),
     (
-        &["impact", "--setup", "office", "--session", "alice", "--all"],
+        &[
+            "impact",
+            "--setup",
+            "office",
+            "--session",
+            "alice",
+            "--text",
+        ],
         "aclctl: an option of listings, and no LISTING\n",
     ),
     (

@@ -3,12 +3,13 @@ use crate::fixture::Query;
 use std::test::Fail;
 use tests_files::{Command, Sheet};
 
-/// A line for each path and each user, by the bytes of the paths and of the names.
+/// A line for each path and each user who may do something, by the bytes of the paths and of the
+/// names.
 #[test]
 fn the_letters_of_each_user(rt: HostRuntime) {
     let words = ["who", "--setup", "office", "--session", "alice"];
     let text =
-        "r-x alice /\nr-x bob /\nr-x carol /\nrwx root /\nrwx alice /plans\nrwx bob /plans\n--- carol /plans\n--- root /plans\nrw- alice /plans/budget\nrw- bob /plans/budget\n--- carol /plans/budget\n--- root /plans/budget\n";
+        "r-x alice /\nr-x bob /\nr-x carol /\nrwx root /\nrwx alice /plans\nrwx bob /plans\nrw- alice /plans/budget\nrw- bob /plans/budget\n";
     assert!(rt; Query.ends(rt.alloc(), &words, 0, text, ""));
 }
 
@@ -39,8 +40,7 @@ fn those_who_may_write(rt: HostRuntime) {
 #[test]
 fn letters_are_asked_one_by_one_and_permissions_as_a_whole(rt: HostRuntime) {
     let letters = ["who", "--setup", "office", "--session", "groups"];
-    let text =
-        "r-x alice /\nr-x bob /\nr-x carol /\nrwx root /\nrw- alice /log\nrw- bob /log\n--- carol /log\n--- root /log\n";
+    let text = "r-x alice /\nr-x bob /\nr-x carol /\nrwx root /\nrw- alice /log\nrw- bob /log\n";
     assert!(rt; Query.ends(rt.alloc(), &letters, 0, text, ""));
     let whole = [
         "who",
@@ -95,4 +95,39 @@ fn those_who_reach_a_node(rt: HostRuntime) {
     ];
     let text = "root /\nroot /motd\n";
     assert!(rt; Query.ends(rt.alloc(), &words, 0, text, ""));
+}
+
+/// By a name, a name in the setup's domain, and a uid, in the order of the words; uid 0 too.
+#[test]
+fn those_who_are_named(rt: HostRuntime) {
+    let words = [
+        "who",
+        "--setup",
+        "office",
+        "--session",
+        "alice",
+        "--user",
+        "root",
+        "--user",
+        "bob@example.org",
+        "--user",
+        "1000",
+    ];
+    let text =
+        "rwx root /\nr-x bob /\nr-x alice /\nrwx bob /plans\nrwx alice /plans\nrw- bob /plans/budget\nrw- alice /plans/budget\n";
+    assert!(rt; Query.ends(rt.alloc(), &words, 0, text, ""));
+}
+
+/// Whom nobody is, and who isn't written.
+#[test]
+fn names_of_nobody(rt: HostRuntime) {
+    for name in ["dave", "bob@example.com", "", "a b"] {
+        let words = [
+            "who", "--setup", "office", "--user", "alice", "--user", name,
+        ];
+        assert!(rt;
+            Query.ends(rt.alloc(), &words, 1, "", "aclctl: unknown-name\n"),
+            "{name}"
+        );
+    }
 }

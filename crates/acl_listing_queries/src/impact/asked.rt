@@ -1,10 +1,11 @@
 //! Whom a change concerns, of those who are asked about.
 ghost use Rattle.std.specs.Prelude.{◌≡◌, ◌++◌, IfOk, OnOk, map, option_map, slice_get};
 ghost use Rattle.std.specs.List.{flat_map};
-ghost use Rattle.acl_listing_queries.specs.ImpactSteps.{Tells, TellsAt, TellsBy, line_at};
-ghost use Rattle.acl_listing_queries.specs.ImpactSteps.{persons_in, view_one};
-ghost use Rattle.acl_listing_queries.specs.Impacting.{TellsAnybody, TellsFirst, TellsPersons};
-ghost use Rattle.acl_listing_queries.specs.Impacting.{TellsThose, lines_if, may_line};
+ghost use Rattle.acl_listing_queries.specs.Asked.{persons_in};
+ghost use Rattle.acl_listing_queries.specs.ImpactSteps.{TellsAt, TellsBy, line_at, view_one};
+ghost use Rattle.acl_listing_queries.specs.Impacting.{Tells, TellsAnybody, TellsFirst};
+ghost use Rattle.acl_listing_queries.specs.Impacting.{TellsPersons, TellsThose, lines_if};
+ghost use Rattle.acl_listing_queries.specs.Impacting.{may_line};
 
 use crate::impact_lines::{push_person, push_somebody};
 use crate::people::People;

@@ -79,15 +79,15 @@ impl CommandLine for ImpactOfListings {
     }
 }
 
-/// Whether the words name users to ask about.
-fn names_users(matches: &ArgMatches<'_>) -> bool
+/// Whether the words name users to ask about, by `--user`. Then nobody else has a line.
+pub fn names_users(matches: &ArgMatches<'_>) -> bool
     ensures { result ≡ names_users (rows_of (found_of matches.now)) }
 {
     user_fields(matches).is_some()
 }
 
-/// Whether each who is asked about has a line.
-fn each_has_a_line(matches: &ArgMatches<'_>) -> bool
+/// Whether each who is asked about has a line, by `--all` or `--user`.
+pub fn each_has_a_line(matches: &ArgMatches<'_>) -> bool
     ensures { result ≡ (flag_in (codes "all") (rows_of (found_of matches.now))
         || names_users (rows_of (found_of matches.now))) }
 {

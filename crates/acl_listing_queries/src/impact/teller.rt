@@ -1,20 +1,19 @@
 //! What `impact` tells of blocks.
-ghost use Rattle.std.specs.Prelude.{◌≡◌, ◌++◌, ◌&&◌, OnOk, nat_eq};
+ghost use Rattle.std.specs.Prelude.{◌≡◌, ◌++◌, OnOk};
 ghost use Rattle.acl_listings.specs.Block.{file_by};
 ghost use Rattle.acl_listings.specs.Views.{view_file};
-ghost use Rattle.acl_listing_queries.specs.ImpactSteps.{Tells, TellsRead, asking_by};
-ghost use Rattle.acl_listing_queries.specs.Impacting.{TellsChange, TellsImpact, told_of};
+ghost use Rattle.acl_listing_queries.specs.Concerns.{concern_of};
+ghost use Rattle.acl_listing_queries.specs.ImpactSteps.{TellsRead, asking_by};
+ghost use Rattle.acl_listing_queries.specs.Impacting.{Tells, TellsChange, told_of};
 
-use super::asked::{push_all_who_may, push_anybody, push_those};
 use super::changed::{changed_between, push_changed};
+use super::concerned::Concerned;
 use crate::between::ChangeTeller;
 use crate::files::node_of;
 use crate::host::Host;
-use crate::impact_lines::{push_apart, push_path};
+use crate::impact_lines::push_apart;
 use crate::people::People;
-use acl_audit::is_same_file;
 use acl_listings::{BlockFault, File, FileFault, faulty_line, read_file};
-use acl_tree::Node;
 use std::alloc::{AllocError, Global};
 
 /// Tells whom changes concern.
@@ -27,41 +26,22 @@ pub(super) struct ImpactTeller<'t> {
     pub each: bool,
     /// Whether somebody else has one, if none of them has.
     pub somebody: bool,
-    /// Whether a path has one of which something is written otherwise.
+    /// Whether a path has a line of which something is written otherwise.
     pub written: bool,
     /// Whether the exit status tells that there is a line.
     pub asks: bool,
 }
 
-/// Whether this is so, and nothing was appended to a text that had so many bytes and now has these.
-fn nothing_yet(somebody: bool, kept: usize, now: usize) -> bool
-    ensures { result ≡ (somebody && nat_eq now kept) }
-{
-    somebody && now == kept
-}
-
 impl<'t> ImpactTeller<'t> {
-    /// Appends what is told of a file that became another.
-    fn push_impact(
-        &self,
-        alloc: Global,
-        before: &Node,
-        after: &Node,
-        path: &[u8],
-        out: &mut Vec<u8>,
-    ) -> Result<(), AllocError>
-        ensures { OnOk result (Tells (TellsImpact (asking_by self.now) before.now after.now
-            path.now) out.old.items out.new.items) }
+    /// Whom they concern.
+    fn concerned(&self) -> Concerned<'t>
+        ensures { concern_of result ≡ (asking_by self.now).concern }
     {
-        // Nobody is asked about where owner, group and list are the same, however many there are.
-        if is_same_file(before, after) {
-            return Ok(());
+        Concerned {
+            people: self.people,
+            each: self.each,
+            somebody: self.somebody,
         }
-        let kept = out.len();
-        push_those(self.each, before, after, self.people, path, out)?;
-        let now = out.len();
-        let asked = nothing_yet(self.somebody, kept, now);
-        push_anybody(alloc, asked, before, after, path, out)
     }
 
     /// Appends what is told of a file that is gone, or else new.
@@ -77,8 +57,7 @@ impl<'t> ImpactTeller<'t> {
     {
         let path = file.path;
         let node = node_of(alloc, file)?;
-        push_path(gone, path, out)?;
-        push_all_who_may(self.each, gone, &node, self.people, path, out)
+        self.concerned().push_path(gone, &node, path, out)
     }
 
     /// Appends what is told of a file that became another.
@@ -96,7 +75,7 @@ impl<'t> ImpactTeller<'t> {
         let changed = changed_between(&before, &after);
         let old = node_of(alloc, before)?;
         let new = node_of(alloc, after)?;
-        self.push_impact(alloc, &old, &new, path, out)?;
+        self.concerned().push_impact(alloc, &old, &new, path, out)?;
         push_changed(self.written, changed, path, out)
     }
 }

@@ -13,7 +13,7 @@ use crate::host::{Host, read_host};
 use crate::named::listing_field;
 use crate::options::{accounts_option, setup_option};
 use crate::person::Person;
-use crate::written::read_person;
+use crate::written::ReadPerson;
 use acl_cli::fields::text_field;
 use acl_cli::options::{perms_option, required_option, required_word};
 use acl_cli::{
@@ -102,7 +102,7 @@ fn read_user<'a>(
     ensures refused { IfErr result
         (Explains (user_in host.now (rows_of (found_of matches.now)))) }
 {
-    read_person(alloc, host, text_field(matches, "user").unwrap_or(""))
+    host.read_person(alloc, text_field(matches, "user").unwrap_or(""))
 }
 
 /// Writes an answer, and what stands beside it.

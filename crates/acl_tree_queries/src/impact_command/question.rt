@@ -1,18 +1,23 @@
 //! What the words of `impact` ask.
 
-use super::text::{Findings, ImpactText};
+use super::text::ImpactText;
 use crate::nodes::write_nodes;
 use crate::question::Question;
 use crate::trees::Trees;
-use acl_audit::requesters_of;
 use acl_cli::{ErrorOutput, Failure, FieldFault};
+use acl_listing_queries::{Concerned, each_has_a_line, names_users};
 use clap::ArgMatches;
 use std::alloc::Global;
 use std::io::Write;
 
-/// What a session changes: its files say all.
+/// What a session changes: its files say all, and for whom.
 #[derive(Clone, Copy, Drop)]
-pub(super) struct ImpactQuestion;
+pub(super) struct ImpactQuestion {
+    /// Whether each who is asked about has a line, and not only the first.
+    pub each: bool,
+    /// Whether somebody else has one, if none of these has.
+    pub somebody: bool,
+}
 
 impl Question for ImpactQuestion {
     ghost use Rattle.acl_tree_queries.specs.TreeQuestions.{IsNeverRefused};
@@ -27,8 +32,11 @@ impl Question for ImpactQuestion {
 
     ghost IsRefused = { IsNeverRefused };
 
-    fn read(_matches: &ArgMatches<'_>) -> Result<ImpactQuestion, FieldFault> {
-        Ok(ImpactQuestion)
+    fn read(matches: &ArgMatches<'_>) -> Result<ImpactQuestion, FieldFault> {
+        Ok(ImpactQuestion {
+            each: each_has_a_line(matches),
+            somebody: !names_users(matches),
+        })
     }
 
     fn write<'n, W: Write, E: Write + Drop>(
@@ -38,11 +46,11 @@ impl Question for ImpactQuestion {
         out: &mut W,
         err: &mut ErrorOutput<E>,
     ) -> Result<(), Failure<'n>> {
-        let users = requesters_of(alloc, &trees.directory)?;
         let teller = ImpactText {
-            findings: Findings {
-                directory: &trees.directory,
-                users: users.as_slice(),
+            concerned: Concerned {
+                people: &trees.people,
+                each: self.each,
+                somebody: self.somebody,
             },
             before: &trees.before,
         };

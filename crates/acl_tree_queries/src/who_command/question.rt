@@ -12,7 +12,8 @@ use std::alloc::Global;
 use std::io::Write;
 use std::marker::Model;
 
-/// Which letters each user has; or, with permissions, who is granted these at once.
+/// Which letters those who are asked about have; or, with permissions, who is granted these at
+/// once.
 #[derive(Drop)]
 pub(super) struct WhoQuestion {
     pub perms: Option<Perms>,
@@ -61,7 +62,7 @@ impl Question for WhoQuestion {
         err: &mut ErrorOutput<E>,
     ) -> Result<(), Failure<'n>> {
         let told = WhoText {
-            directory: &trees.directory,
+            people: &trees.people,
             perms: self.perms,
         };
         if self.reach {

@@ -1,28 +1,49 @@
 //! What `who` tells of a node of a tree.
 ghost use Rattle.std.specs.Prelude.{◌≡◌, ◌++◌, OnOk, map, option_map};
+ghost use Rattle.acl_listing_queries.specs.Asked.{persons_in};
 ghost use Rattle.acl_posix.specs.Perms.{bits_of};
 ghost use Rattle.acl_tree_queries.specs.WhoAnswer.{who_text_on};
 
 use crate::nodes::NodeText;
-use acl_audit::{push_letters, push_letters_on, push_those_on, push_those_who_may, way_in};
-use acl_names::Directory;
+use acl_audit::way_in;
+use acl_listing_queries::{People, push_who};
 use acl_posix::Perms;
 use acl_tree::{Node, Tree};
 use std::alloc::{AllocError, Global};
 
-/// Tells which letters each user of the directory has; or, with permissions, who is granted these.
+/// Tells which letters these people have; or, with permissions, who of them is granted these.
 #[derive(Clone, Copy)]
 pub(super) struct WhoText<'t> {
-    pub directory: &'t Directory,
+    pub people: &'t People,
     pub perms: Option<Perms>,
+}
+
+impl<'t> WhoText<'t> {
+    /// Appends what is told of the node at the path, to which this is the way.
+    fn push_on(
+        &self,
+        alloc: Global,
+        way: &[&Node],
+        path: &[u8],
+        node: &Node,
+        out: &mut Vec<u8>,
+    ) -> Result<(), AllocError>
+        ensures { OnOk result (out.new.items ≡ out.old.items
+            ++ who_text_on (persons_in self.now.people.now) (option_map bits_of self.now.perms)
+            (map (λ folder. folder.now) way.now) (path.now, node.now)) }
+    {
+        push_who(alloc, self.people, self.perms, way, path, node, out)
+    }
 }
 
 impl<'t> NodeText for WhoText<'t> {
     ghost use Rattle.std.specs.Prelude.{option_map};
+    ghost use Rattle.acl_listing_queries.specs.Asked.{persons_in};
     ghost use Rattle.acl_posix.specs.Perms.{bits_of};
     ghost use Rattle.acl_tree_queries.specs.WhoAnswer.{TellsWho};
 
-    ghost Tells = { λ teller. TellsWho teller.directory.now (option_map bits_of teller.perms) };
+    ghost Tells = { λ teller.
+        TellsWho (persons_in teller.people.now) (option_map bits_of teller.perms) };
 
     fn push(
         &self,
@@ -31,11 +52,7 @@ impl<'t> NodeText for WhoText<'t> {
         node: &Node,
         out: &mut Vec<u8>,
     ) -> Result<(), AllocError> {
-        let users = self.directory.users();
-        match self.perms {
-            None => push_letters(alloc, self.directory, users, path, node, out),
-            Some(perms) => push_those_who_may(alloc, self.directory, users, path, node, perms, out),
-        }
+        self.push_on(alloc, &[], path, node, out)
     }
 }
 
@@ -46,35 +63,13 @@ pub(super) struct ReachText<'t> {
     pub tree: &'t Tree,
 }
 
-impl<'t> ReachText<'t> {
-    /// Appends what is told of the node at the path, to which this is the way.
-    fn push_node(
-        &self,
-        alloc: Global,
-        way: &[&Node],
-        path: &[u8],
-        node: &Node,
-        out: &mut Vec<u8>,
-    ) -> Result<(), AllocError>
-        ensures { OnOk result (out.new.items ≡ out.old.items
-            ++ who_text_on self.now.told.directory.now (option_map bits_of self.now.told.perms)
-            (map (λ folder. folder.now) way.now) (path.now, node.now)) }
-    {
-        let directory = self.told.directory;
-        let users = directory.users();
-        match self.told.perms {
-            None => push_letters_on(alloc, directory, users, way, path, node, out),
-            Some(perms) => push_those_on(alloc, directory, users, way, path, node, perms, out),
-        }
-    }
-}
-
 impl<'t> NodeText for ReachText<'t> {
     ghost use Rattle.std.specs.Prelude.{option_map};
+    ghost use Rattle.acl_listing_queries.specs.Asked.{persons_in};
     ghost use Rattle.acl_posix.specs.Perms.{bits_of};
     ghost use Rattle.acl_tree_queries.specs.WhoAnswer.{TellsWhoReaches};
 
-    ghost Tells = { λ teller. TellsWhoReaches teller.told.directory.now
+    ghost Tells = { λ teller. TellsWhoReaches (persons_in teller.told.people.now)
         (option_map bits_of teller.told.perms) teller.tree.now };
 
     fn push(
@@ -85,6 +80,6 @@ impl<'t> NodeText for ReachText<'t> {
         out: &mut Vec<u8>,
     ) -> Result<(), AllocError> {
         let way = way_in(alloc, self.tree, path)?;
-        self.push_node(alloc, way.as_slice(), path, node, out)
+        self.told.push_on(alloc, way.as_slice(), path, node, out)
     }
 }

@@ -1,6 +1,8 @@
 use Rattle.std.proofs.Common.{rules, ◌≡◌, ◌∙◌, [], None, Option, Some, IfOk, ap, append-nil, option_map, refl, subst, sym, false}
 use Rattle.std.specs.Prelude.{slice_get}
-use Rattle.acl_listing_queries.specs.ImpactSteps.{Tells, TellsAt, persons_in, view_one}
+use Rattle.acl_listing_queries.specs.Asked.{persons_in}
+use Rattle.acl_listing_queries.specs.Impacting.{Tells}
+use Rattle.acl_listing_queries.specs.ImpactSteps.{TellsAt, view_one}
 use Rattle.acl_listing_queries.specs.Person.{Person}
 use Rattle.acl_listing_queries.proofs.impact.asked.push_changed_at.Goals as goal
 

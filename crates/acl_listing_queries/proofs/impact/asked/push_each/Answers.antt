@@ -1,6 +1,5 @@
 use Rattle.std.proofs.Common.{◌≤◌, arith, length}
-use Rattle.acl_listing_queries.specs.ImpactSteps.{persons_in}
-use Rattle.acl_listing_queries.specs.WhoSteps.{names_of_people}
+use Rattle.acl_listing_queries.specs.Asked.{names_of_people, persons_in}
 use Rattle.acl_listing_queries.proofs.ImpactLemmas.{each_all, each_more, each_none}
 use Rattle.acl_listing_queries.proofs.impact.asked.push_each.Goals as goal
 

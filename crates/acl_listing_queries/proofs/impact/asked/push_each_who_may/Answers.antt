@@ -1,9 +1,9 @@
 use Rattle.std.proofs.Common.{◌≡◌, ◌∙◌, ◌+◌, ◌++◌, ◌≤◌, suc, ap, append_assoc, arith, length, sym, take}
 use Rattle.std.specs.List.{flat_map}
 use Rattle.std.specs.Prelude.{slice_get}
-use Rattle.acl_listing_queries.specs.ImpactSteps.{line_at, persons_in}
+use Rattle.acl_listing_queries.specs.ImpactSteps.{line_at}
 use Rattle.acl_listing_queries.specs.Impacting.{may_line}
-use Rattle.acl_listing_queries.specs.WhoSteps.{names_of_people}
+use Rattle.acl_listing_queries.specs.Asked.{names_of_people, persons_in}
 use Rattle.acl_listing_queries.proofs.ImpactLemmas.{lines_all, lines_more}
 use Rattle.acl_listing_queries.proofs.impact.asked.push_each_who_may.Goals as goal
 

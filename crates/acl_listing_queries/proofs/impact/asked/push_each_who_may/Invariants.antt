@@ -1,6 +1,6 @@
 use Rattle.std.proofs.Common.{◌≡◌, ◌++◌, take}
 use Rattle.std.specs.List.{flat_map}
-use Rattle.acl_listing_queries.specs.ImpactSteps.{persons_in}
+use Rattle.acl_listing_queries.specs.Asked.{persons_in}
 use Rattle.acl_listing_queries.specs.Impacting.{may_line}
 use Rattle.acl_listing_queries.proofs.impact.asked.push_each_who_may.Given as goal
 

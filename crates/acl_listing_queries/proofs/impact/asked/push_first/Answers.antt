@@ -1,7 +1,8 @@
 use Rattle.std.proofs.Common.{rules, ◌≡◌, ◌≤◌, Bool, true, false, arith, length, subst}
 use Rattle.std.specs.Prelude.{slice_get}
-use Rattle.acl_listing_queries.specs.ImpactSteps.{Tells, TellsAt, persons_in}
-use Rattle.acl_listing_queries.specs.WhoSteps.{names_of_people}
+use Rattle.acl_listing_queries.specs.Impacting.{Tells}
+use Rattle.acl_listing_queries.specs.ImpactSteps.{TellsAt}
+use Rattle.acl_listing_queries.specs.Asked.{names_of_people, persons_in}
 use Rattle.acl_listing_queries.proofs.ImpactLemmas.{first_all, first_found, first_more, first_none}
 use Rattle.acl_listing_queries.proofs.impact.asked.push_first.Goals as goal
 

@@ -1,4 +1,4 @@
-use Rattle.acl_listing_queries.specs.ImpactSteps.{persons_in}
+use Rattle.acl_listing_queries.specs.Asked.{persons_in}
 use Rattle.acl_listing_queries.proofs.ImpactLemmas.{IsFirstTo}
 use Rattle.acl_listing_queries.proofs.impact.asked.push_first.Given as goal
 

@@ -1,6 +1,7 @@
 use Rattle.std.proofs.Common.{rules, ◌≡◌, ◌∙◌, ◌++◌, None, Option, Some, OnOk, ap, append-nil, option_map, subst, sym}
 use Rattle.std.specs.Prelude.{slice_get}
-use Rattle.acl_listing_queries.specs.ImpactSteps.{line_at, persons_in, view_one}
+use Rattle.acl_listing_queries.specs.Asked.{persons_in}
+use Rattle.acl_listing_queries.specs.ImpactSteps.{line_at, view_one}
 use Rattle.acl_listing_queries.specs.Impacting.{may_line}
 use Rattle.acl_listing_queries.specs.Person.{Person}
 use Rattle.acl_listing_queries.proofs.impact.asked.push_may_at.Goals as goal

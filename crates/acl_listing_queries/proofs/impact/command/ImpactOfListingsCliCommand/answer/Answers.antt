@@ -4,10 +4,10 @@ use Rattle.acl_cli.proofs.CommandsLemmas.{Comes-as}
 use Rattle.acl_listing_queries.specs.ChangeMeaning.{FailsForListings, after_in, before_in, change_meaning}
 use Rattle.acl_listing_queries.specs.Changes.{IsChangeAnswer, IsChangeBegun, OfListings}
 use Rattle.acl_listing_queries.specs.Host.{names_of_host}
-use Rattle.acl_listing_queries.specs.ImpactMeaning.{impact_asked, impact_meaning}
-use Rattle.acl_listing_queries.specs.Impacting.{ImpactAsking, impacting}
+use Rattle.acl_listing_queries.specs.ImpactMeaning.{concern_in, impact_asked, impact_meaning}
+use Rattle.acl_listing_queries.specs.Impacting.{Concern, ImpactAsking, impacting}
 use Rattle.acl_listing_queries.specs.WhoMeaning.{bytes_named, inputs_of}
-use Rattle.acl_listing_queries.specs.WhoSteps.{names_of_people, persons_of}
+use Rattle.acl_listing_queries.specs.Asked.{persons_in}
 use Rattle.std.proofs.lemmas.Result.{IfErr-weaker}
 use Rattle.acl_listing_queries.proofs.ComesLemmas.{comes_refused}
 use Rattle.acl_listing_queries.proofs.AskedLemmas.{persons_again}
@@ -31,21 +31,26 @@ returns g c =
     let (persons, people, persons_are) = c.in_ok-people.ensures.read in
     let before : List ℕ = c.before_field-before.result.now in
     let after : List ℕ = c.after_field-after.result.now in
-    let told : ImpactAsking = record {
-      names = names_of_host host;
-      persons = persons_of (names_of_people c.in_ok-people.people) c.in_ok-people.people.requesters.items;
+    let concern : Concern = record {
+      persons = persons_in c.in_ok-people.people;
       each = c.each_has_a_line.result;
       somebody = not c.names_users.result;
+    } in
+    let told : ImpactAsking = record {
+      names = names_of_host host;
+      concern = concern;
       written = c.flag_field.result;
       asks = c.flag_field-2.result;
     } in
     let asked : ImpactAsking = impact_asked host persons rows in
+    let concern_is : concern ≡ concern_in persons rows =
+    ap (λ persons. record concern { persons = persons }) (persons_again persons c.in_ok-people.people people)
+    ∙ ap (λ each. record concern { persons = persons; each = each }) c.each_has_a_line.ensures
+    ∙ ap (λ those. record concern { persons = persons; each = (concern_in persons rows).each; somebody = not those }) c.names_users.ensures in
     let asking_is : told ≡ asked =
-    ap (λ persons. record told { persons = persons }) (persons_again persons c.in_ok-people.people people)
-    ∙ ap (λ each. record told { persons = persons; each = each }) c.each_has_a_line.ensures
-    ∙ ap (λ those. record told { persons = persons; each = asked.each; somebody = not those }) c.names_users.ensures
-    ∙ ap (λ written. record told { persons = persons; each = asked.each; somebody = asked.somebody; written = written }) c.flag_field.ensures
-    ∙ ap (λ asks. record told { persons = persons; each = asked.each; somebody = asked.somebody; written = asked.written; asks = asks }) c.flag_field-2.ensures in
+    ap (λ concern. record told { concern = concern }) concern_is
+    ∙ ap (λ written. record told { concern = asked.concern; written = written }) c.flag_field.ensures
+    ∙ ap (λ asks. record told { concern = asked.concern; written = asked.written; asks = asks }) c.flag_field-2.ensures in
     let part = change_meaning (impacting told) files input before after in
     Comes-as part (impact_meaning files input rows) c.tell_between.result _ _ _ _ _ _
     (λ answer is. record {

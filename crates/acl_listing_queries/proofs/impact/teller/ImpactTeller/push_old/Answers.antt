@@ -4,7 +4,8 @@ use Rattle.acl_listings.specs.Faults.{IsFaultOf}
 use Rattle.acl_listings.specs.Views.{view_file}
 use Rattle.acl_listings.specs.declared.fault.BlockFault.{BlockFault}
 use Rattle.acl_listings.specs.declared.fault.FileFault.TheVariants.{Block as FaultOf}
-use Rattle.acl_listing_queries.specs.ImpactSteps.{Tells, TellsRead, asking_by}
+use Rattle.acl_listing_queries.specs.Impacting.{Tells}
+use Rattle.acl_listing_queries.specs.ImpactSteps.{TellsRead, asking_by}
 use Rattle.acl_listing_queries.proofs.impact.teller.ImpactTeller.push_old.Goals as goal
 
 pub returns-in-Ok : goal.returns-in-Ok

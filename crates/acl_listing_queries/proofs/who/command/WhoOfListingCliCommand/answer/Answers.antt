@@ -6,7 +6,8 @@ use Rattle.acl_listing_queries.specs.Host.{names_of_host}
 use Rattle.acl_listing_queries.specs.Listed.{AnswersListing, BeginsListing}
 use Rattle.acl_listing_queries.specs.WhoMeaning.{FailsForListing, bytes_named, inputs_of, listing_meaning, who_meaning}
 use Rattle.acl_listing_queries.specs.WhoPart.{Asking, who_part}
-use Rattle.acl_listing_queries.specs.WhoSteps.{asked_of, names_of_people, persons_of}
+use Rattle.acl_listing_queries.specs.Asked.{names_of_people, persons_of}
+use Rattle.acl_listing_queries.specs.WhoSteps.{asked_of}
 use Rattle.acl_listing_queries.proofs.AskedLemmas.{persons_again}
 use Rattle.acl_listing_queries.proofs.who.command.WhoOfListingCliCommand.answer.Goals as goal
 
