@@ -39,7 +39,7 @@ class SetupNames:
 
 
 class AccountNames:
-    """Ids by the names of accounts, as getfacl writes both: a backslash and three octal digits are that byte."""
+    """Ids by the names of accounts, as getfacl writes both: two backslashes are one, and one with three octal digits is that byte."""
 
     def __init__(self, ids):
         self.ids = ids
@@ -48,7 +48,7 @@ class AccountNames:
         """The id that a text writes: S if it is neither a decimal nor a name, and U if the name is unknown."""
         if re.fullmatch(rb"[0-9]*", text):
             return int(text) if 1 <= len(text) <= 10 and int(text) <= 4294967294 else "S"
-        name = re.sub(rb"\\([0-3][0-7]{2})", lambda it: bytes([int(it[1], 8)]), text)
+        name = re.sub(rb"\\(\\|[0-3][0-7]{2})", lambda it: b"\\" if it[1] == b"\\" else bytes([int(it[1], 8)]), text)
         if not 1 <= len(name) <= 255 or b":" in name or b"\n" in name:
             return "S"
         return self.ids.get(name, "U")

@@ -51,8 +51,8 @@ of_each P of_space of_tab of_newline of_return of_colon of_comma of_backslash by
 -- a byte other than `\` is itself
 plain_byte : (byte : ℕ) → (byte == backslash) ≡ false → (rest : List ℕ) → unquoted (byte ∷ rest) ≡ byte ∷ unquoted rest
 plain_byte byte is [] = refl
-plain_byte byte is (a ∷ []) = refl
-plain_byte byte is (a ∷ b ∷ []) = refl
+plain_byte byte is (a ∷ []) = rw is refl
+plain_byte byte is (a ∷ b ∷ []) = rw is refl
 plain_byte byte is (a ∷ b ∷ c ∷ more) = rw is refl
 
 -- without one, a text is itself

@@ -27,7 +27,7 @@ abbrev pub splits : ℕ → Bool
 splits byte = (byte == space) || (byte == tab) || (byte == newline) || (byte == carriage_return)
     || (byte == colon) || (byte == comma)
 
--- the bytes that are written by their octal digits: those, and `\`
+-- the bytes that are printed by their octal digits: those, and `\`
 abbrev pub is_quoted : ℕ → Bool
 is_quoted byte = splits byte || (byte == backslash)
 
@@ -39,7 +39,7 @@ octal byte =
 abbrev pub quoted_byte : ℕ → List ℕ
 quoted_byte byte = if is_quoted byte then octal byte else byte ∷ []
 
--- a name as it is written
+-- a name as it is printed
 abbrev pub quoted : List ℕ → List ℕ
 quoted name = flat_map quoted_byte name
 
@@ -54,11 +54,19 @@ is_octal first a b c = (first == backslash) && is_between digit_0 digit_3 a
 abbrev pub octal_value : ℕ → ℕ → ℕ → ℕ
 octal_value a b c = (a - digit_0) * 64 + (b - digit_0) * 8 + (c - digit_0)
 
--- what is written: `\` and three octal digits are that byte, any other byte is itself
+-- two backslashes
+abbrev pub is_pair : ℕ → ℕ → Bool
+is_pair first second = (first == backslash) && (second == backslash)
+
+-- what is written: two backslashes are one, `\` and three octal digits are that byte, and any
+-- other byte is itself
 abbrev pub unquoted : List ℕ → List ℕ
 unquoted (first ∷ a ∷ b ∷ c ∷ more) =
-    if is_octal first a b c then octal_value a b c ∷ unquoted more
+    if is_pair first a then backslash ∷ unquoted (b ∷ c ∷ more)
+    else if is_octal first a b c then octal_value a b c ∷ unquoted more
     else first ∷ unquoted (a ∷ b ∷ c ∷ more)
+unquoted (first ∷ a ∷ more) = if is_pair first a then backslash ∷ unquoted more
+    else first ∷ unquoted (a ∷ more)
 unquoted text = text
 
 abbrev pub named : List ℕ → Option Written

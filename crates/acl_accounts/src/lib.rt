@@ -23,5 +23,5 @@ pub use group::AccountGroup;
 pub use limits::{
     MAX_ACCOUNT_GROUPS, MAX_ACCOUNT_NAME, MAX_ACCOUNT_USERS, MAX_ACCOUNTS_TEXT, limits_in_numbers,
 };
-pub use quoting::{octal, push_name};
+pub use quoting::{first_unquoted, octal, push_name};
 pub use written::{WrittenAccount, is_account_name};

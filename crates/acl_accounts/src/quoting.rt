@@ -7,17 +7,17 @@ ghost use Rattle.std.specs.Char.{is_ascii_digit};
 ghost use Rattle.std.specs.List.{list_all, list_any};
 ghost use Rattle.acl_names.specs.Ids.{Number, decimal_value};
 ghost use Rattle.acl_names.specs.Pushing.{Pushes};
-ghost use Rattle.acl_accounts.specs.Names.{backslash, is_octal, is_quoted, named, octal};
-ghost use Rattle.acl_accounts.specs.Names.{octal_value, quoted, quoted_byte, splits, unquoted};
-ghost use Rattle.acl_accounts.specs.Names.{written_account};
+ghost use Rattle.acl_accounts.specs.Names.{backslash, is_octal, is_pair, is_quoted, named};
+ghost use Rattle.acl_accounts.specs.Names.{octal, octal_value, quoted, quoted_byte, splits};
+ghost use Rattle.acl_accounts.specs.Names.{unquoted, written_account};
 ghost use Rattle.acl_accounts.specs.declared.limits.TheConstants.{MAX_ACCOUNT_NAME};
 
 use crate::limits::MAX_ACCOUNT_NAME;
 use arrayvec::ArrayVec;
 use std::alloc::AllocError;
 
-/// Appends a name as getfacl writes it: a blank, a tab, a newline, a carriage return, `:`, `,` and
-/// `\` as `\` and three octal digits. If memory runs out, what `out` held still stands in front.
+/// Appends a name, with a blank, a tab, a newline, a carriage return, `:`, `,` and `\` as `\` and
+/// three octal digits. If memory runs out, what `out` held still stands in front.
 #[tactic(auto, using(crate::proofs::QuotingLemmas::printed_laws))]
 pub fn push_name(name: &[u8], out: &mut Vec<u8>) -> Result<(), AllocError>
     ensures printed { Pushes (quoted name.now) result out.old out.new }
@@ -69,8 +69,8 @@ pub fn octal(byte: u8) -> [u8; 4]
     ]
 }
 
-/// Puts what a text writes, which is undone of its octal digits, in place of what stood in `room`.
-/// False if it has more bytes than a name.
+/// Puts what a text writes, which is undone of its pairs of backslashes and its octal digits, in
+/// place of what stood in `room`. False if it has more bytes than a name.
 pub(crate) fn unquote(text: &[u8], room: &mut ArrayVec<u8, MAX_ACCOUNT_NAME>) -> bool
     ensures { MatchBool result (room.new.items ≡ unquoted text.now)
         (MAX_ACCOUNT_NAME < length (unquoted text.now)) }
@@ -86,8 +86,9 @@ pub(crate) fn unquote(text: &[u8], room: &mut ArrayVec<u8, MAX_ACCOUNT_NAME>) ->
     true
 }
 
-/// The first byte that a text writes, and what stands behind it.
-fn first_unquoted(text: &[u8]) -> Option<(u8, &[u8])>
+/// The first byte that a text writes as getfacl does, and what stands behind what writes it; none
+/// of an empty text.
+pub fn first_unquoted(text: &[u8]) -> Option<(u8, &[u8])>
     ensures says { MatchOption result (text.now ≡ [])
         (λ found. unquoted text.now ≡ found.0 ∷ unquoted found.1.now) }
     ensures shorter { IfSome result (λ found. length found.1.now < length text.now) }
@@ -95,10 +96,19 @@ fn first_unquoted(text: &[u8]) -> Option<(u8, &[u8])>
     if text.is_empty() {
         return None;
     }
+    if text.len() >= 2 && is_pair(text[0], text[1]) {
+        return Some((b'\\', &text[2..]));
+    }
     if text.len() >= 4 && is_octal(text[0], text[1], text[2], text[3]) {
         return Some((octal_value(text[1], text[2], text[3]), &text[4..]));
     }
     Some((text[0], &text[1..]))
+}
+
+fn is_pair(first: u8, second: u8) -> bool
+    ensures { result ≡ is_pair first second }
+{
+    first == b'\\' && second == b'\\'
 }
 
 fn is_octal(first: u8, a: u8, b: u8, c: u8) -> bool

@@ -24,10 +24,10 @@ pub enum WrittenAccount<'a> {
 }
 
 impl<'a> WrittenAccount<'a> {
-    /// What a text writes: all digits an id, if it is one, and anything else a name, in which `\`
-    /// and three octal digits are a byte. `None` if the id is out of range, or the name has no
-    /// byte, more than `MAX_ACCOUNT_NAME`, or a `:` or a newline. A name that is written with a
-    /// `\` stands in `room`, in place of what stood there.
+    /// What a text writes: all digits an id, if it is one, and anything else a name, in which two
+    /// backslashes are one, and `\` and three octal digits are a byte. `None` if the id is out of
+    /// range, or the name has no byte, more than `MAX_ACCOUNT_NAME`, or a `:` or a newline. A name
+    /// that is written with a `\` stands in `room`, in place of what stood there.
     pub fn read(
         text: &'a [u8],
         room: &'a mut ArrayVec<u8, MAX_ACCOUNT_NAME>,

@@ -117,9 +117,10 @@ fn numbers_of(alloc: Global, text: &str) -> Option<(Option<u32>, Option<u32>)> {
 /// Names and ids as `getfacl` writes them.
 #[test]
 fn ids_of_what_is_written(rt: HostRuntime) {
-    const ROWS: [(&str, Option<u32>, Option<u32>); 10] = [
+    const ROWS: [(&str, Option<u32>, Option<u32>); 11] = [
         ("CORP\\134alice", Some(1001), None),
         ("CORP\\alice", Some(1001), None),
+        ("CORP\\\\alice", Some(1001), None),
         ("domain\\040users", None, Some(100)),
         ("bob@corp.example", Some(1002), None),
         ("bob\\100corp.example", Some(1002), None),

@@ -22,13 +22,21 @@ fn is_read(text: &str, wanted: &Wanted) -> bool {
     }
 }
 
-/// `\` and three octal digits are that byte, any other byte is itself; all digits are an id.
+/// Two backslashes are one, `\` and three octal digits are that byte, any other byte is itself; all
+/// digits are an id.
 #[test]
 fn what_texts_write(rt: HostRuntime) {
-    const ROWS: [(&str, Wanted); 18] = [
+    const ROWS: [(&str, Wanted); 25] = [
         ("domain\\040users", Wanted::Name(b"domain users")),
         ("CORP\\134alice", Wanted::Name(b"CORP\\alice")),
         ("CORP\\alice", Wanted::Name(b"CORP\\alice")),
+        ("CORP\\\\alice", Wanted::Name(b"CORP\\alice")),
+        ("a\\\\\\\\b", Wanted::Name(b"a\\\\b")),
+        ("a\\\\\\b", Wanted::Name(b"a\\\\b")),
+        ("a\\\\", Wanted::Name(b"a\\")),
+        ("\\\\040", Wanted::Name(b"\\040")),
+        ("\\\\\\040", Wanted::Name(b"\\ ")),
+        ("a\\134\\040", Wanted::Name(b"a\\ ")),
         ("alice@corp.example", Wanted::Name(b"alice@corp.example")),
         ("a\\40", Wanted::Name(b"a\\40")),
         ("a\\0400", Wanted::Name(b"a 0")),
