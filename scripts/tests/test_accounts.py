@@ -107,7 +107,7 @@ class Accounts(unittest.TestCase):
         listing = "# file: # owner: x\n# owner: CORP\\134alice\n# group: domain\\040users\nuser::rw-\nuser:erin\\040smith:r--\nuser:m\u00fcller:r--\n"
         lines, said = self.accounts(listing + "user:not\udcfftext:r--\nuser:a\\054b\\043c:r--\t#effective:---\n")
         self.assertEqual((lines, said), ([*passwd, "domain users:x:8:"], []))
-        lines, said = self.accounts("# file: f\n# owner: CORP\\alice\n# group: domain users\n")
+        lines, said = self.accounts("# File: # owner: x\n# owner: CORP\\alice\n# group: domain users\n")
         self.assertEqual((lines, said), ([passwd[0], "domain users:x:8:"], []))
 
     def test_short_forms_and_entries_of_nfs4_lists(self):
