@@ -6,6 +6,8 @@ import re
 MAX_BLOCK = 65536
 MAX_ENTRIES = 64
 DEFAULT = b"default:"
+# The words for a file that a block may begin with, which are as long as each other.
+FILE_WORDS = (b"# file: ", b"# File: ")
 
 
 def pieces(text):
@@ -101,7 +103,7 @@ def blocks_of(listing):
 def path_of(text):
     """The path that a block's first line gives, whether the block reads or not; None if there is none."""
     first = text.split(b"\n")[0]
-    return first[8:] if first.startswith(b"# file: ") and 8 < len(first) <= MAX_BLOCK else None
+    return first[8:] if first.startswith(FILE_WORDS) and 8 < len(first) <= MAX_BLOCK else None
 
 
 def steps_of(path):
@@ -140,10 +142,10 @@ class Ways:
 
 def header_of(lines, users, groups):
     """The path of a block's first three lines, and the owner's and the group's ids, by these names."""
-    heads = ((b"# file: ", lambda it: it or "S"), (b"# owner: ", users.read), (b"# group: ", groups.read))
-    for before, (head, read) in enumerate(heads):
+    heads = ((FILE_WORDS, lambda it: it or "S"), ((b"# owner: ",), users.read), ((b"# group: ",), groups.read))
+    for before, (words, read) in enumerate(heads):
         line = lines[before] if before < len(lines) else b""
-        value = read(line[len(head):]) if line.startswith(head) else "S"
+        value = read(line[len(words[0]):]) if line.startswith(words) else "S"
         if value == "S":
             raise Unread("bad-header", before)
         yield value
@@ -195,8 +197,8 @@ def broken_rule(keys):
 
 
 def shown(line):
-    """A line as a fault shows it: its first 200 bytes, of which those that aren't printable, and backslashes, by their octal digits."""
-    return b"".join(bytes([it]) if 32 <= it <= 126 and it != 92 else b"\\%03o" % it for it in line[:200])
+    """A line as a fault shows it: its first 200 bytes, of which those that aren't printable by their octal digits."""
+    return b"".join(bytes([it]) if 32 <= it <= 126 else b"\\%03o" % it for it in line[:200])
 
 
 def guess_of(text):
@@ -211,6 +213,6 @@ def guess_of(text):
     if first.startswith(b"# file: ") and second.startswith(b"USER"):
         return "is it tabular (getfacl -t)?"
     # The line of a file, however long it is.
-    if len(first) > 8 and first.startswith(b"# file: ") and not second.startswith(b"# owner: ") or first.startswith(b"user::"):
+    if len(first) > 8 and first.startswith(FILE_WORDS) and not second.startswith(b"# owner: ") or first.startswith(b"user::"):
         return "is it without owners (getfacl -c, nfs4_getfacl)?"
     return "is it a listing?"

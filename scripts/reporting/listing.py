@@ -3,7 +3,8 @@
 import re
 from collections import namedtuple
 
-HEAD = b"# file: "
+# The words for a file that a block may begin with, which are as long as each other.
+HEADS = (b"# file: ", b"# File: ")
 # How many bytes are read at once, and of how many one block may be.
 CHUNK = 1 << 20
 # How many texts of blocks are remembered, since most files of a share have one that others have.
@@ -46,7 +47,7 @@ def blocks_of(listing):
 
 def path_of(head):
     """The path that a block's first line gives; None if it gives none."""
-    return head[len(HEAD) :] if head.startswith(HEAD) and len(head) > len(HEAD) else None
+    return head[len(HEADS[0]) :] if head.startswith(HEADS) and len(head) > len(HEADS[0]) else None
 
 
 def place_of(path):

@@ -107,8 +107,8 @@ class Accounts(unittest.TestCase):
         listing = "# file: # owner: x\n# owner: CORP\\134alice\n# group: domain\\040users\nuser::rw-\nuser:erin\\040smith:r--\nuser:m\u00fcller:r--\n"
         lines, said = self.accounts(listing + "user:not\udcfftext:r--\nuser:a\\054b\\043c:r--\t#effective:---\n")
         self.assertEqual((lines, said), ([*passwd, "domain users:x:8:"], []))
-        for owner in ("CORP\\alice", "CORP\\\\alice"):
-            lines, said = self.accounts(f"# file: f\n# owner: {owner}\n# group: domain users\n")
+        for file, owner in (("# file: f", "CORP\\alice"), ("# File: # owner: x", "CORP\\\\alice")):
+            lines, said = self.accounts(f"{file}\n# owner: {owner}\n# group: domain users\n")
             self.assertEqual((lines, said), ([passwd[0], "domain users:x:8:"], []), owner)
 
     def test_short_forms_and_entries_of_nfs4_lists(self):

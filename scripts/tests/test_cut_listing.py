@@ -15,8 +15,9 @@ PATHS = ("srv", "srv/a", "srv/a/one", "srv/a/b", "srv/a/b/two", "srv/a x/three",
 
 
 def listing(paths):
-    """A listing of these paths; a path that isn't told is a block that doesn't read."""
-    return "\n".join(f"# file: {it}\n# owner: 0\n" if it else "lost\n" for it in paths).encode()
+    """A listing of these paths, by either word for a file; a path that isn't told is a block that doesn't read."""
+    words = ("file", "file", "File")
+    return "\n".join(f"# {words[at % 3]}: {it}\n# owner: 0\n" if it else "lost\n" for at, it in enumerate(paths)).encode()
 
 
 def answer(text):

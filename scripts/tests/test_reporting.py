@@ -103,6 +103,10 @@ class Listings(unittest.TestCase):
         self.assertEqual((len(got), got[1]), (2, b"# file: a"))
         self.assertLessEqual(len(got[0]), 2 * listing.CHUNK + 2)
 
+    def test_a_path_stands_behind_either_word(self):
+        for head, path in ((b"# file: a", b"a"), (b"# File: # file: a", b"# file: a"), (b"# FILE: a", None), (b"# File: ", None)):
+            self.assertEqual(listing.path_of(head), path)
+
     def test_places_are_paths_without_idle_steps(self):
         for path, place in ((b".", b""), (b"./a", b"a"), (b"a//b/./c/", b"a/b/c"), (b"/", b"/"), (b"//a", b"/a"), (b"a/.", b"a"), (b"a/.b", b"a/.b"), (b"..", b".."), (b".a", b".a")):
             self.assertEqual(place_of(path), place)

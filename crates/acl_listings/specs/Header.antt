@@ -1,7 +1,7 @@
 -- The lines at the front of a block: those of the file, its owner and its group.
 use Rattle.std.specs.Prelude.{ℕ, List, [], ◌∷◌, length, drop, take, Option, Some, None, codes}
 use Rattle.std.specs.Prelude.{if◌then◌else◌, bytes_eq}
-use Rattle.std.specs.Option.{option_and_then}
+use Rattle.std.specs.Option.{option_and_then, option_or}
 use Rattle.acl_listings.specs.Lines.{after_line, first_line}
 
 -- what a block's first three lines say, and its other lines as a text
@@ -21,9 +21,14 @@ abbrev pub one_byte_at_least : List ℕ → Option (List ℕ)
 one_byte_at_least [] = None
 one_byte_at_least (byte ∷ bytes) = Some (byte ∷ bytes)
 
--- `# file: NAME`: the name as it stands
+-- what stands behind either word for a file
+abbrev pub after_file_word : List ℕ → Option (List ℕ)
+after_file_word line =
+    option_or (after_prefix (codes "# file: ") line) (after_prefix (codes "# File: ") line)
+
+-- `# file: NAME` or `# File: NAME`: the name as it stands
 abbrev pub path_in : List ℕ → Option (List ℕ)
-path_in line = option_and_then one_byte_at_least (after_prefix (codes "# file: ") line)
+path_in line = option_and_then one_byte_at_least (after_file_word line)
 
 abbrev pub as_header : Option (List ℕ) → Option (List ℕ) → Option (List ℕ) → List ℕ
     → Option Header

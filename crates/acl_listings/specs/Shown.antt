@@ -1,8 +1,7 @@
 -- How a line at fault is shown.
-use Rattle.std.specs.Prelude.{ℕ, Bool, ◌==◌, ◌&&◌, not, nat_le, List, [], ◌∷◌, take}
-use Rattle.std.specs.Prelude.{if◌then◌else◌}
+use Rattle.std.specs.Prelude.{ℕ, Bool, ◌&&◌, nat_le, List, [], ◌∷◌, take, if◌then◌else◌}
 use Rattle.std.specs.List.{flat_map}
-use Rattle.acl_accounts.specs.Names.{backslash, octal}
+use Rattle.acl_accounts.specs.Names.{octal}
 use Rattle.acl_names.specs.Bytes.{space}
 use Rattle.acl_listings.specs.declared.limits.TheConstants.{MAX_SHOWN}
 
@@ -10,9 +9,9 @@ use Rattle.acl_listings.specs.declared.limits.TheConstants.{MAX_SHOWN}
 abbrev pub tilde : ℕ
 tilde = 126
 
--- a printable byte of ASCII, but for `\`
+-- a printable byte of ASCII, `\` too
 abbrev pub is_plain : ℕ → Bool
-is_plain byte = nat_le space byte && nat_le byte tilde && not (byte == backslash)
+is_plain byte = nat_le space byte && nat_le byte tilde
 
 -- itself, or `\` and its three octal digits
 abbrev pub shown_byte : ℕ → List ℕ

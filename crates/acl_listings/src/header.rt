@@ -1,7 +1,7 @@
 //! The lines at the front of a block: those of the file, its owner and its group.
 
 ghost use Rattle.std.specs.Prelude.{◌≡◌, option_map};
-ghost use Rattle.acl_listings.specs.Header.{after_prefix, header_of, path_in};
+ghost use Rattle.acl_listings.specs.Header.{after_file_word, after_prefix, header_of, path_in};
 ghost use Rattle.acl_listings.specs.Lines.{after_line, first_line};
 ghost use Rattle.acl_listings.specs.Views.{view_header};
 
@@ -41,13 +41,24 @@ pub(crate) fn read_header(text: &[u8]) -> Option<Header<'_>>
     }
 }
 
-/// The path in a file's line: what stands behind `# file: `, as it stands, if that is anything.
+/// The path in a file's line: what stands behind `# file: ` or `# File: `, as it stands, if that is
+/// anything.
 pub(crate) fn read_path(line: &[u8]) -> Option<&[u8]>
     ensures { option_map (λ path. path.now) result ≡ path_in line.now }
 {
-    match after_prefix(b"# file: ", line) {
+    match after_file_word(line) {
         Some([]) | None => None,
         Some(path) => Some(path),
+    }
+}
+
+/// What stands behind either word for a file: some servers' tools print a capital F.
+fn after_file_word(line: &[u8]) -> Option<&[u8]>
+    ensures { option_map (λ rest. rest.now) result ≡ after_file_word line.now }
+{
+    match after_prefix(b"# file: ", line) {
+        Some(rest) => Some(rest),
+        None => after_prefix(b"# File: ", line),
     }
 }
 

@@ -9,9 +9,8 @@ use crate::limits::MAX_SHOWN;
 use acl_accounts::octal;
 use std::alloc::AllocError;
 
-/// Appends at most the first `MAX_SHOWN` bytes of a line: printable ones as they are, and others,
-/// and `\`, as `\` and three octal digits. If memory runs out, what `out` held still stands in
-/// front.
+/// Appends at most the first `MAX_SHOWN` bytes of a line: printable ones as they are, `\` too, and
+/// others as `\` and three octal digits. If memory runs out, what `out` held still stands in front.
 pub fn push_shown(line: &[u8], out: &mut Vec<u8>) -> Result<(), AllocError>
     ensures { Pushes (shown line.now) result out.old out.new }
 {
@@ -48,5 +47,5 @@ fn push_shown_byte(byte: u8, out: &mut Vec<u8>) -> Result<(), AllocError>
 fn is_plain(byte: u8) -> bool
     ensures { result ≡ is_plain byte }
 {
-    (b' '..=b'~').contains(&byte) && byte != b'\\'
+    (b' '..=b'~').contains(&byte)
 }

@@ -10,7 +10,7 @@ const GUESSES: [(&[u8], &str); 8] = [
     ),
     (
         b"\x1f\x8b\x08\x00\\",
-        "aclctl: -:1: bad-header: \\037\\213\\010\\000\\134\naclctl: -: is it gzip?\naclctl: -: 1 of 1 files were not answered\n",
+        "aclctl: -:1: bad-header: \\037\\213\\010\\000\\\naclctl: -: is it gzip?\naclctl: -: 1 of 1 files were not answered\n",
     ),
     (
         b"\xff\xfe#\x00",

@@ -17,6 +17,12 @@ fn headers(rt: HostRuntime) -> Result<(), Fail> {
     assert!(rt; block_tells(alloc, block, b"fault bad-header -"));
     assert!(rt; block_tells(alloc, b"#\tfile: x", b"fault bad-header -"));
     assert!(rt; block_tells(alloc, b"# file:x", b"fault bad-header -"));
+    // With a capital F alone, and then by its path.
+    let block = b"# File: \n# owner: 0\n# group: 0\nu::r,g::w,o::x";
+    assert!(rt; block_tells(alloc, block, b"fault bad-header -"));
+    let block = b"# FILE: x\n# owner: 0\n# group: 0\nu::r,g::w,o::x";
+    assert!(rt; block_tells(alloc, block, b"fault bad-header -"));
+    assert!(rt; block_tells(alloc, b"# File: x\n# owner: 0", b"fault bad-header x"));
     assert!(rt; block_tells(alloc, b"user::rwx", b"fault bad-header -"));
     Ok(())
 }

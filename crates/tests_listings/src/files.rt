@@ -75,6 +75,9 @@ fn paths_as_they_stand(rt: HostRuntime) -> Result<(), Fail> {
     assert!(rt; block_tells(alloc, block, b" \xff\xe9 # \t 0 0 u::r--,g::-w-,o::--x"));
     let block = b"# file: # file: \n# owner: 0\n# group: 0\nu::r,g::w,o::x";
     assert!(rt; block_tells(alloc, block, b"# file:  0 0 u::r--,g::-w-,o::--x"));
+    // The word with a capital F.
+    let block = b"# File: # File: x\n# owner: 0\n# group: 0\nu::r,g::w,o::x";
+    assert!(rt; block_tells(alloc, block, b"# File: x 0 0 u::r--,g::-w-,o::--x"));
     // A carriage return is a byte of its line.
     let block = b"# file: x\r\n# owner: 0\n# group: 0\nu::r,g::w,o::x";
     assert!(rt; block_tells(alloc, block, b"x\r 0 0 u::r--,g::-w-,o::--x"));

@@ -3,7 +3,7 @@ use acl_listings::Guess;
 
 #[test]
 fn guesses(rt: HostRuntime) {
-    const ROWS: [(&[u8], Guess); 13] = [
+    const ROWS: [(&[u8], Guess); 15] = [
         (b"\x1f\x8b\x08\x00\x00", Guess::Gzip),
         (b"\xff\xfe#\x00 \x00", Guess::Utf16),
         (b"\xfe\xff\x00#\x00 ", Guess::Utf16),
@@ -21,6 +21,8 @@ fn guesses(rt: HostRuntime) {
         ),
         (b"# file: x\nuser::rwx", Guess::NoOwners),
         (b"# file: x", Guess::NoOwners),
+        (b"# File: x", Guess::NoOwners),
+        (b"# File: x\nUSER   root      rwx     ", Guess::NoOwners),
         (b"user::rw-\ngroup::r--\nother::r--", Guess::NoOwners),
         (b"# file: x\n# owner: 0", Guess::NoListing),
         (b"USER   root      rwx     ", Guess::NoListing),

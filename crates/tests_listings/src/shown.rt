@@ -14,7 +14,7 @@ fn bytes(rt: HostRuntime) {
     const ROWS: [(&[u8], &[u8]); 5] = [
         (b"", b">"),
         (b"# file: srv/plans~", b"># file: srv/plans~"),
-        (b"a\\b\tc\r", b">a\\134b\\011c\\015"),
+        (b"a\\b\tc\r", b">a\\b\\011c\\015"),
         (b"\x00\x1f\x7f\x80\xff", b">\\000\\037\\177\\200\\377"),
         (b"\xc3\xa9", b">\\303\\251"),
     ];
