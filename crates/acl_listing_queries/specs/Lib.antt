@@ -16,7 +16,6 @@ pub mod WhoSteps
 pub mod WhoLine
 pub mod WhoMeaning
 pub mod WayLaws
-pub mod Escapes
 pub mod Translated
 pub mod TranslateLine
 pub mod TranslateSteps

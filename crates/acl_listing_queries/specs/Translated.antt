@@ -2,6 +2,7 @@
 use Rattle.std.specs.Prelude.{ℕ, Bool, true, false, ◌+◌, nat_le, List, [], ◌∷◌, ◌++◌, length}
 use Rattle.std.specs.Prelude.{Option, Some, None, Result, Ok, Err, if◌then◌else◌}
 use Rattle.std.specs.List.{flat_map}
+use Rattle.acl_accounts.specs.Names.{unquoted}
 use Rattle.acl_names.specs.Bytes.{comma, newline}
 use Rattle.acl_names.specs.Names.{Names}
 use Rattle.acl_names.specs.Steps.{◌>>=◌}
@@ -23,7 +24,6 @@ use Rattle.acl_listings.specs.declared.fault.BlockFault.TheVariants.{Acl, TooLon
 use Rattle.acl_listings.specs.declared.limits.TheConstants.{MAX_BLOCK}
 use Rattle.acl_listings.specs.declared.lists.Lists.{Lists}
 use Rattle.acl_listings.specs.declared.lists.Lists.TheVariants.{Posix, Nfs4}
-use Rattle.acl_listing_queries.specs.Escapes.{unescaped}
 use Rattle.acl_listing_queries.specs.Listed.{Part}
 use Rattle.acl_listing_queries.specs.declared.translate.form.AceForm.{AceForm}
 use Rattle.acl_listing_queries.specs.declared.translate.form.AceForm.TheVariants as form
@@ -79,7 +79,7 @@ spec_in form (first ∷ more) = entry_in form first
 
 -- the list and the path without escapes, each with a byte of 0 behind it
 abbrev pub pair_in : AceForm → List ℕ → List Nfsace4 → List ℕ
-pair_in form path aces = spec_in form aces ++ (0 ∷ (unescaped path ++ 0 ∷ []))
+pair_in form path aces = spec_in form aces ++ (0 ∷ (unquoted path ++ 0 ∷ []))
 
 abbrev pub told_as : Bool → AceForm → List ℕ → List ℕ → List Nfsace4 → Part
 told_as true form text path aces = Ok (pair_in form path aces)

@@ -12,6 +12,7 @@ use acl_cli::{ErrorOutput, Failure, OpenFiles, RunFault};
 use output::{Faults, Output};
 use std::cell::Cell;
 use std::fs::File;
+use std::io::Read;
 use std::process::ExitCode;
 use std::{env, io};
 
@@ -28,8 +29,11 @@ impl<'a> OpenFiles for Disk<'a> {
 
     ghost bytes_of = { λ _ _. None };
 
+    /// A folder can be opened and not read, so it is told here.
     fn open(&self, name: &str) -> io::Result<File> {
-        File::open(self.rt, name)
+        let mut file = File::open(self.rt, name)?;
+        file.read(&mut [])?;
+        Ok(file)
     }
 }
 
