@@ -18,7 +18,7 @@ fn the_tree_that_it_makes(rt: HostRuntime) {
     assert!(rt; Query.ends(rt.alloc(), &words, 0, ALICE_AGAIN, ""));
     let letters = ["who", "--setup", "office", "--session", "again"];
     let text =
-        "r-x alice /\nr-x bob /\nr-x carol /\nrwx root /\nrwx alice /plans\nrwx bob /plans\n--- carol /plans\n--- root /plans\nrw- alice /plans/budget\nrw- bob /plans/budget\n--- carol /plans/budget\n--- root /plans/budget\n";
+        "r-x alice /\nr-x bob /\nr-x carol /\nrwx root /\nrwx alice /plans\nrwx bob /plans\nrw- alice /plans/budget\nrw- bob /plans/budget\n";
     assert!(rt; Query.ends(rt.alloc(), &letters, 0, text, ""));
 }
 

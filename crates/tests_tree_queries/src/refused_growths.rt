@@ -20,8 +20,7 @@ fn dump_under_a_refused_growth(rt: HostRuntime) -> Result<(), Fail> {
 #[test]
 fn who_under_a_refused_growth(rt: HostRuntime) -> Result<(), Fail> {
     let words = ["who", "--setup", "office", "--session", "groups"];
-    let answer =
-        b"r-x alice /\nr-x bob /\nr-x carol /\nrwx root /\nrw- alice /log\nrw- bob /log\n--- carol /log\n--- root /log\n";
+    let answer = b"r-x alice /\nr-x bob /\nr-x carol /\nrwx root /\nrw- alice /log\nrw- bob /log\n";
     let told = Query.refusals(rt.alloc(), &words, answer.as_slice());
     assert!(rt; told.is_some());
     println!(rt; "refusals: {}", told.unwrap_or(0))?;

@@ -5,7 +5,7 @@ use std::test::Fail;
 use tests_files::{Command, Sheet};
 
 /// Words that don't go together, and what standard error has.
-const MISMATCHES: [(&[&str], &str); 14] = [
+const MISMATCHES: [(&[&str], &str); 13] = [
     (&["who"], "aclctl: no LISTING, and no --session\n"),
     (
         &["who", "--session", "-"],
