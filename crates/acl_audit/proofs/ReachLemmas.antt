@@ -1,19 +1,11 @@
 -- What is kept of all users by their places tells the same as each user's own check.
-use Rattle.std.proofs.Common.{◌≡◌, ◌∙◌, ℕ, zero, suc, ◌+◌, ◌<◌, ◌++◌, ◌&&◌, Bool, true, false, cond, List, [], ◌∷◌, Option, Some, add-zero, zero-add, ap, append_assoc, append-nil, arith, get_or, length, length-append, map, refl, sym, take}
-use Rattle.std.specs.Prelude.{slice_get}
+use Rattle.std.proofs.Common.{◌≡◌, ◌∙◌, ℕ, zero, suc, ◌+◌, ◌<◌, ◌++◌, ◌&&◌, Bool, true, false, cond, List, [], ◌∷◌, Option, add-zero, zero-add, ap, append_assoc, append-nil, arith, get_or, length, length-append, map, refl, sym, take}
 use Rattle.std.specs.List.{enumerate_from, filter_map, flat_map, list_all}
 use Rattle.std.proofs.lemmas.List.{flat_map_more, map-append, take_more}
 use Rattle.std.proofs.lemmas.List.Folds.{list_all-append, list_all_at}
 use Rattle.std.proofs.lemmas.List.Elements.{filter_map-append}
-use Rattle.acl_names.specs.Directory.{Known, KnownUser, requester_of}
-use Rattle.acl_names.specs.Requester.{Identity}
-use Rattle.acl_audit.specs.Answers.{both, letters_line_at, letters_lines, may_line_at, may_line_of, may_lines, mark_in_both}
-use Rattle.acl_audit.specs.Impact.{requesters_of}
-use Rattle.acl_audit.specs.Letters.{effective}
-use Rattle.acl_audit.specs.Reach.{node_lines_on, node_lines_on_of_those_who_may, places_from, reaches, user_line_on, user_line_on_if}
-use Rattle.acl_audit.specs.Who.{letters_line, may_line}
-use Rattle.acl_tree.specs.Nodes.{may}
-use Rattle.acl_tree.specs.declared.node.Node.{Node}
+use Rattle.acl_audit.specs.Answers.{both, mark_in_both}
+use Rattle.acl_audit.specs.Reach.{places_from}
 
 -- the places among one item more
 places_next : {X : Type 0} (test : X → Bool) (place : ℕ) (items : List X) (at : ℕ) (item : X) → at < length items
@@ -87,12 +79,6 @@ module _ {X : Type 0} (items : List X) (at : ℕ) (item : X) (within : at < leng
       more ∙ ap (λ front. front ++ cond b (at ∷ []) []) was ∙ ap (λ b. places_from test 0 (take at items) ++ cond b (at ∷ []) []) is
       ∙ sym (places_more test items at item within here)
 
-  pub next_line : {Y : Type 0} (f : X → List Y) (first old new : List Y) → old ≡ first ++ flat_map f (take at items) → new ≡ old ++ f item
-      → new ≡ first ++ flat_map f (take (at + 1) items)
-  next_line f first old new was more =
-      more ∙ ap (λ front. front ++ f item) was ∙ flat_map_more f first (take at items) item
-      ∙ ap (λ items. first ++ flat_map f items) (ap (λ item. take at items ++ item ∷ []) (sym here) ∙ sym (take_more items at item within))
-
   -- whether all of them pass, as they are shown
   module _ {Y : Type 0} (test : Y → Bool) (shown : X → Y) where
     pub next_passes : list_all test (map shown (take at items)) ≡ true → test (shown item) ≡ true → list_all test (map shown (take (at + 1) items)) ≡ true
@@ -125,86 +111,9 @@ module _ {X : Type 0} (items : List X) (at : ℕ) (item : X) (within : at < leng
         was ∙ ap (λ places. filter_map h (map f places)) (sym places)
 
 -- what stands behind some items
-there_is : {X : Type 0} (before after : List X) (item : X) → slice_get (before ++ item ∷ after) (length before) ≡ Some item
-there_is [] after item = refl
-there_is (first ∷ before) after item = there_is before after item
-
-comes_to : {X Y Z : Type 0} (g : Y → Z) (f : X → Y) (default : Z) (before after : List X) (item : X) → get_or (map g (map f (before ++ item ∷ after))) (length before) default ≡ g (f item)
-comes_to g f default [] after item = refl
-comes_to g f default (first ∷ before) after item = comes_to g f default before after item
-
 at_place : {X Z : Type 0} (f : X → Z) (default : Z) (before after : List X) (item : X) → get_or (map f (before ++ item ∷ after)) (length before) default ≡ f item
 at_place f default [] after item = refl
 at_place f default (first ∷ before) after item = at_place f default before after item
-
-module _ (known : Known) (way : List Node) (path : List ℕ) (node : Node) where
-  abbrev who : KnownUser → Identity
-  who user = requester_of known user.uid
-
-  abbrev reach : List KnownUser → List Bool
-  reach users = map (reaches way) (map who users)
-
-  -- of the letters
-
-  abbrev letters : List KnownUser → List ℕ
-  letters users = map (effective node) (map who users)
-
-  one_letters : (users before after : List KnownUser) (user : KnownUser) → users ≡ before ++ user ∷ after
-      → letters_line_at path (letters users) (reach users) (length before, user) ≡ user_line_on known way path node user
-  one_letters users before after user is =
-      ap (λ users. letters_line_at path (letters users) (reach users) (length before, user)) is
-      ∙ ap (λ b. letters_line path user.name (cond b (get_or (letters (before ++ user ∷ after)) (length before) 0) 0)) (comes_to (reaches way) who false before after user)
-      ∙ ap (λ perms. letters_line path user.name (cond (reaches way (who user)) perms 0)) (comes_to (effective node) who 0 before after user)
-
-  letters_behind : (users before after : List KnownUser) (place : ℕ) → users ≡ before ++ after → place ≡ length before
-      → flat_map (letters_line_at path (letters users) (reach users)) (enumerate_from place after) ≡ flat_map (user_line_on known way path node) after
-  letters_behind users before [] place is there = refl
-  letters_behind users before (user ∷ after) place is there =
-      let next : place + 1 ≡ length (before ++ user ∷ []) = simp length-append (omega (arith, there)) in
-      let first : letters_line_at path (letters users) (reach users) (place, user) ≡ user_line_on known way path node user =
-      ap (λ place. letters_line_at path (letters users) (reach users) (place, user)) there ∙ one_letters users before after user is in
-      ap (λ line. line ++ flat_map (letters_line_at path (letters users) (reach users)) (enumerate_from (place + 1) after)) first
-      ∙ ap (λ lines. user_line_on known way path node user ++ lines)
-      (letters_behind users (before ++ user ∷ []) after (place + 1) (is ∙ sym (append_assoc before (user ∷ []) after)) next)
-
-  -- the letters of each user, and who reaches it, tell what the node's lines tell
-  pub letters_tell : letters_lines path known.users (map (effective node) (requesters_of known)) (map (reaches way) (requesters_of known))
-      ≡ node_lines_on known known.users way path node
-  letters_tell = letters_behind known.users [] known.users 0 refl refl
-
-  -- of those who may
-
-  module _ (perms : ℕ) where
-    abbrev test : Identity → Bool
-    test who = may node who perms
-
-    one_line : (users before after : List KnownUser) (user : KnownUser) → users ≡ before ++ user ∷ after
-        → may_line_at path users (reach users) (length before) ≡ cond (reaches way (who user)) (may_line path user.name) []
-    one_line users before after user is =
-        ap (λ users. may_line_at path users (reach users) (length before)) is
-        ∙ ap (λ b. cond b (may_line_of path (slice_get (before ++ user ∷ after) (length before))) []) (comes_to (reaches way) who false before after user)
-        ∙ ap (λ found. cond (reaches way (who user)) (may_line_of path found) []) (there_is before after user)
-
-    lines_behind : (users before after : List KnownUser) (place : ℕ) → users ≡ before ++ after → place ≡ length before
-        → flat_map (may_line_at path users (reach users)) (places_from test place (map who after)) ≡ flat_map (user_line_on_if known way path node perms) after
-    lines_behind users before [] place is there = refl
-    lines_behind users before (user ∷ after) place is there =
-        let next : place + 1 ≡ length (before ++ user ∷ []) = simp length-append (omega (arith, there)) in
-        let rest : flat_map (may_line_at path users (reach users)) (places_from test (place + 1) (map who after)) ≡ flat_map (user_line_on_if known way path node perms) after =
-        lines_behind users (before ++ user ∷ []) after (place + 1) (is ∙ sym (append_assoc before (user ∷ []) after)) next in
-        let here : may_line_at path users (reach users) place ≡ cond (reaches way (who user)) (may_line path user.name) [] =
-        ap (may_line_at path users (reach users)) there ∙ one_line users before after user is in
-        elim (test (who user)) as (λ b. flat_map (may_line_at path users (reach users)) (cond b (place ∷ places_from test (place + 1) (map who after)) (places_from test (place + 1) (map who after)))
-        ≡ cond (b && reaches way (who user)) (may_line path user.name) [] ++ flat_map (user_line_on_if known way path node perms) after) [
-          | true ↦ ap (λ line. line ++ flat_map (may_line_at path users (reach users)) (places_from test (place + 1) (map who after))) here
-              ∙ ap (λ lines. cond (reaches way (who user)) (may_line path user.name) [] ++ lines) rest
-          | false ↦ rest
-        ]
-
-    -- the places of those who may, and who reaches it, tell what the node's lines tell
-    pub those_tell : may_lines path known.users (places_from test 0 (requesters_of known)) (map (reaches way) (requesters_of known))
-        ≡ node_lines_on_of_those_who_may known known.users way path node perms
-    those_tell = lines_behind known.users [] known.users 0 refl refl
 
 -- of each item two marks, and both
 module _ {X : Type 0} (one other : X → Bool) where

@@ -1,9 +1,7 @@
--- What it means for access that one file became another.
-use Rattle.std.specs.Prelude.{◌≡◌, ◌⊎◌, ◌<◌, ℕ, List, All, take, Option, Some, None, IsSomeAnd}
-use Rattle.std.specs.Prelude.{slice_get, map as each}
+-- What it means that everyone is decided about alike, and that somebody isn't.
+use Rattle.std.specs.Prelude.{◌≡◌, ◌⊎◌, ◌<◌, ℕ, List, Some}
 use Rattle.std.specs.FinMap as map
-use Rattle.acl_names.specs.Asker.{identity_of}
-use Rattle.acl_names.specs.Directory.{Known, requester_of}
+use Rattle.acl_names.specs.Directory.{Known}
 use Rattle.acl_names.specs.Requester.{Identity}
 use Rattle.acl_tree.specs.Commands.{check}
 use Rattle.acl_tree.specs.Tree.{NodesUnderUmask}
@@ -12,37 +10,8 @@ use Rattle.acl_tree.specs.declared.node.Node.{Node}
 use Rattle.acl_tree.specs.declared.node_acl.NodeAcl.{NodeAcl}
 use Rattle.acl_tree.specs.declared.node_acl.NodeAcl.TheVariants.{Posix, Nfs4}
 use Rattle.acl_tree.specs.declared.request.Request.{Request}
-use Rattle.acl_audit.specs.Changes.{IsChangeFor, File, IsAlikeTo, IsAlikeToAll, file_of}
+use Rattle.acl_audit.specs.Changes.{File, IsAlikeTo, IsAlikeToAll, IsChangeFor, file_of}
 use Rattle.acl_audit.specs.declared.changes.Change.{Change}
-use Rattle.acl_audit.specs.declared.impact.Impact.{Impact}
-use Rattle.acl_audit.specs.declared.impact.Impact.TheVariants.{New, User, Somebody}
-
--- of the users, the one at the place is the first who is decided about otherwise, and this is what
--- that one loses and gains
-pub record IsFirstChanged (before after : File) (users : List Identity) (place : ℕ)
-    (change : Change) : Type 0 where
-  pub earlier : All (IsAlikeTo before after) (take place users)
-  pub here : IsSomeAnd (slice_get users place) (λ user. IsChangeFor before after user change)
-
--- what it means for access that one file became another; nothing is told where everyone is decided
--- about alike
-abbrev pub IsImpact : File → File → List Identity → Option Impact → Type 0
-IsImpact before after users None = IsAlikeToAll before after
-IsImpact before after users (Some New) = ⊥
-IsImpact before after users (Some (User place change)) =
-    IsFirstChanged before after users place change
-IsImpact before after users (Some (Somebody asker change)) =
-    All (IsAlikeTo before after) users × IsChangeFor before after (identity_of asker) change
-
--- what it means that one node, if there was one, became another, if there is one
-abbrev pub IsImpactOn : List Identity → Option Node → Option Node → Option Impact → Type 0
-IsImpactOn users old None found = found ≡ None
-IsImpactOn users None (Some new) found = found ≡ Some New
-IsImpactOn users (Some old) (Some new) found = IsImpact (file_of old) (file_of new) users found
-
--- the directory's users as ones who ask
-abbrev pub requesters_of : Known → List Identity
-requesters_of directory = each (λ user. requester_of directory user.uid) directory.users
 
 -- the requests that the comparison vouches for: each permission by itself, and between lists of one
 -- style every request for something

@@ -1,5 +1,5 @@
 -- Private steps, which no public clause cites.
-use Rattle.std.specs.Prelude.{◌≡◌, ◌⊎◌, ⊤, ℕ, List, Option, Some, None, if◌then◌else◌}
+use Rattle.std.specs.Prelude.{◌≡◌, ◌⊎◌, ⊤, ℕ, List, if◌then◌else◌}
 use Rattle.acl_names.specs.Bits.{◌∪◌}
 use Rattle.acl_names.specs.Requester.{Identity}
 use Rattle.acl_nfs4.specs.Mask.{mode_bits}
@@ -7,11 +7,7 @@ use Rattle.acl_posix.specs.Access.{grants}
 use Rattle.acl_posix.specs.Entry.{EntryValue}
 use Rattle.acl_bridge.specs.Comparison.{permission_bits}
 use Rattle.acl_tree.specs.declared.node_acl.NodeAcl.{NodeAcl}
-use Rattle.acl_nfs4.specs.declared.comparison.Difference.{Difference}
 use Rattle.acl_tree.specs.declared.node_acl.NodeAcl.TheVariants.{Posix, Nfs4}
-use Rattle.acl_audit.specs.Changes.{change_of}
-use Rattle.acl_audit.specs.declared.impact.Impact.{Impact}
-use Rattle.acl_audit.specs.declared.impact.Impact.TheVariants.{Somebody}
 
 -- the permission, if the list grants it by itself
 abbrev pub if_granted : List EntryValue → ℕ → ℕ → Identity → ℕ → ℕ
@@ -28,8 +24,3 @@ granted_alone acl owner group requester =
 abbrev pub IsComparedIn : NodeAcl → ℕ → Type 0
 IsComparedIn (Posix access default) bits = (bits ≡ mode_bits) ⊎ (bits ≡ permission_bits)
 IsComparedIn (Nfs4 acl) bits = ⊤
-
--- what is told of a difference, of whom none is a user
-abbrev pub impact_of_somebody : Option Difference → Option Impact
-impact_of_somebody None = None
-impact_of_somebody (Some difference) = Some (Somebody difference.asker (change_of difference))

@@ -5,7 +5,6 @@
 mod allowed;
 mod changes;
 mod dump;
-mod impact;
 mod laws;
 mod letters;
 mod reach;
@@ -15,16 +14,11 @@ mod who;
 
 pub use changes::{Change, change_for, change_for_anybody};
 pub use dump::{close, push_creation, push_lists};
-pub use impact::{Impact, impact_at, impact_of, impact_on, requesters_of};
 pub use laws::{dump_laws, impact_laws, letter_laws, saved_laws};
 pub use letters::{LetterSet, effective, granted_mask};
 pub use reach::{
-    both, is_set, letters_at, letters_of_each, places_of_those_who_may, push_letters_of_each,
-    push_those_at, reaches, way_in, which_may,
+    both, is_set, letters_at, letters_of_each, places_of_those_who_may, reaches, way_in, which_may,
 };
 pub use same::is_same_file;
 pub use saved::push_saved;
-pub use who::{
-    push_letters, push_letters_line, push_letters_on, push_may_line, push_those_on,
-    push_those_who_may,
-};
+pub use who::{push_letters_line, push_may_line};

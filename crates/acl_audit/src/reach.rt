@@ -5,13 +5,11 @@ ghost use Rattle.std.specs.List.{filter_map};
 ghost use Rattle.acl_posix.specs.Perms.{bits_of};
 ghost use Rattle.acl_tree.specs.Nodes.{may};
 ghost use Rattle.acl_tree.specs.Path.{or_root};
-ghost use Rattle.acl_audit.specs.Answers.{both, is_set, letters_at, letters_lines, mark_in_both};
-ghost use Rattle.acl_audit.specs.Answers.{may_line_at, may_lines};
+ghost use Rattle.acl_audit.specs.Answers.{both, is_set, letters_at, mark_in_both};
 ghost use Rattle.acl_audit.specs.Reach.{places_from, reaches, way_in};
 
 use crate::letters::LetterSet;
-use crate::who::{push_letters_line, push_may_line};
-use acl_names::{Requester, User};
+use acl_names::Requester;
 use acl_posix::Perms;
 use acl_tree::{Node, Tree};
 use std::alloc::{AllocError, Global};
@@ -114,62 +112,6 @@ pub fn letters_at<L: LetterSet>(letters: &[L], reach: &[bool], place: usize) -> 
     } else {
         L::none()
     }
-}
-
-/// Appends a line for each of the users, in their order: the letters at the user's place, if it is
-/// one of those that reach the file, the name, and the path.
-pub fn push_letters_of_each(
-    users: &[User],
-    letters: &[Perms],
-    reach: &[bool],
-    path: &[u8],
-    out: &mut Vec<u8>,
-) -> Result<(), AllocError>
-    ensures { OnOk result (out.new.items ≡ out.old.items
-        ++ letters_lines path.now users.now (map bits_of letters.now) reach.now) }
-{
-    for (place, user) in users.iter().enumerate() {
-        let perms = letters_at(letters, reach, place);
-        push_letters_line(path, user.name.as_bytes(), perms, out)?;
-    }
-    Ok(())
-}
-
-/// Appends the line of the user at the place, if it is one of those that reach the file.
-fn push_may_line_at(
-    users: &[User],
-    place: usize,
-    reach: &[bool],
-    path: &[u8],
-    out: &mut Vec<u8>,
-) -> Result<(), AllocError>
-    ensures { OnOk result (out.new.items ≡ out.old.items
-        ++ may_line_at path.now users.now reach.now place) }
-{
-    if !is_set(reach, place) {
-        return Ok(());
-    }
-    match users.get(place) {
-        Some(user) => push_may_line(path, user.name.as_bytes(), out),
-        None => Ok(()),
-    }
-}
-
-/// Appends a line for each of the users at the places who reach the file: the name and the path.
-pub fn push_those_at(
-    users: &[User],
-    places: &[usize],
-    reach: &[bool],
-    path: &[u8],
-    out: &mut Vec<u8>,
-) -> Result<(), AllocError>
-    ensures { OnOk result (out.new.items ≡ out.old.items
-        ++ may_lines path.now users.now places.now reach.now) }
-{
-    for place in places {
-        push_may_line_at(users, *place, reach, path, out)?;
-    }
-    Ok(())
 }
 
 /// Whether each folder on the way lets the requester search it.

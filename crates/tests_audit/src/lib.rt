@@ -7,8 +7,4 @@
 #[cfg(test)]
 mod dump;
 #[cfg(test)]
-mod impact;
-#[cfg(test)]
 mod office;
-#[cfg(test)]
-mod who;
