@@ -192,7 +192,8 @@ impl Accounts {
         }
     }
 
-    /// The uid that is written: a number's, or that of the user with the name.
+    /// Resolves a written uid: a number as it is, and a name by the users. `None` if no user has
+    /// the name, or no uid is so large.
     pub fn uid(&self, written: WrittenAccount<'_>) -> Option<Uid>
         ensures { result ≡ id_of_written (uid_of self.now) (view_written written.entry) }
     {
@@ -202,7 +203,8 @@ impl Accounts {
         }
     }
 
-    /// The gid that is written: a number's, or that of the group with the name.
+    /// Resolves a written gid: a number as it is, and a name by the groups. `None` if no group has
+    /// the name, or no gid is so large.
     pub fn gid(&self, written: WrittenAccount<'_>) -> Option<Gid>
         ensures { result ≡ id_of_written (gid_of self.now) (view_written written.entry) }
     {

@@ -56,7 +56,8 @@ pub(crate) fn place_by_hash<T: Named>(members: &[T], guesses: &[u32], name: &[u8
     place_by_name(members, name)
 }
 
-/// The same if the guess for its hash is right.
+/// The place of the member of this name, if the guess for its hash is right. A fast path: `None`
+/// means that it has to be searched for.
 fn guessed_place<T: Named>(members: &[T], guesses: &[u32], name: &[u8]) -> Option<usize>
     requires { IsAscending (slice_cmp nat_cmp) T.name_of members.now }
     ensures { IfSome result (λ place. position (λ other. bytes_eq (T.name_of other) name.now)

@@ -45,10 +45,10 @@ use Rattle.acl_audit.specs.Dump.{DumpsMakeTheTree, closed_list, close_command, c
 use Rattle.acl_audit.proofs.GroupsLemmas.{IsGroupBelow, groups_are_given}
 use Rattle.acl_audit.proofs.ParentLemmas.{parent_before, root_first}
 use Rattle.acl_audit.proofs.QuietLemmas.{files_inherit_nothing}
-use Rattle.acl_audit.proofs.SavedLemmas.{IsPut, IsReady, and_left, and_right, apart, ascend, at_its_path}
-use Rattle.acl_audit.proofs.SavedLemmas.{below_all, changed-at, found_each, found_in, node_of, not_found}
-use Rattle.acl_audit.proofs.SavedLemmas.{order, put-is, put-put-is, same, same-is, same-itself, shadowed}
-use Rattle.acl_audit.proofs.SavedLemmas.{truth, weaker}
+use Rattle.acl_audit.proofs.PutLemmas.{IsPut, IsReady, and_left, and_right, apart, ascend, at_its_path}
+use Rattle.acl_audit.proofs.PutLemmas.{below_all, changed-at, found_each, found_in, node_of, not_found}
+use Rattle.acl_audit.proofs.PutLemmas.{order, put-is, put-put-is, same, same-is, same-itself, shadowed}
+use Rattle.acl_audit.proofs.PutLemmas.{truth, weaker}
 
 -- a node as it is created, before it is given its lists
 abbrev closed_of : Node → Node

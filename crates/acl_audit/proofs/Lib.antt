@@ -5,7 +5,7 @@ pub mod ImpactLemmas
 pub mod GroupLemmas
 pub mod ChangesLeft
 pub mod QuietLemmas
-pub mod SavedLemmas
+pub mod PutLemmas
 pub mod GroupsLemmas
 pub mod ParentLemmas
 pub mod DumpLemmas

@@ -9,7 +9,7 @@ use Rattle.acl_names.specs.Pieces.{parts}
 use Rattle.acl_tree.specs.Path.{has_components, is_component, is_path, is_slash, or_root, parent}
 use Rattle.acl_tree.specs.declared.limits.TheConstants.{MAX_PATH_LEN}
 use Rattle.acl_audit.specs.Dump.{root}
-use Rattle.acl_audit.proofs.SavedLemmas.{order, and_left, and_right}
+use Rattle.acl_audit.proofs.PutLemmas.{order, and_left, and_right}
 
 -- a front of a text that leaves something stands before it
 front_less : (n : ℕ) (text : List ℕ) → n < length text → order (take n text) text ≡ Less

@@ -42,7 +42,7 @@ use Rattle.acl_bridge.specs.declared.style.Style.{Style}
 use Rattle.acl_tree.specs.declared.request.Request.{Request}
 use Rattle.acl_tree.specs.declared.request.Request.TheVariants as request
 use Rattle.acl_tree.proofs.FileLaws.{under}
-use Rattle.acl_audit.specs.Saved.{FilesInheritNothing}
+use Rattle.acl_audit.specs.Quiet.{FilesInheritNothing}
 
 -- whether something would inherit the entry
 abbrev inherits : Nfsace4 → Bool

@@ -5,5 +5,5 @@ pub mod Impact
 pub mod Who
 pub mod Reach
 pub mod Answers
-pub mod Saved
+pub mod Quiet
 pub mod Dump

@@ -1,9 +1,9 @@
 //! The commands that make a tree again.
 ghost use Rattle.std.specs.Prelude.{◌≡◌, ◌++◌, IfOk, OnOk};
-ghost use Rattle.acl_tree.specs.declared.request.Request.TheVariants.{Create, SetAccess};
+ghost use Rattle.acl_tree.specs.declared.request.Request.TheVariants.{Create, SetAccess, SetNfs4};
 ghost use Rattle.acl_audit.specs.Dump.{closed_list, creation, no_mode, set_default, set_lists};
 
-use crate::saved::{set_access, set_default, set_nfs4};
+use acl_nfs4::Acl4;
 use acl_posix::{Acl, Mode, Perms};
 use acl_tree::{Boxed, Node, NodeAcl, Path, Request};
 use bitflags::Flags;
@@ -47,6 +47,22 @@ pub fn push_creation(
     Ok(())
 }
 
+/// The command that sets the access list.
+fn set_access(alloc: Global, path: &Path, access: &Acl) -> Result<Request, AllocError>
+    ensures { IfOk result (λ request. request ≡ SetAccess path.now access.now) }
+{
+    let acl = Boxed::new(alloc, access.try_clone(alloc)?)?;
+    Ok(Request::SetAccess(path.try_clone(alloc)?, acl))
+}
+
+/// The command that sets the NFSv4 list.
+fn set_nfs4(alloc: Global, path: &Path, acl: &Acl4) -> Result<Request, AllocError>
+    ensures { IfOk result (λ request. request ≡ SetNfs4 path.now acl.now) }
+{
+    let acl = Boxed::new(alloc, acl.try_clone(alloc)?)?;
+    Ok(Request::SetNfs4(path.try_clone(alloc)?, acl))
+}
+
 /// Appends the command that sets the default list, if there is one.
 fn push_default(
     alloc: Global,
@@ -57,8 +73,9 @@ fn push_default(
     ensures { OnOk result (requests.new.items
         ≡ requests.old.items ++ set_default path.now default.now) }
 {
-    if default.is_some() {
-        requests.push(set_default(alloc, path, default)?)?;
+    if let Some(default) = default {
+        let acl = Boxed::new(alloc, default.try_clone(alloc)?)?;
+        requests.push(Request::SetDefault(path.try_clone(alloc)?, Some(acl)))?;
     }
     Ok(())
 }

@@ -1,13 +1,13 @@
-//! The laws of what is told of nodes and trees, over the definitions alone.
+//! The laws of what is reported of nodes and trees, over the definitions alone.
 ghost use Rattle.acl_audit.specs.Changes.{TwoGroupsSuffice};
 ghost use Rattle.acl_audit.specs.Dump.{DumpsMakeTheTree};
 ghost use Rattle.acl_audit.specs.Impact.{AlikeNodesAreCheckedAlike, ChangesAreNotAlike};
 ghost use Rattle.acl_audit.specs.Letters.{BitsAreGranted, LetterIsChecked};
 ghost use Rattle.acl_audit.specs.Letters.{LettersStandForBits};
-ghost use Rattle.acl_audit.specs.Saved.{FilesNeverInherit, SavedListsComeBack};
+ghost use Rattle.acl_audit.specs.Quiet.{FilesNeverInherit};
 
-/// A letter is told of a user exactly if the tree's own check of it is answered `granted`, and a
-/// bit of a mask exactly if it is granted by itself. Of a POSIX list they are those that the
+/// A letter is reported of a user exactly if the tree's own check of it is answered `granted`, and
+/// a bit of a mask exactly if it is granted by itself. Of a POSIX list they are those that the
 /// letters stand for. There is nothing to run here: a proof cites the contract.
 pub fn letter_laws()
     ensures read { LetterIsChecked 4 }
@@ -27,18 +27,10 @@ pub fn impact_laws()
     ensures exclusive { ChangesAreNotAlike }
 {}
 
-/// What was saved of a tree that commands made gives each of its nodes its lists back, whatever
-/// commands came since, and leaves every node that is new. No file of such a tree has a list that
-/// anything would inherit, so that no list that was saved is refused. There is nothing to run here:
-/// a proof cites the contract.
-pub fn saved_laws()
-    ensures files { FilesNeverInherit }
-    ensures back { SavedListsComeBack }
-{}
-
 /// Over the tree that commands began with, the dump of the tree that they made makes it again:
-/// kinds, owners, groups, lists and umask. There is nothing to run here: a proof cites the
-/// contract.
+/// kinds, owners, groups, lists and umask. No file of such a tree has a list that anything would
+/// inherit, so that none is refused. There is nothing to run here: a proof cites the contract.
 pub fn dump_laws()
     ensures again { DumpsMakeTheTree }
+    ensures files { FilesNeverInherit }
 {}

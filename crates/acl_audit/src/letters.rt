@@ -47,8 +47,8 @@ pub fn granted_mask(node: &Node, requester: &Requester) -> Mask
     }
 }
 
-/// Letters in which it is told what is granted, each by itself: the permissions of a file mode, or
-/// the bits of a mask.
+/// Letters that report what is granted, each by itself: the permissions of a file mode, or the bits
+/// of a mask.
 pub trait LetterSet: Copy + Drop {
     /// The number whose bits they are.
     ghost number: { Self → ℕ };

@@ -40,7 +40,7 @@ Granter = Identity → ℕ → Bool
 abbrev pub grants_at : List EntryValue → Owners → Granter
 grants_at acl owners = grants acl owners.owner owners.group
 
--- the bits by which permissions are told, one for each
+-- the bits by which permissions are reported, one for each
 abbrev pub permission_bits : ℕ
 permission_bits = 2 ^ read_data + 2 ^ write_data + 2 ^ execute
 
@@ -88,7 +88,7 @@ pub record IsUnlike (first second : Granter) (request : ℕ) (unlike : Unlike) :
 abbrev pub whole_requests : List ℕ
 whole_requests = 6 ∷ 5 ∷ 3 ∷ 7 ∷ []
 
--- the bits by which a request is told
+-- the bits by which a request is reported
 abbrev pub mask_for : ℕ → ℕ
 mask_for request = mask_of request ∩ permission_bits
 

@@ -22,7 +22,7 @@ pub fn permission_bits() -> Mask
     Mask::READ_DATA.union(Mask::WRITE_DATA.union(Mask::EXECUTE))
 }
 
-/// The bits by which a request is told, one for each permission.
+/// The bits by which a request is reported, one for each permission.
 pub fn mask_for(request: Perms) -> Mask
     ensures { mask_bits result ≡ mask_for (bits_of request) }
 {

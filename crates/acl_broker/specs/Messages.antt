@@ -16,6 +16,6 @@ module _ {I : Type 0} where
   has_end_mark (Item item ∷ entries) = has_end_mark entries
   has_end_mark (EndMark ∷ entries) = true
 
--- what came out is the front of what went in
+-- what came out is the prefix of what went in
 abbrev pub IsInOrder : {A : Type 0} → List A → List A → Type 0
 IsInOrder out into = out ++ drop (length out) into ≡ into

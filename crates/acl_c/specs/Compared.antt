@@ -11,7 +11,7 @@ use Rattle.acl_wire.specs.declared.raw_ace.RawAce.{RawAce}
 use Rattle.acl_c.specs.Status.{nfs4_number, out_of_memory, posix_number}
 
 -- 0 if the lists grant the request to the same requesters, 1 if the first list alone grants it to
--- the one who is told, 2 if the second alone does; else why there is no answer
+-- the one who is reported, 2 if the second alone does; else why there is no answer
 abbrev pub TellsUnlike : List ℕ → ℕ → ℕ → List ℕ → ℕ → ℕ → ℕ → ℤ → RawAsker → RawAsker → Type 0
 TellsUnlike first owner group second other_owner other_group request told old new =
     ((pair : Pair EntryValue)

@@ -42,7 +42,7 @@ pub record WentOut (Is : Answer → Type 0) (ending : Ending) (out out' : Option
   pub text : Appends out out' answer.text
   pub beside : Tells answer.beside err err'
 
--- of such an answer a front of both texts did
+-- of such an answer a prefix of both texts did
 pub record FrontWentOut (Is : Answer → Type 0) (out out' : Option (List ℕ))
     (err err' : ErrorText) : Type 0 where
   pub answer : Answer
@@ -55,7 +55,7 @@ pub record FrontWentOut (Is : Answer → Type 0) (out out' : Option (List ℕ))
 abbrev pub NothingWentOut : Option (List ℕ) → Option (List ℕ) → ErrorText → ErrorText → Type 0
 NothingWentOut out out' err err' = Keeps out out' × (err' ≡ err)
 
--- a command of this meaning came to this, before a failure is told
+-- a command of this meaning came to this, before a failure is reported
 pub record Comes {I : Type 0} (meaning : Meaning) (result : Result Ending Failure)
     (out out' : Option (List ℕ)) (err err' : ErrorText) (input input' : I) : Type 0 where
   pub answered : IfOk result (λ ending. WentOut meaning.Answers ending out out' err err')
@@ -66,14 +66,15 @@ pub record Comes {I : Type 0} (meaning : Meaning) (result : Result Ending Failur
   pub untouched : meaning.inputs ≡ 0 → input' ≡ input
   pub unread : IfErr result (λ failure. status_of failure ≡ 2 → input' ≡ input)
 
--- what a command came to was told, with this exit status: of a failure its line, if it isn't the
--- parser's
+-- what a command came to was reported, with this exit status: of a failure its line, if it isn't
+-- the parser's
 abbrev pub IsTold : Result Ending Failure → ℕ → ErrorText → ErrorText → Type 0
 IsTold (Ok ending) status err err' = (status ≡ status_of_ending ending) × (err' ≡ err)
 IsTold (Err failure) status err err' =
     (status ≡ status_of failure) × IfSome (line_of failure) (λ line. Tells line err err')
 
--- a command of this meaning ended with this exit status: it came to something, and that was told
+-- a command of this meaning ended with this exit status: it came to something, and that was
+-- reported
 pub record Ends {I : Type 0} (meaning : Meaning) (status : ℕ) (out out' : Option (List ℕ))
     (err err' : ErrorText) (input input' : I) : Type 0 where
   pub result : Result Ending Failure

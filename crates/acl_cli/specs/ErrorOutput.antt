@@ -5,7 +5,7 @@ use Rattle.std.specs.Io.KnownBytes.{Appends}
 use Rattle.acl_names.specs.Bytes.{newline}
 use Rattle.acl_cli.specs.Output.{AppendsFront}
 
--- the bytes that went there, if they are told, and whether a write failed
+-- the bytes that went there, if they are known, and whether a write failed
 pub record ErrorText : Type 0 where
   pub contents : Option (List ℕ)
   pub has_failed : Bool
@@ -18,7 +18,7 @@ line_of_words words = codes "aclctl: " ++ words ++ newline ∷ []
 abbrev pub placed_words : ℕ → List ℕ → List ℕ
 placed_words line words = codes ":" ++ decimal line ++ codes ": " ++ words
 
--- a text went there: all of it, or, if a write failed, a front of it; nothing more after a failed
+-- a text went there: all of it, or, if a write failed, a prefix of it; nothing more after a failed
 -- write; and of an empty text nothing is seen at all
 pub record Tells (text : List ℕ) (old new : ErrorText) : Type 0 where
   pub whole : new.has_failed ≡ false → Appends old.contents new.contents text

@@ -27,7 +27,7 @@ use Rattle.acl_cli.specs.declared.reason.Reason.TheVariants.{Unknown, NotFound, 
 use Rattle.acl_cli.specs.declared.reason.Reason.TheVariants.{NotADirectory, IsADirectory}
 use Rattle.acl_cli.specs.declared.run_fault.RunFault.TheVariants.{Memory, Output}
 
--- 1: something doesn't read; 2: wrong usage; 3: something failed or lacks
+-- 1: something is malformed; 2: wrong usage; 3: something failed or lacks
 abbrev pub status_of : Failure → ℕ
 status_of (Usage error) = 2
 status_of (Field fault) = 1
@@ -120,7 +120,7 @@ IsReadFailure name (CannotRead refused reason) = refused.now ≡ name
 IsReadFailure name (Lacks Memory) = ⊤
 IsReadFailure name _ = ⊥
 
--- what has one of these names can't be read, and the reason isn't told; or memory ran out
+-- what has one of these names can't be read, and the reason isn't reported; or memory ran out
 abbrev pub IsUnexplained : (List ℕ → Type 0) → Failure → Type 0
 IsUnexplained IsName (CannotRead refused reason) = IsName refused.now × (reason ≡ Unknown)
 IsUnexplained IsName (Lacks Memory) = ⊤

@@ -2,6 +2,6 @@
 use Rattle.std.specs.Prelude.{ℕ, List, Option, take}
 use Rattle.std.specs.Io.KnownBytes.{Appends}
 
--- a front of these bytes, all or none of them among them, went to a writer that tells its bytes
+-- a prefix of these bytes, all or none of them among them, went to a writer that tells its bytes
 abbrev pub AppendsFront : Option (List ℕ) → Option (List ℕ) → List ℕ → Type 0
 AppendsFront old new bytes = (count : ℕ) × Appends old new (take count bytes)

@@ -1,7 +1,7 @@
--- What is told of things, one after the other: an answer, and what stands beside it.
+-- What is reported of things, one after the other: an answer, and what stands beside it.
 use Rattle.std.specs.Prelude.{ℕ, Bool, true, false, List, [], ◌∷◌, ◌++◌}
 
--- behind these texts, what is told from the new state on is told from the old one on
+-- behind these texts, what is reported from the new state on is reported from the old one on
 abbrev pub LeadsOn : (List ℕ → List ℕ → Type 0) → (List ℕ → List ℕ → Type 0) → List ℕ → List ℕ
     → Type 0
 LeadsOn Old New told said = (rest others : List ℕ) → New rest others

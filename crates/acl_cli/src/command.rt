@@ -13,8 +13,8 @@ use std::alloc::Global;
 use std::convert::AsStr;
 use std::io::{Read, Write};
 
-/// How a command answers: wholly; or but in part, since something of what it was asked about
-/// doesn't read; or with a difference, where the words ask for a status of that.
+/// How a command answers: wholly; or but in part, since something of what it was asked about is
+/// malformed; or with a difference, where the words ask for a status of that.
 #[derive(Clone, Copy, Debug, PartialEq, Eq)]
 pub enum Ending {
     Answered,

@@ -1,4 +1,4 @@
-//! Standard error: where faults are told.
+//! Standard error: where faults are reported.
 ghost use Rattle.std.specs.Prelude.{◌≡◌, ◌++◌, false};
 ghost use Rattle.acl_cli.specs.ErrorOutput.{Tells, line_of_words, placed_words};
 
@@ -8,8 +8,8 @@ use std::fmt::Display;
 use std::io::Write;
 use std::marker::Model;
 
-/// Where faults are told. It remembers whether a write failed there, and then writes nothing more.
-/// A contract sees what was written to it, and whether a write failed.
+/// Where faults are reported. It remembers whether a write failed there, and then writes nothing
+/// more. A contract sees what was written to it, and whether a write failed.
 #[derive(Drop)]
 pub struct ErrorOutput<W: Write + Drop> {
     inner: W,
@@ -28,7 +28,7 @@ impl<W: Write + Drop> Model for ErrorOutput<W> {
 }
 
 impl<W: Write + Drop> ErrorOutput<W> {
-    /// Faults are told to this writer, at which no write has failed.
+    /// Faults are reported to this writer, at which no write has failed.
     pub fn new(inner: W) -> ErrorOutput<W>
         ensures { result ≡ record { contents = W.contents inner; has_failed = false } }
     {
@@ -45,7 +45,8 @@ impl<W: Write + Drop> ErrorOutput<W> {
         self.has_failed
     }
 
-    /// Writes a text. If a write fails, a front of it went out; if one failed before, nothing does.
+    /// Writes a text. If a write fails, a prefix of it went out; if one failed before, nothing
+    /// does.
     pub fn write_text(&mut self, text: &[u8])
         ensures { Tells text.now self.old self.new }
     {

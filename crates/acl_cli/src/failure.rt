@@ -16,7 +16,7 @@ use std::io::{self, Write};
 pub enum Failure<'a> {
     /// The parser of command lines refuses the words, or was asked for help.
     Usage(clap::Error),
-    /// A field doesn't read.
+    /// A field is malformed.
     Field(FieldFault),
     /// Options or words that the parser takes don't go with each other.
     Mismatch(Mismatch),
@@ -57,7 +57,7 @@ impl<'a> Failure<'a> {
         }
     }
 
-    /// The exit status: 1 if something doesn't read, 2 for wrong usage, 3 if something lacks.
+    /// The exit status: 1 if something is malformed, 2 for wrong usage, 3 if something lacks.
     pub fn status(&self) -> u8
         ensures { result ≡ status_of self.now }
     {

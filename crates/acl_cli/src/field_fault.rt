@@ -1,9 +1,9 @@
-//! Fields that don't read.
+//! Fields that are malformed.
 ghost use Rattle.std.specs.Prelude.{◌≡◌};
 
 use acl_posix::AclFault;
 
-/// A field of the words that doesn't read.
+/// A field of the words that is malformed.
 #[derive(Clone, Copy, Debug, PartialEq, Eq)]
 pub enum FieldFault {
     /// An id is no decimal.

@@ -1,4 +1,4 @@
-//! Options of the program's commands, as the parser of command lines is told of them.
+//! Options of the program's commands, as the parser of command lines gets them.
 ghost use Rattle.std.specs.Prelude.{◌≡◌, codes, false};
 ghost use Rattle.clap.specs.Words.{rule_of};
 ghost use Rattle.acl_cli.specs.CommandLine.{flag, optional_option, required_option};

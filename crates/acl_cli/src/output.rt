@@ -5,7 +5,7 @@ ghost use Rattle.acl_cli.specs.Output.{AppendsFront};
 
 use std::io::{self, ErrorKind, Write};
 
-/// Writes all of a text. If a write fails, a front of the text went out. A write that was
+/// Writes all of a text. If a write fails, a prefix of the text went out. A write that was
 /// interrupted is made again.
 pub fn write_text<W: Write>(text: &[u8], out: &mut W) -> io::Result<()>
     ensures written { OnOk result (Appends (W.contents out.old) (W.contents out.new) text.now) }

@@ -17,7 +17,7 @@ fn read_text(text: &str) -> Result<Perms, FieldFault>
     read_perms(text.as_bytes()).ok_or(FieldFault::BadPerms)
 }
 
-/// What is requested.
+/// The value of `--perms`, which has to be given. It fails with `BadPerms` if it is malformed.
 pub fn perms_field(matches: &ArgMatches<'_>) -> Result<Perms, FieldFault>
     ensures read { IfOk result (λ perms. perms_in (rows_of (found_of matches.now))
         ≡ Ok (bits_of perms)) }
@@ -26,7 +26,7 @@ pub fn perms_field(matches: &ArgMatches<'_>) -> Result<Perms, FieldFault>
     read_text(text_field(matches, "perms").ok_or(FieldFault::BadPerms)?)
 }
 
-/// What is requested, if the words tell.
+/// The value of `--perms`, if it is given. It fails with `BadPerms` if that is malformed.
 pub fn optional_perms_field(matches: &ArgMatches<'_>) -> Result<Option<Perms>, FieldFault>
     ensures read { IfOk result (λ perms. optional_perms_in (rows_of (found_of matches.now))
         ≡ Ok (option_map bits_of perms)) }

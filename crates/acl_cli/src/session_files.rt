@@ -38,7 +38,7 @@ pub fn count_inputs(names: &[&str]) -> usize
 }
 
 /// The bytes of the file of this name, of which there may be at most `cap`. If it can't be read,
-/// the reason isn't told.
+/// the reason isn't reported.
 pub fn read_unexplained<'a, F: OpenFiles>(
     alloc: Global,
     files: &F,

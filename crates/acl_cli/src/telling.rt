@@ -1,4 +1,4 @@
-//! Answers that are told thing by thing, and written in pieces; and whether there is one.
+//! Answers that are reported thing by thing, and written in pieces; and whether there is one.
 ghost use Rattle.std.specs.Prelude.{◌≡◌, ◌++◌, ◌⊎◌, ◌||◌, ℕ, IfErr, IfOk, List, [], OnErr};
 ghost use Rattle.std.specs.Prelude.{OnOk, nat_lt, not};
 ghost use Rattle.std.specs.Bool.{MatchBool};
@@ -14,21 +14,21 @@ use crate::{ErrorOutput, Failure, RunFault, send_full, write_text};
 use std::alloc::Global;
 use std::io::Write;
 
-/// What is told, thing by thing: an answer, and what stands beside it on standard error.
+/// What is reported, thing by thing: an answer, and what stands beside it on standard error.
 pub trait Telling<'n> {
-    /// The texts are all that is told from here on.
+    /// The texts are all that is reported from here on.
     ghost Tells: { Self → List ℕ → List ℕ → Type 0 };
 
-    /// The texts are what is told of the first things from here on.
+    /// The texts are what is reported of the first things from here on.
     ghost Begins: { Self → List ℕ → List ℕ → Type 0 };
 
-    /// What is told from here on ends so.
+    /// What is reported from here on ends so.
     ghost Ends: { Self → Ending → Type 0 };
 
     /// It may fail so.
     ghost Fails: { Self → FailureValue → Type 0 };
 
-    /// Appends what is told of the next thing, if there is one, and what is said beside it.
+    /// Appends what is reported of the next thing, if there is one, and what is said beside it.
     fn tell_next(
         &mut self,
         alloc: Global,
@@ -49,16 +49,16 @@ pub trait Telling<'n> {
         ensures stays { (failure : FailureValue) → Fails self.new failure → Fails self.old failure };
 }
 
-/// Whether something was told, or now is: a text of so many bytes has so many now.
+/// Whether something was reported, or now is: a text of so many bytes has so many now.
 fn told_more(some: bool, kept: usize, now: usize) -> bool
     ensures { result ≡ (some || nat_lt kept now) }
 {
     some || now > kept
 }
 
-/// Writes all that is told, in pieces of some 64 KiB, and what stands beside it at once. Returns
-/// whether anything is told. If it fails, or a write does, what is told of the first things went
-/// out: a front of the answer, and all that stands beside it.
+/// Writes all that is reported, in pieces of some 64 KiB, and what stands beside it at once.
+/// Returns whether anything is reported. If it fails, or a write does, what is reported of the
+/// first things went out: a prefix of the answer, and all that stands beside it.
 pub fn tell_each<'n, T: Telling<'n>, W: Write, E: Write + Drop>(
     alloc: Global,
     telling: &mut T,

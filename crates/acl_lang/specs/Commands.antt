@@ -1,4 +1,4 @@
--- The commands, each with its fields from left to right: the first that doesn't read is the fault.
+-- The commands, each with its fields from left to right: the first that is malformed is the fault.
 -- Other words are no command.
 use Rattle.std.specs.Prelude.{ℕ, List, [], ◌∷◌, Ok, Err, codes, if◌then◌else◌, bytes_eq}
 use Rattle.acl_names.specs.Directory.{Known}

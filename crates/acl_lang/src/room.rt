@@ -1,4 +1,4 @@
-//! How many bytes an answer may have, so that it is printed with one growth at the most.
+//! How many bytes an answer may have, so that it is printed with one allocation at the most.
 
 ghost use Rattle.std.specs.Prelude.{◌≤◌};
 

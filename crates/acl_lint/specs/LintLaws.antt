@@ -1,4 +1,4 @@
--- What is told of sessions, beside what `run` answers and what the pieces of a list say.
+-- What is reported of sessions, beside what `run` answers and what the pieces of a list say.
 use Rattle.std.specs.Prelude.{◌≡◌, ◌≢◌, ◌++◌, ◌+◌, ℕ, All, List, [], ◌∷◌, Option, Some, None, Ok}
 use Rattle.std.specs.Prelude.{Err, IsSomeAnd, bytes_eq, codes, if◌then◌else◌, length}
 use Rattle.std.specs.Prelude.{map, true}
@@ -38,14 +38,14 @@ fault_replied line reply = []
 abbrev pub faults_answered : List Answer → List (ℕ × LineFault)
 faults_answered = flat_map (λ answer. fault_replied answer.line answer.reply)
 
--- Of every text, over whatever tree it runs: those lines are told, with those faults, of which the
--- session's answers say so, in their order.
+-- Of every text, over whatever tree it runs: those lines are reported, with those faults, of which
+-- the session's answers say so, in their order.
 abbrev pub TellsWhatIsAnswered : Type 0
 TellsWhatIsAnswered = (known : Known) (tree : NodesUnderUmask) (text : List ℕ)
     → map told_of (found_in known text)
     ≡ faults_answered (answers_of known tree (requests_of known text))
 
--- the fault of a piece of a list of this kind, if it doesn't read
+-- the fault of a piece of a list of this kind, if it is malformed
 abbrev pub fault_of : {A : Type 0} → Asked A → Option LineFault
 fault_of (Ok value) = None
 fault_of (Err fault) = Some fault
@@ -71,7 +71,7 @@ IsFirstOfFields known fields fault =
     IsFirstAtFault known (first_word (after_word fields)) (after_word (after_word fields)) fault
 
 -- Where a line sets a list, and has a fault that a piece may have, there is a piece at fault: the
--- first that doesn't read, and it has that very fault.
+-- first that is malformed, and it has that very fault.
 abbrev pub TellsThePiece : Type 0
 TellsThePiece = (known : Known) (bytes : List ℕ) (fault : LineFault)
     → line_of known bytes ≡ Command (Bad fault) → is_of_piece fault ≡ true
@@ -79,7 +79,7 @@ TellsThePiece = (known : Known) (bytes : List ℕ) (fault : LineFault)
     → IsSomeAnd (piece_at_fault known fault bytes)
     (IsFirstOfFields known (after_word (trim bytes)) fault)
 
--- No place that is told is empty: of a setup, and of a line.
+-- No place that is reported is empty: of a setup, and of a line.
 pub record TellsAPlace : Type 0 where
   pub of_setup : (error : SetupError) → setup_place error ≢ []
   pub of_line : (piece : Option Piece) → place_text piece ≢ []

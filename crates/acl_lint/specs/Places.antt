@@ -20,14 +20,14 @@ abbrev pub piece_or : {A F : Type 0} → Result A F → Piece → Option Piece �
 piece_or (Ok value) piece other = other
 piece_or (Err fault) piece other = Some piece
 
--- the first piece that doesn't read, of those after so many
+-- the first piece that is malformed, of those after so many
 abbrev pub first_unread : {A F : Type 0} → (List ℕ → Result A F) → ℕ → List (List ℕ)
     → Option Piece
 first_unread read before [] = None
 first_unread read before (piece ∷ more) = piece_or (read piece)
     (record { number = before + 1; text = piece }) (first_unread read (before + 1) more)
 
--- the first of a text's pieces that doesn't read, of so many as a list may have
+-- the first of a text's pieces that is malformed, of so many as a list may have
 abbrev pub unread_in : {A F : Type 0} → (List ℕ → Result A F) → ℕ → List ℕ → Option Piece
 unread_in read most text = first_unread read 0 (take most (pieces text))
 

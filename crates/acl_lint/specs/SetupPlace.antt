@@ -1,4 +1,4 @@
--- Where in a setup a fault is, as it is told.
+-- Where in a setup a fault is, as it is reported.
 use Rattle.std.specs.Prelude.{ℕ, List, [], ◌∷◌, ◌++◌, codes, decimal}
 use Rattle.acl_names.specs.Bytes.{colon, hyphen}
 use Rattle.acl_setup.specs.declared.fault.SetupError.{SetupError}

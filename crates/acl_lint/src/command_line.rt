@@ -7,7 +7,7 @@ use acl_service::session_words;
 use clap::Command;
 use std::alloc::{AllocError, Global};
 
-/// What is told, and what the exit statuses are.
+/// What is reported, and what the exit statuses are.
 const ANSWERS: &str = "A line for each fault, and none if nothing is wrong. Of a setup that is \
 refused:
   FILE: WORD PLACE

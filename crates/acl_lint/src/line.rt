@@ -1,4 +1,4 @@
-//! What is told of a line.
+//! What is reported of a line.
 ghost use Rattle.std.specs.Prelude.{◌≡◌, ◌++◌, OnOk};
 ghost use Rattle.std.specs.List.{flat_map};
 ghost use Rattle.acl_lint.specs.LintText.{found_in_line, found_text, place_text};
@@ -48,8 +48,8 @@ fn push_found(
     Ok(())
 }
 
-/// Appends what is told of a line of the session of this name: one line if it has a fault, and else
-/// nothing. It fails only if memory runs out.
+/// Appends what is reported of a line of the session of this name: one line if it has a fault, and
+/// else nothing. It fails only if memory runs out.
 pub(crate) fn push_line(
     alloc: Global,
     directory: &Directory,

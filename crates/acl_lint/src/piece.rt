@@ -24,7 +24,7 @@ impl<'t> Model for Piece<'t> {
     ghost view = { λ piece. record { number = piece.number; text = piece.text.now } };
 }
 
-/// The first piece of a text that doesn't read, of so many as a list may have.
+/// The first piece of a text that is malformed, of so many as a list may have.
 fn first_unread<'t, R: PieceReader>(reader: &R, most: u32, text: &'t [u8]) -> Option<Piece<'t>>
     ensures { result ≡ unread_in (R.value_of reader.now) most text.now }
 {
@@ -41,7 +41,7 @@ fn first_unread<'t, R: PieceReader>(reader: &R, most: u32, text: &'t [u8]) -> Op
     None
 }
 
-/// The same of the text of a list, by the word for its kind.
+/// The first malformed piece of the text of a list, by the word for its kind.
 fn unread_of_kind<'t>(directory: &Directory, kind: &[u8], text: &'t [u8]) -> Option<Piece<'t>>
     ensures { result ≡ unread_of_kind directory.now kind.now text.now }
 {
@@ -52,7 +52,7 @@ fn unread_of_kind<'t>(directory: &Directory, kind: &[u8], text: &'t [u8]) -> Opt
     }
 }
 
-/// The same of the fields `PATH KIND TEXT`.
+/// The first malformed piece of the list in the fields `PATH KIND TEXT`.
 fn unread_of_fields<'t>(directory: &Directory, fields: &'t [u8]) -> Option<Piece<'t>>
     ensures { result ≡ unread_of_fields directory.now fields.now }
 {

@@ -1,4 +1,4 @@
-//! Where in a setup a fault is, as it is told.
+//! Where in a setup a fault is, as it is reported.
 ghost use Rattle.std.specs.Prelude.{◌≡◌, ◌++◌, OnOk, decimal};
 ghost use Rattle.acl_lint.specs.SetupPlace.{key_text, setup_place, spot_text};
 

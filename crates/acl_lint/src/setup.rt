@@ -1,4 +1,4 @@
-//! What is told of a setup.
+//! What is reported of a setup.
 ghost use Rattle.std.specs.Prelude.{◌≡◌, ◌++◌, ◌⊎◌, IfErr, IfOk, OnErr, OnOk};
 ghost use Rattle.std.specs.Io.KnownBytes.{Appends, Keeps};
 ghost use Rattle.acl_cli.specs.Output.{AppendsFront};
@@ -35,8 +35,8 @@ fn setup_line(alloc: Global, name: &str, error: SetupError) -> Result<Vec<u8>, A
     Ok(line)
 }
 
-/// Writes what is told of the setup of this name, which is refused for this. If memory runs out,
-/// nothing went out, and if a write fails, a front of it.
+/// Writes what is reported of the setup of this name, which is refused for this. If memory runs
+/// out, nothing went out, and if a write fails, a prefix of it.
 pub(crate) fn write_setup<'n, W: Write>(
     alloc: Global,
     name: &str,

@@ -1,4 +1,4 @@
--- What a block says of a file, and what is told of one that says nothing.
+-- What a block says of a file, and what is reported of one that says nothing.
 use Rattle.std.specs.Prelude.{ℕ, nat_le, List, length, Option, Some, None, Result, Ok, Err}
 use Rattle.std.specs.Prelude.{if◌then◌else◌}
 use Rattle.std.specs.Option.{option_and_then}
@@ -62,6 +62,6 @@ file_by names text = do
 abbrev pub file_of : Known → List ℕ → Result FileValue BlockFault
 file_of known = file_by (names_of known)
 
--- the path by which a fault of the block is told: that of its first line
+-- the path by which a fault of the block is reported: that of its first line
 abbrev pub path_of : List ℕ → Option (List ℕ)
 path_of text = option_and_then path_in (within_limit (first_line text))

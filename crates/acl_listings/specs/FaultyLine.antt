@@ -99,7 +99,7 @@ IsFaultyAt names (Acl fault) text before =
     × (before ≡ 3 + (before - 3))
 IsFaultyAt names fault text before = before ≡ 0
 
--- how many more entries may stand behind these pieces; none if one of them doesn't read, or is one
+-- how many more entries may stand behind these pieces; none if one of them is malformed, or is one
 -- too many
 abbrev pub room_behind : Names → ListKind → ℕ → List (List ℕ) → Option ℕ
 room_behind names kind room texts =

@@ -9,7 +9,7 @@ use acl_nfs4::AceFault;
 use acl_posix::{AclFault, TextFault};
 use std::alloc::AllocError;
 
-/// What is wrong with a block, in the order in which it is told.
+/// What is wrong with a block, in the order in which it is reported.
 #[derive(Clone, Copy, Debug, PartialEq, Eq)]
 pub enum BlockFault {
     /// It has more than 65,536 bytes.

@@ -68,8 +68,8 @@ pub fn read_file<'t, N: ResolveNames>(
     })
 }
 
-/// The path in a block's first line, by which a fault of the block is told. `None` if that line is
-/// no file's, or is longer than a block may be.
+/// The path in a block's first line, by which a fault of the block is reported. `None` if that line
+/// is no file's, or is longer than a block may be.
 pub fn path_of(text: &[u8]) -> Option<&[u8]>
     ensures { option_map (λ path. path.now) result ≡ path_of text.now }
 {

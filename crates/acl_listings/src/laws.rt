@@ -33,8 +33,8 @@ pub fn printed_files_are_read_again()
         ≡ map Ok files }
 {}
 
-/// If a block is refused for its entries, those of its list's lines don't read: so there is a line
-/// at fault. There is nothing to run here: a proof cites the contract.
+/// If a block is refused for its entries, those of its list's lines are malformed: so there is a
+/// line at fault. There is nothing to run here: a proof cites the contract.
 pub fn refused_entries_stand_in_lines()
     ensures { (names : Names) (text : List ℕ) (fault : AclFault)
         → file_by names text ≡ Err (Acl fault)

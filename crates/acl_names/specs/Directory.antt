@@ -82,7 +82,7 @@ requester_of known uid = record {
   gids = filter_map (gid_of known) (groups_of known uid);
 }
 
--- What is wrong with the lists, in the order in which it is told.
+-- What is wrong with the lists, in the order in which it is reported.
 
 abbrev pub is_too_many : Known → Bool
 is_too_many known = nat_lt MAX_USERS (length known.users) || nat_lt MAX_GROUPS (length known.groups)

@@ -23,7 +23,7 @@ pub record Asked : Type 0 where
 abbrev pub acl_in : List Row → Result (List EntryValue) FieldFault
 acl_in rows = or_fault (Acl acl.BadAcl) (first_of (codes "text") rows) >>= acl_of
 
--- what is asked, or the fault of the first field that doesn't read, in this order
+-- what is asked, or the fault of the first field that is malformed, in this order
 unfoldable pub asked_in : List Row → Result Asked FieldFault
 asked_in rows = do
   owner ← id_in (codes "owner") rows

@@ -14,7 +14,7 @@ pub record Compared : Type 0 where
   pub first : AnyAcl
   pub second : AnyAcl
 
--- what is compared, or the fault of the first field that doesn't read, in this order
+-- what is compared, or the fault of the first field that is malformed, in this order
 unfoldable pub compared_in : List Row → Result Compared FieldFault
 compared_in rows = do
   owner ← id_in (codes "owner") rows

@@ -14,7 +14,7 @@ pub record Explained : Type 0 where
   pub asked : FileRequestValue
   pub acl : AnyAcl
 
--- what is asked, or the fault of the first field that doesn't read, in this order
+-- what is asked, or the fault of the first field that is malformed, in this order
 unfoldable pub explained_in : List Row → Result Explained FieldFault
 explained_in rows = do
   owner ← id_in (codes "owner") rows

@@ -18,7 +18,7 @@ pub record IsAnswered {A : Type 0} (reading : Result A FieldFault) (IsAnswer : A
   pub quiet : answer.beside ≡ []
   pub whole : answer.ending ≡ Answered
 
--- they have no answer for the first of them that doesn't read, or since memory ran out; or they
+-- they have no answer for the first of them that is malformed, or since memory ran out; or they
 -- have one, and it can't be written
 abbrev pub FailsFor : {A : Type 0} → Result A FieldFault → Failure → Type 0
 FailsFor reading (Field fault) = reading ≡ Err fault

@@ -16,8 +16,8 @@ use std::io::{Read, Write};
 /// TEXT STYLE TEXT`, where a STYLE is `posix` or `nfs4`. The answer goes to `out`: `alike`, if both
 /// lists decide alike for every requester, of whatever uid and groups; else `differ`, and who is
 /// decided about differently, what is lost and what is gained, each on a line of its own. Who is
-/// told, if there are several, isn't fixed; it is someone in at most two groups. All of it is made
-/// first and then written at once. What is wrong with the words goes to `err`; a fault while
+/// reported, if there are several, isn't fixed; it is someone in at most two groups. All of it is
+/// made first and then written at once. What is wrong with the words goes to `err`; a fault while
 /// writing there changes nothing.
 ///
 /// Between NFSv4 lists all bits of a mask are compared, and between a POSIX list and an NFSv4 list
@@ -25,9 +25,9 @@ use std::io::{Read, Write};
 /// permissions, which one of them may grant as a whole and the other not. Between POSIX lists the
 /// permissions are compared, first each by itself and then the requests of several.
 ///
-/// The exit status is 0 with the answer, and with help, which goes to `out` too; 1 if a field
-/// doesn't read, 2 if the parser of command lines refuses the words, and 3 if memory runs out or
-/// the answer can't be written.
+/// The exit status is 0 with the answer, and with help, which goes to `out` too; 1 if a field is
+/// malformed, 2 if the parser of command lines refuses the words, and 3 if memory runs out or the
+/// answer can't be written.
 #[derive(Clone, Copy)]
 pub struct Compare;
 

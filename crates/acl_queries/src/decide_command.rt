@@ -18,8 +18,8 @@ use std::io::{Read, Write};
 /// written at once. What is wrong with the words goes to `err`, and so does help; a fault while
 /// writing there changes nothing.
 ///
-/// The exit status is 0 with the answer, 1 if a field doesn't read, 2 if the parser of
-/// command lines refuses the words, and 3 if memory runs out or the answer can't be written.
+/// The exit status is 0 with the answer, 1 if a field is malformed, 2 if the parser of command
+/// lines refuses the words, and 3 if memory runs out or the answer can't be written.
 #[derive(Clone, Copy)]
 pub struct Decide;
 

@@ -25,9 +25,9 @@ use std::io::{Read, Write};
 /// All of it is made first and then written at once. What is wrong with the words goes to `err`; a
 /// fault while writing there changes nothing.
 ///
-/// The exit status is 0 with the answer, and with help, which goes to `out` too; 1 if a field
-/// doesn't read, 2 if the parser of command lines refuses the words, and 3 if memory runs out or
-/// the answer can't be written.
+/// The exit status is 0 with the answer, and with help, which goes to `out` too; 1 if a field is
+/// malformed, 2 if the parser of command lines refuses the words, and 3 if memory runs out or the
+/// answer can't be written.
 #[derive(Clone, Copy)]
 pub struct Explain;
 

@@ -19,7 +19,7 @@ ghost use Rattle.acl_queries.specs.Explanation.{SilentEntriesDontCount};
 ghost use Rattle.acl_queries.specs.QueryLaws.{HasTheStatusOfItsWords};
 
 /// The exit status of `decide`, `explain` and `compare` is that of their words, unless something is
-/// lacking (3): 2 if the parser of command lines refuses them, 1 if a field doesn't read, and else
+/// lacking (3): 2 if the parser of command lines refuses them, 1 if a field is malformed, and else
 /// 0; and 0 of `explain` and `compare` if the words ask for help. What ended as the words mean has
 /// no other.
 pub fn statuses_are_those_of_the_words()

@@ -1,6 +1,6 @@
 //! Runs of sessions over any service: each session's requests go through a broker into one journal,
 //! and what is answered is printed for each session. What a session's requests are, how replies are
-//! printed and which of them are errors is told by two traits.
+//! printed and which of them are errors two traits say.
 #![tactic(auto)]
 
 mod error_limits;

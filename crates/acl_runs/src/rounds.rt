@@ -41,7 +41,7 @@ where
     }
 }
 
-/// The same, of sessions with at most so many requests.
+/// `serve_in_rounds` for sessions with at most so many requests.
 fn serve_at_most<P, S, C>(
     alloc: Global,
     replies: &P,

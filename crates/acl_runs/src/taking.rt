@@ -33,7 +33,7 @@ pub(crate) fn serve_until_done<R: Wait + Clock, P: Replies<Reply = S::Reply>, S:
     unreachable!()
 }
 
-/// What a round of takes and deliveries has come to.
+/// What a round of takes and deliveries has brought.
 enum Round {
     /// Something was taken or delivered.
     Moved,

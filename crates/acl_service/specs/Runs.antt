@@ -1,4 +1,4 @@
--- What requests come to, one after the other.
+-- What requests result in, one after the other.
 use Rattle.std.specs.Prelude.{ℕ, List, [], ◌∷◌}
 use Rattle.acl_names.specs.Directory.{Known}
 use Rattle.acl_tree.specs.Apply.{next, reply}

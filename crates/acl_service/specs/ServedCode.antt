@@ -1,4 +1,5 @@
--- Private steps, which no public clause cites: how the service is told from others by a proof.
+-- Private steps, which no public clause cites: how the service is kept apart from others by a
+-- proof.
 use mir.Syntax.{erased}
 use Rattle.std.specs.Prelude.{[]}
 use Rattle.std.specs.Coded.{Coded}

@@ -76,7 +76,7 @@ pub record ExplainsSessions (known : Known) (tree : NodesUnderUmask) (limit : Op
   -- and the tree is the journal's result
   pub result : report.tree ≡ tree_after_journal known tree report.journal.items
 
--- a run of one session comes to what the session comes to alone
+-- a run of one session comes to what the session results in alone
 pub record IsServedAlone (known : Known) (tree : NodesUnderUmask) (text : List ℕ) (report : Report)
     : Type 0 where
   pub output : map (λ output. output.items) report.outputs.items

@@ -18,7 +18,7 @@ use std::io::Write;
 pub enum OneFault {
     /// Memory ran out. Nothing was written.
     Memory,
-    /// The answers couldn't be written. A front of them went out.
+    /// The answers couldn't be written. A prefix of them went out.
     Write,
 }
 
@@ -95,7 +95,7 @@ pub fn apply_text(
 /// Applies the commands of a text to the tree, line by line, and answers with the tree that they
 /// leave. Their answers go to `out`: all of them are made first and then written at once. The text
 /// has at most 1,048,576 bytes. On a fault the tree is dropped. `Memory`: nothing was written.
-/// `Write`: a front of the answers went out.
+/// `Write`: a prefix of the answers went out.
 pub fn run_one<W: Write>(
     alloc: Global,
     directory: &Directory,

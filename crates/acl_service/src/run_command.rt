@@ -42,7 +42,7 @@ use texts::{Options, print_texts};
 /// It returns the exit status: 0 with the outputs; 1 if the setup is refused; 2 for more than 64
 /// texts, before the setup is read; and 3 if memory runs out, the gate stops the run, a thread
 /// can't be started or `out` can't be written. At 1 and 2 nothing was written, and at 3 nothing or
-/// a front of what the run prints.
+/// a prefix of what the run prints.
 ///
 /// There is at least one text, each text has at most 1,048,576 bytes, and an error limit is at
 /// least 1.
@@ -89,7 +89,7 @@ pub fn run_texts<R: Threads + Wait + Clock + Sync, G: Gate, W: Write, E: Write +
 /// long, or the setup is refused; 2 if the parser of command lines refuses the words, or there are
 /// more than 64 sessions or two of them `-`, before any file is opened; and 3 if memory runs out, a
 /// thread can't be started or `out` can't be written. At 1 and 2 nothing was written, and at 3
-/// nothing or a front of what the run prints.
+/// nothing or a prefix of what the run prints.
 pub fn run<R, F, S, I, W, E>(
     rt: &R,
     alloc: Global,

@@ -89,8 +89,8 @@ impl RequestLine {
     }
 }
 
-/// The same tree, of whose journal nothing is wanted but the sessions and the lines: an entry of it
-/// takes 8 bytes, so that long sessions take less memory.
+/// A `Served` whose journal keeps of an entry the session and the line alone: 8 bytes, so that long
+/// sessions take less memory.
 #[derive(Drop)]
 pub(crate) struct ServedInPrint<'a> {
     pub(crate) served: Served<'a>,

@@ -1,4 +1,4 @@
--- What a reading comes to: a value, or the first key at which there is none.
+-- What a reading results in: a value, or the first key at which there is none.
 use Rattle.std.specs.Prelude.{◌≡◌, ⊤, ℕ, ◌+◌, List, [], ◌∷◌, Option, Some, None, Result, Ok, Err}
 use Rattle.std.specs.Prelude.{MatchResult}
 use Rattle.toml.specs.Data.{Data, Items, Members, as_array, get_member, item, no_items}

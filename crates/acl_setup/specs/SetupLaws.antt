@@ -1,4 +1,4 @@
--- The laws of what is told of a setup that is refused: the first key that has the fault.
+-- The laws of what is reported of a setup that is refused: the first key that has the fault.
 use Rattle.std.specs.Prelude.{◌≡◌, ℕ, ◌+◌, Bool, false, is_none, nat_lt, not, List, [], ◌∷◌, ◌++◌}
 use Rattle.std.specs.Prelude.{Option, Some, None, IsSome, Result, Ok, Err, bytes_eq, codes, length}
 use Rattle.std.specs.Prelude.{slice_get, take}
@@ -63,7 +63,7 @@ is_at_fault table (at.GroupName index) =
 is_at_fault table (at.GroupGid index) =
     lacks (id_at (codes "gid")) (table_in (codes "group") index table)
 
--- The keys of a table, in the order in which they are told.
+-- The keys of a table, in the order in which they are reported.
 
 abbrev pub user_keys : ℕ → List Key
 user_keys index =
@@ -94,7 +94,7 @@ abbrev pub key_told : {A : Type 0} → Result A Key → Option Key
 key_told (Ok value) = None
 key_told (Err key) = Some key
 
--- Of a table the first of its keys is told that is at fault, and none if none is.
+-- Of a table the first of its keys is reported that is at fault, and none if none is.
 abbrev pub TellsTheKey : Type 0
 TellsTheKey = (table : Members)
     → key_told (setup_in table) ≡ find (is_at_fault table) (setup_keys table)
@@ -137,7 +137,7 @@ has_fault known parts.UnknownGroup (at.UserGroup index group) =
     (slice_get known.users index)
 has_fault known fault key = false
 
--- The keys that may have the fault, in the order in which they are told.
+-- The keys that may have the fault, in the order in which they are reported.
 
 -- one of each value, of which the first has this index
 abbrev pub value_keys : {A : Type 0} → (ℕ → Key) → ℕ → List A → List Key
@@ -162,8 +162,8 @@ parts_keys known parts.RepeatedId =
 parts_keys known parts.UnknownGroup = member_keys 0 known.users
 parts_keys known parts.Memory = []
 
--- Of users and groups that are no directory the first of these keys is told that has the fault, and
--- there is one.
+-- Of users and groups that are no directory the first of these keys is reported that has the fault,
+-- and there is one.
 pub record TellsThePart : Type 0 where
   pub first : (known : Known) (fault : SetupFault)
       → key_of_parts known.domain known.users known.groups fault

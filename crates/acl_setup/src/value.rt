@@ -28,7 +28,7 @@ pub(crate) trait FromValue: Drop {
         ensures { IsReadingOf (λ read. read) (reading index (view value.now)) result };
 }
 
-/// The value at a key.
+/// `Table::get`, with the contract that proofs cite.
 fn value_at<'a>(table: &'a Table, key: &str) -> Option<&'a Value>
     ensures { option_map (λ value. view value.now) result
         ≡ get_member key.now (table_view table.now) }

@@ -30,7 +30,7 @@ use Rattle.acl_tree.specs.declared.request.Request.TheVariants.{Get, SetAccess, 
 use Rattle.acl_tree.proofs.TreeLaws.{trees_have_paths_alone}
 use Rattle.acl_audit.specs.Dump.{close_command, creation, dump, make_commands, set_commands, no_mode, root, set_default, set_lists}
 use Rattle.acl_audit.proofs.DumpLemmas.{dumps_make_the_tree}
-use Rattle.acl_audit.proofs.SavedLemmas.{and_left, and_right, ascend, found_each, found_in, truth, weaker}
+use Rattle.acl_audit.proofs.PutLemmas.{and_left, and_right, ascend, found_each, found_in, truth, weaker}
 use Rattle.acl_lang.specs.CommandText.{ReadsAgain, numbered_from}
 use Rattle.acl_lang.specs.Commands.{asked_by, command, set_access}
 use Rattle.acl_lang.specs.Lines.{line_of, line_of_trimmed, request_of}

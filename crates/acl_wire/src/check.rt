@@ -42,7 +42,7 @@ fn decide(
     }
 }
 
-/// The same, with the fault of the bytes.
+/// What `decide` says of these entries; what is wrong with them is a fault of the bytes.
 fn decide_or_refuse(
     entries: &mut [Entry],
     rules: Rules,
@@ -60,8 +60,8 @@ fn decide_or_refuse(
     }
 }
 
-/// The same of bytes, whose entries may stand in any order. It is never inlined: the entries have
-/// their room in its frame, and `xattr_grants` seldom needs it.
+/// What `decide_or_refuse` says of bytes, whose entries may stand in any order. It is never
+/// inlined: the entries have their room in its frame, and `xattr_grants` seldom needs it.
 #[inline(never)]
 #[tactic(auto, unfolding(crate::specs::Posix::acl_of))]
 fn any_order_grants(

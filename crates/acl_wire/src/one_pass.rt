@@ -84,7 +84,7 @@ impl Seen {
         true
     }
 
-    /// The same of the entry of a user.
+    /// Adds the entry of a user, and tells whether it may stand behind the others.
     #[inline(always)]
     fn add_user(
         &mut self,
@@ -110,7 +110,7 @@ impl Seen {
         true
     }
 
-    /// The same of the entry of the file's group.
+    /// Adds the entry of the file's group, and tells whether it may stand behind the others.
     #[inline(always)]
     fn add_file_group(
         &mut self,
@@ -134,7 +134,7 @@ impl Seen {
         true
     }
 
-    /// The same of the entry of a group.
+    /// Adds the entry of a group, and tells whether it may stand behind the others.
     #[inline(always)]
     fn add_group(
         &mut self,
@@ -160,7 +160,7 @@ impl Seen {
         true
     }
 
-    /// The same of the mask.
+    /// Adds the mask, and tells whether it may stand behind the others.
     #[inline(always)]
     fn add_mask(&mut self, caller: &Caller<'_>, group: Gid, request: Perms, perms: Perms) -> bool
         ensures { after (record { uid = caller.now.uid; gids = caller.now.gids.now }) group
@@ -175,7 +175,7 @@ impl Seen {
         true
     }
 
-    /// The same of the others' entry.
+    /// Adds the others' entry, and tells whether it may stand behind the others.
     #[inline(always)]
     fn add_others(&mut self, caller: &Caller<'_>, group: Gid, request: Perms, perms: Perms) -> bool
         ensures { after (record { uid = caller.now.uid; gids = caller.now.gids.now }) group

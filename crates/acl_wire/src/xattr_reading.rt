@@ -143,8 +143,8 @@ fn gathered(alloc: Global, read: &[Entry]) -> Result<Entries, AllocError>
 /// The entries of a POSIX list in the binary form of the extended attributes
 /// `system.posix_acl_access` and `system.posix_acl_default`, in their order there; the id of an
 /// entry that names nobody plays no part. They needn't be a valid list. Of several faults the first
-/// is told, as `PosixFault` has them, entry by entry from the third on. Memory runs out for more
-/// than `INLINE_ENTRIES` entries alone.
+/// is reported, as `PosixFault` has them, entry by entry from the third on. Memory runs out for
+/// more than `INLINE_ENTRIES` entries alone.
 pub fn read_xattr(alloc: Global, bytes: &[u8]) -> Result<Entries, PosixError>
     ensures value { Gives (λ entries. entries) result (entries_of bytes.now) }
     ensures count { IfOk result (λ entries. length bytes.now ≡ 4 + 8 * length entries) }

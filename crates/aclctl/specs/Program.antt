@@ -1,4 +1,4 @@
--- What the program comes to.
+-- What the program results in.
 use Rattle.std.specs.Prelude.{◌≡◌, ◌⊎◌, ℕ, ◌++◌, List, [], ◌∷◌, Option, Some, codes, false, true}
 use Rattle.std.specs.Prelude.{IfSome}
 use Rattle.std.specs.Io.KnownBytes.{Keeps}
@@ -43,7 +43,7 @@ use Rattle.aclctl.specs.declared.named.Named.TheVariants.{Decide, Explain, Compa
 use Rattle.aclctl.specs.declared.named.Named.TheVariants.{Why, Impact, Restore, Translate}
 use Rattle.aclctl.specs.declared.named.Named.TheVariants.{Dump, Lint, Help, Version}
 
--- what is told of each file, by its name
+-- what is reported of each file, by its name
 abbrev pub Files : Type 0
 Files = Text → Option (List ℕ)
 
@@ -103,7 +103,8 @@ help_meaning Version = text_meaning HELP.now
 
 module _ {I : Type 0} (status : ℕ) (out out' : Option (List ℕ)) (err err' : ErrorText)
     (stdin stdin' : I) where
-  -- no command is named: nothing is answered, and the line is told with a text for people behind it
+  -- no command is named: nothing is answered, and the line is reported with a text for people
+  -- behind it
   pub record EndsUnnamed : Type 0 where
     pub is_status : status ≡ status_of NoCommand
     pub silent : Keeps out out'
@@ -111,7 +112,7 @@ module _ {I : Type 0} (status : ℕ) (out out' : Option (List ℕ)) (err err' : 
     pub told : IfSome (line_of NoCommand) (λ line. Tells (line ++ more) err err')
     pub unread : stdin' ≡ stdin
 
-  -- what the program comes to that is asked for such a thing by these words
+  -- what the program results in that is asked for such a thing by these words
   abbrev pub EndsAsked : Files → Option (List ℕ) → List Text → Asked → Type 0
   EndsAsked files input words (Command command) = Ends (command_meaning files input command words)
       status out out' err err' stdin stdin'
@@ -119,7 +120,7 @@ module _ {I : Type 0} (status : ℕ) (out out' : Option (List ℕ)) (err err' : 
       status out out' err err' stdin stdin'
   EndsAsked files input words Nothing = EndsUnnamed
 
-  -- what it comes to with these words
+  -- what it results in with these words
   abbrev pub EndsAs : Files → Option (List ℕ) → List Text → Type 0
   EndsAs files input words = EndsAsked files input words (asked words)
 
@@ -129,7 +130,7 @@ module _ {I : Type 0} (status : ℕ) (out out' : Option (List ℕ)) (err err' : 
     pub silent : Keeps out out'
     pub told : IfSome (line_of failure) (λ line. Tells line err err')
 
-  -- what it comes to with words on standard input, where these bytes are: they are words, and
+  -- what it results in with words on standard input, where these bytes are: they are words, and
   -- nothing is left there; or they are refused, for a fault of the bytes or of reading them
   abbrev pub EndsFrom : Files → List ℕ → Type 0
   EndsFrom files bytes =

@@ -29,7 +29,7 @@ impl<'a> OpenFiles for Disk<'a> {
 
     ghost bytes_of = { λ _ _. None };
 
-    /// A folder can be opened and not read, so it is told here.
+    /// A folder can be opened and not read, so it is reported here.
     fn open(&self, name: &str) -> io::Result<File> {
         let mut file = File::open(self.rt, name)?;
         file.read(&mut [])?;

@@ -118,6 +118,19 @@ where
     }
 }
 
+/// The word that names no command: the one behind `help`, or else the first.
+fn unnamed<S: AsStr>(words: &[S]) -> Option<&str> {
+    let Some((first, more)) = words.split_first() else {
+        return None;
+    };
+    let word = if first.as_str() == "help" {
+        more.first()
+    } else {
+        Some(first)
+    };
+    word.map(|word| word.as_str())
+}
+
 /// Runs the command that the first word names (`decide`, `explain`, `compare`, `run`, `who`, `why`,
 /// `impact`, `restore`, `translate`, `dump`, `lint`), or prints the version (`--version`) or help
 /// (`help`, `--help`, `-h`; `help` with the name of a command prints that command's). It returns
@@ -146,10 +159,7 @@ where
     match Asked::of(words) {
         Asked::Command(command) => { run_named(rt, alloc, command, files, words, input, out, err) }
         Asked::HelpOf(command) => print_help_of(alloc, command, files, input, out, err),
-        Asked::Nothing => {
-            let first = words.first().map(|word| word.as_str());
-            report_no_command(alloc, first, err)
-        }
+        Asked::Nothing => report_no_command(alloc, unnamed(words), err),
     }
 }
 

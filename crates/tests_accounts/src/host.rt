@@ -173,7 +173,7 @@ fn are_names(alloc: Global, id: u32, user: Option<&str>, group: Option<&str>) ->
     Some(user_is && is_named(accounts.group_name(Gid::new(id)?), group))
 }
 
-/// An id that several names have is told by the first of them.
+/// An id that several names have is named by the first of them.
 #[test]
 fn names_of_ids(rt: HostRuntime) {
     const ROWS: [(u32, Option<&str>, Option<&str>); 6] = [

@@ -1,4 +1,4 @@
-//! What is done with a broker, or with its halves, and what it comes to, as rows of the examples.
+//! What is done with a broker, or with its halves, and what it results in, as rows of the examples.
 use crate::fixture::{Follows, Halves, Last, open_broker, reply_to};
 use acl_broker::{
     Broker, CancelRefused, CloseRefused, Refused, Step, StepResult, SubmitRefusal, TakeRefused,
@@ -6,8 +6,9 @@ use acl_broker::{
 use std::alloc::Global;
 use std::test::Fail;
 
-/// A call of a broker and what it comes to, or what the broker has then. After `Submit(0, 7, None)`
-/// and `Take(0, Ok(0))` item 7 of session 0 is the first of the journal, and `Journal(1)` holds.
+/// A call of a broker and what it results in, or what the broker has then. After `Submit(0, 7,
+/// None)` and `Take(0, Ok(0))` item 7 of session 0 is the first of the journal, and `Journal(1)`
+/// holds.
 #[derive(Clone, Copy)]
 pub(super) enum Act {
     /// A session submits the item, which is accepted, or comes back with this refusal.

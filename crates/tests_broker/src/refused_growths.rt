@@ -1,9 +1,9 @@
-//! Calls that may run out of memory: one refused growth, wherever it falls, is told by the call in
-//! which it falls, leaves everything as it was, and leaves the call free to be made again.
+//! Calls that may run out of memory: one failed allocation, wherever it falls, is reported by the
+//! call in which it falls, leaves everything as it was, and leaves the call free to be made again.
 //!
-//! `rt try --test --fail-alloc N` refuses the growth N of a test. Each test here passes whichever
-//! growth that is, and prints how many refusals it was told of: one up to the last growth that it
-//! asks for, and none from then on.
+//! `rt try --test --fail-alloc N` fails allocation N of a test. Each test here passes whichever
+//! growth that is, and prints how many failures it saw: one up to the last allocation that it asks
+//! for, and none from then on.
 use crate::fixture::{Follows, Halves, Last, reply_to};
 use acl_broker::{Broker, KeptEntry, Step, StepResult, TakeRefused, Taker};
 use std::alloc::Global;
@@ -188,7 +188,7 @@ fn steps_of_all_items(alloc: Global, told: &mut Refusals) -> Result<Vec<Step<u16
 }
 
 /// Whether the step table gives these results, one by one, with `Memory` for a take here and there,
-/// which is told.
+/// which is reported.
 fn are_by_the_table(results: &[StepResult<u16, Follows>], told: &mut Refusals) -> bool {
     let mut taken = 0_u16;
     let mut answered = 0_u16;

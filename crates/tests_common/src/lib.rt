@@ -1,5 +1,5 @@
 //! What the tests of all crates share: the users and groups of the worked examples, lists that
-//! texts spell, and a count of refused growths. No part of the service.
+//! texts spell, and a count of failed allocations. No part of the service.
 #![tactic(auto)]
 
 mod lists;

@@ -1,6 +1,6 @@
-//! How a test counts refused growths.
+//! How a test counts failed allocations.
 
-/// How many refusals a test was told of.
+/// How many failures a test saw.
 #[derive(Clone, Copy)]
 pub struct Refusals {
     told: u32,

@@ -14,7 +14,7 @@ const OUTPUT: &[u8] = b"aclctl: run: output\n";
 /// What standard error has if standard input fails while it is read.
 const UNREAD: &[u8] = b"aclctl: cannot read -\n";
 
-/// How much of an answer there is room for where a growth may be refused.
+/// How much of an answer there is room for where an allocation may fail.
 const ROOM: usize = 512;
 
 /// How much where an answer can't be written.
@@ -108,7 +108,7 @@ pub trait Command {
         ended == status && out.is_empty() && is_told && input.left() == 10
     }
 
-    /// Whether the words end with this front of their answer, where there is room for no more than
+    /// Whether the words end with this prefix of their answer, where there is room for no more than
     /// 9 bytes.
     final fn is_cut(&self, alloc: Global, words: &[&str], front: &str) -> bool {
         let mut room = [0; SHORT];
@@ -119,7 +119,7 @@ pub trait Command {
         status == 3 && room.as_slice() == front.as_bytes() && err.as_slice() == OUTPUT
     }
 
-    /// Whether nothing is told but the fault, where standard input fails after these bytes.
+    /// Whether nothing is reported but the fault, where standard input fails after these bytes.
     final fn fails_behind(&self, alloc: Global, words: &[&str], bytes: &[u8]) -> bool {
         let mut out = Vec::new(alloc);
         let mut err = Vec::new(alloc);

@@ -1,4 +1,4 @@
-//! Entries whose names are told by whatever knows them, and ids in decimal.
+//! Entries whose names are resolved by whatever knows them, and ids in decimal.
 use acl_forms::{Places, push_short_entry, read_entries_by};
 use acl_nfs4::{AceFault, push_short_ace, read_aces_by};
 use std::alloc::Global;

@@ -61,7 +61,7 @@ fn standard_input_is_left_as_it_is(rt: HostRuntime) -> Result<(), Fail> {
     Ok(())
 }
 
-/// The words, and the front of their answer that has room.
+/// The words, and the prefix of their answer that has room.
 const CUT: [(&[&str], &str); 2] = [
     (&["lint", "--setup", "office", "faulty"], "faulty:4:"),
     (&["lint", "--setup", "no-uid", "faulty"], "no-uid: b"),

@@ -19,8 +19,8 @@ const POSIX: &str =
 const ACES: &str =
     "set /a nfs4 X::OWNER@:r,A::EVERYONE@:r\nset /a nfs4 A::OWNER@:rwa,A::bob@elsewhere.org:r,A::EVERYONE@:r\nset /a nfs4 A::OWNER@:r,A:i:EVERYONE@:r\nset /a nfs4 A::OWNER@:r,A::EVERYONE@:r\nset /a nfs4 A::OWNER@:r,A::eve:r,A::OWNER@:q\n";
 
-/// One entry too many; so, and one that doesn't read behind that; the last that may be, which
-/// doesn't read; and the first that is too many, which doesn't read either.
+/// One entry too many; so, and one that is malformed behind that; the last that may be, which is
+/// malformed; and the first that is too many, which is malformed too.
 const MANY: &str =
     "set /a access o::-,o::-,o::-,o::-,o::-,o::-,o::-,o::-,o::-,o::-,o::-,o::-,o::-,o::-,o::-,o::-,o::-,o::-,o::-,o::-,o::-,o::-,o::-,o::-,o::-,o::-,o::-,o::-,o::-,o::-,o::-,o::-,o::-,o::-,o::-,o::-,o::-,o::-,o::-,o::-,o::-,o::-,o::-,o::-,o::-,o::-,o::-,o::-,o::-,o::-,o::-,o::-,o::-,o::-,o::-,o::-,o::-,o::-,o::-,o::-,o::-,o::-,o::-,o::-,o::-\nset /a access o::-,o::-,o::-,o::-,o::-,o::-,o::-,o::-,o::-,o::-,o::-,o::-,o::-,o::-,o::-,o::-,o::-,o::-,o::-,o::-,o::-,o::-,o::-,o::-,o::-,o::-,o::-,o::-,o::-,o::-,o::-,o::-,o::-,o::-,o::-,o::-,o::-,o::-,o::-,o::-,o::-,o::-,o::-,o::-,o::-,o::-,o::-,o::-,o::-,o::-,o::-,o::-,o::-,o::-,o::-,o::-,o::-,o::-,o::-,o::-,o::-,o::-,o::-,o::-,o::-,o::-,o::-,o::-,o::-,o::z\nset /a access o::-,o::-,o::-,o::-,o::-,o::-,o::-,o::-,o::-,o::-,o::-,o::-,o::-,o::-,o::-,o::-,o::-,o::-,o::-,o::-,o::-,o::-,o::-,o::-,o::-,o::-,o::-,o::-,o::-,o::-,o::-,o::-,o::-,o::-,o::-,o::-,o::-,o::-,o::-,o::-,o::-,o::-,o::-,o::-,o::-,o::-,o::-,o::-,o::-,o::-,o::-,o::-,o::-,o::-,o::-,o::-,o::-,o::-,o::-,o::-,o::-,o::-,o::-,o::z\nset /a access o::-,o::-,o::-,o::-,o::-,o::-,o::-,o::-,o::-,o::-,o::-,o::-,o::-,o::-,o::-,o::-,o::-,o::-,o::-,o::-,o::-,o::-,o::-,o::-,o::-,o::-,o::-,o::-,o::-,o::-,o::-,o::-,o::-,o::-,o::-,o::-,o::-,o::-,o::-,o::-,o::-,o::-,o::-,o::-,o::-,o::-,o::-,o::-,o::-,o::-,o::-,o::-,o::-,o::-,o::-,o::-,o::-,o::-,o::-,o::-,o::-,o::-,o::-,o::-,o::z\n";
 

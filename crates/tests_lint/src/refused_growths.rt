@@ -1,9 +1,9 @@
-//! Calls that may run out of memory: one refused growth, wherever it falls, is told by the call in
-//! which it falls, and the call may be made again.
+//! Calls that may run out of memory: one failed allocation, wherever it falls, is reported by the
+//! call in which it falls, and the call may be made again.
 //!
-//! `rt try --test --fail-alloc N` refuses the growth N of a test. Each test here passes whichever
-//! growth that is, and prints how many refusals it was told of: one up to the last growth that it
-//! asks for, and none from then on.
+//! `rt try --test --fail-alloc N` fails allocation N of a test. Each test here passes whichever
+//! growth that is, and prints how many failures it saw: one up to the last allocation that it asks
+//! for, and none from then on.
 use crate::fixture::lint;
 use std::test::Fail;
 use tests_files::Command;

@@ -1,10 +1,10 @@
-//! What is told of sessions.
+//! What is reported of sessions.
 use crate::fixture::lint;
 use acl_cli::ErrorOutput;
 use std::test::Fail;
 use tests_files::{Command, Sheet};
 
-/// Nothing is told if nothing is wrong.
+/// Nothing is reported if nothing is wrong.
 #[test]
 fn nothing_is_wrong(rt: HostRuntime) {
     let words = ["lint", "--setup", "office", "good", "empty"];
@@ -20,7 +20,7 @@ fn faults_of_lines(rt: HostRuntime) {
     assert!(rt; lint().ends(rt.alloc(), &words, 0, text, ""));
 }
 
-/// The piece at fault is the first that doesn't read, and stands there without the blanks round it.
+/// The piece at fault is the first that is malformed, and stands there without the blanks round it.
 /// A list that is refused as a whole has no place, nor has a line whose path is none.
 #[test]
 fn pieces_of_posix_lists(rt: HostRuntime) {
@@ -54,7 +54,7 @@ fn lines_that_are_too_long(rt: HostRuntime) {
     assert!(rt; lint().ends(rt.alloc(), &words, 0, "long:2: line-too-long -\n", ""));
 }
 
-/// Sessions are told in the order of the words, each by its name; `-` is standard input.
+/// Sessions are reported in the order of the words, each by its name; `-` is standard input.
 #[test]
 fn several_sessions(rt: HostRuntime) -> Result<(), Fail> {
     let mut out = Vec::new(rt.alloc());

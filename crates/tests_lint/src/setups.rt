@@ -1,8 +1,8 @@
-//! What is told of setups that are refused.
+//! What is reported of setups that are refused.
 use crate::fixture::lint;
 use tests_files::Command;
 
-/// The setup, and what is told of it.
+/// The setup, and what is reported of it.
 const REFUSED: [(&str, &str); 30] = [
     ("no-toml", "no-toml: not-toml 2:12\n"),
     ("no-value", "no-value: not-toml 2:1\n"),

@@ -21,7 +21,7 @@ const POSIX: &[u8] =
 const FOLDER: &[u8] =
     b"# file: d\n# owner: alice\n# group: ops\nA::OWNER@:rx\nA::GROUP@:x\n\n# file: d/f\n# owner: root\n# group: root\nA::EVERYONE@:rt\n";
 
-/// The words, the listing, and what is told.
+/// The words, the listing, and what is reported.
 const ANSWERS: [(&[&str], &[u8], &str); 6] = [
     (
         &["who", "--accounts", "office", "--letters", "-"],

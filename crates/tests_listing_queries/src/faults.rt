@@ -1,4 +1,4 @@
-//! What is said on standard error of blocks that don't read.
+//! What is said on standard error of blocks that are malformed.
 use crate::fixture::who;
 use tests_files::Command;
 
@@ -14,7 +14,7 @@ const SAID: &str =
 const TOO_MANY: &[u8] =
     b"# file: many\n# owner: alice\n# group: staff\nuser::rw-\nuser:4000000000:r--\nuser:4000000001:r--\nuser:4000000002:r--\nuser:4000000003:r--\nuser:4000000004:r--\nuser:4000000005:r--\nuser:4000000006:r--\nuser:4000000007:r--\nuser:4000000008:r--\nuser:4000000009:r--\nuser:4000000010:r--\nuser:4000000011:r--\nuser:4000000012:r--\nuser:4000000013:r--\nuser:4000000014:r--\nuser:4000000015:r--\nuser:4000000016:r--\nuser:4000000017:r--\nuser:4000000018:r--\nuser:4000000019:r--\nuser:4000000020:r--\nuser:4000000021:r--\nuser:4000000022:r--\nuser:4000000023:r--\nuser:4000000024:r--\nuser:4000000025:r--\nuser:4000000026:r--\nuser:4000000027:r--\nuser:4000000028:r--\nuser:4000000029:r--\nuser:4000000030:r--\nuser:4000000031:r--\nuser:4000000032:r--\nuser:4000000033:r--\nuser:4000000034:r--\nuser:4000000035:r--\nuser:4000000036:r--\nuser:4000000037:r--\nuser:4000000038:r--\nuser:4000000039:r--\nuser:4000000040:r--\nuser:4000000041:r--\nuser:4000000042:r--\nuser:4000000043:r--\nuser:4000000044:r--\nuser:4000000045:r--\nuser:4000000046:r--\nuser:4000000047:r--\nuser:4000000048:r--\nuser:4000000049:r--\nuser:4000000050:r--\nuser:4000000051:r--\nuser:4000000052:r--\nuser:4000000053:r--\nuser:4000000054:r--\nuser:4000000055:r--\nuser:4000000056:r--\nuser:4000000057:r--\nuser:4000000058:r--\nuser:4000000059:r--\nuser:4000000060:r--\nuser:4000000061:r--\nuser:4000000062:r--\ngroup::---\nmask::r--\nother::---\n\n# file: few\n# owner: alice\n# group: staff\nuser::rw-\ngroup::---\nother::---\n";
 
-/// The listing, what is told, and what is said.
+/// The listing, what is reported, and what is said.
 const FAULTS: [(&[u8], &str, &str); 4] = [
     (FAULTY, "rw- alice i\n", SAID),
     (

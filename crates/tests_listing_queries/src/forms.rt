@@ -10,7 +10,7 @@ const NFS4: &[u8] =
 const FREEBSD: &[u8] =
     b"# file: x\n# owner: alice\n# group: staff\n            owner@:rw-p----------:-------:allow\n          group:ops:r-x-----------:-------:allow\n        user:carol:-w------------:-------:allow\n         everyone@:rwxp----------:fdi----:allow\n         everyone@:r-------------:-------:allow\n";
 
-/// The words, the listing, and what is told.
+/// The words, the listing, and what is reported.
 const ANSWERS: [(&[&str], &[u8], &str); 4] = [
     (
         &["who", "--accounts", "office", "-"],
@@ -56,7 +56,7 @@ fn reach_through_both_styles(rt: HostRuntime) {
     assert!(rt; who().ends_on(rt.alloc(), &words, MIXED, 0, text, ""));
 }
 
-/// A default list that doesn't read, and entries of two forms.
+/// A default list that is malformed, and entries of two forms.
 const FAULTY: &[u8] =
     b"# file: a\n# owner: alice\n# group: staff\nuser::r--\ngroup::---\nother::---\ndefault:user::rwx\ndefault:user:gone:rwx\n\n# file: b\n# owner: alice\n# group: staff\nA::OWNER@:r\nowner@:r::allow\n";
 

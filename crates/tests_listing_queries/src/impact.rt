@@ -3,7 +3,7 @@ use crate::fixture::impact;
 use std::alloc::Global;
 use tests_files::{Command, Sheet};
 
-/// The words, the status, what is told, and what is said.
+/// The words, the status, what is reported, and what is said.
 const ANSWERS: [(&[&str], u8, &str, &str); 11] = [
     (
         &["impact", "--accounts", "office", "before", "after"],
@@ -174,7 +174,7 @@ fn help_is_an_answer(rt: HostRuntime) {
     assert!(rt; impact().helps(rt.alloc(), &["impact", "--help"]));
 }
 
-/// A listing after that fails is told of behind a front of the answer.
+/// A listing after that fails is reported behind a prefix of the answer.
 #[test]
 fn a_listing_that_fails(rt: HostRuntime) {
     let words = ["impact", "--accounts", "office", "before", "-"];

@@ -16,7 +16,7 @@ const GUESTS: &[u8] =
 const EMPTY_MASK: &[u8] =
     b"# file: a\n# owner: alice\n# group: staff\nuser::rw-\nuser:carol:rwx\ngroup::r-x\nmask::---\nother::r--\n\n# file: b\n# owner: root\n# group: root\nuser::rw-\nuser:alice:rwx\ngroup::r-x\ngroup:ops:rwx\nmask::---\nother::r-x\n";
 
-/// The words, the listing, and what is told.
+/// The words, the listing, and what is reported.
 const ANSWERS: [(&[&str], &[u8], &str); 5] = [
     (
         &["who", "--accounts", "office", "-"],
@@ -45,7 +45,7 @@ const ANSWERS: [(&[&str], &[u8], &str); 5] = [
     ),
 ];
 
-/// In the order of names; a line `---` isn't told, and root isn't asked about.
+/// In the order of names; a line `---` isn't reported, and root isn't asked about.
 #[test]
 fn who_may_do_what(rt: HostRuntime) {
     for (words, listing, text) in ANSWERS {
@@ -56,7 +56,7 @@ fn who_may_do_what(rt: HostRuntime) {
     }
 }
 
-/// The words, and what is told of a file that its owner may read and write, its group read, and
+/// The words, and what is reported of a file that its owner may read and write, its group read, and
 /// the others execute.
 const FILES: [(&[&str], &str); 7] = [
     (

@@ -26,7 +26,7 @@ const IN_DOMAIN: &[u8] =
 const IN_NO_DOMAIN: &[u8] =
     b"# file: a\n# owner: bob\n# group: root\nA::carol@example.org:r\n\n# file: b\n# owner: bob\n# group: root\nuser::r--\nuser:bob@example.com:r--\ngroup::r--\nmask::r--\nother::---\n\n# file: c\n# owner: bob@\n# group: root\nA::OWNER@:r\n";
 
-/// The words, the listing, and what is told.
+/// The words, the listing, and what is reported.
 const ANSWERS: [(&[&str], &[u8], &str); 8] = [
     (
         &["who", "--setup", "setup", "-"],

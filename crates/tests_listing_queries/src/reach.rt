@@ -20,8 +20,8 @@ fn the_file_alone(rt: HostRuntime) {
     assert!(rt; who().ends(rt.alloc(), &words, 0, text, ""));
 }
 
-/// A folder further above is listed and the nearest isn't; then a folder doesn't read; then a
-/// block's first line doesn't, and behind it nothing is told.
+/// A folder further above is listed and the nearest isn't; then a folder is malformed; then a
+/// block's first line doesn't, and behind it nothing is reported.
 const UNKNOWN: &[u8] =
     b"# file: srv\n# owner: alice\n# group: staff\nuser::rwx\ngroup::r-x\nother::---\n\n# file: srv/gone/file\n# owner: alice\n# group: staff\nuser::rw-\ngroup::r--\nother::r--\n\n# file: other\n# owner: nobody\n# group: staff\nuser::rwx\ngroup::r-x\nother::---\n\n# file: other/file\n# owner: alice\n# group: staff\nuser::rw-\ngroup::---\nother::r--\n\n# file: plan\n# owner: alice\n# group: staff\nuser::rw-\ngroup::---\nother::---\n\n# owner: alice\n\n# file: last\n# owner: alice\n# group: staff\nuser::rw-\ngroup::---\nother::---\n";
 

@@ -1,9 +1,9 @@
-//! Calls that may run out of memory: one refused growth, wherever it falls, is told by the call in
-//! which it falls, and the call may be made again.
+//! Calls that may run out of memory: one failed allocation, wherever it falls, is reported by the
+//! call in which it falls, and the call may be made again.
 //!
-//! `rt try --test --fail-alloc N` refuses the growth N of a test. Each test here passes whichever
-//! growth that is, and prints how many refusals it was told of: one up to the last growth that it
-//! asks for, and none from then on.
+//! `rt try --test --fail-alloc N` fails allocation N of a test. Each test here passes whichever
+//! growth that is, and prints how many failures it saw: one up to the last allocation that it asks
+//! for, and none from then on.
 use crate::fixture::{FILES, impact, restore, translate, who, why};
 use acl_cli::{ErrorOutput, run_command};
 use acl_listing_queries::WhoOfListing;
@@ -110,7 +110,7 @@ const MEMORY: &[u8] = b"aclctl: run: memory\n";
 /// How much room there is for an answer and for faults.
 const ROOM: usize = 256;
 
-/// A block that doesn't read, and the first line of one that is too long.
+/// A block that is malformed, and the first line of one that is too long.
 const FAULTY: &[u8] = b"# file: a\n# owner: alice\n# group: gone\nuser::rw-\n\n# file: long\n";
 
 /// How many more bytes that has.
@@ -124,7 +124,7 @@ const GOOD: &[u8] =
 const SAID: &[u8] =
     b"aclctl: -:3: unknown-name: # group: gone\naclctl: -:6: too-long: # file: long\naclctl: -: 2 of 3 files were not answered\n";
 
-/// Whether memory ran out: none if the listing was neither answered in part nor told of so.
+/// Whether memory ran out: none if the listing was neither answered in part nor reported so.
 fn ran_out_in_part(status: u8, out: &[u8], err: &[u8]) -> Option<bool> {
     if status == 4 && out == b"r-- alice b\n".as_slice() && err == SAID {
         return Some(false);

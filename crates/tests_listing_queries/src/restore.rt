@@ -8,7 +8,7 @@ use tests_files::{Command, Sheet};
 const RESTORED: &str =
     "# file: srv/plan\n# owner: alice\n# group: staff\nuser::rw-\nuser:bob:rw-\t\t#effective:r--\ngroup::r--\nmask::r--\nother::---\n\n# file: srv\n# owner: root\n# group: staff\n# flags: -s-\nuser::rwx\ngroup::r-x\nother::---\ndefault:user::rwx\ndefault:group::r-x\ndefault:other::---\n\n";
 
-/// The words, the status, what is told, and what is said.
+/// The words, the status, what is reported, and what is said.
 const ANSWERS: [(&[&str], u8, &str, &str); 6] = [
     (
         &["restore", "before", "after"],
@@ -115,7 +115,7 @@ fn help_is_an_answer(rt: HostRuntime) {
     assert!(rt; restore().helps(rt.alloc(), &["restore", "--help"]));
 }
 
-/// A listing before that fails is told of, and no block is.
+/// A listing before that fails is reported, and no block is.
 #[test]
 fn a_listing_that_fails(rt: HostRuntime) {
     assert!(rt; restore().fails_behind(rt.alloc(), &["restore", "-", "after"], b"# file: srv\n"));

@@ -36,7 +36,7 @@ const EMPTY_MASK: &[u8] =
 const EMPTY_MASK_AS_NFS4: &str =
     "# file: a\n# owner: alice\n# group: staff\nA::OWNER@:rwa\nD::OWNER@:x\nD::GROUP@:rwax\nA::EVERYONE@:r\n\n";
 
-/// The words, the listing, and what is told.
+/// The words, the listing, and what is reported.
 const ANSWERS: [(&[&str], &[u8], &str); 8] = [
     (&["translate", "--accounts", "office", "-"], POSIX, AS_NFS4),
     (
@@ -103,7 +103,7 @@ fn translations_again(rt: HostRuntime) {
     assert!(rt; translate().ends_on(rt.alloc(), &words, listing, 0, AS_NFS4, ""));
 }
 
-/// A block that doesn't read, a form that there isn't, and help.
+/// A block that is malformed, a form that there isn't, and help.
 #[test]
 fn refused(rt: HostRuntime) {
     let words = ["translate", "--accounts", "office", "-"];

@@ -15,7 +15,7 @@ const FOLDER: &str = "granted\nfile srv granted\nclass other\nentry other::r-x r
 const ACES: &str =
     "denied\nfolder srv granted\nclass group\nentry group::r-x r-x ---\nfile srv/new denied\nr 3 A:g:60:rwa\nw 2 D:g:60:w\na 3 A:g:60:rwa\n";
 
-/// Who asks for what of which path, the status, what is told, and what is said.
+/// Who asks for what of which path, the status, what is reported, and what is said.
 const ANSWERS: [(&str, &str, &str, u8, &str, &str); 10] = [
     ("alice", "rw", "srv/share/plans", 0, ALICE, ""),
     ("1001", "rw", "srv/share/plans", 0, BOB, ""),
@@ -150,7 +150,7 @@ fn help_is_an_answer(rt: HostRuntime) {
     assert!(rt; why().helps(rt.alloc(), &["why", "--help"]));
 }
 
-/// A front of the answer went out.
+/// A prefix of the answer went out.
 #[test]
 fn an_answer_that_cannot_be_written(rt: HostRuntime) {
     let words = ["why", "--user", "alice", "--perms", "r", "plan", "srv/plan"];

@@ -1,4 +1,4 @@
-//! What is refused before anything is told, help, and answers that are cut off.
+//! What is refused before anything is reported, help, and answers that are cut off.
 use crate::fixture::who;
 use tests_files::Command;
 
@@ -96,7 +96,7 @@ fn help_is_an_answer(rt: HostRuntime) {
     assert!(rt; who().helps(rt.alloc(), &["who", "--accounts", "absent", "-h"]));
 }
 
-/// A front of the answer went out.
+/// A prefix of the answer went out.
 #[test]
 fn an_answer_that_cannot_be_written(rt: HostRuntime) {
     assert!(rt; who().is_cut(rt.alloc(), &["who", "plan"], "rw- alice"));

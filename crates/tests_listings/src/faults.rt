@@ -1,4 +1,4 @@
-//! Blocks that say no file, and what is told of them.
+//! Blocks that say no file, and what is reported of them.
 use crate::told::{block_tells, tells};
 use std::test::Fail;
 

@@ -97,7 +97,7 @@ fn default_lists(rt: HostRuntime) -> Result<(), Fail> {
             b"x 0 0 u::rwx,g::r-x,o::--- default u::rwx,g::rwx,o::--x"
         )
     );
-    // One that doesn't read is a fault of the block, as an access list is, but after it.
+    // One that is malformed is a fault of the block, as an access list is, but after it.
     let block = b"# file: x\n# owner: 0\n# group: 0\nu::r,g::w,o::x\ndefault:user:dave:rwx";
     assert!(rt; block_tells(alloc, block, b"fault unknown-name x"));
     let block = b"# file: x\n# owner: 0\n# group: 0\ndefault:user:dave:rwx\nu::r,g::w,o:x:x";

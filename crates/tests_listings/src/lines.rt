@@ -72,7 +72,7 @@ fn lists(rt: HostRuntime) {
             5,
             b"default:nonsense",
         ),
-        // Of NFSv4 entries one that doesn't read, one of another form, and one without an effect.
+        // Of NFSv4 entries one that is malformed, one of another form, and one without an effect.
         (
             b"# file: x\n# owner: 0\n# group: 0\nA::OWNER@:r\nA::dave:r\nA::OWNER@:q",
             4,
@@ -111,7 +111,7 @@ fn lists(rt: HostRuntime) {
     }
 }
 
-/// Whether a fault is told of a block's first line.
+/// Whether a fault is reported of a block's first line.
 fn is_told_of_the_first(alloc: Global, fault: BlockFault) -> bool {
     let Some(names) = directory(alloc) else {
         return false;
@@ -120,7 +120,7 @@ fn is_told_of_the_first(alloc: Global, fault: BlockFault) -> bool {
     found.0 == 0 && found.1 == b"# file: x".as_slice()
 }
 
-/// What isn't found by the block's own text is told of its first line.
+/// What isn't found by the block's own text is reported of its first line.
 #[test]
 fn whole_blocks(rt: HostRuntime) {
     const FAULTS: [BlockFault; 3] = [

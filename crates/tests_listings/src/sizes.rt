@@ -108,7 +108,7 @@ fn a_long_first_line(rt: HostRuntime) -> Result<(), Fail> {
     Ok(())
 }
 
-/// Whether the text of a long block is its front, of which the fault is told.
+/// Whether the text of a long block is its front, of which the fault is reported.
 fn front_is_at_hand(alloc: Global) -> Option<bool> {
     let names = directory(alloc)?;
     let block = block_of(alloc, 200_000)?;

@@ -1,5 +1,5 @@
 //! Standard error: what goes there, that nothing does after a write that failed, and that a write
-//! is told as failed only if it did.
+//! is reported as failed only if it did.
 use acl_cli::{ErrorOutput, Failure, RunFault};
 
 /// Writes a line of these words to so much room. Whether a write failed.
@@ -34,7 +34,7 @@ fn nothing_goes_out_after_a_failed_write(rt: HostRuntime) {
     assert_eq!(rt; room.as_slice(), b"1234".as_slice());
 }
 
-/// The exit status where a lacking thread is told to so much room, and whether a write failed.
+/// The exit status where a lacking thread is reported to so much room, and whether a write failed.
 fn told_in(room: &mut [u8]) -> (u8, bool) {
     let mut err = ErrorOutput::new(room);
     let failure = Failure::Lacks(RunFault::NoThread);

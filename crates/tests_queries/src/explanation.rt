@@ -16,8 +16,8 @@ fn bob(alloc: Global, groups: &[u32]) -> Option<Requester> {
     Some(Requester::new(Uid::new(1001)?, gids))
 }
 
-/// What is told of a POSIX list: its class, and of each entry that counts what it gives under the
-/// mask and what it lacks.
+/// What is reported of a POSIX list: its class, and of each entry that counts what it gives under
+/// the mask and what it lacks.
 type Explained = (Class, [(Perms, Perms); 2]);
 
 fn posix(alloc: Global) -> Option<Explained> {

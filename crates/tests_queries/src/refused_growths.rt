@@ -1,9 +1,9 @@
-//! Calls that may run out of memory: one refused growth, wherever it falls, is told by the call in
-//! which it falls, and the call may be made again.
+//! Calls that may run out of memory: one failed allocation, wherever it falls, is reported by the
+//! call in which it falls, and the call may be made again.
 //!
-//! `rt try --test --fail-alloc N` refuses the growth N of a test. Each test here passes whichever
-//! growth that is, and prints how many refusals it was told of: one up to the last growth that it
-//! asks for, and none from then on.
+//! `rt try --test --fail-alloc N` fails allocation N of a test. Each test here passes whichever
+//! growth that is, and prints how many failures it saw: one up to the last allocation that it asks
+//! for, and none from then on.
 use crate::harness::run;
 use acl_cli::{CapFault, ErrorOutput, WordsFault, read_capped, words_of};
 use acl_queries::{Compare, Decide, Explain};
@@ -125,7 +125,7 @@ fn ask(alloc: Global, words: &[&str], answer: &str) -> Ending {
 }
 
 /// Asks again if the first call says that memory ran out. Returns how the last ended, and how many
-/// were told of it.
+/// heard of it.
 fn ask_again(alloc: Global, words: &[&str], answer: &str) -> (Ending, u32) {
     match ask(alloc, words, answer) {
         Ending::Memory => (ask(alloc, words, answer), 1),

@@ -1,4 +1,4 @@
-//! Tests of words that are lines, and of how faults of what is read are told.
+//! Tests of words that are lines, and of how faults of what is read are reported.
 use acl_cli::{CapFault, WordsFault, words_of};
 use std::alloc::Global;
 use std::fmt::Display;

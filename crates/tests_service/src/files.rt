@@ -12,8 +12,8 @@ use tests_files::Sheet;
 const SETUP: &str =
     "domain = \"a\"\numask = \"022\"\nroot = { owner = \"al\", group = \"staff\", mode = \"755\", style = \"posix\" }\nuser = [ { name = \"al\", uid = 7, groups = [\"staff\"] } ]\ngroup = [ { name = \"staff\", gid = 50 } ]\n";
 
-/// The files that there are. What is done with them is told by a digit each: 1 to 3 if one of these
-/// was opened, 8 if another was asked for, 9 if standard input was read.
+/// The files that there are. What is done with them is written as a digit each: 1 to 3 if one of
+/// these was opened, 8 if another was asked for, 9 if standard input was read.
 const FILES: [(&str, &str); 3] = [("s", SETUP), ("one", "check / al r\n"), ("two", "get /x\n")];
 
 const ABSENT: u32 = 8;

@@ -105,7 +105,7 @@ impl Gate for Shut {
     fn answered(&self, _session: u32, _nth: u32) {}
 }
 
-/// Lets everything through, and counts what it is asked and told of each of two sessions.
+/// Lets everything through, and counts what it is asked and hears of each of two sessions.
 #[derive(Drop)]
 pub struct Counting {
     asked: [AtomicU32; 2],
@@ -122,7 +122,7 @@ impl Counting {
         }
     }
 
-    /// Whether it was asked of each session's requests from 1 to `requests`, and told of its
+    /// Whether it was asked of each session's requests from 1 to `requests`, and heard of its
     /// answers from 1 to `answers`, each once and in order, and of no answer before its request.
     pub fn has_counted(&self, requests: [u32; 2], answers: [u32; 2]) -> bool {
         let [first_asked, second_asked] = &self.asked;

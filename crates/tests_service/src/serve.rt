@@ -134,7 +134,7 @@ fn each_session_waits_for_the_others_answer(rt: HostRuntime) {
     }
 }
 
-/// The gate is asked of each request once and told of each answer once, by their numbers from 1.
+/// The gate is asked of each request once and hears of each answer once, by their numbers from 1.
 /// Lines that are blank or comments are no requests, and a faulty line is one: the numbers are
 /// those of the requests and not of the lines.
 #[test]

@@ -67,7 +67,7 @@ fn words_that_are_refused(rt: HostRuntime) {
     assert!(rt; Query.reads_nothing(rt.alloc(), &words, 2, ""));
 }
 
-/// A front of the answer went out.
+/// A prefix of the answer went out.
 #[test]
 fn an_answer_that_cannot_be_written(rt: HostRuntime) {
     assert!(rt; Query.is_cut(rt.alloc(), &["who", "--setup", "office"], "r-x alice"));

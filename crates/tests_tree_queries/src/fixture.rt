@@ -44,8 +44,8 @@ const ACES: &str =
 const LONG: &str =
     "create file /log root 600\nset /log access u::rw,g::-,m::r,o::-,u:4000000000:r,u:4000000001:r,u:4000000002:r,u:4000000003:r,u:4000000004:r,u:4000000005:r,u:4000000006:r,u:4000000007:r,u:4000000008:r,u:4000000009:r,u:4000000010:r,u:4000000011:r,u:4000000012:r,u:4000000013:r,u:4000000014:r,u:4000000015:r,u:4000000016:r,u:4000000017:r,u:4000000018:r,u:4000000019:r,u:4000000020:r,u:4000000021:r,u:4000000022:r,u:4000000023:r,u:4000000024:r,u:4000000025:r,u:4000000026:r,u:4000000027:r,u:4000000028:r,u:4000000029:r,u:4000000030:r,u:4000000031:r,u:4000000032:r,u:4000000033:r,u:4000000034:r,u:4000000035:r,u:4000000036:r,u:4000000037:r,u:4000000038:r,u:4000000039:r,u:4000000040:r,u:4000000041:r,u:4000000042:r,u:4000000043:r,u:4000000044:r,u:4000000045:r,u:4000000046:r,u:4000000047:r,u:4000000048:r,u:4000000049:r,u:4000000050:r,u:4000000051:r,u:4000000052:r,u:4000000053:r,u:4000000054:r,u:4000000055:r,u:4000000056:r,u:4000000057:r,u:4000000058:r,u:4000000059:r\n";
 
-/// Two files as `getfacl -R` lists them by names, and between them blocks that don't read: a group
-/// that the office lacks, an entry that is none, and a header without a group.
+/// Two files as `getfacl -R` lists them by names, and between them blocks that are malformed: a
+/// group that the office lacks, an entry that is none, and a header without a group.
 const LISTING: &str =
     "# file: srv/share/plan\n# owner: alice\n# group: staff\nuser::rw-\nuser:bob:rwx\t#effective:rw-\ngroup::r--\nmask::rw-\nother::---\n\n# file: srv/share/lost\n# owner: alice\n# group: gone\nuser::rw-\ngroup::---\nother::---\n\n\n# file: srv/share/bent\n# owner: 1000\n# group: 50\nuser::rwz\ngroup::---\nother::---\n\n# owner: alice\n# group: staff\n\n# file: srv/share/a dir\n# owner: 1001\n# group: 60\n# flags: -s-\nuser::rwx\ngroup::r-x\nother::--x\ndefault:user::rwx\ndefault:group::rwx\ndefault:other::rwx\n";
 

@@ -21,7 +21,7 @@ fn who_gains_and_who_loses(rt: HostRuntime) {
 }
 
 /// None of the setup's users is concerned, but those are who are in a group that none of them is
-/// in. Who of these is told is open.
+/// in. Who of these is reported is open.
 #[test]
 fn somebody_who_is_no_user(rt: HostRuntime) {
     let words = ["impact", "--setup", "office", "--session", "strangers"];
@@ -46,7 +46,7 @@ fn nobody_gains_or_loses(rt: HostRuntime) {
     assert!(rt; Query.ends(rt.alloc(), &words, 0, "", ""));
 }
 
-/// Of the users whom a change concerns, the first by name is told.
+/// Of the users whom a change concerns, the first by name is reported.
 #[test]
 fn the_first_user_by_name(rt: HostRuntime) {
     let words = ["impact", "--setup", "office", "--session", "closed"];

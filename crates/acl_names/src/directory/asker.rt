@@ -15,7 +15,7 @@ pub struct Asker {
     pub uid: Uid,
     /// A group that the user is in, if any.
     pub gid: Option<Gid>,
-    /// Another, or the same.
+    /// A second group that the user is in, if any; it may be the first again.
     pub other_gid: Option<Gid>,
 }
 

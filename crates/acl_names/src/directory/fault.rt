@@ -31,7 +31,7 @@ pub enum SetupFault {
     Memory,
 }
 
-/// The first thing that is wrong with the lists, by what sorting them told.
+/// The first thing that is wrong with the lists, by what sorting them found.
 pub(super) fn first_fault(
     domain: &str,
     users: &[User],

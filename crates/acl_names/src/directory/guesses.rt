@@ -54,7 +54,8 @@ pub(crate) fn find_by_hash<'a, T: Named>(
     find_by_bytes(members, name)
 }
 
-/// The same if the guess for the hash is right.
+/// The member of this name, if the guess for the hash is right. A fast path: `None` means that it
+/// has to be searched for.
 fn find_at_guess<'a, T: Named>(
     members: &'a [T],
     guesses: &[u16],

@@ -111,7 +111,7 @@ pub(crate) fn find_by_name<'a, T: Named>(members: &'a [T], name: &str) -> Option
     find_by_bytes(members, name.as_bytes())
 }
 
-/// The same of a name that may be no text.
+/// The member of a name that may be no UTF-8, of members in the order of their names.
 pub(crate) fn find_by_bytes<'a, T: Named>(members: &'a [T], name: &[u8]) -> Option<&'a T>
     requires { IsAscending (slice_cmp nat_cmp) T.name_of members.now }
     ensures { option_copied result ≡ find (λ member. bytes_eq (T.name_of member) name.now)

@@ -30,14 +30,14 @@ pub trait ResolveNames {
     fn gid_written(&self, text: &[u8]) -> Result<Gid, NameFault>
         ensures { result ≡ resolved (names self.now).written (names self.now).gid text.now };
 
-    /// The uid of the field that the text begins with, and what stands behind its colon. `None`
-    /// says nothing of the text.
+    /// The uid of the field that the text begins with, and what stands behind its colon. A
+    /// fast path: `None` says nothing of the text, and `uid` has to read the field.
     fn uid_in_front<'t>(&self, text: &'t [u8]) -> Option<(Uid, &'t [u8])>
         ensures { IfSome result (λ front. BeginsWithId (names self.now).written
             (names self.now).uid text.now front.0 front.1.now) };
 
-    /// The gid of the field that the text begins with, and what stands behind its colon. `None`
-    /// says nothing of the text.
+    /// The gid of the field that the text begins with, and what stands behind its colon. A
+    /// fast path: `None` says nothing of the text, and `gid` has to read the field.
     fn gid_in_front<'t>(&self, text: &'t [u8]) -> Option<(Gid, &'t [u8])>
         ensures { IfSome result (λ front. BeginsWithId (names self.now).written
             (names self.now).gid text.now front.0 front.1.now) };

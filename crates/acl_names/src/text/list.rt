@@ -46,7 +46,8 @@ pub trait PieceReader {
         ensures { result ≡ value_of self.now piece.now };
 
     /// The member that the text begins with and what stands after it, if its piece stands there
-    /// plainly, with no blank and no comment. `None` says nothing of the text.
+    /// plainly, with no blank and no comment. A fast path: `None` says nothing of the text, and
+    /// `read` has to read it.
     fn read_front<'t>(&self, text: &'t [u8]) -> Option<(Self::Value, &'t [u8])>
         ensures { IfSome result (λ front. IsFront (value_of self.now) text.now front.0 front.1.now) };
 }
@@ -77,7 +78,7 @@ pub fn read_list<R: PieceReader, const N: usize>(
     read_pieces(alloc, reader, limit, text)
 }
 
-/// The same of any text, piece by piece.
+/// Reads any text as `read_list` does, piece by piece.
 fn read_pieces<R: PieceReader, const N: usize>(
     alloc: Global,
     reader: &R,
@@ -106,7 +107,8 @@ fn read_pieces<R: PieceReader, const N: usize>(
 }
 
 /// Reads a text of which each piece stands plainly, with a comma or a newline between any two, as
-/// most texts are: in one pass. `false` says nothing of the text. It fails only if memory runs out.
+/// most texts are: in one pass. A fast path: `false` says nothing of the text, and `read_pieces`
+/// has to read it. It fails only if memory runs out.
 fn read_plainly<R: PieceReader, const N: usize>(
     reader: &R,
     limit: usize,

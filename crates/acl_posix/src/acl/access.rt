@@ -42,7 +42,8 @@ impl Acl {
     }
 }
 
-/// The same of the entries of a list, in canonical order, step by step.
+/// What `Acl::grants` says of the entries of a list, which stand in canonical order: by a search
+/// through them.
 #[inline(always)]
 pub(crate) fn decide<S: Subject>(
     entries: &[Entry],

@@ -37,7 +37,7 @@ pub fn entries_grant<S: Subject>(
     }
 }
 
-/// The same as Linux decides it: by the list that `Acl::for_linux` makes.
+/// What `entries_grant` says, but as Linux decides it: by the list that `Acl::for_linux` makes.
 pub fn entries_grant_on_linux<S: Subject>(
     entries: &mut [Entry],
     owner: Uid,

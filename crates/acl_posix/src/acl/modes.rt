@@ -150,7 +150,8 @@ impl Acl {
         all
     }
 
-    /// The same list. It fails only if memory runs out, and not up to `INLINE_ENTRIES`.
+    /// Clones the list. It allocates only for more than `INLINE_ENTRIES` entries, and fails only if
+    /// memory runs out.
     pub fn try_clone(&self, alloc: Global) -> Result<Acl, AllocError>
         ensures value { IfOk result (λ acl. acl ≡ self.now) }
         ensures short { length self.now ≤ INLINE_ENTRIES → IsOk result }

@@ -1,4 +1,4 @@
-//! How it is told who loses or gains what.
+//! How it is reported who loses or gains what.
 ghost use Rattle.std.specs.Prelude.{◌≡◌, ◌++◌, OnOk};
 ghost use Rattle.acl_nfs4.specs.Mask.{mask_bits};
 ghost use Rattle.acl_queries.specs.Differences.{bits_text, gids_text};

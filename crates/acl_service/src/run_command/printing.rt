@@ -45,7 +45,7 @@ pub(super) fn print_journal(
     Ok(text)
 }
 
-/// Writes texts, one after the other. If a write fails, a front of them all went out.
+/// Writes texts, one after the other. If a write fails, a prefix of them all went out.
 fn write_texts<W: Write>(texts: &[&[u8]], out: &mut W) -> io::Result<()>
     ensures written { OnOk result (Appends (W.contents out.old) (W.contents out.new)
         (flat_map (λ text. text.now) texts.now)) }

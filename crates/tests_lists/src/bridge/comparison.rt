@@ -12,7 +12,7 @@ use tests_common::acl;
 /// second treats otherwise; none where nobody is.
 type Told = Option<(bool, [Option<Gid>; 2])>;
 
-/// What is told of the two lists.
+/// What is reported of the two lists.
 fn told(alloc: Global, first: &str, second: &str, request: Perms) -> Option<Told> {
     let (alice, staff) = owner_and_group()?;
     let before = acl(alloc, first)?;

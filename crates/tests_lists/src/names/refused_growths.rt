@@ -1,10 +1,10 @@
-//! Calls that may run out of memory: one refused growth, wherever it falls, is told by the call in
-//! which it falls, and the call may be made again.
+//! Calls that may run out of memory: one failed allocation, wherever it falls, is reported by the
+//! call in which it falls, and the call may be made again.
 //!
-//! `rt try --test --fail-alloc N` refuses the growth N of a test. Each test here passes whichever
-//! growth that is, and prints how many refusals it was told of: one up to the last growth that it
-//! asks for, and none from then on. The parts of a directory grow before the call that is looked
-//! at, so a refusal among them is told by the part.
+//! `rt try --test --fail-alloc N` fails allocation N of a test. Each test here passes whichever
+//! growth that is, and prints how many failures it saw: one up to the last allocation that it asks
+//! for, and none from then on. The parts of a directory grow before the call that is looked at, so
+//! a failure among them is reported by the part.
 use acl_names::{Asker, Directory, Gid, SetupFault, Uid, push_id};
 use std::alloc::Global;
 use std::test::Fail;

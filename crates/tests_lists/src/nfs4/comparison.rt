@@ -6,8 +6,8 @@ use std::alloc::Global;
 use std::test::Fail;
 use tests_common::acl4;
 
-/// A difference: the uid, the gid and the other gid of whom it is told, where 0 stands for none,
-/// and the bits that are lost and gained.
+/// A difference: the uid, the gid and the other gid of whom it is reported, where 0 stands for
+/// none, and the bits that are lost and gained.
 type Told = (u32, u32, u32, &'static str, &'static str);
 
 /// Two lists, the bits that are asked, and what they decide differently of them, if anything.
@@ -67,7 +67,7 @@ fn between(alloc: Global, first: &str, second: &str, letters: &str) -> Option<Op
     Some(before.difference(&owners, &after, &owners, asked))
 }
 
-/// The difference that is told.
+/// The difference that is reported.
 fn told((uid, gid, other_gid, lost, gained): Told) -> Option<Difference> {
     Some(Difference {
         asker: Asker {

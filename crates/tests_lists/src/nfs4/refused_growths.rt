@@ -1,8 +1,8 @@
-//! Calls that may run out of memory: one refused growth, wherever it falls, is told by the call in
-//! which it falls, leaves everything as it was, and the call may be made again.
+//! Calls that may run out of memory: one failed allocation, wherever it falls, is reported by the
+//! call in which it falls, leaves everything as it was, and the call may be made again.
 //!
-//! scripts/refused-growths refuses one growth of a test after the other. Each test here passes
-//! whichever growth that is, and prints how many refusals it was told of.
+//! scripts/refused-growths fails one allocation of a test after the other. Each test here passes
+//! whichever allocation that is, and prints how many failures it saw.
 use crate::texts::is_spelt;
 use acl_names::{Directory, Uid};
 use acl_nfs4::{Ace, AceFault, AceType, Acl4, Fault4, Flags, Kind, Mask, Who, read_aces};

@@ -1,5 +1,5 @@
-//! Nodes that are shown, and what lines and answers come to; none where memory is refused or a text
-//! is.
+//! Nodes that are shown, and what lines and answers result in; none where memory is refused or a
+//! text is.
 use crate::lists::{Lists, lists_of};
 use acl_lang::{Answer, Line, read_line, render};
 use acl_names::{Gid, Uid};

@@ -1,9 +1,9 @@
-//! Calls that may run out of memory: one refused growth, wherever it falls, is told by the call in
-//! which it falls, leaves everything as it was, and the call may be made again.
+//! Calls that may run out of memory: one failed allocation, wherever it falls, is reported by the
+//! call in which it falls, leaves everything as it was, and the call may be made again.
 //!
-//! `rt try --test --fail-alloc N` refuses the growth N of a test. Each test here passes whichever
-//! growth that is, and prints how many refusals it was told of: one up to the last growth that it
-//! asks for, and none from then on.
+//! `rt try --test --fail-alloc N` fails allocation N of a test. Each test here passes whichever
+//! growth that is, and prints how many failures it saw: one up to the last allocation that it asks
+//! for, and none from then on.
 use crate::lang::fixture::{Shown, boxed};
 use crate::lists::Lists;
 use acl_lang::{Answer, Line, Numbered, Requests, push_command, read_line, read_text, render};
@@ -145,7 +145,7 @@ fn names(alloc: Global, refusals: &mut Refusals) -> Option<Directory> {
     refusals.again(|| directory(alloc))
 }
 
-/// How many refusals the test was told of, if all went as it should.
+/// How many failures the test saw, if all went as it should.
 fn told(refusals: Refusals, right: Option<bool>) -> Option<u32> {
     if right == Some(true) {
         Some(refusals.told())

@@ -1,10 +1,10 @@
-//! Calls that may run out of memory: one refused growth, wherever it falls, is told by the call in
-//! which it falls, leaves each node of the tree as it was and adds none, and the call may be made
-//! again.
+//! Calls that may run out of memory: one failed allocation, wherever it falls, is reported by the
+//! call in which it falls, leaves each node of the tree as it was and adds none, and the call may
+//! be made again.
 //!
-//! `rt try --test --fail-alloc N` refuses the growth N of a test. Each test here passes whichever
-//! growth that is, and prints how many refusals it was told of: one up to the last growth that it
-//! asks for, and none from then on.
+//! `rt try --test --fail-alloc N` fails allocation N of a test. Each test here passes whichever
+//! growth that is, and prints how many failures it saw: one up to the last allocation that it asks
+//! for, and none from then on.
 use crate::tree::fixture::{A, ALICE, BOB, CAROL, CHILD, Command, DIR, Outcome, Step, World, uid};
 use acl_nfs4::{Kind, read_letters};
 use acl_posix::read_perms;
@@ -32,7 +32,7 @@ const D_NFS4: &[Command<'static>] = &[
     Command::SetNfs4(DIR, LONG4),
 ];
 
-/// What the command comes to, at the second attempt if the first is refused; none if a refused
+/// What the command results in, at the second attempt if the first is refused; none if a refused
 /// command changed a node or the number of nodes.
 fn again(world: &mut World, refusals: &mut Refusals, command: Command<'_>) -> Option<Outcome> {
     let before = refusals.again(|| world.nodes())?;
@@ -74,7 +74,7 @@ fn goes_so(
     true
 }
 
-/// How many growths are refused while the command is made on the tree after the first ones, if all
+/// How many allocations fail while the command is made on the tree after the first ones, if all
 /// goes so.
 fn refusals_of(
     alloc: Global,
@@ -230,7 +230,7 @@ fn dir_path(alloc: Global, refusals: &mut Refusals) -> Option<Path> {
     refusals.again(|| Path::read(alloc, DIR.as_bytes()).ok())
 }
 
-/// What a check of bob's reading comes to, at the first attempt.
+/// What a check of bob's reading results in, at the first attempt.
 fn checked(alloc: Global, world: &mut World, refusals: &mut Refusals) -> Option<Outcome> {
     let bob = uid(BOB)?;
     let perms = read_perms(b"r")?;
@@ -246,7 +246,7 @@ fn checked4(alloc: Global, world: &mut World, refusals: &mut Refusals) -> Option
     world.outcome(&Request::Check4(path, bob, mask))
 }
 
-/// What the second check comes to if the first comes to anything, and how many growths were
+/// What the second check results in if the first results in anything, and how many allocations were
 /// refused.
 fn both_checked(alloc: Global) -> Option<(Outcome, Refusals)> {
     let mut refusals = Refusals::new();
