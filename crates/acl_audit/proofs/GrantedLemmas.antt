@@ -6,13 +6,14 @@ use Rattle.acl_names.specs.Bits.{has, ◌∩◌, ◌∪◌}
 use Rattle.acl_names.specs.Requester.{Identity}
 use Rattle.acl_names.proofs.AnyLemmas.{or_false}
 use Rattle.acl_names.proofs.BitSets.{has-above, has-or, has-zero, same_bits}
-use Rattle.acl_audit.specs.Changes.{decider_of, file_of, list_decides}
+use Rattle.acl_audit.specs.Changes.{decider_of, file_of}
 use Rattle.acl_audit.specs.Letters.{BitsAreGranted, LettersStandForBits, bits_where, decided_bits, effective, granted_mask, grants_bit}
 use Rattle.acl_audit.specs.Steps.{granted_alone}
 use Rattle.acl_audit.proofs.ChangeLemmas.{allowed_alone_are}
 use Rattle.acl_nfs4.specs.Mask.{mask_of, mode_bits}
 use Rattle.acl_posix.specs.Access.{grants}
-use Rattle.acl_tree.specs.NodeAcls.{list_grants}
+use Rattle.acl_bridge.specs.Lists.{decider_at}
+use Rattle.acl_tree.specs.NodeAcls.{deciding_list, list_grants}
 use Rattle.acl_tree.specs.declared.node.Node.{Node}
 use Rattle.acl_tree.specs.declared.node_acl.NodeAcl.{NodeAcl}
 use Rattle.acl_tree.specs.declared.node_acl.NodeAcl.TheVariants.{Posix, Nfs4}
@@ -94,7 +95,7 @@ letters_stand_for_bits node requester access default is =
     let same : effective node requester ≡ alone =
     ap (λ (acl : NodeAcl). cond (list_grants acl owner group requester 4) 4 0 ∪ cond (list_grants acl owner group requester 2) 2 0 ∪ cond (list_grants acl owner group requester 1) 1 0) is in
     let are : (bit : ℕ) → has (mode_bits ∩ mask_of alone) bit ≡ (has mode_bits bit && decider_of (file_of node) requester bit) =
-    λ bit. allowed_alone_are access owner group requester mode_bits (inl refl) bit ∙ ap (λ (acl : NodeAcl). has mode_bits bit && list_decides acl owner group requester bit) (sym is) in
+    λ bit. allowed_alone_are access owner group requester mode_bits (inl refl) bit ∙ ap (λ (acl : NodeAcl). has mode_bits bit && decider_at (deciding_list acl) (record { owner = owner; group = group }) requester bit) (sym is) in
     sym (is_granted_mask node requester mode_bits (mode_bits ∩ mask_of alone) (sym (ap decided_bits is)) are)
     ∙ within_mode (grants access owner group requester 4) (grants access owner group requester 2) (grants access owner group requester 1)
     ∙ ap mask_of (sym same)

@@ -6,13 +6,14 @@ use Rattle.acl_names.specs.Asker.{identity_of}
 use Rattle.acl_names.specs.Bits.{has, ◌∪◌}
 use Rattle.acl_names.specs.Requester.{Identity}
 use Rattle.acl_posix.specs.Validity.{IsValid}
-use Rattle.acl_nfs4.specs.Comparison.{Decider, decided_by}
-use Rattle.acl_nfs4.specs.Mask.{all_masks, mask_bits, mode_bits}
+use Rattle.acl_nfs4.specs.Comparison.{Decider}
+use Rattle.acl_nfs4.specs.Mask.{mask_bits}
 use Rattle.acl_nfs4.specs.declared.comparison.Difference.{Difference}
 use Rattle.acl_nfs4.specs.declared.owners.Owners.{Owners}
-use Rattle.acl_bridge.specs.Comparison.{Granter, granted_by, permission_bits, mask_for}
-use Rattle.acl_bridge.specs.Comparison.{whole_requests}
-use Rattle.acl_tree.specs.NodeAcls.{list_grants}
+use Rattle.acl_bridge.specs.Comparison.{Granter, mask_for, whole_requests}
+use Rattle.acl_bridge.specs.Lists as lists
+use Rattle.acl_bridge.specs.Lists.{decider_at}
+use Rattle.acl_tree.specs.NodeAcls.{deciding_list, list_grants}
 use Rattle.acl_tree.specs.declared.node.Node.{Node}
 use Rattle.acl_tree.specs.declared.node_acl.NodeAcl.{NodeAcl}
 use Rattle.acl_tree.specs.declared.node_acl.NodeAcl.TheVariants.{Posix, Nfs4}
@@ -32,20 +33,16 @@ file_of node = record { owner = node.owner; group = node.group; acl = node.acl }
 abbrev pub file_with : Owners → NodeAcl → File
 file_with owners acl = record { owner = owners.owner; group = owners.group; acl = acl }
 
--- what lists decide for an owner and a group, bit by bit
-abbrev pub list_decides : NodeAcl → ℕ → ℕ → Decider
-list_decides (Posix access default) owner group = granted_by access owner group
-list_decides (Nfs4 acl) owner group = decided_by acl owner group
+abbrev pub owners_of : File → Owners
+owners_of file = record { owner = file.owner; group = file.group }
 
+-- what its list decides, bit by bit
 abbrev pub decider_of : File → Decider
-decider_of file = list_decides file.acl file.owner file.group
+decider_of file = decider_at (deciding_list file.acl) (owners_of file)
 
--- over which bits lists are compared: all of them between NFSv4 lists, one for each permission
--- between POSIX lists, and those of a file mode if the styles differ
+-- over which bits lists are compared
 abbrev pub bits_between : NodeAcl → NodeAcl → ℕ
-bits_between (Nfs4 before) (Nfs4 after) = all_masks
-bits_between (Posix access default) (Posix other inherited) = permission_bits
-bits_between _ _ = mode_bits
+bits_between before after = lists.bits_between (deciding_list before) (deciding_list after)
 
 -- POSIX lists are compared by the requests of several permissions too
 abbrev pub requests_between : NodeAcl → NodeAcl → List ℕ

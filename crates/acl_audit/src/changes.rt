@@ -1,20 +1,18 @@
 //! What lists decide otherwise, for somebody or for anybody.
-ghost use Rattle.std.specs.Prelude.{◌≡◌, IfOk, List, MatchOption, Option, map};
+ghost use Rattle.std.specs.Prelude.{◌≡◌, IfOk, MatchOption, map};
 ghost use Rattle.acl_nfs4.specs.Mask.{mask_bits};
-ghost use Rattle.acl_posix.specs.Entry.{EntryValue};
 ghost use Rattle.acl_posix.specs.Perms.{bits_of};
-ghost use Rattle.acl_tree.specs.declared.node_acl.NodeAcl.TheVariants.{Posix, Nfs4};
 ghost use Rattle.acl_audit.specs.Changes.{BitsAlikeTo, IsChangeFor, ChangesBits, ChangesFirst};
 ghost use Rattle.acl_audit.specs.Changes.{ChangesRequest, FindsAnybody, IsAlikeTo, RequestsAlikeTo};
-ghost use Rattle.acl_audit.specs.Changes.{bits_between, decider_of, file_of, file_with, granter_of};
+ghost use Rattle.acl_audit.specs.Changes.{bits_between, decider_of, file_of, granter_of, owners_of};
 ghost use Rattle.acl_audit.specs.Changes.{requests_between};
 
 use crate::allowed::allowed;
 use acl_bridge::bits::{mask_for, mode_bits, permission_bits, whole_requests};
-use acl_bridge::{difference_from_posix, posix_difference, whole_request_difference};
+use acl_bridge::list_difference;
 use acl_names::Requester;
-use acl_nfs4::{Acl4, Difference, Mask, Owners};
-use acl_posix::{Acl, Perms, without};
+use acl_nfs4::{Difference, Mask, Owners};
+use acl_posix::{Perms, without};
 use acl_tree::{Node, NodeAcl};
 use bitflags::Flags;
 use std::alloc::{AllocError, Global};
@@ -139,101 +137,9 @@ pub fn change_for(before: &Node, after: &Node, requester: &Requester) -> Option<
     }
 }
 
-/// Whom a change between POSIX lists concerns: of the permissions by themselves, or else of the
-/// requests of several.
-fn between_posix_lists(
-    alloc: Global,
-    first: &Acl,
-    owners: &Owners,
-    second: &Acl,
-    other_owners: &Owners,
-) -> Result<Option<Difference>, AllocError>
-    ensures { (default inherited : Option (List EntryValue)) → IfOk result
-        (FindsAnybody (file_with owners.now (Posix first.now default))
-        (file_with other_owners.now (Posix second.now inherited))) }
-{
-    match posix_difference(alloc, first, owners, second, other_owners)? {
-        Some(difference) => Ok(Some(difference)),
-        None => Ok(whole_request_difference(first, owners, second, other_owners)),
-    }
-}
-
-/// Whom a change from a POSIX list to an NFSv4 list concerns.
-fn from_posix(
-    alloc: Global,
-    first: &Acl,
-    owners: &Owners,
-    second: &Acl4,
-    other_owners: &Owners,
-) -> Result<Option<Difference>, AllocError>
-    ensures { (default : Option (List EntryValue)) → IfOk result
-        (FindsAnybody (file_with owners.now (Posix first.now default))
-        (file_with other_owners.now (Nfs4 second.now))) }
-{
-    difference_from_posix(alloc, first, owners, second, other_owners)
-}
-
-/// Whom a change from an NFSv4 list to a POSIX list concerns.
-fn towards_posix(
-    alloc: Global,
-    first: &Acl4,
-    owners: &Owners,
-    second: &Acl,
-    other_owners: &Owners,
-) -> Result<Option<Difference>, AllocError>
-    ensures { (inherited : Option (List EntryValue)) → IfOk result
-        (FindsAnybody (file_with owners.now (Nfs4 first.now))
-        (file_with other_owners.now (Posix second.now inherited))) }
-{
-    match difference_from_posix(alloc, second, other_owners, first, owners)? {
-        Some(difference) => Ok(Some(difference.reversed())),
-        None => Ok(None),
-    }
-}
-
-/// Whom a change between NFSv4 lists concerns.
-fn between_nfs4_lists(
-    first: &Acl4,
-    owners: &Owners,
-    second: &Acl4,
-    other_owners: &Owners,
-) -> Option<Difference>
-    ensures { FindsAnybody (file_with owners.now (Nfs4 first.now))
-        (file_with other_owners.now (Nfs4 second.now)) result }
-{
-    first.difference(owners, second, other_owners, Mask::all())
-}
-
-/// Whom a change of lists concerns, each of a file of its own owners.
-fn between_lists(
-    alloc: Global,
-    before: &NodeAcl,
-    owners: &Owners,
-    after: &NodeAcl,
-    other_owners: &Owners,
-) -> Result<Option<Difference>, AllocError>
-    ensures { IfOk result (FindsAnybody (file_with owners.now before.now)
-        (file_with other_owners.now after.now)) }
-{
-    match (before, after) {
-        (NodeAcl::Posix { access: first, .. }, NodeAcl::Posix { access: second, .. }) => {
-            between_posix_lists(alloc, first, owners, second, other_owners)
-        }
-        (NodeAcl::Posix { access: first, .. }, NodeAcl::Nfs4 { acl: second }) => {
-            from_posix(alloc, first, owners, second, other_owners)
-        }
-        (NodeAcl::Nfs4 { acl: first }, NodeAcl::Posix { access: second, .. }) => {
-            towards_posix(alloc, first, owners, second, other_owners)
-        }
-        (NodeAcl::Nfs4 { acl: first }, NodeAcl::Nfs4 { acl: second }) => {
-            Ok(between_nfs4_lists(first, owners, second, other_owners))
-        }
-    }
-}
-
 /// The owners of a node.
 fn owners_of(node: &Node) -> Owners
-    ensures { result ≡ record { owner = node.now.owner; group = node.now.group } }
+    ensures { result ≡ owners_of (file_of node.now) }
 {
     Owners {
         owner: node.owner,
@@ -253,7 +159,11 @@ pub fn change_for_anybody(
 ) -> Result<Option<Difference>, AllocError>
     ensures { IfOk result (FindsAnybody (file_of before.now) (file_of after.now)) }
 {
-    let owners = owners_of(before);
-    let other_owners = owners_of(after);
-    between_lists(alloc, &before.acl, &owners, &after.acl, &other_owners)
+    list_difference(
+        alloc,
+        before.acl.deciding_list(),
+        &owners_of(before),
+        after.acl.deciding_list(),
+        &owners_of(after),
+    )
 }

@@ -9,3 +9,4 @@ pub mod FilterLemmas
 pub mod PassLemmas
 pub mod TranslationMode
 pub mod TranslationLength
+pub mod ListsFound

@@ -3,3 +3,4 @@ pub mod TranslationLaws
 pub mod Comparison
 pub mod Effects
 pub mod Style
+pub mod Lists

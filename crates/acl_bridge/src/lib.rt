@@ -1,17 +1,21 @@
 //! The two styles of access control list, and POSIX lists as NFSv4 lists that decide alike.
 #![tactic(auto)]
 
+mod any_acl;
 pub mod bits;
 mod comparison;
 mod laws;
+mod lists;
 mod passes;
 mod requests;
 mod style;
 mod translation;
 mod whole_requests;
 
+pub use any_acl::{AnyAcl, AnyAclRef};
 pub use comparison::{difference_from_posix, posix_difference};
 pub use laws::{default_translation_laws, posix_comparison_laws, translation_laws};
+pub use lists::list_difference;
 pub use requests::{Unlike, request_difference};
 pub use style::Style;
 pub use translation::{translate, translate_default};

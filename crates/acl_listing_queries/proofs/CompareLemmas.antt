@@ -12,8 +12,8 @@ use Rattle.acl_audit.specs.Changes.{IsAlikeToAll, IsChangeFor, RequestsAlikeTo, 
 use Rattle.acl_audit.proofs.FoundLemmas.{alike_to, bits_change, first_change}
 use Rattle.acl_queries.specs.Compared.{Compared}
 use Rattle.acl_queries.specs.Differences.{AreAlike, Differ}
-use Rattle.acl_queries.specs.declared.command.list.AnyAcl.{AnyAcl}
-use Rattle.acl_queries.specs.declared.command.list.AnyAcl.TheVariants.{Nfs4, Posix}
+use Rattle.acl_bridge.specs.declared.any_acl.AnyAcl.{AnyAcl}
+use Rattle.acl_bridge.specs.declared.any_acl.AnyAcl.TheVariants.{Nfs4, Posix}
 use Rattle.acl_listing_queries.specs.AlikeLaws.{AlikeListsAreAlikeFiles, DifferencesAreChanges, first_file, second_file}
 
 -- requests that are granted alike to each are granted alike to all

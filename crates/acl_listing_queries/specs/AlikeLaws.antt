@@ -7,8 +7,8 @@ use Rattle.acl_tree.specs.declared.node_acl.NodeAcl.TheVariants as file
 use Rattle.acl_audit.specs.Changes.{File, IsAlikeToAll, IsChangeFor, change_of}
 use Rattle.acl_queries.specs.Compared.{Compared}
 use Rattle.acl_queries.specs.Differences.{AreAlike, Differ}
-use Rattle.acl_queries.specs.declared.command.list.AnyAcl.{AnyAcl}
-use Rattle.acl_queries.specs.declared.command.list.AnyAcl.TheVariants as list
+use Rattle.acl_bridge.specs.declared.any_acl.AnyAcl.{AnyAcl}
+use Rattle.acl_bridge.specs.declared.any_acl.AnyAcl.TheVariants as list
 
 -- a file's list, without one that new files inherit
 abbrev pub as_file_list : AnyAcl → NodeAcl

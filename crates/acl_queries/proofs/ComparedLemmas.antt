@@ -9,7 +9,7 @@ use Rattle.acl_cli.proofs.FailureLemmas.{Explains-as}
 use Rattle.acl_queries.specs.Compared.{compared_in}
 use Rattle.acl_queries.specs.Comparing.{between}
 use Rattle.acl_queries.specs.ListField.{list_in}
-use Rattle.acl_queries.specs.declared.command.list.AnyAcl.{AnyAcl}
+use Rattle.acl_bridge.specs.declared.any_acl.AnyAcl.{AnyAcl}
 
 module _ (owner group : ℕ) (first : AnyAcl) (rows : List Row) (is_owner : id_in (codes "owner") rows ≡ Ok owner) (is_group : id_in (codes "group") rows ≡ Ok group)
     (is_first : list_in (codes "style") (codes "text") rows ≡ Ok first) where

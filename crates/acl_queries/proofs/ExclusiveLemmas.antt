@@ -4,15 +4,16 @@ use Rattle.std.specs.List.{AllByRecursion}
 use Rattle.acl_names.specs.Asker.{identity_of}
 use Rattle.acl_names.specs.Bits.{has, ◌∪◌}
 use Rattle.acl_names.proofs.BitSets.{has-or, no_bits}
-use Rattle.acl_posix.specs.Access.{grants}
 use Rattle.acl_nfs4.specs.Comparison.{DecideAlike, Decider, IsDifference}
 use Rattle.acl_nfs4.specs.Mask.{mask_bits}
 use Rattle.acl_nfs4.specs.declared.comparison.Difference.{Difference}
-use Rattle.acl_bridge.specs.Comparison.{GrantAlikeToAll, Granter, IsFirstDifference, whole_requests}
+use Rattle.acl_nfs4.specs.declared.owners.Owners.{Owners}
+use Rattle.acl_bridge.specs.Comparison.{GrantAlikeToAll, Granter, IsFirstDifference, grants_at, whole_requests}
+use Rattle.acl_bridge.specs.Lists.{RequestsAlike, RequestsDiffer, bits_between, decider_at}
 use Rattle.acl_queries.specs.Compared.{Compared}
-use Rattle.acl_queries.specs.Differences.{AreAlike, Differ, RequestsAlike, RequestsDiffer, bits_between, decider_of}
-use Rattle.acl_queries.specs.declared.command.list.AnyAcl.{AnyAcl}
-use Rattle.acl_queries.specs.declared.command.list.AnyAcl.TheVariants.{Posix, Nfs4}
+use Rattle.acl_queries.specs.Differences.{AreAlike, Differ, owners_of}
+use Rattle.acl_bridge.specs.declared.any_acl.AnyAcl.{AnyAcl}
+use Rattle.acl_bridge.specs.declared.any_acl.AnyAcl.TheVariants.{Posix, Nfs4}
 
 -- one of two that are equal isn't granted alone
 not_one_alone : (asked before after : Bool) → (IsTrue asked → before ≡ after) → (asked && (before && not after)) ≡ false
@@ -38,17 +39,17 @@ no_first_difference before after [] difference alike never = never
 no_first_difference before after (request ∷ more) difference (here, later) (inl differs) = differs.apart (here (identity_of difference.asker))
 no_first_difference before after (request ∷ more) difference (here, later) (inr (same, differs)) = no_first_difference before after more difference later differs
 
-no_request_differs : (owner group : ℕ) (first second : AnyAcl) (difference : Difference) → RequestsAlike owner group first second → ¬ RequestsDiffer owner group first second difference
-no_request_differs owner group (Posix first) (Posix second) difference alike differs = no_first_difference
-    (grants first owner group) (grants second owner group) whole_requests difference alike differs
-no_request_differs owner group (Posix first) (Nfs4 second) difference alike never = never
-no_request_differs owner group (Nfs4 first) (Posix second) difference alike never = never
-no_request_differs owner group (Nfs4 first) (Nfs4 second) difference alike never = never
+no_request_differs : (owners : Owners) (first second : AnyAcl) (difference : Difference) → RequestsAlike first owners second owners → ¬ RequestsDiffer first owners second owners difference
+no_request_differs owners (Posix first) (Posix second) difference alike differs =
+    no_first_difference (grants_at first owners) (grants_at second owners) whole_requests difference alike differs
+no_request_differs owners (Posix first) (Nfs4 second) difference alike never = never
+no_request_differs owners (Nfs4 first) (Posix second) difference alike never = never
+no_request_differs owners (Nfs4 first) (Nfs4 second) difference alike never = never
 
 -- lists that decide alike for every requester differ for nobody
 pub differ_for_nobody : (compared : Compared) (difference : Difference) → AreAlike compared → ¬ Differ compared difference
 differ_for_nobody compared difference (bits, requests) (inl is) =
-    is.some (nothing_told (decider_of compared.owner compared.group compared.first) (decider_of compared.owner compared.group compared.second)
+    is.some (nothing_told (decider_at compared.first (owners_of compared)) (decider_at compared.second (owners_of compared))
     (bits_between compared.first compared.second) bits difference is)
 differ_for_nobody compared difference (bits, requests) (inr (_, differs)) =
-    no_request_differs compared.owner compared.group compared.first compared.second difference requests differs
+    no_request_differs (owners_of compared) compared.first compared.second difference requests differs

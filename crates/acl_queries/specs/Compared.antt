@@ -4,7 +4,7 @@ use Rattle.clap.specs.Words.{Row}
 use Rattle.acl_names.specs.Steps.{◌>>=◌}
 use Rattle.acl_cli.specs.Fields.{id_in}
 use Rattle.acl_queries.specs.ListField.{list_in}
-use Rattle.acl_queries.specs.declared.command.list.AnyAcl.{AnyAcl}
+use Rattle.acl_bridge.specs.declared.any_acl.AnyAcl.{AnyAcl}
 use Rattle.acl_cli.specs.declared.field_fault.FieldFault.{FieldFault}
 
 -- two lists, compared for a file of this owner and this group

@@ -1,7 +1,7 @@
 -- Private steps, which no public clause cites: what a comparison compares.
 use Rattle.std.specs.Prelude.{ℕ}
 use Rattle.acl_queries.specs.Compared.{Compared}
-use Rattle.acl_queries.specs.declared.command.list.AnyAcl.{AnyAcl}
+use Rattle.acl_bridge.specs.declared.any_acl.AnyAcl.{AnyAcl}
 
 -- two lists for a file of this owner and this group
 abbrev pub between : ℕ → ℕ → AnyAcl → AnyAcl → Compared

@@ -1,68 +1,31 @@
 -- What two lists decide differently, and how that is reported.
-use Rattle.std.specs.Prelude.{◌≡◌, ◌⊎◌, ◌==◌, ⊤, ℕ, List, ◌∷◌, ◌++◌, Option, Some, None, codes}
+use Rattle.std.specs.Prelude.{◌≡◌, ◌⊎◌, ◌==◌, ℕ, List, ◌∷◌, ◌++◌, Option, Some, None, codes}
 use Rattle.std.specs.Prelude.{decimal, if◌then◌else◌}
-use Rattle.std.specs.List.{AllByRecursion}
 use Rattle.clap.specs.Words.{Row}
 use Rattle.acl_names.specs.Bytes.{comma}
 use Rattle.acl_names.specs.Letters.{letters_text}
-use Rattle.acl_posix.specs.Access.{grants}
-use Rattle.acl_nfs4.specs.Comparison.{DecideAlike, Decider, IsDifference, decided_by}
 use Rattle.acl_nfs4.specs.Letters.{mask_table}
-use Rattle.acl_nfs4.specs.Mask.{all_masks, mask_bits, mode_bits}
+use Rattle.acl_nfs4.specs.Mask.{mask_bits}
 use Rattle.acl_nfs4.specs.declared.comparison.Difference.{Difference}
-use Rattle.acl_bridge.specs.Comparison.{GrantAlikeToAll, IsFirstDifference, granted_by}
-use Rattle.acl_bridge.specs.Comparison.{permission_bits, whole_requests}
-use Rattle.acl_queries.specs.Compared.{Compared, compared_in}
+use Rattle.acl_nfs4.specs.declared.owners.Owners.{Owners}
+use Rattle.acl_bridge.specs.Lists as lists
 use Rattle.acl_cli.specs.Commands.{Meaning}
+use Rattle.acl_queries.specs.Compared.{Compared, compared_in}
 use Rattle.acl_queries.specs.Queries.{query_meaning}
-use Rattle.acl_queries.specs.declared.command.list.AnyAcl.TheVariants.{Posix, Nfs4}
-use Rattle.acl_queries.specs.declared.command.list.AnyAcl.{AnyAcl}
 
--- what a list of either style decides, bit by bit
-abbrev pub decider_of : ℕ → ℕ → AnyAcl → Decider
-decider_of owner group (Posix entries) = granted_by entries owner group
-decider_of owner group (Nfs4 aces) = decided_by aces owner group
-
--- over which bits lists are compared: all of them between NFSv4 lists, one for each permission
--- between POSIX lists, and those of a file mode if the styles differ
-abbrev pub bits_between : AnyAcl → AnyAcl → ℕ
-bits_between (Nfs4 first) (Nfs4 second) = all_masks
-bits_between (Posix first) (Posix second) = permission_bits
-bits_between _ _ = mode_bits
-
--- both lists decide each of these bits alike for every requester
-abbrev pub BitsAlike : Compared → Type 0
-BitsAlike compared =
-    DecideAlike (decider_of compared.owner compared.group compared.first)
-    (decider_of compared.owner compared.group compared.second)
-    (bits_between compared.first compared.second)
-
--- POSIX lists are compared by requests of more than one permission too
-abbrev pub RequestsAlike : ℕ → ℕ → AnyAcl → AnyAcl → Type 0
-RequestsAlike owner group (Posix first) (Posix second) =
-    AllByRecursion (GrantAlikeToAll (grants first owner group) (grants second owner group))
-    whole_requests
-RequestsAlike owner group _ _ = ⊤
-
-abbrev pub RequestsDiffer : ℕ → ℕ → AnyAcl → AnyAcl → Difference → Type 0
-RequestsDiffer owner group (Posix first) (Posix second) difference =
-    IsFirstDifference (grants first owner group) (grants second owner group) whole_requests
-    difference
-RequestsDiffer owner group _ _ difference = ⊥
+-- the owner and the group of the file for which the lists are compared
+abbrev pub owners_of : Compared → Owners
+owners_of compared = record { owner = compared.owner; group = compared.group }
 
 -- both lists decide alike for every requester, of whatever uid and groups
 abbrev pub AreAlike : Compared → Type 0
-AreAlike compared = BitsAlike compared × RequestsAlike compared.owner compared.group compared.first
-    compared.second
+AreAlike compared = lists.AreAlike compared.first (owners_of compared) compared.second
+    (owners_of compared)
 
--- someone loses or gains this: bits, or if all of these are decided alike a whole request
+-- someone loses or gains this
 abbrev pub Differ : Compared → Difference → Type 0
-Differ compared difference =
-    IsDifference (decider_of compared.owner compared.group compared.first)
-    (decider_of compared.owner compared.group compared.second)
-    (bits_between compared.first compared.second) difference
-    ⊎ (BitsAlike compared × RequestsDiffer compared.owner compared.group compared.first
-    compared.second difference)
+Differ compared = lists.Differ compared.first (owners_of compared) compared.second
+    (owners_of compared)
 
 -- the groups of who asks, between commas (44), each once; - if there is none
 abbrev pub gids_text : Option ℕ → Option ℕ → List ℕ

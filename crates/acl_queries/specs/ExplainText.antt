@@ -12,8 +12,8 @@ use Rattle.acl_queries.specs.DecideAnswer.{answer_line}
 use Rattle.acl_queries.specs.Explained.{Explained, explained_in}
 use Rattle.acl_queries.specs.Queries.{query_meaning}
 use Rattle.acl_queries.specs.Reasons.{FileRequestValue, nfs4_reasons, posix_reasons}
-use Rattle.acl_queries.specs.declared.command.list.AnyAcl.TheVariants.{Posix, Nfs4}
-use Rattle.acl_queries.specs.declared.command.list.AnyAcl.{AnyAcl}
+use Rattle.acl_bridge.specs.declared.any_acl.AnyAcl.TheVariants.{Posix, Nfs4}
+use Rattle.acl_bridge.specs.declared.any_acl.AnyAcl.{AnyAcl}
 
 -- whether what is asked is granted
 abbrev pub Decides : FileRequestValue → AnyAcl → Bool → Type 0

@@ -5,7 +5,7 @@ use Rattle.acl_names.specs.Steps.{◌>>=◌}
 use Rattle.acl_cli.specs.Fields.{gids_in, id_in, perms_in}
 use Rattle.acl_queries.specs.ListField.{list_in}
 use Rattle.acl_queries.specs.Reasons.{FileRequestValue}
-use Rattle.acl_queries.specs.declared.command.list.AnyAcl.{AnyAcl}
+use Rattle.acl_bridge.specs.declared.any_acl.AnyAcl.{AnyAcl}
 use Rattle.acl_cli.specs.declared.field_fault.FieldFault.{FieldFault}
 
 -- why the requester may do all of what is requested with a file of this access control list, or may

@@ -19,8 +19,8 @@ use Rattle.acl_nfs4.specs.declared.reading.PieceFault.{PieceFault}
 use Rattle.acl_nfs4.specs.declared.reading.PieceFault.TheVariants as piece
 use Rattle.acl_posix.specs.declared.acl_text.AclFault.TheVariants as acl
 use Rattle.acl_queries.specs.AclText.{acl_of, nobody}
-use Rattle.acl_queries.specs.declared.command.list.AnyAcl.{AnyAcl}
-use Rattle.acl_queries.specs.declared.command.list.AnyAcl.TheVariants as list
+use Rattle.acl_bridge.specs.declared.any_acl.AnyAcl.{AnyAcl}
+use Rattle.acl_bridge.specs.declared.any_acl.AnyAcl.TheVariants as list
 use Rattle.acl_cli.specs.declared.field_fault.FieldFault.{FieldFault}
 use Rattle.acl_cli.specs.declared.field_fault.FieldFault.TheVariants.{Acl, BadStyle}
 use Rattle.acl_cli.specs.declared.field_fault.FieldFault.TheVariants.{InheritOnly}

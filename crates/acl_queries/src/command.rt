@@ -9,4 +9,3 @@ pub(crate) mod query;
 pub use acl::empty_directory;
 pub use answer::answer_line;
 pub use change_text::{push_bits, push_gids};
-pub use list::AnyAcl;

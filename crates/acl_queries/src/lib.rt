@@ -11,7 +11,7 @@ mod explanation;
 mod laws;
 mod reasons;
 
-pub use command::{AnyAcl, answer_line, empty_directory, push_bits, push_gids};
+pub use command::{answer_line, empty_directory, push_bits, push_gids};
 pub use compare_command::Compare;
 pub use decide_command::Decide;
 pub use explain_command::Explain;

@@ -2,14 +2,15 @@
 ghost use Rattle.std.specs.Prelude.{◌≡◌, IfOk};
 ghost use Rattle.acl_posix.specs.Perms.{bits_of};
 ghost use Rattle.acl_nfs4.specs.Mask.{mask_bits};
+ghost use Rattle.acl_bridge.specs.Lists.{view_list};
 ghost use Rattle.acl_tree.specs.NodeAcls.{acl_at_creation, acl_with_mode, beyond_umask};
-ghost use Rattle.acl_tree.specs.NodeAcls.{default_below, grants4, list_grants, mode_shown};
-ghost use Rattle.acl_tree.specs.NodeAcls.{root_acl};
+ghost use Rattle.acl_tree.specs.NodeAcls.{deciding_list, default_below, grants4, list_grants};
+ghost use Rattle.acl_tree.specs.NodeAcls.{mode_shown, root_acl};
 ghost use Rattle.acl_tree.specs.Refusals.{ComesTo, ChangesTo};
 
 use crate::Boxed;
 use crate::refusal::Refusal;
-use acl_bridge::Style;
+use acl_bridge::{AnyAclRef, Style};
 use acl_names::{Gid, Requester, Uid};
 use acl_nfs4::{Acl4, Fault4, Kind, Mask, mask_of};
 use acl_posix::{Acl, Mode, Perms, without};
@@ -93,6 +94,16 @@ impl NodeAcl {
             NodeAcl::Nfs4 { acl } => Ok(NodeAcl::Nfs4 {
                 acl: acl.try_clone(alloc)?,
             }),
+        }
+    }
+
+    /// The list that access is decided by.
+    pub fn deciding_list(&self) -> AnyAclRef<'_>
+        ensures { view_list result ≡ deciding_list self.now }
+    {
+        match self {
+            NodeAcl::Posix { access, .. } => AnyAclRef::Posix(access),
+            NodeAcl::Nfs4 { acl } => AnyAclRef::Nfs4(acl),
         }
     }
 

@@ -5,22 +5,13 @@ ghost use Rattle.acl_queries.specs.ListField.{aces_of, failure_of_aces, list_in,
 ghost use Rattle.acl_cli.specs.Failures.{Explains};
 
 use super::acl::{empty_directory, read_acl};
-use acl_bridge::Style;
+use acl_bridge::{AnyAcl, Style};
 use acl_cli::fields::text_field;
 use acl_cli::{Failure, FieldFault, RunFault};
 use acl_nfs4::{AceFault, Acl4, read_aces};
-use acl_posix::{Acl, AclFault};
+use acl_posix::AclFault;
 use clap::ArgMatches;
 use std::alloc::Global;
-
-/// An access control list of either style.
-#[derive(Drop)]
-pub enum AnyAcl {
-    /// A POSIX list.
-    Posix(Acl),
-    /// An NFSv4 list.
-    Nfs4(Acl4),
-}
 
 /// Why an NFSv4 list isn't read, as a failure of its field.
 fn failure_of<'a>(fault: AceFault) -> Failure<'a>

@@ -1,19 +1,15 @@
 //! What the words of `compare` ask, and the answer.
 ghost use Rattle.std.specs.Prelude.{IfOk, MatchOption, Ok};
-ghost use Rattle.acl_queries.specs.declared.command.list.AnyAcl.TheVariants as list;
-ghost use Rattle.acl_queries.specs.Comparing.{between};
 ghost use Rattle.acl_queries.specs.Differences.{AreAlike, Differ};
 
 use super::text::answer_text;
-use crate::command::list::{AnyAcl, list_field};
+use crate::command::list::list_field;
 use crate::command::query::Query;
-use acl_bridge::{difference_from_posix, posix_difference, whole_request_difference};
+use acl_bridge::{AnyAcl, list_difference};
 use acl_cli::Failure;
 use acl_cli::ids::{gid_field, uid_field};
 use acl_names::{Gid, Uid};
-use acl_nfs4::{Acl4, Difference, Mask, Owners};
-use acl_posix::Acl;
-use bitflags::Flags;
+use acl_nfs4::{Difference, Owners};
 use clap::ArgMatches;
 use std::alloc::{AllocError, Global};
 use std::marker::Model;
@@ -37,72 +33,6 @@ impl Model for Comparison {
         comparison.second };
 }
 
-/// What two POSIX lists decide differently: of the permissions by themselves, or else of the
-/// requests of several.
-fn between_posix_lists(
-    alloc: Global,
-    first: &Acl,
-    second: &Acl,
-    owners: &Owners,
-) -> Result<Option<Difference>, AllocError>
-    ensures { IfOk result (λ found. MatchOption found
-        (AreAlike (between owners.now.owner owners.now.group (list.Posix first.now)
-        (list.Posix second.now)))
-        (Differ (between owners.now.owner owners.now.group (list.Posix first.now)
-        (list.Posix second.now)))) }
-{
-    match posix_difference(alloc, first, owners, second, owners)? {
-        Some(difference) => Ok(Some(difference)),
-        None => Ok(whole_request_difference(first, owners, second, owners)),
-    }
-}
-
-/// What an NFSv4 list and a POSIX list decide differently.
-fn towards_posix(
-    alloc: Global,
-    first: &Acl4,
-    second: &Acl,
-    owners: &Owners,
-) -> Result<Option<Difference>, AllocError>
-    ensures { IfOk result (λ found. MatchOption found
-        (AreAlike (between owners.now.owner owners.now.group (list.Nfs4 first.now)
-        (list.Posix second.now)))
-        (Differ (between owners.now.owner owners.now.group (list.Nfs4 first.now)
-        (list.Posix second.now)))) }
-{
-    match difference_from_posix(alloc, second, owners, first, owners)? {
-        Some(difference) => Ok(Some(difference.reversed())),
-        None => Ok(None),
-    }
-}
-
-/// What a POSIX list and an NFSv4 list decide differently.
-fn from_posix(
-    alloc: Global,
-    first: &Acl,
-    second: &Acl4,
-    owners: &Owners,
-) -> Result<Option<Difference>, AllocError>
-    ensures { IfOk result (λ found. MatchOption found
-        (AreAlike (between owners.now.owner owners.now.group (list.Posix first.now)
-        (list.Nfs4 second.now)))
-        (Differ (between owners.now.owner owners.now.group (list.Posix first.now)
-        (list.Nfs4 second.now)))) }
-{
-    difference_from_posix(alloc, first, owners, second, owners)
-}
-
-/// What two NFSv4 lists decide differently.
-fn between_nfs4_lists(first: &Acl4, second: &Acl4, owners: &Owners) -> Option<Difference>
-    ensures { MatchOption result
-        (AreAlike (between owners.now.owner owners.now.group (list.Nfs4 first.now)
-        (list.Nfs4 second.now)))
-        (Differ (between owners.now.owner owners.now.group (list.Nfs4 first.now)
-        (list.Nfs4 second.now))) }
-{
-    first.difference(owners, second, owners, Mask::all())
-}
-
 impl Comparison {
     /// What the lists decide differently, for whom; none if they decide alike for everyone.
     fn difference(&self, alloc: Global) -> Result<Option<Difference>, AllocError>
@@ -113,20 +43,8 @@ impl Comparison {
             owner: self.owner,
             group: self.group,
         };
-        match (&self.first, &self.second) {
-            (AnyAcl::Posix(first), AnyAcl::Posix(second)) => {
-                between_posix_lists(alloc, first, second, &owners)
-            }
-            (AnyAcl::Posix(first), AnyAcl::Nfs4(second)) => {
-                from_posix(alloc, first, second, &owners)
-            }
-            (AnyAcl::Nfs4(first), AnyAcl::Posix(second)) => {
-                towards_posix(alloc, first, second, &owners)
-            }
-            (AnyAcl::Nfs4(first), AnyAcl::Nfs4(second)) => {
-                Ok(between_nfs4_lists(first, second, &owners))
-            }
-        }
+        let (first, second) = (self.first.as_ref(), self.second.as_ref());
+        list_difference(alloc, first, &owners, second, &owners)
     }
 }
 

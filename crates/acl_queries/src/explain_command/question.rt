@@ -2,8 +2,9 @@
 ghost use Rattle.std.specs.Prelude.{Ok};
 
 use super::text::explanation_text;
-use crate::command::list::{AnyAcl, list_field};
+use crate::command::list::list_field;
 use crate::command::query::Query;
+use acl_bridge::AnyAcl;
 use acl_cli::ids::{gid_field, gids_field, uid_field};
 use acl_cli::{Failure, perms_field};
 use acl_names::{Gid, Requester, Uid};

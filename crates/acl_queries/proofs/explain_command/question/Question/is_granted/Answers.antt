@@ -3,7 +3,7 @@ use Rattle.acl_posix.specs.Perms.{bits_of}
 use Rattle.acl_queries.specs.Explained.{Explained}
 use Rattle.acl_queries.specs.ExplainText.{Decides}
 use Rattle.acl_queries.specs.Reasons.{FileRequestValue}
-use Rattle.acl_queries.specs.declared.command.list.AnyAcl.{AnyAcl}
+use Rattle.acl_bridge.specs.declared.any_acl.AnyAcl.{AnyAcl}
 use Rattle.acl_queries.proofs.explain_command.question.Question.is_granted.Goals as goal
 
 pub returns-in-Nfs4 : goal.returns-in-Nfs4

@@ -2,7 +2,7 @@ use Rattle.std.proofs.Common.{◌≡◌, ◌++◌, OnOk, subst, sym}
 use Rattle.acl_queries.specs.Explained.{Explained}
 use Rattle.acl_queries.specs.ExplainText.{reasons}
 use Rattle.acl_queries.specs.Reasons.{FileRequestValue, nfs4_reasons}
-use Rattle.acl_queries.specs.declared.command.list.AnyAcl.{AnyAcl}
+use Rattle.acl_bridge.specs.declared.any_acl.AnyAcl.{AnyAcl}
 use Rattle.acl_queries.proofs.explain_command.question.Question.push_reasons.Goals as goal
 
 pub returns-in-Nfs4 : goal.returns-in-Nfs4

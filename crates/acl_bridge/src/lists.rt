@@ -1,0 +1,107 @@
+//! Comparing lists of either style for everyone.
+ghost use Rattle.std.specs.Prelude.{IfOk};
+ghost use Rattle.acl_bridge.specs.Lists.{Finds, view_list};
+ghost use Rattle.acl_bridge.specs.declared.any_acl.AnyAcl.TheVariants as list;
+
+use crate::AnyAclRef;
+use crate::comparison::{difference_from_posix, posix_difference};
+use crate::whole_requests::whole_request_difference;
+use acl_nfs4::{Acl4, Difference, Mask, Owners};
+use acl_posix::Acl;
+use bitflags::Flags;
+use std::alloc::{AllocError, Global};
+
+/// What two POSIX lists decide differently: of the permissions by themselves, or else of the
+/// requests of several.
+fn between_posix_lists(
+    alloc: Global,
+    before: &Acl,
+    owners: &Owners,
+    after: &Acl,
+    other_owners: &Owners,
+) -> Result<Option<Difference>, AllocError>
+    ensures { IfOk result (Finds (list.Posix before.now) owners.now (list.Posix after.now)
+        other_owners.now) }
+{
+    match posix_difference(alloc, before, owners, after, other_owners)? {
+        Some(difference) => Ok(Some(difference)),
+        None => Ok(whole_request_difference(before, owners, after, other_owners)),
+    }
+}
+
+/// What a POSIX list and an NFSv4 list decide differently.
+fn from_posix(
+    alloc: Global,
+    before: &Acl,
+    owners: &Owners,
+    after: &Acl4,
+    other_owners: &Owners,
+) -> Result<Option<Difference>, AllocError>
+    ensures { IfOk result (Finds (list.Posix before.now) owners.now (list.Nfs4 after.now)
+        other_owners.now) }
+{
+    difference_from_posix(alloc, before, owners, after, other_owners)
+}
+
+/// What an NFSv4 list and a POSIX list decide differently.
+fn towards_posix(
+    alloc: Global,
+    before: &Acl4,
+    owners: &Owners,
+    after: &Acl,
+    other_owners: &Owners,
+) -> Result<Option<Difference>, AllocError>
+    ensures { IfOk result (Finds (list.Nfs4 before.now) owners.now (list.Posix after.now)
+        other_owners.now) }
+{
+    match difference_from_posix(alloc, after, other_owners, before, owners)? {
+        Some(difference) => Ok(Some(difference.reversed())),
+        None => Ok(None),
+    }
+}
+
+/// What two NFSv4 lists decide differently.
+fn between_nfs4_lists(
+    before: &Acl4,
+    owners: &Owners,
+    after: &Acl4,
+    other_owners: &Owners,
+) -> Option<Difference>
+    ensures { Finds (list.Nfs4 before.now) owners.now (list.Nfs4 after.now) other_owners.now result }
+{
+    before.difference(owners, after, other_owners, Mask::all())
+}
+
+/// What two lists of either style decide differently, each for a file of its own owners: none
+/// exactly if they decide alike for every requester, of whatever uid and groups; else someone in at
+/// most two groups, with what only the one and what only the other grants.
+///
+/// Between NFSv4 lists all bits of a mask are compared; between POSIX lists the permissions, first
+/// each by itself and then the requests of several, as a whole; between lists of different styles
+/// the bits of a file mode, each by itself, and no request of several. It fails only if memory runs
+/// out.
+pub fn list_difference(
+    alloc: Global,
+    before: AnyAclRef<'_>,
+    owners: &Owners,
+    after: AnyAclRef<'_>,
+    other_owners: &Owners,
+) -> Result<Option<Difference>, AllocError>
+    ensures { IfOk result (Finds (view_list before.entry) owners.now (view_list after.entry)
+        other_owners.now) }
+{
+    match (before, after) {
+        (AnyAclRef::Posix(before), AnyAclRef::Posix(after)) => {
+            between_posix_lists(alloc, before, owners, after, other_owners)
+        }
+        (AnyAclRef::Posix(before), AnyAclRef::Nfs4(after)) => {
+            from_posix(alloc, before, owners, after, other_owners)
+        }
+        (AnyAclRef::Nfs4(before), AnyAclRef::Posix(after)) => {
+            towards_posix(alloc, before, owners, after, other_owners)
+        }
+        (AnyAclRef::Nfs4(before), AnyAclRef::Nfs4(after)) => {
+            Ok(between_nfs4_lists(before, owners, after, other_owners))
+        }
+    }
+}
