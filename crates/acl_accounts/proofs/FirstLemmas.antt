@@ -13,8 +13,8 @@ use Rattle.std.proofs.lemmas.List.{get_or_append_left, get_or-append-add, get_or
 use Rattle.std.proofs.lemmas.List.Elements.{All-append}
 use Rattle.std.proofs.lemmas.List.Folds.{find-append}
 use Rattle.std.proofs.lemmas.List.Sorted.{sorted_far, ranks_by}
-use Rattle.std.proofs.lemmas.Option.{slice_get-get_or}
 use Rattle.std.proofs.Math.Seq.{take-suc}
+use Rattle.std.proofs.lemmas.Option.{slice_get-get_or}
 use Rattle.acl_names.proofs.AscendingLemmas.{first_or_none}
 use Rattle.acl_names.proofs.Keys.{same_name}
 use Rattle.acl_accounts.specs.Firsts.{AreFirsts}

@@ -13,8 +13,8 @@ use Rattle.std.proofs.lemmas.Cmp.{alike_right, nat_list_cmp_total, tied_itself}
 use Rattle.std.proofs.lemmas.List.Folds.{find_at}
 use Rattle.std.proofs.lemmas.List.Sums.{position_or_len_is}
 use Rattle.std.proofs.lemmas.Option.{none-some, slice_get_past, slice_get-get_or}
-use Rattle.std.proofs.lemmas.List.{get_or_default}
 use Rattle.std.proofs.Math.Seq.{drop-cons}
+use Rattle.std.proofs.lemmas.List.{get_or_default}
 use Rattle.acl_names.specs.Ascending.{IsAscending}
 use Rattle.acl_names.proofs.AscendingLemmas.{Contains-find, first_or_none, searchable}
 use Rattle.acl_names.proofs.Keys.{same_name}

@@ -3,8 +3,8 @@ use Rattle.std.proofs.Common.{ap, sym, ◌∙◌, subst, eqb, get_or, inl, inr, 
 use Rattle.std.proofs.Common.{List, [], ◌∷◌, ◌++◌, ◌||◌, length, drop, Option, Some, None, Result, Ok, Err}
 use Rattle.std.proofs.Common.{nat_lt, ◌==◌, if◌then◌else◌, refl}
 use Rattle.std.proofs.lemmas.Bool.Decides.{eqb_tells}
-use Rattle.std.proofs.lemmas.Bool.{cond-false}
 use Rattle.std.specs.List.{AllByRecursion}
+use Rattle.std.proofs.lemmas.Bool.{cond-false}
 use mathlib.Core.List.{IsPrefix}
 use Rattle.acl_broker.specs.Lanes.{submit_answer, fresh_lane}
 use Rattle.acl_broker.specs.Journal.{items_from, state_after, answers_to}

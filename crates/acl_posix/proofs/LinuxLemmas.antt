@@ -8,6 +8,7 @@ use Rattle.acl_names.proofs.AnyLemmas.{list_any-weaken}
 use Rattle.acl_names.proofs.Counting.{list_any-count_by}
 use Rattle.acl_names.specs.Bits.{◌∩◌, has_all}
 use Rattle.acl_names.specs.Requester.{Identity, is_in_group}
+use Rattle.acl_names.proofs.IdTexts.{and_second}
 use Rattle.acl_posix.specs.Access.{grants, is_for_group_of}
 use Rattle.acl_posix.specs.CheckSteps.{has_tag, tag_has, has_group, group_has, mask_allows}
 use Rattle.acl_posix.specs.Entry.{EntryValue, perms_of, same_tag}
@@ -18,7 +19,6 @@ use Rattle.acl_posix.specs.Validity.{IsValid, count_of}
 use Rattle.acl_posix.specs.declared.entry.Tag.{Tag}
 use Rattle.acl_posix.specs.declared.entry.Tag.TheVariants.{UserObj, User, GroupObj, Group, Mask, Other}
 use Rattle.acl_posix.proofs.AccessLemmas.{grants-owner, grants-user, grants-group, grants-other, has_tag-perms_of, tag_has-perms_of}
-use Rattle.acl_names.proofs.IdTexts.{and_second}
 
 -- nothing has the whole of a request only if nothing is requested
 whole_of_nothing : (request : ℕ) → has_all 0 request ≡ true → request ≡ 0

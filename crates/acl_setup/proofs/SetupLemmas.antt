@@ -2,11 +2,11 @@
 use Rattle.std.proofs.Common.{◌≡◌, ◌+◌, ◌++◌, ℕ, Bool, List, [], ◌∷◌, Option, Result, Ok, Err, map, option_map, refl, sym}
 use Rattle.std.proofs.lemmas.List.{map-append}
 use Rattle.toml.specs.Data.{Data, Items}
+use Rattle.acl_names.proofs.AnyLemmas.{list_any-map}
 use Rattle.acl_setup.specs.PartsKeys.{repeated_from}
 use Rattle.acl_setup.specs.Readings.{each_item}
 use Rattle.acl_setup.specs.SetupTable.{texts_in}
 use Rattle.acl_setup.specs.declared.key.Key.{Key}
-use Rattle.acl_names.proofs.AnyLemmas.{list_any-map}
 
 -- the texts so far, and those of the items left
 abbrev pub texts_after : List (List ℕ) → Items → Option (List (List ℕ))
