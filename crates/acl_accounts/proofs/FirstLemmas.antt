@@ -1,6 +1,6 @@
 -- The first member of each name, of a list that is sorted by names.
 use Rattle.std.proofs.Common.{◌≡◌, ◌∙◌, ℕ, zero, suc, ◌+◌, ◌-◌, ◌<◌, ◌≤◌, Bool, true, false, cond, Ordering, Some, None, List, [], ◌∷◌, ◌++◌}
-use Rattle.std.proofs.Common.{length, take, get_or, refl, sym, subst, ap, arith, nat_cmp, bytes_eq, inl, inr, length-append}
+use Rattle.std.proofs.Common.{length, take, get_or, refl, sym, subst, ap, arith, nat_cmp, bytes_eq, inl, inr, length-append, add-one}
 use Rattle.std.specs.declared.cmp.Ordering.TheVariants.{Less, Equal, Greater}
 use Rattle.std.specs.Cmp.Lexicographic.{slice_cmp, bytes_decides}
 use Rattle.std.specs.List.{All, find, slice_get}
@@ -9,12 +9,13 @@ use Rattle.std.specs.Option.{option_map_or, option_or}
 use Rattle.std.specs.Ordering.{is_eq, is_lt, ordering_reverse}
 use Rattle.std.proofs.lemmas.Bool.{cases_Bool, cases_lt, both_ways, true≢false}
 use Rattle.std.proofs.lemmas.Cmp.{nat_list_cmp_total}
-use Rattle.std.proofs.lemmas.List.{get_or_append_left, get_or-append-add}
+use Rattle.std.proofs.lemmas.List.{get_or_append_left, get_or-append-add, get_or_default}
 use Rattle.std.proofs.lemmas.List.Elements.{All-append}
 use Rattle.std.proofs.lemmas.List.Folds.{find-append}
 use Rattle.std.proofs.lemmas.List.Sorted.{sorted_far, ranks_by}
 use Rattle.std.proofs.Math.Seq.{take-suc}
-use Rattle.acl_names.proofs.AscendingLemmas.{first_or_none, get_or-within, slice_get-within}
+use Rattle.std.proofs.lemmas.Option.{slice_get-get_or}
+use Rattle.acl_names.proofs.AscendingLemmas.{first_or_none}
 use Rattle.acl_names.proofs.Keys.{same_name}
 use Rattle.acl_accounts.specs.Firsts.{AreFirsts}
 
@@ -47,14 +48,11 @@ module _ {X : Type 0} (name_of : X → List ℕ) where
 
   last_has : (name : List ℕ) (xs : List X) (d : X) (t : Bool) → ends_with name xs ≡ t → 0 < length xs → bytes_eq (name_of (get_or xs (length xs - 1) d)) name ≡ t
   last_has name xs d t is some =
-      sym (ap (λ o. option_map_or (λ x. bytes_eq (name_of x) name) o false) (slice_get-within xs (length xs - 1) d (omega arith))) ∙ is
+      sym (ap (λ o. option_map_or (λ x. bytes_eq (name_of x) name) o false) (slice_get-get_or xs (length xs - 1) d (omega arith))) ∙ is
 
   with_next : (members : List X) (i : ℕ) (member : X) → i < length members → get_or members i member ≡ member → take (i + 1) members ≡ take i members ++ member ∷ []
   with_next members i member inside is =
-      ap (λ n. take n members) (plus_one i) ∙ take-suc members i member inside ∙ ap (λ x. take i members ++ x ∷ []) is
-    where
-      plus_one : (n : ℕ) → n + 1 ≡ suc n
-      plus_one n = omega arith
+      ap (λ n. take n members) (add-one i) ∙ take-suc members i member inside ∙ ap (λ x. take i members ++ x ∷ []) is
 
   -- a member whose name stands last already
   pub one_again : (members : List X) (i : ℕ) (member : X) (firsts : List X) → i < length members → get_or members i member ≡ member
@@ -139,5 +137,5 @@ module _ {X : Type 0} (name_of : X → List ℕ) where
           ap (λ x. is_lt (cmp (get_or members j d) x)) (sym (same_default d)) ∙ sorted_far (λ (x y : X). is_lt (cmp x y)) (ranks_by nat_list_cmp_total name_of) members sorted i j d (omega arith) within
         where
           same_default : (d : X) → get_or members i d ≡ member
-          same_default d = get_or-within members i d member inside ∙ is
+          same_default d = get_or_default members i d member inside ∙ is
       only j d from within (suc k) e here = absurd (omega arith)

@@ -12,10 +12,11 @@ use Rattle.std.proofs.lemmas.Bool.Decides.{Decides-eqb}
 use Rattle.std.proofs.lemmas.Cmp.{alike_right, nat_list_cmp_total, tied_itself}
 use Rattle.std.proofs.lemmas.List.Folds.{find_at}
 use Rattle.std.proofs.lemmas.List.Sums.{position_or_len_is}
-use Rattle.std.proofs.lemmas.Option.{none-some, slice_get_past}
+use Rattle.std.proofs.lemmas.Option.{none-some, slice_get_past, slice_get-get_or}
 use Rattle.std.proofs.Math.Seq.{drop-cons}
+use Rattle.std.proofs.lemmas.List.{get_or_default}
 use Rattle.acl_names.specs.Ascending.{IsAscending}
-use Rattle.acl_names.proofs.AscendingLemmas.{Contains-find, first_or_none, get_or-within, searchable, slice_get-within}
+use Rattle.acl_names.proofs.AscendingLemmas.{Contains-find, first_or_none, searchable}
 use Rattle.acl_names.proofs.Keys.{same_name}
 use Rattle.acl_accounts.specs.Accounts.{KnownAccount, KnownAccountGroup, KnownAccounts, AreInOrder, gid_of, uid_of}
 
@@ -28,7 +29,8 @@ find_in_place {X} p xs =
       | inr past ↦ slice_get_past xs at past ∙ sym (ap (λ b. option_and_then (slice_get xs) (cond b (Some at) None)) (le-ltb at (length xs) past))
     ]
 
-element : {X : Type 0} (xs : List X) (k : ℕ) → k < length xs → X
+-- a list with a place has an element
+pub element : {X : Type 0} (xs : List X) (k : ℕ) → k < length xs → X
 element [] k inside = absurd (omega arith)
 element (x ∷ xs) k inside = x
 
@@ -93,8 +95,8 @@ module _ {X : Type 0} (name_of : X → List ℕ) (xs : List X) (name : List ℕ)
       let there = Contains-find p xs x found in
       let same : bytes_eq (name_of x) name ≡ true = ap (bytes_eq (name_of x)) (sym named) ∙ same_name (name_of x) (name_of x) ∙ ap is_eq (tied_itself nat_list_cmp_total (name_of x)) in
       find_in_place (λ y. bytes_eq (name_of y) name) xs
-      ∙ ap (option_and_then (slice_get xs)) (place_of_one there.0 there.1 (λ d. ap (λ y. bytes_eq (name_of y) name) (get_or-within xs there.0 d x there.1 ∙ there.2) ∙ same))
-      ∙ slice_get-within xs there.0 x there.1 ∙ ap Some there.2
+      ∙ ap (option_and_then (slice_get xs)) (place_of_one there.0 there.1 (λ d. ap (λ y. bytes_eq (name_of y) name) (get_or_default xs there.0 d x there.1 ∙ there.2) ∙ same))
+      ∙ slice_get-get_or xs there.0 x there.1 ∙ ap Some there.2
 
   -- and if a binary search finds nothing, nobody has it
   pub place_absent : (at : ℕ) → IsBinarySearchResult (λ x. slice_cmp nat_cmp (name_of x) name) xs (Err at)

@@ -1,41 +1,29 @@
 -- What is printed of a name is read as the name.
-use Rattle.std.proofs.Common.{◌≡◌, ◌∙◌, ◌⊎◌, ℕ, ◌==◌, ◌||◌, ◌&&◌, Bool, true, false, cond, List, [], ◌∷◌, ◌++◌, refl}
+use Rattle.std.proofs.Common.{◌≡◌, ◌∙◌, ℕ, ◌==◌, ◌||◌, ◌&&◌, true, false, cond, List, [], ◌∷◌, ◌++◌, refl}
 use Rattle.std.proofs.Common.{sym, subst, ap, inl, inr, option_map}
 use Rattle.std.specs.Char.{is_ascii_digit}
 use Rattle.std.specs.List.{list_all, list_any}
-use Rattle.std.proofs.lemmas.Bool.{cases_Bool, true≢false}
+use Rattle.std.proofs.lemmas.Bool.{cases_Bool, true≢false, or_parts, or_cases, and_parts}
 use Rattle.std.proofs.lemmas.Bool.Decides.{Decides-eqb}
 use Rattle.acl_names.specs.Bytes.{newline, tab, space, comma, colon}
 use Rattle.acl_names.specs.Ids.{Number, decimal_value}
 use Rattle.acl_accounts.specs.Names.{backslash, carriage_return, octal, is_quoted, quoted, quoted_byte, unquoted, splits, named, written_account}
 
-or_false : (a b : Bool) → (a || b) ≡ false → (a ≡ false) × (b ≡ false)
-or_false true b e = absurd (true≢false e)
-or_false false b e = (refl, e)
-
-or_true : (a b : Bool) → (a || b) ≡ true → (a ≡ true) ⊎ (b ≡ true)
-or_true true b e = inl refl
-or_true false b e = inr e
-
-and_true : (a b : Bool) → (a && b) ≡ true → (a ≡ true) × (b ≡ true)
-and_true true b e = (refl, e)
-and_true false b e = absurd (true≢false (sym e))
-
 -- what holds of the seven bytes holds of each byte that is written by its digits
 of_each : (P : ℕ → Type 0) → P space → P tab → P newline → P carriage_return → P colon → P comma → P backslash
     → (byte : ℕ) → is_quoted byte ≡ true → P byte
 of_each P of_space of_tab of_newline of_return of_colon of_comma of_backslash byte is =
-    elim (or_true _ (byte == backslash) is) [
+    elim (or_cases _ (byte == backslash) is) [
       | inr e ↦ at backslash of_backslash e
-      | inl is ↦ elim (or_true _ (byte == comma) is) [
+      | inl is ↦ elim (or_cases _ (byte == comma) is) [
         | inr e ↦ at comma of_comma e
-        | inl is ↦ elim (or_true _ (byte == colon) is) [
+        | inl is ↦ elim (or_cases _ (byte == colon) is) [
           | inr e ↦ at colon of_colon e
-          | inl is ↦ elim (or_true _ (byte == carriage_return) is) [
+          | inl is ↦ elim (or_cases _ (byte == carriage_return) is) [
             | inr e ↦ at carriage_return of_return e
-            | inl is ↦ elim (or_true _ (byte == newline) is) [
+            | inl is ↦ elim (or_cases _ (byte == newline) is) [
               | inr e ↦ at newline of_newline e
-              | inl is ↦ elim (or_true (byte == space) (byte == tab) is) [
+              | inl is ↦ elim (or_cases (byte == space) (byte == tab) is) [
                 | inr e ↦ at tab of_tab e
                 | inl e ↦ at space of_space e
               ]
@@ -59,7 +47,7 @@ plain_byte byte is (a ∷ b ∷ c ∷ more) = rw is refl
 pub plain_text : (text : List ℕ) → list_any (λ byte. byte == backslash) text ≡ false → unquoted text ≡ text
 plain_text [] plain = refl
 plain_text (byte ∷ text) plain =
-    let parts = or_false (byte == backslash) (list_any (λ other. other == backslash) text) plain in
+    let parts = or_parts (byte == backslash) (list_any (λ other. other == backslash) text) plain in
     plain_byte byte parts.0 text ∙ ap (λ rest. byte ∷ rest) (plain_text text parts.1)
 
 byte_again : (byte : ℕ) (rest : List ℕ) → unquoted (quoted_byte byte ++ rest) ≡ byte ∷ unquoted rest
@@ -68,7 +56,7 @@ byte_again byte rest =
       | inl is ↦
           ap (λ b. unquoted (cond b (octal byte) (byte ∷ []) ++ rest)) is
           ∙ of_each (λ k. unquoted (octal k ++ rest) ≡ k ∷ unquoted rest) refl refl refl refl refl refl refl byte is
-      | inr plain ↦ ap (λ b. unquoted (cond b (octal byte) (byte ∷ []) ++ rest)) plain ∙ plain_byte byte (or_false _ (byte == backslash) plain).1 rest
+      | inr plain ↦ ap (λ b. unquoted (cond b (octal byte) (byte ∷ []) ++ rest)) plain ∙ plain_byte byte (or_parts _ (byte == backslash) plain).1 rest
     ]
 
 pub unquoted_again : (name : List ℕ) → unquoted (quoted name) ≡ name
@@ -95,8 +83,8 @@ digits_stay (byte ∷ name) is =
     elim (cases_Bool (is_quoted byte)) [
       | inl quoted_one ↦
           let other = of_each (λ k. is_ascii_digit k ≡ false) refl refl refl refl refl refl refl byte quoted_one in
-          absurd (true≢false (sym (and_true _ _ is).0 ∙ other))
-      | inr plain ↦ ap (λ b. cond b (octal byte) (byte ∷ []) ++ quoted name) plain ∙ ap (λ rest. byte ∷ rest) (digits_stay name (and_true _ _ is).1)
+          absurd (true≢false (sym (and_parts _ _ is).0 ∙ other))
+      | inr plain ↦ ap (λ b. cond b (octal byte) (byte ∷ []) ++ quoted name) plain ∙ ap (λ rest. byte ∷ rest) (digits_stay name (and_parts _ _ is).1)
     ]
 
 -- what is printed reads as the name, unless it is all digits
@@ -124,7 +112,7 @@ nothing_splits (byte ∷ name) =
           ∙ of_each (λ k. list_any splits (octal k ++ quoted name) ≡ false) rest rest rest rest rest rest rest byte is
       | inr plain ↦
           ap (λ b. list_any splits (cond b (octal byte) (byte ∷ []) ++ quoted name)) plain
-          ∙ ap (λ b. b || list_any splits (quoted name)) (or_false _ (byte == backslash) plain).0 ∙ rest
+          ∙ ap (λ b. b || list_any splits (quoted name)) (or_parts _ (byte == backslash) plain).0 ∙ rest
     ]
 
 -- what is said of a printed name

@@ -4,10 +4,9 @@ use Rattle.std.proofs.Common.{get_or, refl, sym, ap, arith, bytes_eq, option_map
 use Rattle.std.specs.declared.cmp.Ordering.TheVariants.{Less}
 use Rattle.std.specs.List.{find}
 use Rattle.std.proofs.Math.ListN.{get_or-map}
-use Rattle.std.proofs.lemmas.List.{length-map}
+use Rattle.std.proofs.lemmas.List.{length-map, get_or_default}
 use Rattle.acl_names.specs.Ascending.{IsAscending}
 use Rattle.acl_names.specs.Directory.{first_of}
-use Rattle.acl_names.proofs.AscendingLemmas.{get_or-within}
 use Rattle.acl_names.specs.Requester.{Identity}
 use Rattle.acl_accounts.specs.Accounts.{KnownAccount, KnownAccountGroup, Membership, each_once, account_of, group_of, memberships_of}
 use Rattle.acl_accounts.specs.Accounts.{requester_of, requester_with}
@@ -17,10 +16,7 @@ use Rattle.acl_accounts.specs.Views.{view_group, view_user}
 use Rattle.acl_accounts.specs.declared.rows.GroupRow.{GroupRow}
 use Rattle.acl_accounts.specs.declared.rows.UserRow.{UserRow}
 use Rattle.acl_accounts.proofs.SortLemmas.{find-filter}
-
-element : {X : Type 0} (xs : List X) (k : ℕ) → k < length xs → X
-element [] k inside = absurd (omega arith)
-element (x ∷ xs) k inside = x
+use Rattle.acl_accounts.proofs.PlaceLemmas.{element}
 
 pub ascends-map : {X Y K : Type 0} (R : K → K → Ordering) (key : Y → K) (f : X → Y) (xs : List X) → IsAscending R (λ x. key (f x)) xs → IsAscending R key (map f xs)
 ascends-map {X} {Y} R key f xs ascends = λ i j d before inside.
@@ -29,8 +25,8 @@ ascends-map {X} {Y} R key f xs ascends = λ i j d before inside.
   where
     go : (i j : ℕ) (d : Y) (e : X) → i < j → j < length (map f xs) → j < length xs → R (key (get_or (map f xs) i d)) (key (get_or (map f xs) j d)) ≡ Less
     go i j d e before inside within =
-        let at_i : get_or (map f xs) i d ≡ f (get_or xs i e) = get_or-within (map f xs) i d (f e) (omega arith) ∙ get_or-map f xs i e in
-        let at_j : get_or (map f xs) j d ≡ f (get_or xs j e) = get_or-within (map f xs) j d (f e) inside ∙ get_or-map f xs j e in
+        let at_i : get_or (map f xs) i d ≡ f (get_or xs i e) = get_or_default (map f xs) i d (f e) (omega arith) ∙ get_or-map f xs i e in
+        let at_j : get_or (map f xs) j d ≡ f (get_or xs j e) = get_or_default (map f xs) j d (f e) inside ∙ get_or-map f xs j e in
         rw (at_i, at_j) (ascends i j e before within)
 
 pub find-map : {X Y : Type 0} (f : X → Y) (p : Y → Bool) (xs : List X) → find p (map f xs) ≡ option_map f (find (λ x. p (f x)) xs)

@@ -1,30 +1,20 @@
 -- What of bits is lost and gained, by the bits that were allowed and are.
-use Rattle.std.proofs.Common.{◌≡◌, ◌⊎◌, ◌∙◌, ℕ, zero, suc, Bool, true, false, cond, not, ◌&&◌, ◌||◌, refl, sym, ap, ap₂, inl, inr, arith, List}
+use Rattle.std.proofs.Common.{◌≡◌, ◌⊎◌, ◌∙◌, ℕ, Bool, true, false, cond, not, ◌&&◌, ◌||◌, refl, sym, ap, ap₂, inl, inr, List}
 use Rattle.std.proofs.lemmas.Bool.{false≢true}
 use Rattle.acl_names.specs.Bits.{has, without, ◌∩◌, ◌∪◌}
 use Rattle.acl_names.specs.Requester.{Identity}
-use Rattle.acl_names.proofs.BitSets.{has-above, has-and, has-or, has-without}
+use Rattle.acl_names.proofs.BitSets.{has-and, has-or, has-without}
+use Rattle.acl_names.proofs.AnyLemmas.{and_same, only_one}
 use Rattle.acl_nfs4.specs.Comparison.{Decider}
 use Rattle.acl_nfs4.specs.Mask.{mask_of, mode_bits}
 use Rattle.acl_posix.specs.Access.{grants}
 use Rattle.acl_posix.specs.Entry.{EntryValue}
+use Rattle.acl_nfs4.proofs.MaskOfModes.{each_mode_bit}
 use Rattle.acl_bridge.specs.Comparison.{granted_by, permission_bits}
 use Rattle.acl_audit.specs.Changes.{BitsAlikeTo}
 use Rattle.acl_audit.specs.Steps.{granted_alone}
 
 -- ---- the bits of a file mode
-
--- each of them is one of four
-of_mode : (P : ℕ → Type 0) → P 0 → P 1 → P 2 → P 5 → (bit : ℕ) → has mode_bits bit ≡ true → P bit
-unfolding has
-of_mode P a b c d zero there = a
-of_mode P a b c d (suc zero) there = b
-of_mode P a b c d (suc (suc zero)) there = c
-of_mode P a b c d (suc (suc (suc zero))) there = absurd (false≢true there)
-of_mode P a b c d (suc (suc (suc (suc zero)))) there = absurd (false≢true there)
-of_mode P a b c d (suc (suc (suc (suc (suc zero))))) there = d
-of_mode P a b c d (suc (suc (suc (suc (suc (suc n)))))) there =
-    absurd (false≢true (sym (has-above 6 mode_bits (suc (suc (suc (suc (suc (suc n)))))) (omega arith) (omega arith)) ∙ there))
 
 -- a bit that stands for one permission is one of them
 of_both : (bits bit : ℕ) → (bits ≡ mode_bits) ⊎ (bits ≡ permission_bits) → has bits bit ≡ true → has mode_bits bit ≡ true
@@ -47,10 +37,6 @@ mask_says false true false = (refl, refl, refl, refl)
 mask_says false false true = (refl, refl, refl, refl)
 mask_says false false false = (refl, refl, refl, refl)
 
-and_same : (b x y : Bool) → (b ≡ true → x ≡ y) → (b && x) ≡ (b && y)
-and_same true x y same = same refl
-and_same false x y same = refl
-
 -- of a POSIX list, those of the bits that the letters stand for
 pub allowed_alone_are : (acl : List EntryValue) (owner group : ℕ) (requester : Identity) (bits : ℕ) → (bits ≡ mode_bits) ⊎ (bits ≡ permission_bits)
     → (bit : ℕ) → has (bits ∩ mask_of (granted_alone acl owner group requester)) bit ≡ (has bits bit && granted_by acl owner group requester bit)
@@ -58,14 +44,10 @@ allowed_alone_are acl owner group requester bits which bit =
     let says = mask_says (grants acl owner group requester 4) (grants acl owner group requester 2) (grants acl owner group requester 1) in
     has-and bits (mask_of (granted_alone acl owner group requester)) bit
     ∙ and_same (has bits bit) (has (mask_of (granted_alone acl owner group requester)) bit) (granted_by acl owner group requester bit)
-    (λ there. of_mode (λ k. has (mask_of (granted_alone acl owner group requester)) k ≡ granted_by acl owner group requester k)
+    (λ there. each_mode_bit (λ k. has (mask_of (granted_alone acl owner group requester)) k ≡ granted_by acl owner group requester k)
     says.0 says.1 says.2 says.3 bit (of_both bits bit which there))
 
 -- ---- what is lost and gained
-
-only_one : (b x y : Bool) → ((b && x) && not (b && y)) ≡ (b && (x && not y))
-only_one true x y = refl
-only_one false x y = refl
 
 asked_alike : (b x y : Bool) → (b && x) ≡ (b && y) → b ≡ true → x ≡ y
 asked_alike true x y same asked = same

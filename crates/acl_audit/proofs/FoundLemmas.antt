@@ -1,5 +1,5 @@
 -- What a comparison of lists finds, as what somebody loses and gains.
-use Rattle.std.proofs.Common.{◌≡◌, inl, inr, ℕ, List, [], ◌∷◌, Option, Some, None}
+use Rattle.std.proofs.Common.{inl, inr, ℕ, List, [], ◌∷◌, Option, Some, None}
 use Rattle.std.specs.List.{AllByRecursion}
 use Rattle.acl_names.specs.Asker.{identity_of}
 use Rattle.acl_names.specs.Requester.{Identity}

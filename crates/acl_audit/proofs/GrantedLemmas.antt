@@ -2,9 +2,9 @@
 use Rattle.std.proofs.Common.{◌≡◌, ◌≢◌, ◌∙◌, ◌&&◌, ◌||◌, ◌<◌, ◌≤◌, ◌^◌, ◌==◌, ℕ, zero, suc, Bool, true, false, cond, ap, arith, inl, inr, refl, sym}
 use Rattle.std.proofs.lemmas.Bool.{cases_lt}
 use Rattle.std.proofs.lemmas.Nat.Bits.{bit_at-pow_other, bit_at-pow_same}
+use Rattle.std.proofs.Math.Bool.{or-false}
 use Rattle.acl_names.specs.Bits.{has, ◌∩◌, ◌∪◌}
 use Rattle.acl_names.specs.Requester.{Identity}
-use Rattle.acl_names.proofs.AnyLemmas.{or_false}
 use Rattle.acl_names.proofs.BitSets.{has-above, has-or, has-zero, same_bits}
 use Rattle.acl_audit.specs.Changes.{decider_of, file_of}
 use Rattle.acl_audit.specs.Letters.{BitsAreGranted, LettersStandForBits, bits_where, decided_bits, effective, granted_mask, grants_bit}
@@ -46,7 +46,7 @@ below test (suc count) bit within =
     has-or (bits_where test count) (cond (test count) (2 ^ count) 0) bit
     ∙ elim (cases_lt bit count) as (λ c. (has (bits_where test count) bit || has (cond (test count) (2 ^ count) 0) bit) ≡ test bit) [
       | inl less ↦ ap (λ b. b || has (cond (test count) (2 ^ count) 0) bit) (below test count bit less)
-          ∙ ap (λ b. test bit || b) (others (test count) count bit (λ same. omega (arith, less, same))) ∙ or_false (test bit)
+          ∙ ap (λ b. test bit || b) (others (test count) count bit (λ same. omega (arith, less, same))) ∙ or-false (test bit)
       | inr not_less ↦
           let same : bit ≡ count = omega (arith, within, not_less) in
           ap (λ b. b || has (cond (test count) (2 ^ count) 0) bit) (above test count bit (omega (arith, not_less)))

@@ -1,10 +1,11 @@
 -- Nodes that are alike for all are checked alike, and who loses or gains something isn't decided about alike.
-use Rattle.std.proofs.Common.{◌≡◌, ◌⊎◌, ◌∙◌, ◌<◌, ℕ, zero, suc, inl, inr, List, [], ◌∷◌, Bool, true, false, cond, not, ◌&&◌, ◌||◌, Option, IsSomeAnd, IsTrue, Ok, refl, sym, ap, ap₂, subst, arith}
+use Rattle.std.proofs.Common.{◌≡◌, ◌⊎◌, ◌∙◌, ◌<◌, ℕ, zero, suc, inl, inr, List, [], ◌∷◌, Bool, true, false, cond, ◌&&◌, ◌||◌, Option, IsSomeAnd, Ok, refl, sym, ap, ap₂, subst, arith}
 use Rattle.std.specs.List.{filter, list_all, range_with_len}
 use Rattle.acl_names.specs.Bits.{has, ◌∩◌, ◌∪◌}
 use Rattle.acl_names.specs.Directory.{requester_of}
 use Rattle.acl_names.specs.Requester.{Identity}
 use Rattle.acl_names.proofs.BitSets.{has-and, has-or, no_bits}
+use Rattle.acl_names.proofs.AnyLemmas.{not_one_alone}
 use Rattle.acl_posix.specs.Access.{grants}
 use Rattle.acl_posix.specs.Entry.{EntryValue}
 use Rattle.acl_nfs4.specs.Ace.{Nfsace4}
@@ -141,12 +142,6 @@ alike_nodes_are_checked_alike directory tree requests path old new was is alike 
     ∙ sym (check-there directory tree path old uid perms was)
 
 -- ---- of the findings at most one is right
-
-not_one_alone : (asked before after : Bool) → (IsTrue asked → before ≡ after) → (asked && (before && not after)) ≡ false
-not_one_alone false before after alike = refl
-not_one_alone true false after alike = refl
-not_one_alone true true true alike = refl
-not_one_alone true true false alike = alike refl
 
 nothing_changes : (before after : Decider) (bits : ℕ) (requester : Identity) (change : Change) → BitsAlikeTo before after bits requester
     → ChangesBits before after bits requester change → ⊥

@@ -2,7 +2,7 @@
 use Rattle.std.proofs.Common.{◌≡◌, ◌∙◌, ℕ, zero, suc, ◌+◌, ◌<◌, ◌++◌, ◌&&◌, Bool, true, false, cond, List, [], ◌∷◌, Option, add-zero, zero-add, ap, append_assoc, append-nil, arith, get_or, length, length-append, map, refl, sym, take}
 use Rattle.std.specs.List.{enumerate_from, filter_map, flat_map, list_all}
 use Rattle.std.proofs.lemmas.List.{flat_map_more, map-append, take_more}
-use Rattle.std.proofs.lemmas.List.Folds.{list_all-append, list_all_at}
+use Rattle.std.proofs.lemmas.List.Folds.{list_all-append, list_all_at, list_all-map}
 use Rattle.std.proofs.lemmas.List.Elements.{filter_map-append}
 use Rattle.acl_audit.specs.Answers.{both, mark_in_both}
 use Rattle.acl_audit.specs.Reach.{places_from}
@@ -54,11 +54,6 @@ enumerate_more items at item within is =
     ∙ ap (λ item. enumerate_from 0 (take at items) ++ (0 + at, item) ∷ []) is
     ∙ ap (λ (n : ℕ). enumerate_from 0 (take at items) ++ (n, item) ∷ []) (zero-add at)
 
--- all of what is shown are such if all are that are shown so
-pub all_shown : {X Y : Type 0} (test : Y → Bool) (shown : X → Y) (items : List X) → list_all test (map shown items) ≡ list_all (λ item. test (shown item)) items
-all_shown test shown [] = refl
-all_shown test shown (item ∷ items) = ap (λ b. test (shown item) && b) (all_shown test shown items)
-
 -- what is made of one item more
 module _ {X : Type 0} (items : List X) (at : ℕ) (item : X) (within : at < length items) (here : get_or items at item ≡ item) where
   pub next_marked : {Y : Type 0} (f : ℕ × X → Y) (old new : List Y) (made : Y) → old ≡ map f (enumerate_from 0 (take at items)) → made ≡ f (at, item) → new ≡ old ++ made ∷ []
@@ -88,7 +83,7 @@ module _ {X : Type 0} (items : List X) (at : ℕ) (item : X) (within : at < leng
         ∙ ap (λ b. b && (test (shown item) && true)) was ∙ ap (λ b. b && true) is
 
     pub one_fails : test (shown item) ≡ false → list_all test (map shown items) ≡ false
-    one_fails is = all_shown test shown items ∙ list_all_at (λ item. test (shown item)) items at item within (ap (λ item. test (shown item)) here ∙ is)
+    one_fails is = list_all-map test shown items ∙ list_all_at (λ item. test (shown item)) items at item within (ap (λ item. test (shown item)) here ∙ is)
 
   -- of what stands at a place that passes, or of nothing
   module _ (test : X → Bool) {Y Z : Type 0} (f : ℕ → Z) (h : Z → Option Y) where
@@ -111,7 +106,7 @@ module _ {X : Type 0} (items : List X) (at : ℕ) (item : X) (within : at < leng
         was ∙ ap (λ places. filter_map h (map f places)) (sym places)
 
 -- what stands behind some items
-at_place : {X Z : Type 0} (f : X → Z) (default : Z) (before after : List X) (item : X) → get_or (map f (before ++ item ∷ after)) (length before) default ≡ f item
+pub at_place : {X Z : Type 0} (f : X → Z) (default : Z) (before after : List X) (item : X) → get_or (map f (before ++ item ∷ after)) (length before) default ≡ f item
 at_place f default [] after item = refl
 at_place f default (first ∷ before) after item = at_place f default before after item
 

@@ -3,6 +3,7 @@ use Rattle.std.proofs.Common.{◌≡◌, ◌≤◌, ◌^◌, ◌⊎◌, inl, inr
 use Rattle.std.proofs.Common.{sym, ap, ap₂, subst, ◌∙◌, List, [], ◌∷◌, Some, length, arith, ◌==◌, map, find}
 use Rattle.std.proofs.Common.{option_map, true≢false}
 use Rattle.std.specs.List.{filter, list_any}
+use Rattle.std.proofs.lemmas.List.Sums.{length-filter}
 use Rattle.acl_names.specs.Bits.{has, has_all, ◌∩◌}
 use Rattle.acl_names.specs.Requester.{Identity}
 use Rattle.acl_names.proofs.AnyLemmas.{list_any-map, list_any-agree}
@@ -17,7 +18,6 @@ use Rattle.acl_nfs4.proofs.ComparisonLemmas.{two_groups_suffice}
 use Rattle.acl_bridge.specs.Comparison.{GrantAlike, TwoGroupsSuffice, grants_at}
 use Rattle.acl_bridge.specs.Translation.{translation}
 use Rattle.acl_bridge.proofs.TranslationDecides.{bit_granted}
-use Rattle.acl_bridge.proofs.FilterLemmas.{length-filter}
 
 -- the entries with other permissions
 module _ (perms : EntryValue → ℕ) where

@@ -1,17 +1,6 @@
 -- Lists that are filtered.
-use Rattle.std.proofs.Common.{◌≡◌, ◌+◌, ◌≤◌, Bool, true, false, cond, ◌&&◌, refl, sym, ap, ◌∙◌, List, [], ◌∷◌, length, arith, ap₂, Some, find, All, filter, count_by, true≢false}
+use Rattle.std.proofs.Common.{◌≡◌, ◌≤◌, Bool, true, false, cond, ◌&&◌, refl, sym, ap, ◌∙◌, List, [], ◌∷◌, length, arith, ap₂, Some, find, All, filter, true≢false}
 use Rattle.std.proofs.lemmas.List.Elements.{All-head, All-tail}
-use Rattle.acl_names.proofs.Counting.{count_by-cons}
-
--- what passes a test is counted by it
-pub length-filter : {X : Type 0} (p : X → Bool) (xs : List X) → length (filter p xs) ≡ count_by p xs
-length-filter p [] = refl
-length-filter {X} p (x ∷ xs) = go (p x) (length-filter p xs) ∙ sym (count_by-cons p x xs)
-  where
-    go : (b : Bool) → length (filter p xs) ≡ count_by p xs
-        → length (cond b (x ∷ filter p xs) (filter p xs)) ≡ cond b 1 0 + count_by p xs
-    go true rest = omega arith
-    go false rest = omega arith
 
 pub filter_twice : {X : Type 0} (p q g : X → Bool) → ((x : X) → (p x && q x) ≡ g x) → (xs : List X) → filter q (filter p xs) ≡ filter g xs
 filter_twice p q g both [] = refl

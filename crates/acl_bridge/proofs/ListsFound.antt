@@ -1,6 +1,7 @@
 -- What was found of two lists, as what they decide differently.
-use Rattle.std.proofs.Common.{◌≡◌, ◌∙◌, inl, inr, ℕ, List, Option, Some, None, refl, sym, subst, ◌||◌, Bool, true, false, ◌↔◌, IfSome, MatchOption}
+use Rattle.std.proofs.Common.{◌≡◌, ◌∙◌, inl, inr, ℕ, List, Option, Some, None, refl, sym, subst, ◌↔◌, IfSome, MatchOption}
 use Rattle.std.specs.List.{AllByRecursion}
+use Rattle.std.proofs.Math.Bool.{or_comm}
 use Rattle.acl_names.specs.Bits.{has, ◌∪◌}
 use Rattle.acl_names.proofs.BitSets.{has-or, same_bits}
 use Rattle.acl_posix.specs.Entry.{EntryValue}
@@ -33,14 +34,8 @@ module _ (owners other_owners : Owners) where
   whole_found None first second alike all = (alike, all)
   whole_found (Some difference) first second alike is = inr (alike, is)
 
-or-comm : (a b : Bool) → (a || b) ≡ (b || a)
-or-comm true true = refl
-or-comm true false = refl
-or-comm false true = refl
-or-comm false false = refl
-
 ∪-comm : (a b : ℕ) → a ∪ b ≡ b ∪ a
-∪-comm a b = same_bits (a ∪ b) (b ∪ a) (λ k. has-or a b k ∙ or-comm (has a k) (has b k) ∙ sym (has-or b a k))
+∪-comm a b = same_bits (a ∪ b) (b ∪ a) (λ k. has-or a b k ∙ or_comm (has a k) (has b k) ∙ sym (has-or b a k))
 
 -- what is lost in one direction is gained in the other
 pub swapped_is : (before after : Decider) (bits : ℕ) (difference : Difference) → IsDifference before after bits difference

@@ -1,11 +1,10 @@
 -- What the passes make.
-use Rattle.std.proofs.Common.{◌≡◌, ℕ, suc, ◌^◌, ◌≤◌, Bool, true, false, cond, ◌||◌, ◌<◌, refl, sym, ap, ◌∙◌}
+use Rattle.std.proofs.Common.{◌≡◌, ℕ, suc, ◌^◌, ◌≤◌, Bool, true, false, cond, ◌<◌, refl, sym, ap, ◌∙◌}
 use Rattle.std.proofs.Common.{ap₂, subst, List, [], ◌∷◌, ◌++◌, length, get_or, drop, ◌+◌, append-nil}
 use Rattle.std.proofs.Common.{length-append, arith, drop-cons, flat_map, ◌==◌, Result, Ok, Err, IfOk, All}
 use Rattle.std.proofs.lemmas.List.Elements.{All-nil, All-cons, All-head, All-tail, All-append, All-filter}
+use Rattle.std.specs.Int.Bits.{or_zero_r}
 use Rattle.acl_names.specs.Bits.{has, without, ◌∩◌, ◌∪◌}
-use Rattle.acl_names.proofs.AnyLemmas.{or_false}
-use Rattle.acl_names.proofs.BitSets.{has-or, has-zero, same_bits}
 use Rattle.acl_posix.specs.Access.{effective_perms}
 use Rattle.acl_posix.specs.Entry.{EntryValue}
 use Rattle.acl_nfs4.specs.Ace.{Nfsace4, ace_of, flags_for, is_idle, plain_ace, unless_empty}
@@ -67,13 +66,10 @@ pub length-with_effect : (effect : Effect) (xs : List Nfsace4) → length (with_
 length-with_effect effect [] = refl
 length-with_effect effect (x ∷ xs) = omega (arith, length-with_effect effect xs)
 
-or_none : (set : ℕ) → set ∪ 0 ≡ set
-or_none set = same_bits _ _ (λ k. has-or set 0 k ∙ ap (λ (b : Bool). has set k || b) (has-zero k) ∙ or_false (has set k))
-
 -- what takes effect here is as it is
 pub with_effect-here : (xs : List Nfsace4) → with_effect Here xs ≡ xs
 with_effect-here [] = refl
-with_effect-here (x ∷ xs) = ap₂ (λ (f : ℕ) (rest : List Nfsace4). record x { flags = f } ∷ rest) (or_none x.flags) (with_effect-here xs)
+with_effect-here (x ∷ xs) = ap₂ (λ (f : ℕ) (rest : List Nfsace4). record x { flags = f } ∷ rest) (or_zero_r x.flags) (with_effect-here xs)
 
 -- ---- one more entry
 

@@ -1,11 +1,13 @@
 -- A valid list and its translation decide alike.
-use Rattle.std.proofs.Common.{◌≡◌, ℕ, zero, suc, ◌^◌, ◌≤◌, Bool, true, false, cond, ◌&&◌, refl, sym, ap, ◌∙◌, List, [], ◌∷◌, length, arith, ap₂, inl, inr, ◌==◌, IsTrue}
+use Rattle.std.proofs.Common.{◌≡◌, ℕ, zero, suc, ◌^◌, ◌≤◌, Bool, true, false, cond, ◌&&◌, refl, sym, ap, ◌∙◌, List, [], ◌∷◌, length, arith, ap₂, ◌==◌, IsTrue}
 use Rattle.std.specs.List.{filter, list_any}
-use Rattle.std.proofs.lemmas.Bool.{true≢false, eqb-true, eq-eqb, and_parts, cases_Bool}
+use Rattle.std.proofs.lemmas.Bool.{true≢false, eqb-true, and_parts}
+use Rattle.std.proofs.lemmas.List.Sums.{length-filter}
 use Rattle.acl_names.specs.Bits.{has, has_all, ◌∩◌}
 use Rattle.acl_names.specs.Requester.{Identity}
 use Rattle.acl_names.proofs.AnyLemmas.{list_any-weaken, list_any-agree}
 use Rattle.acl_names.proofs.BitSets.{has-and, has-above}
+use Rattle.acl_names.proofs.LettersInTurn.{same_either_way}
 use Rattle.acl_posix.specs.Access.{effective_perms, deciding_set, first_nonempty, is_for_group_of, grants}
 use Rattle.acl_posix.specs.Entry.{EntryValue, same_tag, entries_of}
 use Rattle.acl_posix.specs.Validity.{IsValid, count_of}
@@ -23,7 +25,7 @@ use Rattle.acl_bridge.specs.declared.passes.Class.{Class}
 use Rattle.acl_bridge.specs.declared.passes.Class.TheVariants.{Owner, Users, Groups, Others}
 use Rattle.acl_bridge.specs.TranslationLaws.{AgreeOn, DecideAlike, GrantsAsMuch, TranslationGrantsEach}
 use Rattle.acl_bridge.proofs.TranslationVerdicts.{allows-translation, matching, deciding, FewFor}
-use Rattle.acl_bridge.proofs.FilterLemmas.{length-filter, filter_twice, filter_twice-none, length-filter_twice}
+use Rattle.acl_bridge.proofs.FilterLemmas.{filter_twice, filter_twice-none, length-filter_twice}
 
 -- ---- a valid list has one entry at most for the owner, and for a user
 
@@ -52,16 +54,6 @@ has_all-has : (set part k : ℕ) → has_all set part ≡ true → has part k �
 has_all-has set part k whole e =
     (and_parts (has set k) (has part k) (sym (has-and set part k) ∙ ap (λ m. has m k) (eqb-true (set ∩ part) part whole) ∙ e)).0
 
-eqb_swap : (a b : ℕ) → (a == b) ≡ (b == a)
-eqb_swap a b =
-    elim (cases_Bool (a == b)) [
-      | inl same ↦ same ∙ sym (eq-eqb b a (sym (eqb-true a b same)))
-      | inr apart ↦ elim (cases_Bool (b == a)) [
-        | inl same ↦ absurd (true≢false (sym (eq-eqb a b (sym (eqb-true b a same))) ∙ apart))
-        | inr also ↦ apart ∙ sym also
-      ]
-    ]
-
 -- ---- the theorem
 
 module _ (acl : List EntryValue) (valid : IsValid acl) (owner group : ℕ) (requester : Identity) where
@@ -70,7 +62,7 @@ module _ (acl : List EntryValue) (valid : IsValid acl) (owner group : ℕ) (requ
 
   users_alone : (tag : Tag) → is_in Users tag ≡ true → applies (who_of tag) ≡ true → same_tag tag (User requester.uid) ≡ true
   users_alone UserObj is matches = absurd (true≢false (sym is))
-  users_alone (User named) is matches = eqb_swap named requester.uid ∙ matches
+  users_alone (User named) is matches = same_either_way named requester.uid ∙ matches
   users_alone GroupObj is matches = absurd (true≢false (sym is))
   users_alone (Group gid) is matches = absurd (true≢false (sym is))
   users_alone Mask is matches = absurd (true≢false (sym is))
@@ -86,7 +78,7 @@ module _ (acl : List EntryValue) (valid : IsValid acl) (owner group : ℕ) (requ
   no_owner not _ = refl
 
   the_user : (tag : Tag) → (is_in Users tag && applies (who_of tag)) ≡ same_tag tag (User requester.uid)
-  the_user (User named) = eqb_swap requester.uid named
+  the_user (User named) = same_either_way requester.uid named
   the_user _ = refl
 
   the_groups : (tag : Tag) → (is_in Groups tag && applies (who_of tag)) ≡ is_for_group_of requester group tag

@@ -28,7 +28,7 @@ length-unless_empty : (ace : Nfsace4) → length (unless_empty ace) ≤ 1
 unfolding unless_empty
 length-unless_empty ace = elim (ace.mask == 0) as (λ b. length (cond b [] (ace ∷ [])) ≤ 1) [ true ↦ omega arith | false ↦ omega arith ]
 
-length-plain : (kind : AceType) (who : Who) (mask : ℕ) → length (plain_ace kind who mask) ≤ 1
+pub length-plain : (kind : AceType) (who : Who) (mask : ℕ) → length (plain_ace kind who mask) ≤ 1
 length-plain kind who mask = length-unless_empty _
 
 length-flat_map-most : {X Y : Type 0} (most : ℕ) (f : X → List Y) → ((x : X) → length (f x) ≤ most) → (xs : List X)

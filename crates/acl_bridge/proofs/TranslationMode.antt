@@ -2,8 +2,9 @@
 use Rattle.std.proofs.Common.{◌≡◌, ℕ, ◌<◌, Bool, true, false, cond, ◌&&◌, refl, sym, ap, ◌∙◌, List, [], ◌∷◌, arith, Option, Some, None, option_map, unwrap_or, find, true≢false}
 use Rattle.std.specs.List.{filter, list_any}
 use Rattle.std.proofs.lemmas.Nat.{and_le_l}
+use Rattle.std.proofs.lemmas.List.Sums.{length-filter}
+use Rattle.std.proofs.Math.Bool.{or-false}
 use Rattle.acl_names.specs.Bits.{has}
-use Rattle.acl_names.proofs.AnyLemmas.{or_false}
 use Rattle.acl_posix.specs.Access.{effective_perms, first_nonempty, is_under_mask, under_mask}
 use Rattle.acl_posix.specs.Entry.{EntryValue, same_tag, entries_of, perms_of, HavePermissions}
 use Rattle.acl_posix.specs.Mode.{perms_at}
@@ -24,7 +25,7 @@ use Rattle.acl_bridge.specs.declared.passes.Class.TheVariants.{Owner, Users, Gro
 use Rattle.acl_bridge.specs.TranslationLaws.{translated_mode}
 use Rattle.acl_bridge.proofs.TranslationDecides.{few, owners_alone}
 use Rattle.acl_bridge.proofs.TranslationVerdicts.{allows-translation, matching, deciding}
-use Rattle.acl_bridge.proofs.FilterLemmas.{length-filter, filter_twice, filter_twice-none, the_one, find-passes}
+use Rattle.acl_bridge.proofs.FilterLemmas.{filter_twice, filter_twice-none, the_one, find-passes}
 
 masked-small : (mask : Option ℕ) (perms : ℕ) → perms < 8 → under_mask mask perms < 8
 masked-small None perms small = small
@@ -60,7 +61,7 @@ module _ (acl : List EntryValue) (valid : IsValid acl) (small : HavePermissions 
           (few acl valid (of_class class) Owner UserObj (owners_alone (of_class class)))
           (few acl valid (of_class class) Users UserObj no_user)
           ∙ ap (list_any (λ (entry : EntryValue). has (effective_perms acl entry) (permission_of bit))) (alone e is_alone)
-          ∙ or_false (has (effective_perms acl e) (permission_of bit)))
+          ∙ or-false (has (effective_perms acl e) (permission_of bit)))
           ∙ ap (λ (of : Tag). limited of e.perms) (same_tag-true e.tag tag known.0)
           ∙ sym (ap (λ (o : Option EntryValue). limited tag (unwrap_or (option_map (λ (entry : EntryValue). entry.perms) o) 0)) is_found)
 

@@ -1,8 +1,9 @@
 -- The translation's verdict on a bit of the mode, class by class.
 use Rattle.std.proofs.Common.{◌≡◌, ℕ, ◌≤◌, Bool, true, false, cond, not, ◌&&◌, ◌||◌, refl, sym, ap, ◌∙◌, List, [], ◌∷◌, Option, Some, None, length, arith, ap₂, map, drop, unwrap_or, flat_map}
 use Rattle.std.specs.List.{filter, list_any}
+use Rattle.std.proofs.Math.Bool.{or-false}
 use Rattle.acl_names.specs.Bits.{has}
-use Rattle.acl_names.proofs.AnyLemmas.{list_any-filter, or_false}
+use Rattle.acl_names.proofs.AnyLemmas.{list_any-filter}
 use Rattle.acl_posix.specs.Access.{effective_perms, first_nonempty}
 use Rattle.acl_posix.specs.Entry.{EntryValue}
 use Rattle.acl_nfs4.specs.Mask.{mode_bits, mask_of, rest_of}
@@ -97,7 +98,7 @@ module _ (acl : List EntryValue) (applies : Who → Bool) (bit : ℕ) (of_mode :
       verdict-first Settled entry entries _ _ (verdict-settled entry) refl ∙ go (is_for entry) few (settled entries)
     where
       alone : (others : List EntryValue) → length (entry ∷ others) ≤ 1 → Some (has_permission entry) ≡ said_by has_permission (entry ∷ others)
-      alone [] few = ap Some (sym (or_false (has_permission entry)))
+      alone [] few = ap Some (sym (or-false (has_permission entry)))
       alone (other ∷ others) few = absurd (omega arith)
 
       go : (b : Bool) → length (cond b (entry ∷ filter is_for entries) (filter is_for entries)) ≤ 1

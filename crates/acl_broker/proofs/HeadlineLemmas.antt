@@ -4,6 +4,7 @@ use Rattle.std.proofs.Common.{List, [], ◌∷◌, ◌++◌, ◌||◌, length, d
 use Rattle.std.proofs.Common.{nat_lt, ◌==◌, if◌then◌else◌, refl}
 use Rattle.std.proofs.lemmas.Bool.Decides.{eqb_tells}
 use Rattle.std.specs.List.{AllByRecursion}
+use Rattle.std.proofs.lemmas.Bool.{cond-false}
 use mathlib.Core.List.{IsPrefix}
 use Rattle.acl_broker.specs.Lanes.{submit_answer, fresh_lane}
 use Rattle.acl_broker.specs.Journal.{items_from, state_after, answers_to}
@@ -59,10 +60,6 @@ among_more : (sessions more : List ℕ) (session : ℕ) → is_among session ses
 among_more [] more session among = cc
 among_more (first ∷ sessions) more session among = or_more (first == session) (is_among session sessions) (is_among session (sessions ++ more)) (among_more sessions more session) among
 
-not_chosen : {A : Type 0} (test : Bool) (x y : A) → test ≡ false → (if test then x else y) ≡ y
-not_chosen true x y isnt = cc
-not_chosen false x y isnt = refl
-
 not_first : (test rest : Bool) → test ≡ false → test || rest ≡ rest
 not_first true rest isnt = cc
 not_first false rest isnt = refl
@@ -103,7 +100,7 @@ module _ {State I R : Type 0} (next : State → I → State) (reply : State → 
   leaves_submit point other item (Ok done) met = record {
     closed = λ session is. is;
     cancelled = λ session is. is;
-    accepts = λ session later shut. not_chosen (eqb other session) (item ∷ accepted_in later session) (accepted_in later session) (submits_other point session other item done shut met);
+    accepts = λ session later shut. cond-false (eqb other session) (item ∷ accepted_in later session) (accepted_in later session) (submits_other point session other item done shut met);
     takes = λ session later shut. refl;
   }
   leaves_submit point other item (Err why) met = record { closed = λ session is. is; cancelled = λ session is. is; accepts = λ session later shut. refl; takes = λ session later shut. refl }

@@ -4,7 +4,7 @@ use Rattle.std.proofs.Common.{Option, arith, codes, count_by, bytes_eq, get_or, 
 use Rattle.std.proofs.Common.{refl, subst, sym, ◌∙◌}
 use Rattle.std.specs.Prelude.{Contains}
 use Rattle.std.proofs.lemmas.List.Elements.{Contains-get_or}
-use Rattle.std.proofs.lemmas.List.{get_or-map, length-map, map-append, take-append-drop, take_more}
+use Rattle.std.proofs.lemmas.List.{get_or-map, length-map, map-append, take-append-drop}
 use Rattle.std.proofs.lemmas.List.Recursion.{is_count_by}
 use Rattle.std.specs.declared.vec.Vec.{Vec}
 use Rattle.std.specs.declared.alloc.Global.{Global}
@@ -20,10 +20,6 @@ HaveBytes-more bytes_of input [] [] name text told last = (last, tt)
 HaveBytes-more bytes_of input (first ∷ names) (before ∷ texts) name text (here, more) last = (here, HaveBytes-more bytes_of input names texts name text more last)
 HaveBytes-more bytes_of input [] (before ∷ texts) name text told last = absurd told
 HaveBytes-more bytes_of input (first ∷ names) [] name text told last = absurd told
-
--- the names up to and including one
-pub map-take_more : {A B : Type 0} (f : A → B) (names : List A) (at : ℕ) (none : A) → at < length names → map f (take (at + 1) names) ≡ map f (take at names) ++ f (get_or names at none) ∷ []
-map-take_more f names at none within = ap (map f) (take_more names at none within) ∙ map-append f (take at names) (get_or names at none ∷ [])
 
 -- the names themselves
 abbrev pub shown : List (Bor (List ℕ)) → List Text

@@ -1,5 +1,5 @@
 -- Whether anything was told.
-use Rattle.std.proofs.Common.{◌≡◌, ◌∙◌, ◌<◌, ◌++◌, ◌||◌, not, ℕ, Bool, true, false, List, [], ◌∷◌, ap, append-nil, arith, length, length-append, refl}
+use Rattle.std.proofs.Common.{◌≡◌, ◌∙◌, ◌++◌, ◌||◌, not, ℕ, Bool, false, List, [], ◌∷◌, ap, append-nil, arith, length, length-append, refl, lt-ltb}
 use Rattle.std.specs.Prelude.{nat_lt}
 use Rattle.std.proofs.lemmas.Bool.Decides.{nat_tests}
 use Rattle.acl_cli.specs.Telling.{is_empty}
@@ -7,15 +7,12 @@ use Rattle.acl_cli.specs.Telling.{is_empty}
 not_less : (n : ℕ) → nat_lt n n ≡ false
 not_less n = grind (arith, nat_tests)
 
-less : (n m : ℕ) → n < m → nat_lt n m ≡ true
-less n m is = grind (arith, nat_tests, is)
-
 -- a text has grown if something was appended
 grown : (kept more : List ℕ) → nat_lt (length kept) (length (kept ++ more)) ≡ not (is_empty more)
 grown kept [] =
     let same : length (kept ++ []) ≡ length kept = ap length (append-nil kept) in
     ap (nat_lt (length kept)) same ∙ not_less (length kept)
-grown kept (byte ∷ more) = less (length kept) (length (kept ++ byte ∷ more)) (omega (arith, length-append kept (byte ∷ more)))
+grown kept (byte ∷ more) = lt-ltb (length kept) (length (kept ++ byte ∷ more)) (omega (arith, length-append kept (byte ∷ more)))
 
 either : (told more : List ℕ) → (not (is_empty told) || not (is_empty more)) ≡ not (is_empty (told ++ more))
 either [] more = refl

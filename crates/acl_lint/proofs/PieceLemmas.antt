@@ -40,6 +40,12 @@ use Rattle.acl_lint.specs.Places.{Piece, first_unread, is_of_piece, piece_of_tri
 
 -- ---- the first text that doesn't read
 
+-- the first of those that are read is the first of all
+whole : (texts : List (List ℕ)) (most : ℕ) (earlier behind : List (List ℕ)) (text : List ℕ) → take most texts ≡ earlier ++ text ∷ behind
+    → texts ≡ earlier ++ text ∷ (behind ++ drop most texts)
+whole texts most earlier behind text are =
+    sym (take-append-drop most texts) ∙ ap (λ front. front ++ drop most texts) are ∙ append_assoc earlier (text ∷ behind) (drop most texts)
+
 module _ {A B F : Type 0} (read : List ℕ → Result A F) (said : Result A F → Asked B) (oks : (value : A) → (b : B) × (said (Ok value) ≡ Ok b))
     (errs : (cause : F) → (fault : LineFault) × (said (Err cause) ≡ Err fault)) where
   -- a text has the fault, those before it read, and it has its number after so many
@@ -115,6 +121,20 @@ module _ {A B F : Type 0} (read : List ℕ → Result A F) (said : Result A F �
           of_test false result is_ok is = cc
       go (Err cause) is = is
 
+  -- if a line's pieces are read so, the first of those that are read is the first of its list
+  first_of_list : (known : Known) (kind text : List ℕ) (fault : LineFault) (most : ℕ)
+      → ((piece : List ℕ) → fault_of_piece known kind piece ≡ fault_of (said (read piece)))
+      → (found : Option Piece) → IsSomeAnd found (IsFirst (take most (pieces text)) 0 fault) → IsSomeAnd found (IsFirstAtFault known kind text fault)
+  first_of_list known kind text fault most same None is = absurd is
+  first_of_list known kind text fault most same (Some piece) is = record {
+    before = is.earlier;
+    behind = is.behind ++ drop most (pieces text);
+    pieces_are = whole (pieces text) most is.earlier is.behind piece.text is.texts_are;
+    number_is = omega (arith, is.number_is);
+    earlier_read = λ k d within. same _ ∙ is.earlier_read k d within;
+    at_fault = same piece.text ∙ is.at_fault;
+  }
+
 -- ---- the pieces of a list's text
 
 -- what is read of a piece of a POSIX list, as the line has it
@@ -133,44 +153,10 @@ ace_oks ace = (ace, refl)
 ace_errs : (cause : aces.PieceFault) → (fault : LineFault) × (as_ace (Err cause) ≡ Err fault)
 ace_errs cause = (ace_fault cause, refl)
 
--- the first of those that are read is the first of all
-whole : (texts : List (List ℕ)) (most : ℕ) (earlier behind : List (List ℕ)) (text : List ℕ) → take most texts ≡ earlier ++ text ∷ behind
-    → texts ≡ earlier ++ text ∷ (behind ++ drop most texts)
-whole texts most earlier behind text are =
-    sym (take-append-drop most texts) ∙ ap (λ front. front ++ drop most texts) are ∙ append_assoc earlier (text ∷ behind) (drop most texts)
-
 module _ (known : Known) (kind text : List ℕ) (fault : LineFault) where
-  entries_first : bytes_eq kind (codes "nfs4") ≡ false → (found : Option Piece)
-      → IsSomeAnd found (IsFirst (entry_of known) as_entry entry_oks entry_errs (take MAX_ENTRIES (pieces text)) 0 fault)
-      → IsSomeAnd found (IsFirstAtFault known kind text fault)
-  entries_first posix None is = absurd is
-  entries_first posix (Some piece) is =
-      let same : (piece : List ℕ) → fault_of_piece known kind piece ≡ fault_of (as_entry (entry_of known piece)) =
-      λ piece. ap (λ (b : Bool). cond b (fault_of (as_ace (piece_value known piece))) (fault_of (as_entry (entry_of known piece)))) posix in
-      record {
-        before = is.earlier;
-        behind = is.behind ++ drop MAX_ENTRIES (pieces text);
-        pieces_are = whole (pieces text) MAX_ENTRIES is.earlier is.behind piece.text is.texts_are;
-        number_is = omega (arith, is.number_is);
-        earlier_read = λ k d within. same _ ∙ is.earlier_read k d within;
-        at_fault = same piece.text ∙ is.at_fault;
-      }
-
-  aces_first : bytes_eq kind (codes "nfs4") ≡ true → (found : Option Piece)
-      → IsSomeAnd found (IsFirst (piece_value known) as_ace ace_oks ace_errs (take MAX_ACES (pieces text)) 0 fault)
-      → IsSomeAnd found (IsFirstAtFault known kind text fault)
-  aces_first nfs4 None is = absurd is
-  aces_first nfs4 (Some piece) is =
-      let same : (piece : List ℕ) → fault_of_piece known kind piece ≡ fault_of (as_ace (piece_value known piece)) =
-      λ piece. ap (λ (b : Bool). cond b (fault_of (as_ace (piece_value known piece))) (fault_of (as_entry (entry_of known piece)))) nfs4 in
-      record {
-        before = is.earlier;
-        behind = is.behind ++ drop MAX_ACES (pieces text);
-        pieces_are = whole (pieces text) MAX_ACES is.earlier is.behind piece.text is.texts_are;
-        number_is = omega (arith, is.number_is);
-        earlier_read = λ k d within. same _ ∙ is.earlier_read k d within;
-        at_fault = same piece.text ∙ is.at_fault;
-      }
+  by_kind : (b : Bool) → bytes_eq kind (codes "nfs4") ≡ b → (piece : List ℕ)
+      → fault_of_piece known kind piece ≡ cond b (fault_of (as_ace (piece_value known piece))) (fault_of (as_entry (entry_of known piece)))
+  by_kind b is piece = ap (λ (b : Bool). cond b (fault_of (as_ace (piece_value known piece))) (fault_of (as_entry (entry_of known piece)))) is
 
   module _ (of_piece : is_of_piece fault ≡ true) where
     other : (not_of_piece : LineFault) → is_of_piece not_of_piece ≡ false → fault ≢ not_of_piece
@@ -188,14 +174,16 @@ module _ (known : Known) (kind text : List ℕ) (fault : LineFault) where
         let most = most_fault (entry_of known) as_entry entry_oks entry_errs MAX_ENTRIES (pieces text) fault told (other TooMany refl) in
         subst (λ (b : Bool). IsSomeAnd (cond b (unread_in (piece_value known) MAX_ACES text) (unread_in (entry_of known) MAX_ENTRIES text)) (IsFirstAtFault known kind text fault))
         (sym posix)
-        (entries_first posix _ (unread-first (entry_of known) as_entry entry_oks entry_errs (take MAX_ENTRIES (pieces text)) 0 fault most))
+        (first_of_list (entry_of known) as_entry entry_oks entry_errs known kind text fault MAX_ENTRIES (by_kind false posix) _
+        (unread-first (entry_of known) as_entry entry_oks entry_errs (take MAX_ENTRIES (pieces text)) 0 fault most))
 
     of_aces : bytes_eq kind (codes "nfs4") ≡ true → aces_of known text ≡ Err fault → IsSomeAnd (unread_of_kind known kind text) (IsFirstAtFault known kind text fault)
     of_aces nfs4 is =
         let most = most_fault (piece_value known) as_ace ace_oks ace_errs MAX_ACES (pieces text) fault is (other TooMany refl) in
         subst (λ (b : Bool). IsSomeAnd (cond b (unread_in (piece_value known) MAX_ACES text) (unread_in (entry_of known) MAX_ENTRIES text)) (IsFirstAtFault known kind text fault))
         (sym nfs4)
-        (aces_first nfs4 _ (unread-first (piece_value known) as_ace ace_oks ace_errs (take MAX_ACES (pieces text)) 0 fault most))
+        (first_of_list (piece_value known) as_ace ace_oks ace_errs known kind text fault MAX_ACES (by_kind true nfs4) _
+        (unread-first (piece_value known) as_ace ace_oks ace_errs (take MAX_ACES (pieces text)) 0 fault most))
 
     accepted_fault : (entries : Result (List EntryValue) AclFault) → map_fault acl_line_fault (entries >>= acl_of_entries) ≡ Err fault → map_fault acl_line_fault entries ≡ Err fault
     accepted_fault (Ok entries) is = absurd (of_test (is_none (entries_fault entries)) is)

@@ -15,7 +15,6 @@ use Rattle.acl_listings.specs.Block.{path_of}
 use Rattle.acl_listings.specs.Cursor.{HandsOut, IsOver, blocks_to_come}
 use Rattle.acl_listings.specs.Listing.{Block}
 use Rattle.acl_listings.specs.declared.fault.BlockFault.{BlockFault}
-use Rattle.acl_listings.specs.declared.fault.BlockFault.TheVariants.{TooLong, BadHeader}
 use Rattle.acl_listing_queries.specs.ChangeSteps.{Appended, AreMet, BeginsLeft, Closing, EndsLeft, HandsOn, Here, IsLast, IsOpening, IsStep, Left, Missing, Opening, SeenValue, TellsLeft, TellsMissing, TellsTold, Told, counted, fault_here, final_tally, left_to_tell, missing_from, nothing_seen, seen_on, told_from}
 use Rattle.acl_listing_queries.specs.Changes.{After, Before, Gone, IsChangeAnswer, IsChangeBegun, Named, Next, OfAfter, Step, TellsEach, TellsIf, TellsNextBy, TellsStep, Wording, apart_by, ending_of_both, fault_after, fault_before, item_of, items_after, items_before, items_of, part_of, steps_of, tally_of, unless_repeated, with_difference}
 use Rattle.acl_listing_queries.specs.Kept.{place_of}
@@ -28,6 +27,7 @@ use Rattle.acl_listing_queries.proofs.FirstPathLemmas.{first_more}
 use Rattle.acl_listing_queries.proofs.PlacedLemmas.{placed_split, put}
 use Rattle.acl_listing_queries.proofs.PlacesLemmas.{mark_lists, marks_repeat, met_more, none_met, place_known, stands_there}
 use Rattle.acl_listing_queries.proofs.StepsLemmas.{AreLike, all_front, all_on, each_like, front_like, front_none, front_on}
+use Rattle.acl_listing_queries.proofs.SidesLemmas.{some_repeated}
 
 -- ---- one step of what is told
 
@@ -243,13 +243,7 @@ module _ (wording : Wording) (before : Named) where
           within = omega (arith, ap length whole, length-append earlier (here ∷ rest))
 
           some_fault : (fault : Option BlockFault) (b c : Bool) → is_none (unless_repeated true fault) && b ≡ (is_none (unless_repeated true fault) && c)
-          some_fault fault b c = ap (λ n. n && b) (none fault) ∙ sym (ap (λ n. n && c) (none fault))
-            where
-              none : (fault : Option BlockFault) → is_none (unless_repeated true fault) ≡ false
-              none None = refl
-              none (Some TooLong) = refl
-              none (Some BadHeader) = refl
-              none (Some fault) = refl
+          some_fault fault b c = ap (λ n. n && b) (some_repeated fault) ∙ sym (ap (λ n. n && c) (some_repeated fault))
 
           by : (repeated : Bool) → lists earlier here.text ≡ repeated → (fault : Option BlockFault)
               → (is_none (unless_repeated (lists earlier here.text) fault) && not (get_or met (length earlier) false))

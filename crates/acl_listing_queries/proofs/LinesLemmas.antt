@@ -15,6 +15,7 @@ use Rattle.acl_posix.specs.PermsText.{perms_text}
 use Rattle.acl_posix.specs.declared.perms.Perms.{Perms}
 use Rattle.acl_tree.specs.Nodes.{may}
 use Rattle.acl_tree.specs.declared.node.Node.{Node}
+use Rattle.acl_audit.proofs.ReachLemmas.{at_place}
 use Rattle.acl_listing_queries.specs.Asked.{persons_of}
 use Rattle.acl_listing_queries.specs.WhoSteps.{IsGranted, letters_line_at, letters_lines, may_line_at, may_line_of, may_lines}
 use Rattle.acl_listing_queries.specs.WhoText.{AllLetters, Asked, Request, ThreeLetters, letters_line_if, person_line, person_line_if, who_text}
@@ -24,10 +25,6 @@ use Rattle.acl_listing_queries.specs.declared.who.answers.Granted.TheVariants.{L
 name_there : (before after : List (List ℕ)) (name : List ℕ) → slice_get (before ++ name ∷ after) (length before) ≡ Some name
 name_there [] after name = refl
 name_there (first ∷ before) after name = name_there before after name
-
-at_place : {X Z : Type 0} (f : X → Z) (default : Z) (before after : List X) (item : X) → get_or (map f (before ++ item ∷ after)) (length before) default ≡ f item
-at_place f default [] after item = refl
-at_place f default (first ∷ before) after item = at_place f default before after item
 
 none_there : {X Z : Type 0} (f : X → Z) (default : Z) (before : List X) (more : ℕ) → get_or (map f before) (length before + more) default ≡ default
 none_there f default [] more = refl

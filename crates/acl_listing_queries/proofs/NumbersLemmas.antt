@@ -1,6 +1,5 @@
 -- Whoever there is, a decimal is read as its id.
-use Rattle.std.proofs.Common.{◌≡◌, ◌∙◌, ◌≤◌, ℕ, Bool, true, false, cond, nat_le, List, Option, Some, None, Ok, ap, arith, decimal}
-use Rattle.std.proofs.lemmas.Bool.Decides.{nat_tests}
+use Rattle.std.proofs.Common.{◌≡◌, ◌∙◌, ◌≤◌, ℕ, Bool, true, false, cond, List, Option, Some, None, Ok, ap, decimal, le-leb}
 use Rattle.acl_names.specs.Ids.{Name, Number, Written, decimal_value, has_name_shape, id_of_written, number_or_name}
 use Rattle.acl_names.specs.Names.{resolved}
 use Rattle.acl_names.specs.Steps.{◌>>=◌, or_fault}
@@ -29,14 +28,11 @@ decimal_read id small = go (decimal_value (decimal id)) (has_name_shape (decimal
         no_name true is = cc
         no_name false is = cc
 
-at_most : (a b : ℕ) → a ≤ b → nat_le a b ≡ true
-at_most a b h = grind (arith, nat_tests)
-
 number_read : (written_in : List ℕ → Option Written) (id_of : List ℕ → Option ℕ) (id : ℕ) → id ≤ MAX_ID → written_in (decimal id) ≡ Some (Number id)
     → resolved written_in id_of (decimal id) ≡ Ok id
 number_read written_in id_of id small is =
     ap (λ written. or_fault Malformed written >>= (λ w. or_fault Unknown (id_of_written id_of w))) is
-    ∙ ap (λ b. or_fault Unknown (cond b (Some id) None)) (at_most id MAX_ID small)
+    ∙ ap (λ b. or_fault Unknown (cond b (Some id) None)) (le-leb id MAX_ID small)
 
 account_number : (id : ℕ) → id ≤ MAX_ID → written_account (decimal id) ≡ Some (Number id)
 account_number id small = written_number (decimal id) id (decimal_read id small)

@@ -2,13 +2,13 @@
 use Rattle.std.proofs.Common.{◌≡◌, ◌∙◌, ◌<◌, ◌&&◌, ◌||◌, ◌++◌, ℕ, zero, suc, Bool, true, false, cond, List}
 use Rattle.std.proofs.Common.{[], ◌∷◌, Option, Some, None, ap, arith, bytes_eq, get_or, is_none, is_some}
 use Rattle.std.proofs.Common.{length, map as each, nat_lt, not, option_and_then, option_copied, option_map}
-use Rattle.std.proofs.Common.{refl, replicate, set, subst, sym, take}
+use Rattle.std.proofs.Common.{refl, replicate, set, subst, sym, take, eq-eqb}
 use Rattle.std.specs.Borrow.{Bor}
 use Rattle.std.specs.List.{find, list_any}
 use Rattle.std.specs.Option.{option_map_or}
 use Rattle.std.specs.Prelude.{nat_eq, slice_get, unwrap_or}
 use Rattle.std.proofs.lemmas.Bool.{or_parts, true≢false}
-use Rattle.std.proofs.Math.Bool.{or-false}
+use Rattle.std.proofs.Math.Bool.{or-false, or-true}
 use Rattle.std.proofs.lemmas.Bool.Decides.{Decides-eqb, nat_tests}
 use Rattle.std.proofs.lemmas.List.{get_or-replicate, get_or-set_other, get_or-set_same, length-replicate, length-set}
 use Rattle.std.proofs.lemmas.List.Folds.{list_any-append}
@@ -149,9 +149,6 @@ one_path path other block = by (path_of block.text)
     by None first second = cc
     by (Some own) first second = (bytes_eq-Decides path own).0 first ∙ sym ((bytes_eq-Decides other own).0 second)
 
-is_some_place : (place other : ℕ) → place ≡ other → nat_eq place other ≡ true
-is_some_place place other same = (Decides-eqb place other).1 same
-
 module _ (before : List Block) (path : List ℕ) (place : ℕ) (first : first_place (has_path path) before ≡ Some place) where
   -- if another path is first at the same place, it is the same
   same_path : (other : List ℕ) → first_place (has_path other) before ≡ Some place → path ≡ other
@@ -168,7 +165,7 @@ module _ (before : List Block) (path : List ℕ) (place : ℕ) (first : first_pl
       at : (other : List ℕ) (found : Option ℕ) → first_place (has_path other) before ≡ found → (b : Bool) → bytes_eq path other ≡ b → option_map_or (nat_eq place) found false ≡ b
       at other found is true same =
           let known : Some place ≡ found = sym first ∙ ap (λ path. first_place (has_path path) before) ((bytes_eq-Decides path other).0 same) ∙ is in
-          ap (λ o. option_map_or (nat_eq place) o false) (sym known) ∙ is_some_place place place refl
+          ap (λ o. option_map_or (nat_eq place) o false) (sym known) ∙ eq-eqb place place refl
       at other None is false apart = refl
       at other (Some there) is false apart = differ (nat_eq place there) refl
         where
@@ -280,10 +277,6 @@ module _ (before : List Block) where
 
 -- ---- the marks
 
-or_true : (b : Bool) → (b || true) ≡ true
-or_true true = refl
-or_true false = refl
-
 module _ (before seen : List Block) (met : List Bool) (are : AreMet before seen met) (block : Block) where
   -- the marks of one block more
   pub met_more : AreMet before (seen ++ block ∷ []) (with_mark met (place_of before block.text))
@@ -310,7 +303,7 @@ module _ (before seen : List Block) (met : List Bool) (are : AreMet before seen 
               let there : place ≡ here = (Decides-eqb place here).0 same in
               let inside : here < length met = omega (arith, within, there, are.count) in
               ap (λ n. get_or (set met here true) n false) there ∙ get_or-set_same met here true false inside
-              ∙ sym (ap (λ b. is_met before seen place || b) same ∙ or_true (is_met before seen place))
+              ∙ sym (ap (λ b. is_met before seen place || b) same ∙ or-true (is_met before seen place))
           at place within false apart =
               get_or-set_other met here place true false (λ same. absurd (true≢false (sym ((Decides-eqb place here).1 same) ∙ apart)))
               ∙ are.each place within

@@ -25,12 +25,14 @@ use Rattle.acl_listing_queries.specs.WhoText.{who_text}
 use Rattle.acl_listing_queries.specs.declared.who.reach.ReachTeller.{ReachTeller}
 use Rattle.std.specs.Prelude.{Vec}
 use Rattle.std.specs.declared.alloc.Global.{Global}
+use Rattle.std.proofs.lemmas.Option.{none-some}
 use Rattle.acl_listing_queries.specs.WhoSteps.{AreAnswersOf, AreFolders, AreRight, IsAnsweredAt, IsBehind, IsChain, IsCome, IsEveryone, IsFolderAt, IsOnWay, IsPlacedAt, IsSearch, asking_of, folders_to, readings_of, kept_at, lacks_path, marks_of, names_by, whos_of}
 use Rattle.acl_listing_queries.specs.declared.who.answers.Answers.{Answers}
 use Rattle.acl_listing_queries.specs.declared.who.answers.Kept.{Kept}
 use Rattle.acl_listing_queries.specs.declared.who.answers.Users.{Users}
 use Rattle.acl_listing_queries.specs.declared.who.reach.Before.{Before}
 use Rattle.acl_listing_queries.specs.declared.who.way.Folder.{Folder}
+use Rattle.acl_listing_queries.proofs.WhyWayLemmas.{none_with}
 
 -- ---- what is on a way
 
@@ -123,16 +125,12 @@ lost_on way (here ∷ seen) lost =
         after true = refl
         after false = lost
 
-no_folder : (found : Option Node) → with_folder found None ≡ None
-no_folder None = refl
-no_folder (Some folder) = refl
-
 pub lost_none : (way : List Reading) → list_any lacks_path way ≡ true → (here : Reading) → known_way way here ≡ None
 lost_none [] lost here = cc
 lost_none (folder ∷ above) lost here = by folder.path refl (λ lost. lost_none above lost folder)
   where
     none : (b : Bool) → cond b (with_folder (folder_of folder) None) None ≡ None
-    none true = no_folder (folder_of folder)
+    none true = none_with (folder_of folder)
     none false = refl
 
     by : (path : Option (List ℕ)) → folder.path ≡ path → (list_any lacks_path above ≡ true → known_way above folder ≡ None)
@@ -180,10 +178,7 @@ pub pathless : (asking : Asking) (text : List ℕ) → path_of text ≡ None →
 pathless asking text none way other = by (file_by asking.names text) refl
   where
     by : (said : Result FileValue BlockFault) → file_by asking.names text ≡ said → part_by asking said way ≡ part_by asking said other
-    by (Ok file) is = absurd (never (sym none ∙ path_of-file asking.names text file is))
-      where
-        never : {path : List ℕ} → None ≡ Some path → ⊥
-        never is = cc
+    by (Ok file) is = absurd (none-some _ (sym none ∙ path_of-file asking.names text file is))
     by (Err fault) is = refl
 
 -- a call that is refused is refused so whatever it would have returned

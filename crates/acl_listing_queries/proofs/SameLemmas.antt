@@ -3,6 +3,7 @@ use Rattle.std.proofs.Common.{◌≡◌, ◌∙◌, ◌↔◌, ◌^◌, ℕ, Boo
 use Rattle.std.specs.Prelude.{IsTrue}
 use Rattle.std.specs.Option.{option_or}
 use Rattle.std.proofs.lemmas.List.Folds.{find-append}
+use Rattle.std.proofs.Math.Bool.{and-false, or-true}
 use Rattle.acl_names.specs.Bits.{has, ◌∩◌}
 use Rattle.acl_names.proofs.BitSets.{has-and, has-or, has-zero}
 use Rattle.acl_posix.specs.Entry.{EntryValue}
@@ -26,14 +27,6 @@ use Rattle.acl_listings.specs.declared.lists.Lists.TheVariants.{Posix}
 use Rattle.acl_listing_queries.specs.Translated.{aces_of, attributes_if, below_of}
 use Rattle.acl_listing_queries.specs.declared.translate.lists.TheConstants.{ATTRIBUTES, OWNER_ATTRIBUTES}
 
-and_false : (a : Bool) → (a && false) ≡ false
-and_false true = refl
-and_false false = refl
-
-or_true : (a : Bool) → (a || true) ≡ true
-or_true true = refl
-or_true false = refl
-
 or_none : {X : Type 0} (found : Option X) → option_or found None ≡ found
 or_none (Some x) = refl
 or_none None = refl
@@ -47,8 +40,8 @@ inherited_silent : (applies : Who → Bool) (bit : ℕ) (ace : Nfsace4) → spea
 unfolding speaks decides
 inherited_silent applies bit ace =
     ap (λ b. ((is_allow ace.kind || is_deny ace.kind) && not b) && (applies ace.who && has ace.mask bit))
-    (has-or ace.flags only_inheriting_flags inherit_only ∙ ap (λ b. has ace.flags inherit_only || b) only_has ∙ or_true (has ace.flags inherit_only))
-    ∙ ap (λ b. b && (applies ace.who && has ace.mask bit)) (and_false (is_allow ace.kind || is_deny ace.kind))
+    (has-or ace.flags only_inheriting_flags inherit_only ∙ ap (λ b. has ace.flags inherit_only || b) only_has ∙ or-true (has ace.flags inherit_only))
+    ∙ ap (λ b. b && (applies ace.who && has ace.mask bit)) (and-false (is_allow ace.kind || is_deny ace.kind))
 
 all_inherited : (applies : Who → Bool) (bit : ℕ) (aces : List Nfsace4) → find (speaks applies bit) (map (with_flags only_inheriting_flags) aces) ≡ None
 all_inherited applies bit [] = refl
@@ -64,7 +57,7 @@ below_silent applies bit (Some default) = all_inherited applies bit (translation
 mask_silent : (applies : Who → Bool) (bit : ℕ) (ace : Nfsace4) → has ace.mask bit ≡ false → speaks applies bit ace ≡ false
 unfolding speaks
 mask_silent applies bit ace lacks =
-    ap (λ b. decides ace && (applies ace.who && b)) lacks ∙ ap (λ b. decides ace && b) (and_false (applies ace.who)) ∙ and_false (decides ace)
+    ap (λ b. decides ace && (applies ace.who && b)) lacks ∙ ap (λ b. decides ace && b) (and-false (applies ace.who)) ∙ and-false (decides ace)
 
 abbrev owner_ace : Nfsace4
 owner_ace = ace_of Allow 0 Owner OWNER_ATTRIBUTES

@@ -1,5 +1,5 @@
 -- The people of a directory that a setup opens are the users of the setup.
-use Rattle.std.proofs.Common.{◌≡◌, ◌∙◌, ◌||◌, ℕ, zero, suc, Bool, true, false, cond, List, [], ◌∷◌, Option, Some, None, Ok, Err, Result, ap, arith, bytes_eq, find, length, map as each, nat_cmp, nat_eq, option_map, refl, subst, sym}
+use Rattle.std.proofs.Common.{◌≡◌, ◌∙◌, ◌||◌, ℕ, zero, suc, Bool, true, false, cond, List, [], ◌∷◌, Option, Some, None, Ok, Err, Result, ap, arith, bytes_eq, map as each, nat_cmp, nat_eq, option_map, refl, subst, sym}
 use Rattle.std.specs.Prelude.{◌↔◌, ◌==◌, IsSome, option_and_then}
 use Rattle.std.specs.Cmp.Lexicographic.{slice_cmp}
 use Rattle.std.specs.List.{Contains, filter_map, list_any, zip}
@@ -8,14 +8,16 @@ use Rattle.std.proofs.lemmas.Bool.{or_parts, true≢false}
 use Rattle.std.proofs.lemmas.Bool.Decides.{Decides-eqb}
 use Rattle.std.proofs.lemmas.Cmp.{nat_cmp_total, nat_list_cmp_total}
 use Rattle.std.proofs.lemmas.Slice.Eq.{bytes_eq-Decides}
+use Rattle.std.proofs.lemmas.List.{get_or_default}
+use Rattle.std.proofs.lemmas.Option.{slice_get-get_or}
 use Rattle.toml.specs.Data.{Members}
-use Rattle.acl_names.specs.Ascending.{IsAscending, repeats}
-use Rattle.acl_names.specs.Directory.{AnswersAs, Known, KnownGroup, KnownUser, as_requester, fault_of, gid_of, groups_of, has_bad_name, has_unknown_group, is_too_many, repeats_id, repeats_name, requester_of, uid_of, user_name, user_named, user_with}
+use Rattle.acl_names.specs.Ascending.{repeats}
+use Rattle.acl_names.specs.Directory.{AnswersAs, Known, KnownGroup, KnownUser, as_requester, fault_of, gid_of, has_bad_name, has_unknown_group, is_too_many, repeats_id, repeats_name, requester_of, uid_of, user_name, user_named, user_with}
 use Rattle.acl_names.specs.Requester.{Identity}
 use Rattle.acl_names.specs.Steps.{◌>>=◌, map_fault, or_fault}
 use Rattle.acl_names.specs.declared.directory.fault.SetupFault.{SetupFault}
 use Rattle.acl_names.specs.declared.directory.fault.SetupFault.TheVariants.{BadName, RepeatedId, RepeatedName, TooMany, UnknownGroup}
-use Rattle.acl_names.proofs.AscendingLemmas.{Contains-find, find-distinct, get_or-within, repeats-ascending, slice_get-within}
+use Rattle.acl_names.proofs.AscendingLemmas.{Contains-find, find-distinct, repeats-ascending}
 use Rattle.acl_names.proofs.Keys.{same_id, same_name}
 use Rattle.acl_bridge.proofs.FilterLemmas.{find-passes}
 use Rattle.acl_tree.specs.Commands.{root_alone}
@@ -70,15 +72,15 @@ module _ (known : Known) where
   found_by_name : repeats bytes_eq (λ (user : KnownUser). user.name) known.users ≡ false → (user : KnownUser) → Contains known.users user → user_named known user.name ≡ Some user
   found_by_name once user (at, inside, is) =
       find-distinct (slice_cmp nat_cmp) nat_list_cmp_total (λ (user : KnownUser). user.name) bytes_eq same_name known.users user.name once at inside
-      (λ d. (bytes_eq-Decides _ user.name).1 (ap (λ (user : KnownUser). user.name) (get_or-within known.users at d user inside ∙ is)))
-      ∙ slice_get-within known.users at user inside
+      (λ d. (bytes_eq-Decides _ user.name).1 (ap (λ (user : KnownUser). user.name) (get_or_default known.users at d user inside ∙ is)))
+      ∙ slice_get-get_or known.users at user inside
       ∙ ap Some is
 
   found_by_id : repeats nat_eq (λ (user : KnownUser). user.uid) known.users ≡ false → (user : KnownUser) → Contains known.users user → user_with known user.uid ≡ Some user
   found_by_id once user (at, inside, is) =
       find-distinct nat_cmp nat_cmp_total (λ (user : KnownUser). user.uid) nat_eq same_id known.users user.uid once at inside
-      (λ d. (Decides-eqb _ user.uid).1 (ap (λ (user : KnownUser). user.uid) (get_or-within known.users at d user inside ∙ is)))
-      ∙ slice_get-within known.users at user inside
+      (λ d. (Decides-eqb _ user.uid).1 (ap (λ (user : KnownUser). user.uid) (get_or_default known.users at d user inside ∙ is)))
+      ∙ slice_get-get_or known.users at user inside
       ∙ ap Some is
 
   -- and what is found by a name is a member of that name
@@ -91,9 +93,6 @@ module _ (known : Known) where
 some_of : {X Y : Type 0} (f : X → Y) (found : Option X) (y : Y) → option_map f found ≡ Some y → (x : X) × (found ≡ Some x) × (f x ≡ y)
 some_of f None y is = absurd (cc)
 some_of f (Some x) y is = (x, refl, cc)
-
-same_some : {X : Type 0} (x y : X) → Some x ≡ Some y → x ≡ y
-same_some x y is = cc
 
 -- ---- the people of two that answer alike
 

@@ -1,6 +1,7 @@
 -- What is told of one block, by where the path of a text stands.
 use Rattle.std.proofs.Common.{◌≡◌, ◌∙◌, ◌++◌, ◌&&◌, not, ℕ, Bool, true, false, List, [], Option, Some, None, ap, append-nil, get_or, is_none, refl, subst, sym, take}
 use Rattle.std.specs.Prelude.{IfSome, slice_get}
+use Rattle.std.proofs.Math.Bool.{and-true}
 use Rattle.acl_listings.specs.Listing.{Block}
 use Rattle.acl_listings.specs.declared.fault.BlockFault.{BlockFault}
 use Rattle.acl_listings.specs.declared.fault.BlockFault.TheVariants.{TooLong, BadHeader}
@@ -88,15 +89,11 @@ module _ (wording : Wording) (before : List Block) (met : List Bool) (place : �
         ap (λ b. is_none (unless_repeated b (wording.fault block.text)) && not (get_or met place false)) listed ∙ ap (λ b. b && not (get_or met place false)) (some_repeated (wording.fault block.text)) in
         missing_if block there false fails out out beside beside (record { told = []; said = []; tells = (refl, refl); out_is = sym (append-nil out); beside_is = sym (append-nil beside) })
 
-    and_true : (b : Bool) → (b && true) ≡ b
-    and_true true = refl
-    and_true false = refl
-
     pub told_gone : get_or met place false ≡ false → is_earlier place (place_of before block.text) ≡ false → (out out' beside beside' : List ℕ)
         → Appended (TellsIf (is_none (wording.fault block.text)) (wording.IsGone block.text)) out out' beside beside' → Appended (TellsMissing wording before met place) out out' beside beside'
     told_gone unmet once out out' beside beside' appended =
         let listed : lists (take place before) block.text ≡ false = sym (earlier_repeats before place block.text) ∙ once in
         let is : tells_if block ≡ is_none (wording.fault block.text) =
         ap (λ b. is_none (unless_repeated b (wording.fault block.text)) && not (get_or met place false)) listed
-        ∙ ap (λ b. is_none (wording.fault block.text) && not b) unmet ∙ and_true (is_none (wording.fault block.text)) in
+        ∙ ap (λ b. is_none (wording.fault block.text) && not b) unmet ∙ and-true (is_none (wording.fault block.text)) in
         missing_if block there (is_none (wording.fault block.text)) is out out' beside beside' appended

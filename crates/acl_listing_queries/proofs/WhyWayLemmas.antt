@@ -1,5 +1,5 @@
 -- The way to a path, as it goes on from block to block, and whether its folders are known.
-use Rattle.std.proofs.Common.{◌≡◌, ◌∙◌, ◌+◌, ◌++◌, ◌<◌, ◌||◌, ℕ, Vec, Bool, true, false, cond, List, [], ◌∷◌, Option, Some, None, add-one, ap, append-nil, drop, get_or, length, map, refl, reverse, sym, take}
+use Rattle.std.proofs.Common.{◌≡◌, ◌∙◌, ◌+◌, ◌++◌, ◌<◌, ◌||◌, ℕ, Vec, Bool, true, false, cond, List, [], ◌∷◌, Option, Some, None, add-one, ap, append-nil, drop, get_or, length, refl, reverse, sym, take}
 use Rattle.std.specs.Prelude.{is_none}
 use Rattle.std.specs.List.{filter, flat_map, fold, list_any}
 use Rattle.std.proofs.lemmas.Grind.{flat_map-append}
@@ -14,6 +14,7 @@ use Rattle.acl_listings.specs.declared.fault.FileFault.{FileFault}
 use Rattle.acl_listings.specs.declared.fault.FileFault.TheVariants as file
 use Rattle.acl_names.specs.Names.{Names}
 use Rattle.acl_names.specs.Requester.{Identity}
+use Rattle.acl_accounts.proofs.SortLemmas.{map-filter}
 use Rattle.acl_listing_queries.specs.Readings.{Reading, reading_of}
 use Rattle.acl_listing_queries.specs.Ways.{folder_of, known_way, may_be_above, those_above, way_of, way_on, with_folder}
 use Rattle.acl_listing_queries.specs.WhoSteps.{lacks_path}
@@ -47,15 +48,6 @@ module _ {X : Type 0} where
       by : (b : Bool) → reverse (filter test items) ++ cond b (item ∷ []) [] ≡ reverse (cond b (item ∷ filter test items) (filter test items))
       by true = sym (reverse-append (item ∷ []) (filter test items))
       by false = append-nil (reverse (filter test items))
-
-  pub map-filter : {Y : Type 0} (shown : X → Y) (test : Y → Bool) (items : List X) → map shown (filter (λ item. test (shown item)) items) ≡ filter test (map shown items)
-  map-filter shown test [] = refl
-  map-filter shown test (item ∷ items) = by (test (shown item)) (map-filter shown test items)
-    where
-      by : (b : Bool) → map shown (filter (λ item. test (shown item)) items) ≡ filter test (map shown items)
-          → map shown (cond b (item ∷ filter (λ item. test (shown item)) items) (filter (λ item. test (shown item)) items)) ≡ cond b (shown item ∷ filter test (map shown items)) (filter test (map shown items))
-      by true rest = ap (λ more. shown item ∷ more) rest
-      by false rest = rest
 
 -- ---- one block more
 
@@ -115,7 +107,8 @@ pub known-more : (way : List Reading) (folder : Reading) (node : Node) (nodes : 
 known-more way folder node nodes known held reads =
     ap (with_folder (folder_of folder)) (known_way-held way folder ∙ ap (λ b. cond b (known_folders way) None) held ∙ known) ∙ ap (λ found. with_folder found (Some nodes)) reads
 
-none_with : (found : Option Node) → with_folder found None ≡ None
+-- what no folder is added to
+pub none_with : (found : Option Node) → with_folder found None ≡ None
 none_with None = refl
 none_with (Some folder) = refl
 

@@ -1,9 +1,10 @@
 -- Two blocks that are alike behind their first lines say files that are alike but for their paths.
 use Rattle.std.proofs.Common.{◌≡◌, ◌∙◌, ◌≤◌, ℕ, Bool, true, false, cond, nat_le, List, length, Option, Some, None, Result, Ok, Err, ap, arith, codes, option_and_then, sym}
 use Rattle.std.proofs.lemmas.Bool.Decides.{nat_tests}
+use Rattle.std.proofs.lemmas.Option.{cond_some}
 use Rattle.acl_names.specs.Names.{Names}
 use Rattle.acl_names.specs.Steps.{◌>>=◌, or_fault}
-use Rattle.acl_names.proofs.StepLemmas.{bind_ok, given, some_from_cond}
+use Rattle.acl_names.proofs.StepLemmas.{bind_ok, given}
 use Rattle.acl_listings.specs.BlockLists.{lists_by}
 use Rattle.acl_listings.specs.Block.{FileValue, file_by, owners_by, path_of, within_limit}
 use Rattle.acl_listings.specs.Header.{Header, after_prefix, as_header, header_of, path_in}
@@ -52,7 +53,7 @@ pub file_of-alike : (names : Names) (one other : List ℕ) (file : FileValue) (p
     → file_by names one ≡ Ok file → file_by names other ≡ Ok (file_at path file)
 file_of-alike names one other file path same short is_at is =
     let (block, taken, of_block) = bind_ok (or_fault TooLong (within_limit one)) (from_block names) file is in
-    let (_, own) = some_from_cond (nat_le (length one) MAX_BLOCK) one block (given TooLong (within_limit one) block taken) in
+    let (_, own) = cond_some (nat_le (length one) MAX_BLOCK) one block (given TooLong (within_limit one) block taken) in
     let (header, read, of_header) = bind_ok (or_fault BadHeader (header_of block)) (from_header names) file of_block in
     let (ids, its, of_ids) = bind_ok (owners_by names header) (from_ids names header) file of_header in
     let (lists, listed, made) = bind_ok (lists_by names header.list) (from_lists header ids) file of_ids in

@@ -1,13 +1,14 @@
 -- How a block's lines go on, line by line.
 use Rattle.std.proofs.Common.{◌≡◌, ◌≢◌, ℕ, ◌+◌, ◌==◌, ◌<◌, ◌&&◌, Bool, true, false, cond, not, List, [], ◌∷◌}
-use Rattle.std.proofs.Common.{◌++◌, length, drop, take, suc, ap, refl, sym, ◌∙◌, ◌⊎◌, inl, inr, subst}
-use Rattle.std.proofs.Common.{append_assoc, length-append, arith}
+use Rattle.std.proofs.Common.{◌++◌, length, drop, take, ap, refl, sym, ◌∙◌, ◌⊎◌, inl, inr, subst}
+use Rattle.std.proofs.Common.{append_assoc, length-append, arith, one-add}
 use Rattle.std.specs.List.{All, before_first, position_or_len, slice_index}
 use Rattle.std.proofs.lemmas.Bool.Decides.{eqb_tells}
 use Rattle.std.proofs.lemmas.List.{get_or-append-add}
 use Rattle.std.proofs.lemmas.List.Elements.{All-cons, All-head, All-nil, All-tail}
 use Rattle.std.proofs.lemmas.List.Sums.{sum_by-append, sum_by-cons}
 use Rattle.std.proofs.Math.Seq.{drop-append-add}
+use Rattle.std.proofs.lemmas.Bool.{and_parts}
 use Rattle.acl_names.specs.Bytes.{newline}
 use Rattle.acl_listings.specs.Extent.{BeginsLine, EndsBlock, HasFullLines, IsExtent, has_full_lines, newlines_in}
 
@@ -21,10 +22,6 @@ LacksNewline line = All (λ byte. is_newline byte ≡ false) line
 abbrev pub EndsLine : List ℕ → Type 0
 EndsLine [] = Unit {0}
 EndsLine (byte ∷ bytes) = byte ≡ newline
-
-and_parts : (a b : Bool) → (a && b) ≡ true → (a ≡ true) × (b ≡ true)
-and_parts true b e = (refl, e)
-and_parts false b e = cc
 
 pub full-append : (begun : Bool) (front back : List ℕ) → has_full_lines begun front ≡ true → has_full_lines begun (front ++ back) ≡ has_full_lines true back
 full-append begun [] back is = ap (λ b. has_full_lines b back) is
@@ -70,9 +67,6 @@ pub record FrontLine (text : List ℕ) : Type 0 where
   pub lacks : LacksNewline line
   pub ends : EndsLine rest
 
-one_more : (n : ℕ) → 1 + n ≡ suc n
-one_more n = omega arith
-
 front_line : (text : List ℕ) → FrontLine text
 front_line [] = record { line = []; rest = []; is = refl; cut = refl; lacks = All-nil (λ x. is_newline x ≡ false); ends = tt }
 front_line (byte ∷ bytes) = by_first (eqb_tells byte newline) (front_line bytes)
@@ -90,7 +84,7 @@ front_line (byte ∷ bytes) = by_first (eqb_tells byte newline) (front_line byte
       line = byte ∷ more.line;
       rest = more.rest;
       is = ap (λ b. take (cond (not b) (1 + position_or_len is_newline bytes) 0) (byte ∷ bytes)) other.0
-          ∙ ap (λ n. take n (byte ∷ bytes)) (one_more (position_or_len is_newline bytes)) ∙ ap (λ line. byte ∷ line) more.is;
+          ∙ ap (λ n. take n (byte ∷ bytes)) (one-add (position_or_len is_newline bytes)) ∙ ap (λ line. byte ∷ line) more.is;
       cut = ap (λ rest. byte ∷ rest) more.cut;
       lacks = All-cons (λ x. is_newline x ≡ false) byte more.line other.0 more.lacks;
       ends = more.ends;

@@ -2,28 +2,24 @@
 use Rattle.std.proofs.Common.{◌≡◌, ◌∙◌, ℕ, zero, suc, ◌+◌, ◌-◌, ◌≤◌, ◌==◌, Bool, true, false, cond, ◌&&◌, List, [], ◌∷◌, ◌++◌, ap, ap₂, refl, sym, subst, arith, leb, ltb, is_ok, is_some}
 use Rattle.std.proofs.Common.{Some, None, Ok, Err, Option, Result, append-nil, add-one, drop, flat_map, length, length-append, take}
 use Rattle.std.specs.List.{All, cons_option, filter_map, list_all}
-use Rattle.std.proofs.lemmas.Bool.{true≢false}
+use Rattle.std.proofs.lemmas.Bool.{and_parts}
 use Rattle.std.proofs.lemmas.Bool.Decides.{nat_tests}
 use Rattle.std.proofs.lemmas.List.{take-append-drop, take_all}
 use Rattle.std.proofs.lemmas.List.Elements.{All-drop, All-head, filter_map-append}
 use Rattle.std.proofs.lemmas.List.Folds.{list_all-append}
-use Rattle.std.proofs.lemmas.List.Splits.{length-slice_split, slice_split_none}
-use Rattle.std.proofs.lemmas.List.Sums.{count_by-le-length}
+use Rattle.std.proofs.lemmas.List.Splits.{slice_split_none}
+use Rattle.std.proofs.lemmas.Grind.{flat_map-append}
+use Rattle.std.proofs.lemmas.Option.{cond_some}
+use Rattle.std.proofs.Math.Bool.{and-false, and-true}
 use Rattle.acl_names.specs.Bytes.{newline}
 use Rattle.acl_names.specs.Names.{Names}
 use Rattle.acl_names.specs.Pieces.{parts, pieces}
 use Rattle.acl_names.specs.ReadList.{at_most_read, each_read}
 use Rattle.acl_names.specs.Steps.{◌>>=◌, map_fault}
-use Rattle.acl_names.proofs.AnyLemmas.{flat_map-append}
-use Rattle.acl_names.proofs.StepLemmas.{some_from_cond}
 use Rattle.acl_listings.specs.FaultyLine.{is_entry, lines_read, most, room_behind, room_behind_line}
 use Rattle.acl_listings.specs.ListLines.{line_of, pieces_in}
 use Rattle.acl_listings.specs.declared.list_lines.ListKind.{ListKind}
 use Rattle.acl_listings.proofs.AccessLemmas.{LacksNewline, lacks-line_of, line_pieces, parts-lack}
-
-and_true : (a b : Bool) → (a && b) ≡ true → (a ≡ true) × (b ≡ true)
-and_true true b e = (refl, e)
-and_true false b e = absurd (true≢false (sym e))
 
 -- texts are all read if each is
 each_ok : {A F : Type 0} (read : List ℕ → Result A F) (ok : List ℕ → Bool) → ((text : List ℕ) → is_ok (read text) ≡ ok text)
@@ -39,14 +35,6 @@ each_ok {A} {F} read ok same (text ∷ texts) = by_first (read text) (same text)
         → is_ok (r >>= (λ first. rest >>= (λ values. Ok (first ∷ values)))) ≡ (ok text && list_all ok texts)
     by_first (Ok first) is rest more = by_rest first rest ∙ more ∙ ap (λ b. b && list_all ok texts) is
     by_first (Err fault) is rest more = ap (λ b. b && list_all ok texts) is
-
-and_false : (a : Bool) → false ≡ (a && false)
-and_false true = refl
-and_false false = refl
-
-and_with_true : (a : Bool) → a ≡ (a && true)
-and_with_true true = refl
-and_with_true false = refl
 
 -- and there are no more of them than may be
 pub at_most_ok : {A F : Type 0} (too_many : F) (most : ℕ) (read : List ℕ → Result A F) (ok : List ℕ → Bool) → ((text : List ℕ) → is_ok (read text) ≡ ok text)
@@ -69,12 +57,12 @@ at_most_ok {A} {F} too_many most read ok same texts = by_count (ltb most (length
         → is_ok (each_read read (take most texts) >>= (λ values. cond b (Err too_many) (Ok values))) ≡ (list_all ok texts && leb (length texts) most)
     by_count true is =
         let many : leb (length texts) most ≡ false = grind (arith, nat_tests) in
-        none (each_read read (take most texts)) ∙ and_false (list_all ok texts) ∙ ap (λ b. list_all ok texts && b) (sym many)
+        none (each_read read (take most texts)) ∙ sym (and-false (list_all ok texts)) ∙ ap (λ b. list_all ok texts && b) (sym many)
     by_count false is =
         let few : leb (length texts) most ≡ true = grind (arith, nat_tests) in
         let short : length texts ≤ most = grind (arith, nat_tests) in
         all (each_read read (take most texts)) ∙ ap (λ front. is_ok (each_read read front)) (take_all most texts short)
-        ∙ each_ok read ok same texts ∙ and_with_true (list_all ok texts) ∙ ap (λ b. list_all ok texts && b) (sym few)
+        ∙ each_ok read ok same texts ∙ sym (and-true (list_all ok texts)) ∙ ap (λ b. list_all ok texts && b) (sym few)
 
 -- a list is cut at an element
 pub taken_next : {X : Type 0} (xs : List X) (n : ℕ) (x : X) (rest : List X) → drop n xs ≡ x ∷ rest
@@ -132,8 +120,8 @@ module _ (names : Names) (kind : ListKind) where
   -- behind some pieces come others
   room-append : (room left : ℕ) (xs ys : List (List ℕ)) → room_behind names kind room xs ≡ Some left → room_behind names kind room (xs ++ ys) ≡ room_behind names kind left ys
   room-append room left xs ys is =
-      let found = some_from_cond (list_all reads xs && leb (length xs) room) (room - length xs) left is in
-      let each = and_true (list_all reads xs) (leb (length xs) room) found.0 in
+      let found = cond_some (list_all reads xs && leb (length xs) room) (room - length xs) left is in
+      let each = and_parts (list_all reads xs) (leb (length xs) room) found.0 in
       let short : length xs ≤ room = grind (arith, nat_tests, each.1) in
       let count : length (xs ++ ys) ≡ length xs + length ys = length-append xs ys in
       let same : list_all reads (xs ++ ys) ≡ list_all reads ys = list_all-append reads xs ys ∙ ap (λ b. b && list_all reads ys) each.0 in
@@ -179,7 +167,3 @@ module _ (names : Names) (kind : ListKind) where
         ∙ ap (λ ps. pieces_in kind (take before lines) ++ ps) (pieces_in-one line (line_of kind line) refl))
         ∙ room-append (most kind) room (pieces_in kind (take before lines)) (line_part (line_of kind line)) read
         ∙ room-part (line_of kind line) refl
-
--- a text has at most one line more than bytes
-pub few_lines : (text : List ℕ) → length (parts newline text) ≤ length text + 1
-few_lines text = omega (arith, length-slice_split (λ x. x == newline) text, count_by-le-length (λ x. x == newline) text)

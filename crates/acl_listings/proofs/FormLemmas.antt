@@ -18,16 +18,13 @@ use Rattle.acl_forms.specs.FormText as freebsd
 use Rattle.acl_forms.specs.Forms.{form_of_fields, form_of_piece, form_of_pieces, is_type}
 use Rattle.acl_forms.specs.declared.form.Form.TheVariants.{Posix, Nfs4, Freebsd}
 
-same_bytes : (a b : List ℕ) → bytes_eq a b ≡ true → a ≡ b
-same_bytes a b e = (bytes_eq-Decides a b).0 e
-
 -- the word of a tag is no type of an NFSv4 entry
 word_no_type : (text : List ℕ) → is_some (tag_word text) ≡ true → is_type (nfs4.type_of text) ≡ false
 word_no_type text is =
     go (bytes_eq text (codes "A")) refl (bytes_eq text (codes "D")) refl (bytes_eq text (codes "U")) refl (bytes_eq text (codes "L")) refl
   where
     other : (letter : List ℕ) → bytes_eq text letter ≡ true → tag_word letter ≡ None → ⊥
-    other letter same none = true≢false (sym is ∙ ap (λ t. is_some (tag_word t)) (same_bytes text letter same) ∙ ap is_some none)
+    other letter same none = true≢false (sym is ∙ ap (λ t. is_some (tag_word t)) ((bytes_eq-Decides text letter).0 same) ∙ ap is_some none)
 
     go : (a : Bool) → bytes_eq text (codes "A") ≡ a → (d : Bool) → bytes_eq text (codes "D") ≡ d
         → (u : Bool) → bytes_eq text (codes "U") ≡ u → (l : Bool) → bytes_eq text (codes "L") ≡ l
@@ -45,7 +42,7 @@ perms_no_type text perms is =
     go (bytes_eq text (codes "allow")) refl (bytes_eq text (codes "deny")) refl (bytes_eq text (codes "audit")) refl (bytes_eq text (codes "alarm")) refl
   where
     other : (word : List ℕ) → bytes_eq text word ≡ true → perms_of_text word ≡ None → ⊥
-    other word same none = let e : None ≡ Some perms = sym none ∙ ap perms_of_text (sym (same_bytes text word same)) ∙ is in cc
+    other word same none = let e : None ≡ Some perms = sym none ∙ ap perms_of_text (sym ((bytes_eq-Decides text word).0 same)) ∙ is in cc
 
     go : (a : Bool) → bytes_eq text (codes "allow") ≡ a → (d : Bool) → bytes_eq text (codes "deny") ≡ d
         → (u : Bool) → bytes_eq text (codes "audit") ≡ u → (l : Bool) → bytes_eq text (codes "alarm") ≡ l

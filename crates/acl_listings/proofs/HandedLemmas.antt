@@ -1,7 +1,6 @@
 -- What is handed out of a block tells the same as the block.
-use Rattle.std.proofs.Common.{◌≡◌, ℕ, ◌+◌, ◌<◌, false, cond, nat_le, List, length, take, Some, None, Result, Ok, option_and_then, ap, sym, ◌∙◌, inl, inr, arith, length-take}
-use Rattle.std.proofs.lemmas.Bool.{cases_lt}
-use Rattle.std.proofs.lemmas.Bool.Decides.{nat_tests}
+use Rattle.std.proofs.Common.{◌≡◌, ℕ, ◌+◌, ◌<◌, cond, List, length, take, Some, None, Result, Ok, option_and_then, ap, sym, ◌∙◌, inl, inr, arith, length-take}
+use Rattle.std.proofs.lemmas.Bool.{cases_lt, lt-leb}
 use Rattle.std.proofs.lemmas.List.{take_all}
 use Rattle.acl_names.specs.Names.{Names}
 use Rattle.acl_names.specs.Steps.{◌>>=◌, or_fault}
@@ -16,11 +15,8 @@ use Rattle.acl_listings.specs.declared.limits.TheConstants.{MAX_BLOCK}
 use Rattle.acl_listings.specs.declared.lists.Lists.{Lists}
 use Rattle.acl_listings.proofs.LineLemmas.{first-front}
 
-is_above : (a b : ℕ) → b < a → nat_le a b ≡ false
-is_above a b h = grind (arith, nat_tests)
-
 too_long : (text : List ℕ) → MAX_BLOCK < length text → within_limit text ≡ None
-too_long text long = ap (λ b. cond b (Some text) None) (is_above (length text) MAX_BLOCK long)
+too_long text long = ap (λ b. cond b (Some text) None) (lt-leb (length text) MAX_BLOCK long)
 
 -- whether a text is too long is seen of its front
 limit-front : (text : List ℕ) → within_limit (take (MAX_BLOCK + 1) text) ≡ within_limit text

@@ -4,6 +4,7 @@ use Rattle.std.specs.List.{All, enumerate_from, filter_map, join_with_byte, onto
 use Rattle.std.proofs.lemmas.List.Elements.{All-cons, All-head, All-nil, All-tail}
 use Rattle.std.proofs.lemmas.List.Splits.{join_with_byte-slice_split, length-slice_split, slice_split_at, slice_split_none}
 use Rattle.std.proofs.Math.Dec.{eqb-suc-zero}
+use Rattle.std.proofs.lemmas.Bool.{and_parts}
 use Rattle.acl_names.specs.Bytes.{newline}
 use Rattle.acl_names.specs.Pieces.{lines_of, parts, without_empty_last}
 use Rattle.acl_listings.specs.Extent.{EndsBlock, HasFullLines, has_full_lines, newlines_in}
@@ -20,10 +21,6 @@ record HasParts (begun : Bool) (text : List ℕ) : Type 0 where
   pub are : parts newline text ≡ first ∷ more
   pub fresh : begun ≡ false → IsFull first
   pub each : All IsFull more
-
-and_parts : (a b : Bool) → (a && b) ≡ true → (a ≡ true) × (b ≡ true)
-and_parts true b e = (refl, e)
-and_parts false b e = cc
 
 full_parts : (begun : Bool) (text : List ℕ) → has_full_lines begun text ≡ true → HasParts begun text
 full_parts begun [] is = record { first = []; more = []; are = refl; fresh = λ not. cc; each = All-nil IsFull }

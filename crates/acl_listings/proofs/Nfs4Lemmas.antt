@@ -5,6 +5,7 @@ use Rattle.std.proofs.lemmas.Bool.Decides.{nat_tests}
 use Rattle.std.proofs.lemmas.List.Elements.{All-cons, All-head, All-nil, All-tail}
 use Rattle.std.proofs.lemmas.List.Splits.{slice_split_at}
 use Rattle.std.proofs.lemmas.Slice.Eq.{bytes_eq-Decides}
+use Rattle.std.proofs.lemmas.Option.{cond_some}
 use Rattle.acl_names.specs.Bytes.{newline}
 use Rattle.acl_names.specs.ListText.{PiecesSay, Spells}
 use Rattle.acl_names.specs.Names.{Names}
@@ -13,7 +14,7 @@ use Rattle.acl_names.specs.Plain.{IsPlain, is_plain}
 use Rattle.acl_names.specs.Steps.{◌>>=◌, or_fault}
 use Rattle.acl_names.proofs.PlainJoined.{IsPlainPiece}
 use Rattle.acl_names.proofs.PlainLines.{IsMark, nothing, pieces_of_lines, plain_lacks_newline}
-use Rattle.acl_names.proofs.StepLemmas.{bind_ok, given, some_from_cond}
+use Rattle.acl_names.proofs.StepLemmas.{bind_ok, given}
 use Rattle.acl_nfs4.specs.Ace.{Nfsace4}
 use Rattle.acl_nfs4.specs.Acl.{AreAces}
 use Rattle.acl_nfs4.specs.PrintedText.{HaveIds}
@@ -203,7 +204,7 @@ module _ (names : Names) (print : Nfsace4 → List ℕ) (of : IsAceForm names pr
       pub body_again : (file : FileValue) → file_by names text ≡ Ok file → length body ≤ MAX_BLOCK → file_by names body ≡ Ok (record file { lists = Nfs4 aces })
       body_again file is short =
           let (block, taken, of_block) = bind_ok (or_fault TooLong (within_limit text)) (from_block names) file is in
-          let (_, own) = some_from_cond (nat_le (length text) MAX_BLOCK) text block (given TooLong (within_limit text) block taken) in
+          let (_, own) = cond_some (nat_le (length text) MAX_BLOCK) text block (given TooLong (within_limit text) block taken) in
           let (header, read, of_header) = bind_ok (or_fault BadHeader (header_of block)) (from_header names) file of_block in
           let (ids, its, of_ids) = bind_ok (owners_by names header) (from_ids names header) file of_header in
           let (lists, listed, made) = bind_ok (lists_by names header.list) (from_lists header ids) file of_ids in

@@ -1,9 +1,10 @@
 -- A block that says something of a file has the file's path.
 use Rattle.std.proofs.Common.{◌≡◌, ◌∙◌, ◌≤◌, ℕ, true, cond, nat_le, List, length, length-take, Option, Some, None, Result, Ok, Err, ap, arith, option_and_then}
 use Rattle.std.proofs.lemmas.Bool.Decides.{nat_tests}
+use Rattle.std.proofs.lemmas.Option.{cond_some}
 use Rattle.acl_names.specs.Names.{Names}
 use Rattle.acl_names.specs.Steps.{or_fault}
-use Rattle.acl_names.proofs.StepLemmas.{bind_ok, given, some_from_cond}
+use Rattle.acl_names.proofs.StepLemmas.{bind_ok, given}
 use Rattle.acl_listings.specs.Block.{FileValue, file_by, owners_by, path_of, within_limit}
 use Rattle.acl_listings.specs.BlockLists.{lists_by}
 use Rattle.acl_listings.specs.Header.{Header, as_header, header_of, path_in}
@@ -16,7 +17,7 @@ use Rattle.acl_listings.proofs.HandedLemmas.{from_lists, from_block, from_header
 -- a text that is within the limit, and how long it is
 limited : (text block : List ℕ) → within_limit text ≡ Some block → (text ≡ block) × (length text ≤ MAX_BLOCK)
 limited text block is =
-    let (short, same) = some_from_cond (nat_le (length text) MAX_BLOCK) text block is in
+    let (short, same) = cond_some (nat_le (length text) MAX_BLOCK) text block is in
     (same, grind (arith, nat_tests, short))
 
 within : (text : List ℕ) → length text ≤ MAX_BLOCK → within_limit text ≡ Some text

@@ -1,10 +1,9 @@
 -- Files that are printed are read again.
-use Rattle.std.proofs.Common.{◌≡◌, ℕ, ◌+◌, ◌<◌, ◌≤◌, ◌||◌, ◌&&◌, Bool, true, false, cond, not, nat_le, List}
+use Rattle.std.proofs.Common.{◌≡◌, ℕ, ◌+◌, ◌<◌, ◌≤◌, ◌||◌, true, false, cond, not, List}
 use Rattle.std.proofs.Common.{[], ◌∷◌, ◌++◌, length, map, Option, Some, None, Ok, codes, option_and_then, unwrap_or, ap}
 use Rattle.std.proofs.Common.{ap₂, refl, sym, ◌∙◌, append_assoc, append-nil, length-append, arith, subst}
-use Rattle.std.proofs.Common.{flat_map}
+use Rattle.std.proofs.Common.{flat_map, le-leb}
 use Rattle.std.specs.List.{All, join_with_byte, list_all, list_any}
-use Rattle.std.proofs.lemmas.Bool.Decides.{nat_tests}
 use Rattle.std.proofs.lemmas.List.Elements.{All-append, All-cons, All-head, All-nil, All-tail}
 use Rattle.std.proofs.lemmas.List.Splits.{slice_split_at, slice_split_none}
 use Rattle.acl_names.specs.Bytes.{newline}
@@ -13,7 +12,6 @@ use Rattle.acl_names.specs.Ids.{ReadBack, Written, id_text, id_of_written, writt
 use Rattle.acl_names.specs.Pieces.{parts, pieces}
 use Rattle.acl_names.specs.Steps.{◌>>=◌, map_fault, or_fault}
 use Rattle.acl_names.specs.declared.limits.TheConstants.{MAX_ID}
-use Rattle.acl_names.proofs.AnyLemmas.{flat_map-append}
 use Rattle.acl_names.proofs.Fields.{field_plain, id_field}
 use Rattle.acl_names.proofs.IdTexts.{id_again}
 use Rattle.acl_names.proofs.PlainLines.{mark_lacks_newline, plain_lacks_newline}
@@ -22,6 +20,8 @@ use Rattle.acl_posix.proofs.InOrderLemmas.{in_order-acl}
 use Rattle.acl_posix.proofs.ValidityLemmas.{valid_iff}
 use Rattle.acl_posix.specs.Validity.{fault_of}
 use Rattle.std.proofs.lemmas.List.Sorted.{IsPermutation-refl}
+use Rattle.std.proofs.lemmas.Grind.{flat_map-append}
+use Rattle.std.proofs.lemmas.Bool.{and_parts, not-true}
 use Rattle.acl_names.specs.Names.{names_of, resolved}
 use Rattle.acl_names.specs.declared.directory.resolve.NameFault.TheVariants.{Malformed, Unknown}
 use Rattle.acl_posix.proofs.RoundTrip.{IsLine, line_is, text_spells}
@@ -232,20 +232,12 @@ header-headed first second third list one two three =
     ∙ ap (λ line. as_header (path_in first) (after_prefix owner_word second) (after_prefix group_word line) (after_line rest)) (first-of third list three)
     ∙ ap (λ more. as_header (path_in first) (after_prefix owner_word second) (after_prefix group_word third) more) (after-of third list three)
 
-and_parts : (a b : Bool) → (a && b) ≡ true → (a ≡ true) × (b ≡ true)
-and_parts true b e = (refl, e)
-and_parts false b e = cc
-
-not_true : (a : Bool) → not a ≡ true → a ≡ false
-not_true true e = cc
-not_true false e = refl
-
 -- a test that computes
 lacking : (text : List ℕ) → list_all (λ x. not (is_newline x)) text ≡ true → LacksNewline text
 lacking [] e = All-nil (λ x. is_newline x ≡ false)
 lacking (byte ∷ bytes) e =
     let both = and_parts (not (is_newline byte)) (list_all (λ x. not (is_newline x)) bytes) e in
-    All-cons (λ x. is_newline x ≡ false) byte bytes (not_true (is_newline byte) both.0) (lacking bytes both.1)
+    All-cons (λ x. is_newline x ≡ false) byte bytes (not-true (is_newline byte) both.0) (lacking bytes both.1)
 
 word_line : (word text : List ℕ) → 0 < length word → LacksNewline word → LacksNewline text → IsOneLine (word ++ text)
 word_line word text some lacks more = record {
@@ -268,9 +260,6 @@ record IsBlockOf (known : Known) (file : FileValue) : Type 0 where
 regrouped : (one text two more three last list rest : List ℕ) → line_text one text ++ (line_text two more ++ (line_text three last ++ (list ++ rest)))
     ≡ (((one ++ text) ++ newline ∷ []) ++ (((two ++ more) ++ newline ∷ []) ++ (((three ++ last) ++ newline ∷ []) ++ list))) ++ rest
 regrouped one text two more three last list rest = simp append_assoc
-
-at_most : (a b : ℕ) → a ≤ b → nat_le a b ≡ true
-at_most a b h = grind (arith, nat_tests)
 
 module _ (known : Known) (names : NamesReadBack known) (path : List ℕ) (owner group : ℕ) (first : EntryValue) (more : List EntryValue) where
   abbrev file : FileValue
@@ -321,7 +310,7 @@ module _ (known : Known) (names : NamesReadBack known) (path : List ℕ) (owner 
     within =
         let two : length (newline ∷ newline ∷ []) ≡ 2 = refl in
         let short : length body ≤ MAX_BLOCK = omega (arith, is.short, ap length printed_cut, length-append body (newline ∷ newline ∷ []), two) in
-        ap (λ b. cond b (Some body) None) (at_most (length body) MAX_BLOCK short)
+        ap (λ b. cond b (Some body) None) (le-leb (length body) MAX_BLOCK short)
 
     owner_again : resolved written_id (uid_of known) (id_text (user_name known) owner) ≡ Ok owner
     owner_again = resolved_again (uid_of known) (user_name known) owner names.users is.owner

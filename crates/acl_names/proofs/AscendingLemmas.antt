@@ -3,7 +3,7 @@ use Rattle.std.proofs.Common.{◌≡◌, ◌∙◌, ◌⊎◌, ℕ, zero, suc, �
 use Rattle.std.proofs.Common.{nat_lt, Ordering, Some, None, Err, List, [], ◌∷◌, length, get_or, IsTrue, refl}
 use Rattle.std.proofs.Common.{sym, subst, ap, arith, inl, inr}
 use Rattle.std.specs.declared.cmp.Ordering.TheVariants.{Less, Equal, Greater}
-use Rattle.std.specs.Cmp.{IsTotalOrder}
+use Rattle.std.specs.Cmp.{IsTotalOrder, Equal-is}
 use Rattle.std.specs.List.{list_any, count_by, find, slice_get, All, Contains, HoldsAt, IsAllAdjacentAnswer}
 use Rattle.std.specs.List.Sorted.{IsPermutation, IsSortedByKey, IsNonDecreasingBy, IsBinarySearchResult}
 use Rattle.std.specs.Ordering.{is_eq, is_lt, ordering_index, ordering_reverse}
@@ -12,6 +12,8 @@ use Rattle.std.proofs.lemmas.Bool.Decides.{nat_tests}
 use Rattle.std.proofs.lemmas.Cmp.{alike_right, tied_back, tied_itself}
 use Rattle.std.proofs.lemmas.List.Folds.{list_any_none}
 use Rattle.std.proofs.lemmas.List.Sorted.{sorted_far, ranks_by, searchable_from_sorted, sum_by-IsPermutation, list_any-IsPermutation, All-permutation, Contains-permutation}
+use Rattle.std.proofs.lemmas.List.{get_or_default}
+use Rattle.std.proofs.lemmas.Option.{slice_get-get_or, none-some}
 use Rattle.acl_names.specs.Ascending.{repeats, IsAscending}
 use Rattle.acl_names.proofs.AnyLemmas.{list_any-agree}
 use Rattle.acl_names.proofs.Counting.{count_by-cons, list_any-count_by, two_counted}
@@ -43,17 +45,6 @@ element : {X : Type 0} (xs : List X) (k : ℕ) → k + 1 < length xs → X
 element [] k inside = absurd (omega arith)
 element (x ∷ xs) k inside = x
 
--- within a list the default plays no part
-pub get_or-within : {X : Type 0} (xs : List X) (i : ℕ) (d e : X) → i < length xs → get_or xs i d ≡ get_or xs i e
-get_or-within [] i d e inside = absurd (omega arith)
-get_or-within (x ∷ xs) zero d e inside = refl
-get_or-within (x ∷ xs) (suc i) d e inside = get_or-within xs i d e (omega arith)
-
-pub slice_get-within : {X : Type 0} (xs : List X) (i : ℕ) (d : X) → i < length xs → slice_get xs i ≡ Some (get_or xs i d)
-slice_get-within [] i d inside = absurd (omega arith)
-slice_get-within (x ∷ xs) zero d inside = refl
-slice_get-within (x ∷ xs) (suc i) d inside = slice_get-within xs i d (omega arith)
-
 -- what is found passes and stands in the list; else none passes
 pub first_or_none : {X : Type 0} (p : X → Bool) (xs : List X)
     → ((x : X) × ((find p xs ≡ Some x) × (p x ≡ true))) ⊎ ((find p xs ≡ None) × All (λ x. p x ≡ false) xs)
@@ -74,10 +65,7 @@ first_or_none {X} p (x ∷ xs) =
     none_of fails rest (suc k) d inside = rest k d (omega arith)
 
 pub Contains-find : {X : Type 0} (p : X → Bool) (xs : List X) (x : X) → find p xs ≡ Some x → Contains xs x
-Contains-find p [] x found = absurd (none_or_some found)
-  where
-    none_or_some : {Y : Type 0} {y : Y} → None ≡ Some y → ⊥
-    none_or_some e = cc
+Contains-find p [] x found = absurd (none-some x found)
 Contains-find p (y ∷ ys) x found =
     elim (cases_Bool (p y)) [
       | inl passes ↦
@@ -87,11 +75,6 @@ Contains-find p (y ∷ ys) x found =
           let rest = Contains-find p ys x (sym (ap (λ b. cond b (Some y) (find p ys)) fails) ∙ found) in
           (suc rest.0, omega (arith, rest.1), rest.2)
     ]
-
-is_equal : (o : Ordering) → is_eq o ≡ true → o ≡ Equal
-is_equal Less e = absurd (true≢false (sym e))
-is_equal Equal e = refl
-is_equal Greater e = absurd (true≢false (sym e))
 
 module _ {X K : Type 0} (R : K → K → Ordering) (total : IsTotalOrder R) (key : X → K) where
   reversed : (a b : X) → R (key a) (key b) ≡ Less → R (key b) (key a) ≡ Greater
@@ -161,8 +144,8 @@ module _ {X K : Type 0} (R : K → K → Ordering) (total : IsTotalOrder R) (key
           | inl also ↦
               let a = key (get_or xs at d) in
               let b = key (get_or xs k d) in
-              let a_is : R a q ≡ Equal = is_equal (R a q) (sym (is_same a q) ∙ here d) in
-              let b_is : R b q ≡ Equal = is_equal (R b q) (sym (is_same b q) ∙ also) in
+              let a_is : R a q ≡ Equal = (Equal-is (R a q)).0 (sym (is_same a q) ∙ here d) in
+              let b_is : R b q ≡ Equal = (Equal-is (R b q)).0 (sym (is_same b q) ∙ also) in
               let tied : R b a ≡ Equal = alike_right total a q b a_is ∙ b_is in
               let first : same b a ≡ true = is_same b a ∙ ap is_eq tied in
               let second : same a a ≡ true = is_same a a ∙ ap is_eq (tied_itself total a) in
@@ -179,8 +162,8 @@ module _ {X K : Type 0} (R : K → K → Ordering) (total : IsTotalOrder R) (key
           | inl (x, (found, passes)) ↦
               let there : Contains ys x = Contains-permutation xs ys x moved (Contains-find (λ y. same (key y) q) xs x found) in
               let here : HoldsAt (λ y. same (key y) q ≡ true) ys there.0 =
-              λ d. ap (λ y. same (key y) q) (get_or-within ys there.0 d x there.1 ∙ there.2) ∙ passes in
-              found ∙ sym (find-distinct ys q once there.0 there.1 here ∙ slice_get-within ys there.0 x there.1 ∙ ap Some there.2)
+              λ d. ap (λ y. same (key y) q) (get_or_default ys there.0 d x there.1 ∙ there.2) ∙ passes in
+              found ∙ sym (find-distinct ys q once there.0 there.1 here ∙ slice_get-get_or ys there.0 x there.1 ∙ ap Some there.2)
           | inr none ↦
               none.0 ∙ sym (find-none (λ x. same (key x) q) ys
               (All-permutation (λ x. same (key x) q ≡ false) xs ys moved none.1))

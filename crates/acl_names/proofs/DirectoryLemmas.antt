@@ -5,13 +5,13 @@ use Rattle.std.proofs.Common.{find, option_map, is_none, IsPermutation, nat_cmp,
 use Rattle.std.specs.Cmp.Lexicographic.{slice_cmp}
 use Rattle.std.specs.List.{Contains, list_any, filter_map, slice_get}
 use Rattle.std.specs.Option.{option_and_then, option_map_or}
-use Rattle.std.proofs.lemmas.Bool.{or_parts}
+use Rattle.std.proofs.lemmas.Bool.{or_parts, not-false}
 use Rattle.std.proofs.lemmas.Bool.Decides.{Decides-eqb}
 use Rattle.std.proofs.lemmas.Slice.Eq.{bytes_eq-Decides}
 use Rattle.std.proofs.lemmas.Cmp.{nat_cmp_total, nat_list_cmp_total}
 use Rattle.std.proofs.lemmas.List.Sorted.{length_permutation, list_any-IsPermutation}
-use Rattle.std.proofs.lemmas.List.{length-map}
-use Rattle.std.proofs.lemmas.Option.{slice_get-map}
+use Rattle.std.proofs.lemmas.List.{length-map, get_or_default}
+use Rattle.std.proofs.lemmas.Option.{slice_get-map, slice_get-get_or, none-some}
 use Rattle.acl_names.specs.declared.limits.TheConstants.{MAX_GROUPS_OF_USER}
 use Rattle.acl_names.specs.Ascending.{repeats}
 use Rattle.acl_names.specs.Directory.{KnownUser, KnownGroup, Known, AnswersAs, IsDirectory, IsRefusedFor}
@@ -22,7 +22,7 @@ use Rattle.acl_names.specs.Ids.{ReadBack, has_name_shape, has_domain_shape}
 use Rattle.acl_names.specs.declared.directory.fault.SetupFault.{SetupFault}
 use Rattle.acl_names.specs.declared.directory.fault.SetupFault.TheVariants.{BadName, RepeatedName, RepeatedId, UnknownGroup, TooMany, Memory}
 use Rattle.acl_names.proofs.AnyLemmas.{list_any-agree}
-use Rattle.acl_names.proofs.AscendingLemmas.{Contains-find, any_false, find-distinct, find-permutation, first_or_none, get_or-within, repeats-permutation, slice_get-within}
+use Rattle.acl_names.proofs.AscendingLemmas.{Contains-find, any_false, find-distinct, find-permutation, first_or_none, repeats-permutation}
 use Rattle.acl_names.specs.Requester.{Identity}
 use Rattle.acl_names.proofs.Indexes.{place_found, none_found}
 use Rattle.acl_names.proofs.Keys.{same_id, same_name}
@@ -184,10 +184,6 @@ pub none_from : (found : Option SetupFault) → ((fault : SetupFault) → found 
 none_from None never = refl
 none_from (Some fault) never = absurd (never fault refl)
 
-not_false : (b : Bool) → not b ≡ false → b ≡ true
-not_false true e = refl
-not_false false e = absurd (cc)
-
 -- members whose names have their shape, of which none stands twice, are found again by their names
 read_back : {X : Type 0} (name_of : X → List ℕ) (id_of : X → ℕ) (members : List X) → repeats bytes_eq name_of members ≡ false
     → list_any (λ member. not (has_name_shape (name_of member))) members ≡ false
@@ -199,20 +195,17 @@ read_back name_of id_of members once shaped id name found =
           let named : Some (name_of member) ≡ Some name = sym (ap (option_map name_of) is) ∙ found in
           let same : name_of member ≡ name = cc in
           let there : Contains members member = Contains-find (λ m. id_of m == id) members member is in
-          let at : (d : _) → get_or members there.0 d ≡ member = λ d. get_or-within members there.0 d member there.1 ∙ there.2 in
+          let at : (d : _) → get_or members there.0 d ≡ member = λ d. get_or_default members there.0 d member there.1 ∙ there.2 in
           let has_shape : has_name_shape (name_of member) ≡ true =
-          not_false _ (ap (λ m. not (has_name_shape (name_of m))) (sym (at member)) ∙ any_false members (λ m. not (has_name_shape (name_of m))) shaped there.0 member there.1) in
+          not-false _ (ap (λ m. not (has_name_shape (name_of m))) (sym (at member)) ∙ any_false members (λ m. not (has_name_shape (name_of m))) shaped there.0 member there.1) in
           let by_name : find (λ m. bytes_eq (name_of m) name) members ≡ Some member =
           find-distinct (slice_cmp nat_cmp) nat_list_cmp_total name_of bytes_eq same_name members name once there.0 there.1
           (λ d. (bytes_eq-Decides (name_of (get_or members there.0 d)) name).1 (ap name_of (at d) ∙ same))
-          ∙ slice_get-within members there.0 member there.1 ∙ ap Some there.2 in
+          ∙ slice_get-get_or members there.0 member there.1 ∙ ap Some there.2 in
           let that : id_of member ≡ id = (Decides-eqb (id_of member) id).0 passes in
           (ap has_name_shape (sym same) ∙ has_shape, ap (option_map id_of) by_name ∙ ap Some that)
-      | inr none ↦ absurd (nothing name (sym (ap (option_map name_of) none.0) ∙ found))
+      | inr none ↦ absurd (none-some name (sym (ap (option_map name_of) none.0) ∙ found))
     ]
-  where
-    nothing : (n : List ℕ) → None ≡ Some n → ⊥
-    nothing n e = cc
 
 -- a name that is found has its shape
 found_shaped : {X : Type 0} (name_of : X → List ℕ) (members : List X) → list_any (λ member. not (has_name_shape (name_of member))) members ≡ false
@@ -221,9 +214,9 @@ found_shaped {X} name_of members shaped name member is =
     elim (first_or_none (λ m. bytes_eq (name_of m) name) members) [
       | inl (found, (that, passes)) ↦
           let there : Contains members found = Contains-find (λ m. bytes_eq (name_of m) name) members found that in
-          let at : (d : X) → get_or members there.0 d ≡ found = λ d. get_or-within members there.0 d found there.1 ∙ there.2 in
+          let at : (d : X) → get_or members there.0 d ≡ found = λ d. get_or_default members there.0 d found there.1 ∙ there.2 in
           let has_shape : has_name_shape (name_of found) ≡ true =
-          not_false _ (ap (λ m. not (has_name_shape (name_of m))) (sym (at found)) ∙ any_false members (λ m. not (has_name_shape (name_of m))) shaped there.0 found there.1) in
+          not-false _ (ap (λ m. not (has_name_shape (name_of m))) (sym (at found)) ∙ any_false members (λ m. not (has_name_shape (name_of m))) shaped there.0 found there.1) in
           let same : name_of found ≡ name = (bytes_eq-Decides (name_of found) name).0 passes in
           ap has_name_shape (sym same) ∙ has_shape
       | inr none ↦ absurd (nothing member (sym none.0 ∙ is))
@@ -262,7 +255,7 @@ tells_names_apart known faultless =
     (list_any (λ (group : KnownGroup). not (has_name_shape group.name)) known.groups) shaped in
     let shapes = or_parts (not (has_domain_shape known.domain)) (list_any (λ (user : KnownUser). not (has_name_shape user.name)) known.users) shapes_both.0 in
     record {
-      domain = not_false (has_domain_shape known.domain) shapes.0;
+      domain = not-false (has_domain_shape known.domain) shapes.0;
       users = read_back (λ (user : KnownUser). user.name) (λ user. user.uid) known.users names.0 shapes.1;
       groups = read_back (λ (group : KnownGroup). group.name) (λ group. group.gid) known.groups names.1 shapes_both.1;
     }

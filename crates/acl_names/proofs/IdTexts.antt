@@ -1,7 +1,7 @@
 -- What is printed of an id is read as that id.
 use Rattle.std.proofs.Common.{Bor, sym, option_map, IfSome, ◌≡◌, ℕ, ◌≤◌, ◌<◌, Bool, true, false, ◌&&◌, cond}
 use Rattle.std.proofs.Common.{nat_le, List, [], ◌∷◌, length, Option, option_and_then, Some, None, unwrap_or}
-use Rattle.std.proofs.Common.{get_or, lit<, inl, inr, refl, ap, ◌∙◌, arith, decimal, IsUtf8}
+use Rattle.std.proofs.Common.{get_or, lit<, inl, inr, refl, ap, ◌∙◌, arith, decimal, IsUtf8, le-leb}
 use Rattle.std.specs.List.{All, list_all}
 use Rattle.std.specs.Char.{is_ascii_digit}
 use Rattle.std.proofs.lemmas.Str.{IsUtf8-from_ascii}
@@ -10,19 +10,17 @@ use Rattle.std.proofs.lemmas.List.Elements.{All-weaker}
 use Rattle.std.proofs.lemmas.List.Sums.{AllPass-from_list_all}
 use Rattle.std.specs.Str.Parse.{digits_value, IsNumeral}
 use Rattle.std.proofs.lemmas.Fmt.{decimal_is_IsNumeral, length-decimal-le}
-use Rattle.std.proofs.lemmas.Bool.{cases_lt}
+use Rattle.std.proofs.lemmas.Bool.{cases_lt, and_parts}
 use Rattle.std.proofs.lemmas.Bool.Decides.{nat_tests}
 use Rattle.acl_names.specs.declared.limits.TheConstants.{MAX_NAME_LEN, MAX_DIGITS, MAX_ID}
 use Rattle.acl_names.specs.Ids.{Number, Name, written_id, number_or_name, decimal_value, is_decimal, has_name_shape, begins_name, continues_name, id_text, id_of_written, ReadBack}
 use Rattle.acl_names.proofs.Decimals.{digits_model}
 
 pub and_first : (a b : Bool) → (a && b) ≡ true → a ≡ true
-and_first true b e = refl
-and_first false b e = cc
+and_first a b e = (and_parts a b e).0
 
 pub and_second : (a b : Bool) → (a && b) ≡ true → b ≡ true
-and_second true b e = e
-and_second false b e = cc
+and_second a b e = (and_parts a b e).1
 
 name_byte_is_ascii : (byte : ℕ) → continues_name byte ≡ true → byte < 128
 name_byte_is_ascii byte is = grind (arith, nat_tests)
@@ -53,16 +51,13 @@ name_no_decimal (c ∷ cs) shaped =
 pub written_name : (name : List ℕ) → has_name_shape name ≡ true → written_id name ≡ Some (Name name)
 written_name name shaped = ap (λ number. number_or_name number name) (name_no_decimal name shaped) ∙ ap (λ t. cond t (Some (Name name)) None) shaped
 
-at_most : (a b : ℕ) → a ≤ b → nat_le a b ≡ true
-at_most a b h = grind (arith, nat_tests)
-
 pub written_decimal : (n : ℕ) → n ≤ MAX_ID → written_id (decimal n) ≡ Some (Number n)
 written_decimal n small =
     let numeral : IsNumeral 10 (decimal n) × (digits_value 10 (decimal n) ≡ n) = decimal_is_IsNumeral n (omega arith) in
     let digits : list_all is_ascii_digit (decimal n) ≡ true = digits_model.from (decimal n) numeral.0.1 in
-    let some : nat_le 1 (length (decimal n)) ≡ true = at_most 1 (length (decimal n)) numeral.0.0 in
-    let few : nat_le (length (decimal n)) MAX_DIGITS ≡ true = at_most (length (decimal n)) MAX_DIGITS (length-decimal-le 10 n (omega arith) (omega arith) (omega arith)) in
-    let low : nat_le (digits_value 10 (decimal n)) MAX_ID ≡ true = at_most (digits_value 10 (decimal n)) MAX_ID (rw numeral.1 small) in
+    let some : nat_le 1 (length (decimal n)) ≡ true = le-leb 1 (length (decimal n)) numeral.0.0 in
+    let few : nat_le (length (decimal n)) MAX_DIGITS ≡ true = le-leb (length (decimal n)) MAX_DIGITS (length-decimal-le 10 n (omega arith) (omega arith) (omega arith)) in
+    let low : nat_le (digits_value 10 (decimal n)) MAX_ID ≡ true = le-leb (digits_value 10 (decimal n)) MAX_ID (rw numeral.1 small) in
     let is : is_decimal (decimal n) ≡ true = rw (digits, some, few, low) refl in
     ap (λ number. number_or_name number (decimal n)) (ap (λ t. cond t (Some (digits_value 10 (decimal n))) None) is ∙ ap Some numeral.1)
 
@@ -72,7 +67,7 @@ pub id_again : (id_of : List ℕ → Option ℕ) (name_of : ℕ → Option (List
 id_again id_of name_of id back small = by_name (name_of id) refl
   where
     by_name : (name : Option (List ℕ)) → name_of id ≡ name → option_and_then (id_of_written id_of) (written_id (unwrap_or name (decimal id))) ≡ Some id
-    by_name None e = ap (option_and_then (id_of_written id_of)) (written_decimal id small) ∙ ap (λ t. cond t (Some id) None) (at_most id MAX_ID small)
+    by_name None e = ap (option_and_then (id_of_written id_of)) (written_decimal id small) ∙ ap (λ t. cond t (Some id) None) (le-leb id MAX_ID small)
     by_name (Some name) e = ap (option_and_then (id_of_written id_of)) (written_name name (back id name e).0) ∙ (back id name e).1
 
 -- a name has 32 bytes at most
@@ -93,8 +88,8 @@ found_name_is_short id_of name_of id back (Some name) is = name_is_short name.no
 pub decimal_is : (text : List ℕ) → list_all is_ascii_digit text ≡ true → 1 ≤ length text → length text ≤ MAX_DIGITS → digits_value 10 text ≤ MAX_ID
     → decimal_value text ≡ Some (digits_value 10 text)
 decimal_is text digits some few small =
-    let one : nat_le 1 (length text) ≡ true = at_most 1 (length text) some in
-    let ten : nat_le (length text) MAX_DIGITS ≡ true = at_most (length text) MAX_DIGITS few in
-    let low : nat_le (digits_value 10 text) MAX_ID ≡ true = at_most (digits_value 10 text) MAX_ID small in
+    let one : nat_le 1 (length text) ≡ true = le-leb 1 (length text) some in
+    let ten : nat_le (length text) MAX_DIGITS ≡ true = le-leb (length text) MAX_DIGITS few in
+    let low : nat_le (digits_value 10 text) MAX_ID ≡ true = le-leb (digits_value 10 text) MAX_ID small in
     let is : is_decimal text ≡ true = rw (digits, one, ten, low) refl in
     ap (λ t. cond t (Some (digits_value 10 text)) None) is

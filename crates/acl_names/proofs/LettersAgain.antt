@@ -11,6 +11,8 @@ use Rattle.std.proofs.lemmas.List.Filters.{length-filter_more}
 use Rattle.std.proofs.lemmas.List.Sums.{sum_by-cons, sum_by-append}
 use Rattle.std.proofs.lemmas.Nat.Bits.{bit_at_and, bit_at_or, and_pow, same_from_bits, bit_at-lt, bit_at-zero}
 use Rattle.std.proofs.lemmas.Bool.Decides.{nat_tests, Decides-eqb}
+use Rattle.std.proofs.lemmas.Bool.{or_parts}
+use Rattle.std.proofs.Math.Bool.{or-true}
 use Rattle.acl_names.specs.declared.text.letters.Letter.{Letter}
 use Rattle.acl_names.specs.Letters.{occurrences, repeats, is_letter_of, is_letters_text, bits_of_rows, rows_in, rows_set, letters_of, letters_text, HasOneBit, LettersDiffer, IsTable, HasBitsOf}
 
@@ -76,10 +78,6 @@ bits_again table bits one within = same_from_bits _ bits (λ i. bits_set table b
 -- as often as in both parts
 pub occurrences-append : (letter : ℕ) (a b : List ℕ) → occurrences letter (a ++ b) ≡ occurrences letter a + occurrences letter b
 occurrences-append letter a b = sum_by-append (λ x. cond (x == letter) 1 0) a b
-
-or_parts : (a b : Bool) → (a || b) ≡ false → (a ≡ false) × (b ≡ false)
-or_parts true b e = cc
-or_parts false b e = (refl, e)
 
 other_way : (a b : ℕ) → (a == b) ≡ false → (b == a) ≡ false
 other_way a b e = grind (arith, nat_tests)
@@ -166,13 +164,9 @@ no_repeats p text [] counted = refl
 no_repeats p text (row ∷ rows) counted =
     ap (λ t. t || list_any (λ (r : Letter). repeats r.letter text) rows) (stands_once (p row) (occurrences row.letter text) counted.0) ∙ no_repeats p text rows counted.1
 
-or_true : (a : Bool) → (a || true) ≡ true
-or_true true = refl
-or_true false = refl
-
 letter_of_row : (front : List Letter) (row : Letter) (rows : List Letter) → is_letter_of (front ++ row ∷ rows) row.letter ≡ true
 letter_of_row [] row rows = ap (λ t. t || is_letter_of rows row.letter) ((Decides-eqb row.letter row.letter).1 refl)
-letter_of_row (first ∷ front) row rows = ap (λ t. (first.letter == row.letter) || t) (letter_of_row front row rows) ∙ or_true (first.letter == row.letter)
+letter_of_row (first ∷ front) row rows = ap (λ t. (first.letter == row.letter) || t) (letter_of_row front row rows) ∙ or-true (first.letter == row.letter)
 
 -- the letters of rows are letters of the table
 all_letters : (p : Letter → Bool) (front rows : List Letter) → list_all (is_letter_of (front ++ rows)) (letters (filter p rows)) ≡ true

@@ -9,6 +9,7 @@ use Rattle.std.proofs.lemmas.Bool.Decides.{nat_tests}
 use Rattle.std.proofs.lemmas.List.{take_more, take-append-drop}
 use Rattle.std.proofs.lemmas.List.Folds.{list_all_more, list_all_at}
 use Rattle.std.proofs.lemmas.Nat.Bits.{bit_at_or, same_from_bits}
+use Rattle.std.proofs.Math.Bool.{and-false, or-true}
 use Rattle.acl_names.specs.declared.text.letters.Letter.{Letter}
 use Rattle.acl_names.specs.Letters.{occurrences, occurs, repeats, is_letter_of, is_letters_text, bits_of_rows, rows_in, letters_of}
 use Rattle.acl_names.proofs.LettersAgain.{bits_from, occurrences-append, occurrences-cons}
@@ -22,7 +23,7 @@ counted_more letter text i inside =
     let last : occurrences letter (b ∷ []) ≡ cond (b == letter) 1 0 = occurrences-cons letter b [] ∙ omega arith in
     ap (occurrences letter) (take_more text i 0 inside) ∙ occurrences-append letter (take i text) (b ∷ []) ∙ ap (λ n. occurrences letter (take i text) + n) last
 
-same_either_way : (a b : ℕ) → (a == b) ≡ (b == a)
+pub same_either_way : (a b : ℕ) → (a == b) ≡ (b == a)
 same_either_way a b = grind (arith, nat_tests)
 
 some_more : (n : ℕ) (c : Bool) → nat_le 1 (n + cond c 1 0) ≡ (nat_le 1 n || c)
@@ -132,16 +133,8 @@ some_row_repeats b text (row ∷ rows) twice has = elim (cases_Bool (row.letter 
       ∙ ap (λ t. t || list_any (λ (r : Letter). repeats r.letter text) rows) twice
   | inr other ↦
       let later = some_row_repeats b text rows twice (sym (ap (λ t. t || is_letter_of rows b) other) ∙ has) in
-      ap (λ t. repeats row.letter text || t) later ∙ or_true (repeats row.letter text)
+      ap (λ t. repeats row.letter text || t) later ∙ or-true (repeats row.letter text)
 ]
-  where
-    or_true : (t : Bool) → (t || true) ≡ true
-    or_true true = refl
-    or_true false = refl
-
-and_false : (t : Bool) → (t && false) ≡ false
-and_false true = refl
-and_false false = refl
 
 pub refused_repeat : (table : List Letter) (text : List ℕ) (i : ℕ) → i < length text → is_letter_of table (get_or text i 0) ≡ true
     → list_any (λ x. x == get_or text i 0) (take i text) ≡ true → letters_of table text ≡ None
@@ -154,7 +147,7 @@ refused_repeat table text i inside is_letter again =
     ap (occurrences b) (sym (take-append-drop (i + 1) text)) ∙ occurrences-append b (take (i + 1) text) (drop (i + 1) text) in
     let twice : repeats b text ≡ true = two (occurrences b text) (occurrences b (take i text))
     (occurrences b (drop (i + 1) text)) (whole ∙ ap (λ n. n + occurrences b (drop (i + 1) text)) here) before in
-    refused table text (ap (λ t. list_all (is_letter_of table) text && not t) (some_row_repeats b text table twice is_letter) ∙ and_false (list_all (is_letter_of table) text))
+    refused table text (ap (λ t. list_all (is_letter_of table) text && not t) (some_row_repeats b text table twice is_letter) ∙ and-false (list_all (is_letter_of table) text))
   where
     two : (n k m : ℕ) → n ≡ k + 1 + m → nat_lt 0 k ≡ true → nat_le 2 n ≡ true
     two n k m e some = grind (arith, nat_tests)

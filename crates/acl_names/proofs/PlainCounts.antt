@@ -1,5 +1,5 @@
 -- How many pieces a text has at least whose front was read plainly.
-use Rattle.std.proofs.Common.{◌≡◌, ℕ, ◌==◌, ◌+◌, ◌<◌, ◌≤◌, suc, true, false, cond, List, [], ◌∷◌, ◌++◌, length, reverse, length-append, inl, inr, Result, Ok, refl, sym, ap, ◌∙◌, append_assoc, arith}
+use Rattle.std.proofs.Common.{◌≡◌, ℕ, ◌==◌, ◌+◌, ◌<◌, ◌≤◌, suc, true, false, cond, List, [], ◌∷◌, ◌++◌, length, reverse, length-append, inl, inr, Result, refl, sym, ap, ◌∙◌, append_assoc, arith}
 use Rattle.std.specs.List.{flat_map, before_first, position_or_len, count_by, onto_first}
 use Rattle.std.proofs.lemmas.Bool.{cases_Bool, eqb-true, false≢true}
 use Rattle.std.proofs.lemmas.List.{length-map, length-reverse, reverse-append}
@@ -9,9 +9,9 @@ use Rattle.std.proofs.lemmas.List.Splits.{length-slice_split, slice_split-cons_n
 use Rattle.acl_names.specs.Bytes.{newline, hash, comma}
 use Rattle.acl_names.specs.Pieces.{is_blank, trim_start, trim, parts, trimmed_parts, content, pieces_of_content, pieces}
 use Rattle.acl_names.specs.Plain.{IsFront}
-use Rattle.acl_names.specs.ListText.{PiecesSay}
 use Rattle.acl_names.proofs.PlainLines.{Lacks, LacksBlanks}
 use Rattle.acl_names.proofs.PlainLists.{IsLineFront, IsReadPlainly, whole_blanks, whole_newlines, whole_hashes}
+use Rattle.acl_names.proofs.ReadListLemmas.{length-Say}
 
 abbrev commas : List ℕ → ℕ
 commas = count_by (λ x. x == comma)
@@ -129,10 +129,6 @@ commas_of_front line front is =
     let joined = length-append front (trimmed_parts comma []) in
     omega arith
 
-said_lengths : {A F : Type 0} (value_of : List ℕ → Result A F) (texts : List (List ℕ)) (list : List A) → PiecesSay value_of texts list → length texts ≡ length list
-said_lengths {A} {F} value_of texts list said =
-    sym (length-map texts value_of) ∙ ap (λ (xs : List (Result A F)). length xs) said ∙ length-map list Ok
-
 -- a text that has a further front has more pieces than were read
 pub one_more_piece : {A F : Type 0} (value_of : List ℕ → Result A F) (text rest : List ℕ) (list : List A) → IsReadPlainly value_of text rest list
     → (value : A) (behind : List ℕ) → IsFront value_of rest value behind → length list < length (pieces text)
@@ -151,5 +147,5 @@ one_more_piece {A} {F} value_of text rest list so_far value behind found =
     let lengths = ap (λ (xs : List (List ℕ)). length xs) all in
     let joined = length-append so_far.before (pieces ((line ++ piece) ++ behind)) in
     let fronts = length-append so_far.before so_far.front in
-    let said = said_lengths value_of (so_far.before ++ so_far.front) list so_far.said in
+    let said = length-Say value_of (so_far.before ++ so_far.front) list so_far.said in
     omega arith

@@ -50,7 +50,7 @@ module _ {A F : Type 0} (read : List ℕ → Result A F) where
       rw (first, each_read-fault front values text rest fault more is) refl
 
   -- there are as many values as texts
-  length-Say : (texts : List (List ℕ)) (values : List A) → PiecesSay read texts values → length texts ≡ length values
+  pub length-Say : (texts : List (List ℕ)) (values : List A) → PiecesSay read texts values → length texts ≡ length values
   length-Say texts values said = sym (length-map texts read) ∙ ap length said ∙ length-map values Ok
 
   module _ (too_many : F) (most : ℕ) where

@@ -1,9 +1,9 @@
 -- What keeps an entry an entry: no bit without a name, and the group flag exactly if it names a group.
 use Rattle.std.proofs.Common.{◌≡◌, ℕ, ◌^◌, Bool, true, false, not, ◌&&◌, ◌||◌, refl, sym, ap, subst, ◌∙◌, inl, inr, ◌⊎◌}
 use Rattle.std.proofs.lemmas.Bool.{and_parts, or_cases}
+use Rattle.std.proofs.Math.Bool.{and-false}
 use Rattle.acl_names.specs.Bits.{has, without, ◌∩◌, ◌∪◌}
 use Rattle.acl_names.proofs.BitSets.{has-and, has-or, has-without, same_bits}
-use Rattle.acl_names.proofs.AnyLemmas.{and_false}
 use Rattle.acl_nfs4.specs.Ace.{IsAce, ace_of, flags_for, is_idle}
 use Rattle.acl_nfs4.specs.Flags.{all_flags, identifier_group}
 use Rattle.acl_nfs4.specs.Mask.{all_masks}
@@ -70,7 +70,7 @@ group_flag-flags_for who flags =
     ∙ ap (λ b. b || has (flags_of_who who) identifier_group)
     (has-without flags (2 ^ identifier_group) identifier_group
     ∙ ap (λ b. has flags identifier_group && not b) has-group_flag
-    ∙ and_false (has flags identifier_group))
+    ∙ and-false (has flags identifier_group))
     ∙ has-flags_of_who who
 
 -- the entry of any parts

@@ -1,8 +1,8 @@
 -- Which of some bits a list allows, as a loop over its entries finds them.
 use Rattle.std.proofs.Common.{◌≡◌, ◌≢◌, ◌↔◌, ◌+◌, ◌<◌, ℕ, Bool, true, false, not, ◌&&◌, ◌||◌, refl, sym, ap, ap₂, subst, ◌∙◌, List, ◌∷◌, Option, Some, None, length, drop, get_or, MatchOption}
 use Rattle.std.proofs.lemmas.Bool.{true≢false}
+use Rattle.std.proofs.Math.Bool.{or-false}
 use Rattle.acl_names.specs.Bits.{has, without, ◌∩◌, ◌∪◌}
-use Rattle.acl_names.proofs.AnyLemmas.{or_false}
 use Rattle.acl_names.proofs.BitSets.{has-or, has-without, has-zero, same_bits, no_bits}
 use Rattle.acl_nfs4.specs.Ace.{Nfsace4, decides, is_allow}
 use Rattle.acl_names.specs.Asker.{identity_of}
@@ -13,6 +13,7 @@ use Rattle.acl_nfs4.specs.declared.comparison.Difference.{Difference}
 use Rattle.acl_nfs4.specs.declared.who.Who.{Who}
 use Rattle.acl_nfs4.proofs.EvaluationLoop.{found, found-allow, found-deny, allows-skip}
 use Rattle.acl_nfs4.proofs.ListLemmas.{drop-here}
+use Rattle.acl_names.proofs.AnyLemmas.{only_one}
 
 -- those of the bits that the list allows
 abbrev pub AreAllowed : (Who → Bool) → List Nfsace4 → ℕ → ℕ → Type 0
@@ -47,7 +48,7 @@ module _ (applies : Who → Bool) (whole : List Nfsace4) (bits : ℕ) where
   AreFound-none rest allowed undecided none so_far bit =
       sym (so_far bit
       ∙ ap (λ u. found (has allowed bit) u (allows applies bit rest)) (ap (λ m. has m bit) none ∙ has-zero bit)
-      ∙ or_false (has allowed bit))
+      ∙ or-false (has allowed bit))
 
   -- one entry further down the list
   pub AreFound-step : (i : ℕ) (ace : Nfsace4) (allowed undecided allowed' undecided' : ℕ) → i < length whole → ace ≡ get_or whole i ace
@@ -62,10 +63,6 @@ module _ (applies : Who → Bool) (whole : List Nfsace4) (bits : ℕ) where
 
 module _ (applies other_applies : Who → Bool) (first second : List Nfsace4) (bits before after : ℕ)
     (are_before : AreAllowed applies first bits before) (are_after : AreAllowed other_applies second bits after) where
-  only_one : (b x y : Bool) → ((b && x) && not (b && y)) ≡ (b && (x && not y))
-  only_one true x y = refl
-  only_one false x y = refl
-
   pub are_lost : (bit : ℕ) → has (without before after) bit ≡ (has bits bit && (allows applies bit first && not (allows other_applies bit second)))
   are_lost bit =
       has-without before after bit

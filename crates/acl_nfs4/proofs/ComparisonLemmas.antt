@@ -5,9 +5,10 @@ use Rattle.std.proofs.Common.{arith, find, option_map, option_to_list, unwrap_or
 use Rattle.std.specs.List.{All, list_any}
 use Rattle.std.proofs.lemmas.Bool.{true≢false, and_parts, or_cases, eqb-true, eq-eqb}
 use Rattle.std.proofs.lemmas.List.Elements.{All-head, All-tail}
+use Rattle.std.proofs.lemmas.List.Folds.{list_any-append}
+use Rattle.std.proofs.Math.Bool.{or-true, or-false}
 use Rattle.acl_names.specs.Bits.{has}
 use Rattle.acl_names.specs.Requester.{Identity, is_in_group}
-use Rattle.acl_names.proofs.AnyLemmas.{or_true, or_false, list_any-append}
 use Rattle.acl_nfs4.specs.Ace.{Nfsace4, decides, is_allow}
 use Rattle.acl_nfs4.specs.Comparison.{AlikeFor, decided_at, needed_uid, needed_gid, asker_for, IsStranger, OfEach, PairsSuffice, TwoGroupsSuffice}
 use Rattle.acl_nfs4.specs.Evaluation.{speaks, allows}
@@ -112,9 +113,9 @@ module _ (owner group : ℕ) (requester : Identity) where
   needed_is_own Owner gid is any = absurd (true≢false (sym any))
   needed_is_own Everyone gid is any = absurd (true≢false (sym any))
   needed_is_own (User uid) gid is any = absurd (true≢false (sym any))
-  needed_is_own Group gid is any = subst (λ g. is_in_group requester g ≡ true) (eqb-true group gid (sym (or_false (group == gid)) ∙ any)) is
+  needed_is_own Group gid is any = subst (λ g. is_in_group requester g ≡ true) (eqb-true group gid (sym (or-false (group == gid)) ∙ any)) is
   needed_is_own (NamedGroup named) gid is any =
-      subst (λ g. is_in_group requester g ≡ true) (eqb-true named gid (sym (or_false (named == gid)) ∙ any)) is
+      subst (λ g. is_in_group requester g ≡ true) (eqb-true named gid (sym (or-false (named == gid)) ∙ any)) is
 
   -- an entry for an asker in no other groups is one for the requester, unless it is for the asker's uid alone
   narrower : (asker : Identity) → ((gid : ℕ) → is_in_group asker gid ≡ true → is_in_group requester gid ≡ true)
@@ -170,7 +171,7 @@ module _ (owners other_owners : Owners) where
     in_second who gid =
         list_any-append (λ own. own == gid) (option_to_list (needed_gid owners.group who)) (gid ∷ [])
         ∙ ap (λ b. list_any (λ own. own == gid) (option_to_list (needed_gid owners.group who)) || (b || false)) (eqb-refl gid)
-        ∙ or_true _
+        ∙ or-true _
 
     second_applies : (who other : Who) → ((id : ℕ) → needed_uid other_owners.owner other ≡ Some id → uid ≡ id)
         → matches other_owners.owner other_owners.group (asking uid who other) other ≡ true

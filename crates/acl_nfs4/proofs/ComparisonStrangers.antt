@@ -6,8 +6,9 @@ use Rattle.std.specs.List.{list_any, filter}
 use Rattle.std.proofs.lemmas.Bool.{true≢false, eqb-true, eq-eqb, or_parts}
 use Rattle.std.proofs.lemmas.List.{length-map}
 use Rattle.std.proofs.lemmas.List.Elements.{All-nil, All-cons}
+use Rattle.std.proofs.lemmas.List.Folds.{list_any-append}
 use Rattle.acl_names.specs.declared.limits.TheConstants.{NOBODY}
-use Rattle.acl_names.proofs.AnyLemmas.{list_any-append, list_any-agree, list_any-filter, list_any-map, list_any-weaken}
+use Rattle.acl_names.proofs.AnyLemmas.{list_any-agree, list_any-filter, list_any-map, list_any-weaken}
 use Rattle.acl_nfs4.specs.Comparison.{needed_uid, needs_user, asks_for, IsStranger}
 use Rattle.acl_nfs4.specs.declared.who.Who.{Who}
 use Rattle.acl_nfs4.specs.declared.who.Who.TheVariants.{Owner, Group, Everyone, User, NamedGroup}

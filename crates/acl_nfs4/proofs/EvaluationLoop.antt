@@ -3,9 +3,9 @@ use Rattle.std.proofs.Common.{◌≡◌, ℕ, Bool, true, false, cond, not, ◌&
 use Rattle.std.proofs.Common.{[], ◌∷◌, Some, ◌+◌, ◌<◌, length, get_or, drop, subst, ap₂, ◌==◌, IsTrue, find}
 use Rattle.std.proofs.Common.{option_map, unwrap_or, bit_and}
 use Rattle.std.proofs.lemmas.Bool.{true≢false, and_parts, and_from, eqb-true, eq-eqb}
+use Rattle.std.proofs.Math.Bool.{or-false}
 use Rattle.acl_names.specs.Bits.{has, without, ◌∩◌, ◌∪◌}
 use Rattle.acl_nfs4.specs.Ace.{decides, is_allow, Nfsace4}
-use Rattle.acl_names.proofs.AnyLemmas.{or_false}
 use Rattle.acl_nfs4.specs.Mask.{mode_bits}
 use Rattle.acl_nfs4.proofs.ListLemmas.{drop-here}
 use Rattle.acl_nfs4.specs.Evaluation.{speaks, allows, Grants}
@@ -205,7 +205,7 @@ module _ (applies : Who → Bool) (whole : List Nfsace4) where
   IsFound-none rest allowed undecided none so_far bit of_mode =
       sym (so_far bit of_mode
       ∙ ap (λ u. found (has allowed bit) u (allows applies bit rest)) (ap (λ m. has m bit) none ∙ has-zero bit)
-      ∙ or_false (has allowed bit))
+      ∙ or-false (has allowed bit))
 
   -- one entry further down the list
   pub IsFound-step : (i : ℕ) (ace : Nfsace4) (allowed undecided allowed' undecided' : ℕ) → i < length whole → ace ≡ get_or whole i ace

@@ -1,8 +1,8 @@
 -- What an entry is in what is made below.
 use Rattle.std.proofs.Common.{◌≡◌, ℕ, Bool, true, false, not, ◌&&◌, ◌||◌, refl, sym, ap, ap₂, subst, ◌∙◌, Option, Some, IfSome}
+use Rattle.std.proofs.Math.Bool.{and-false, and-true, or-false}
 use Rattle.acl_names.specs.Bits.{has, without, ◌∩◌, ◌∪◌}
 use Rattle.acl_names.proofs.BitSets.{has-or, has-without}
-use Rattle.acl_names.proofs.AnyLemmas.{and_false, and_true, or_false}
 use Rattle.acl_nfs4.specs.Flags.{all_flags, inheritance_flags, identifier_group}
 use Rattle.acl_nfs4.specs.Inheritance.{flags_below}
 use Rattle.acl_nfs4.specs.declared.inheritance.Kind.{Kind}
@@ -51,9 +51,9 @@ pub passed-group_flag : (flags below : ℕ) → IsPassedOn below
 passed-group_flag flags below passed =
     has-or (without flags inheritance_flags) below identifier_group
     ∙ ap₂ (λ a b. a || b)
-    (has-without flags inheritance_flags identifier_group ∙ ap (λ b. has flags identifier_group && not b) no_group_flag ∙ and_true (has flags identifier_group))
+    (has-without flags inheritance_flags identifier_group ∙ ap (λ b. has flags identifier_group && not b) no_group_flag ∙ and-true (has flags identifier_group))
     (outside (has below identifier_group) refl)
-    ∙ or_false (has flags identifier_group)
+    ∙ or-false (has flags identifier_group)
   where
     outside : (b : Bool) → has below identifier_group ≡ b → b ≡ false
     outside true e = sym (within-has below inheritance_flags identifier_group passed.within e) ∙ no_group_flag
@@ -62,7 +62,7 @@ passed-group_flag flags below passed =
 passed-has : (flags below k : ℕ) → has inheritance_flags k ≡ true → has (without flags inheritance_flags ∪ below) k ≡ has below k
 passed-has flags below k inside =
     has-or (without flags inheritance_flags) below k
-    ∙ ap (λ b. b || has below k) (has-without flags inheritance_flags k ∙ ap (λ b. has flags k && not b) inside ∙ and_false (has flags k))
+    ∙ ap (λ b. b || has below k) (has-without flags inheritance_flags k ∙ ap (λ b. has flags k && not b) inside ∙ and-false (has flags k))
 
 pub passed-effective : (flags below : ℕ) → IsPassedOn below
     → (has (without flags inheritance_flags ∪ below) 3

@@ -3,7 +3,7 @@ use Rattle.std.proofs.Common.{◌≡◌, ◌≢◌, ℕ, zero, suc, ◌<◌, ◌
 use Rattle.std.proofs.Common.{List, [], ◌∷◌, take, get_or, length, filter, nat_le, nat_lt, None, refl, sym}
 use Rattle.std.proofs.Common.{ap, subst, ◌∙◌, arith, bit_and, bit_or, ◌⊎◌, inl, inr, slice_index}
 use Rattle.std.specs.List.{AllByRecursion, list_any}
-use Rattle.std.proofs.lemmas.Bool.{cases_Bool, eqb-true, true≢false}
+use Rattle.std.proofs.lemmas.Bool.{cases_Bool, eqb-true, true≢false, and_parts, or_parts}
 use Rattle.std.proofs.lemmas.Bool.Decides.{nat_tests, Decides-eqb}
 use Rattle.std.proofs.lemmas.Nat.Bits.{bit_at_or, same_from_bits}
 use Rattle.acl_names.specs.Bits.{has}
@@ -120,14 +120,10 @@ module _ (byte : ℕ) where
       go : (is_letter_of rows byte ≡ true → bits_of_rows (filter own rows) ≢ 0) → (b : Bool)
           → (b || is_letter_of rows byte) ≡ true → bits_of_rows (cond b (row ∷ filter own rows) (filter own rows)) ≢ 0
       go later true e none =
-          let empty : row.bit ≡ 0 = no_bits row.bit (λ k. lacks (has row.bit k)
+          let empty : row.bit ≡ 0 = no_bits row.bit (λ k. (or_parts (has row.bit k)
           (has (bits_of_rows (filter own rows)) k) (sym (has-rows row (filter own rows) k)
-          ∙ ap (λ n. has n k) none ∙ has-zero k)) in
+          ∙ ap (λ n. has n k) none ∙ has-zero k)).0) in
           absurd (true≢false (sym ((Decides-eqb row.bit 0).1 empty) ∙ stand.0))
-        where
-          lacks : (r f : Bool) → (r || f) ≡ false → r ≡ false
-          lacks true f e = e
-          lacks false f e = refl
       go later false e none = later e none
 
   is_own : (row : Letter) → own row ≡ true → row.letter ≡ byte
@@ -217,12 +213,8 @@ holds_below test (suc n) = test n && holds_below test n
 
 holds_at : (test : ℕ → Bool) (n i : ℕ) → holds_below test n ≡ true → i < n → test i ≡ true
 holds_at test zero i all below = absurd (omega arith)
-holds_at test (suc n) i all below = go (holds_at test n i) (cases_Bool (i == n)) (parts (test n) (holds_below test n) all)
+holds_at test (suc n) i all below = go (holds_at test n i) (cases_Bool (i == n)) (and_parts (test n) (holds_below test n) all)
   where
-    parts : (a b : Bool) → (a && b) ≡ true → (a ≡ true) × (b ≡ true)
-    parts true b e = (refl, e)
-    parts false b e = absurd (true≢false (sym e))
-
     go : (holds_below test n ≡ true → i < n → test i ≡ true) → ((i == n) ≡ true) ⊎ ((i == n) ≡ false) → (test n ≡ true) × (holds_below test n ≡ true) → test i ≡ true
     go later (inl same) both = ap test (eqb-true i n same) ∙ both.0
     go later (inr other) both = later both.1 (let apart : i ≢ n = λ e. true≢false (sym ((Decides-eqb i n).1 e) ∙ other) in omega (arith, apart))

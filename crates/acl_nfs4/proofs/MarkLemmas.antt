@@ -5,7 +5,8 @@ use Rattle.std.proofs.Common.{filter, arith, inl, inr, take-suc, get_or-set_othe
 use Rattle.std.specs.List.{list_any}
 use Rattle.std.proofs.lemmas.Bool.{cases_Bool, eqb-true, true≢false, and_parts}
 use Rattle.std.proofs.lemmas.Bool.Decides.{Decides-eqb}
-use Rattle.acl_names.proofs.AnyLemmas.{list_any-append, or_false}
+use Rattle.std.proofs.lemmas.List.Folds.{list_any-append}
+use Rattle.std.proofs.Math.Bool.{or-false, and-false}
 use Rattle.acl_names.specs.Bits.{union}
 use Rattle.acl_nfs4.specs.Ace.{Nfsace4, decides, is_deny}
 use Rattle.acl_nfs4.specs.Marks.{mark_of, IsMarked}
@@ -31,7 +32,7 @@ none_more test aces i ace inside here none other =
     ap (list_any test) (rw add-one (take-suc aces i ace inside) ∙ ap (λ x. take i aces ++ x ∷ []) (sym here))
     ∙ list_any-append test (take i aces) (ace ∷ [])
     ∙ ap (λ b. b || (test ace || false)) none
-    ∙ or_false (test ace)
+    ∙ or-false (test ace)
     ∙ other
 
 get_or-set_true : (marks : List Bool) (i : ℕ) → get_or (set marks i true) i true ≡ true
@@ -66,11 +67,7 @@ pub marked-on : (test : Who → Nfsace4 → Bool) (marks : List Bool) (aces : Li
 marked-on test marks aces i ace inside here none before who absent = none_more (test who) aces i ace inside here (before who absent) (none who)
 
 pub denies-none : (who : Who) (ace : Nfsace4) → is_deny ace.kind ≡ false → denies_by_name who ace ≡ false
-denies-none who ace allows = ap (λ b. decides ace && (b && same_who ace.who who)) allows ∙ and_false (decides ace)
-  where
-    and_false : (b : Bool) → (b && false) ≡ false
-    and_false true = refl
-    and_false false = refl
+denies-none who ace allows = ap (λ b. decides ace && (b && same_who ace.who who)) allows ∙ and-false (decides ace)
 
 -- if no entry denies a who anything, nothing is denied
 pub denied-none : (who : Who) (aces : List Nfsace4) → list_any (denies_by_name who) aces ≡ false → denied_to who aces ≡ 0

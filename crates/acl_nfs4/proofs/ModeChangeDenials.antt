@@ -2,7 +2,9 @@
 use Rattle.std.proofs.Common.{◌≡◌, ℕ, Bool, true, false, cond, not, ◌&&◌, ◌||◌, refl, sym, ap, ◌∙◌, List, [], ◌∷◌, ◌++◌, ap₂, filter, map}
 use mathlib.Core.Path.{fun_ext}
 use Rattle.std.specs.List.{list_any}
-use Rattle.std.proofs.lemmas.Bool.{true≢false, and_parts, and_from, eqb-true, eq-eqb}
+use Rattle.std.proofs.lemmas.Bool.{true≢false, and_parts, and_from, eqb-true, eq-eqb, not-true}
+use Rattle.std.proofs.lemmas.List.Folds.{list_any-append}
+use Rattle.std.proofs.Math.Bool.{or-true, or_assoc as or_assoc_bool}
 use Rattle.acl_names.specs.Bits.{has, without, union, ◌∪◌}
 use Rattle.acl_nfs4.specs.Ace.{decides, is_allow, is_deny, unless_empty, Nfsace4}
 use Rattle.acl_nfs4.specs.Who.{is_special, flags_of_who, same_who}
@@ -14,7 +16,7 @@ use Rattle.acl_nfs4.specs.declared.who.Who.{Who}
 use Rattle.acl_nfs4.specs.declared.who.Who.TheVariants.{Owner, Group, Everyone, User, NamedGroup}
 use Rattle.acl_names.proofs.BitSets.{has-or, has-zero, has-without, same_bits}
 use Rattle.acl_nfs4.proofs.ModeChangeKept.{kept_of-cases, kept-cons, inherited_part, effective_part, reduced, decides-effective_part, decides-reduced, unless_empty-cases}
-use Rattle.acl_names.proofs.AnyLemmas.{or_true, or_false, list_any-append, list_any-elim, list_any-flat_map, list_any-filter, list_any-map, list_any-weaken}
+use Rattle.acl_names.proofs.AnyLemmas.{list_any-elim, list_any-flat_map, list_any-filter, list_any-map, list_any-weaken}
 use Rattle.acl_nfs4.proofs.AceLemmas.{by_flags_of_who}
 
 -- ---- whos
@@ -59,15 +61,8 @@ has-denied_to who bit aces =
 or_assoc : (a b c : ℕ) → (a ∪ b) ∪ c ≡ a ∪ (b ∪ c)
 or_assoc a b c = same_bits _ _ (λ k.
     has-or (a ∪ b) c k ∙ ap (λ x. x || has c k) (has-or a b k)
-    ∙ regroup_or (has a k) (has b k) (has c k)
+    ∙ or_assoc_bool (has a k) (has b k) (has c k)
     ∙ sym (has-or a (b ∪ c) k ∙ ap (λ x. has a k || x) (has-or b c k)))
-  where
-    regroup_or : (x y z : Bool) → ((x || y) || z) ≡ (x || (y || z))
-    regroup_or true y z = refl
-    regroup_or false y z = refl
-
-pub or-zero : (a : ℕ) → a ∪ 0 ≡ a
-or-zero a = same_bits _ _ (λ k. has-or a 0 k ∙ ap (λ b. has a k || b) (has-zero k) ∙ or_false (has a k))
 
 -- one more entry is looked at
 pub denied_to-step : (who : Who) (ace : Nfsace4) (rest : List Nfsace4) (so_far next total : ℕ) (denied : Bool)
@@ -116,15 +111,11 @@ member-named_in who aces =
 pub named_not_special : (who : Who) (aces : List Nfsace4) → list_any (names who) aces ≡ true → is_special who ≡ false
 named_not_special who aces = list_any-elim (names who) (is_special who ≡ false) each aces
   where
-    opposite : (b : Bool) → not b ≡ true → b ≡ false
-    opposite true e = sym e
-    opposite false e = refl
-
     each : (ace : Nfsace4) → names who ace ≡ true → is_special who ≡ false
     each ace e =
         let parts = and_parts (decides ace && not (is_special ace.who)) (same_who ace.who who) e in
         ap is_special (sym (same_who-true ace.who who parts.1))
-        ∙ opposite (is_special ace.who) (and_parts (decides ace) (not (is_special ace.who)) parts.0).1
+        ∙ not-true (is_special ace.who) (and_parts (decides ace) (not (is_special ace.who)) parts.0).1
 
 -- ---- tests of what is kept
 
@@ -164,7 +155,7 @@ kept_of-denies group who bit named ace e =
     (λ d i.
     ap (λ b. denies who bit (inherited_part ace) || b)
     (unless_empty-denies who bit (effective_part group ace) (and_from _ _ (and_from _ _ (decides-effective_part group ace d) denied) has_bit))
-    ∙ or_true (denies who bit (inherited_part ace)))
+    ∙ or-true (denies who bit (inherited_part ace)))
     (λ d i. unless_empty-denies who bit (reduced group ace) (and_from _ _ (and_from _ _ (decides-reduced group ace ∙ d) denied) has_bit))
   where
     outer : ((decides ace && (is_deny ace.kind && same_who ace.who who)) ≡ true) × (has ace.mask bit ≡ true)
@@ -220,4 +211,4 @@ denied_anyway group aces who bit named lacks =
         ap (λ w. list_any (denies who bit) (denial_of group aces w)) (same_who-true other who same)
         ∙ denial_of-denies group aces who bit lacks (has-denied_to who bit aces ∙ e))
         (named_whos aces) (member-named_in who aces ∙ named))
-        ∙ or_true (list_any (denies who bit) (kept_of_list group aces))
+        ∙ or-true (list_any (denies who bit) (kept_of_list group aces))

@@ -1,7 +1,9 @@
 -- Whom a list with a mode set grants what.
 use Rattle.std.proofs.Common.{◌≡◌, ℕ, Bool, true, false, cond, not, ◌&&◌, ◌||◌, refl, sym, ap, ◌∙◌, List, [], ◌∷◌, ◌++◌, ap₂, Option, Some, None, inl, inr, ◌⊎◌, find, filter, option_map, unwrap_or}
 use Rattle.std.specs.List.{list_any}
-use Rattle.std.proofs.lemmas.Bool.{true≢false, and_parts, and_from, eq-eqb, ne_eqb, or_cases}
+use Rattle.std.proofs.lemmas.Bool.{true≢false, and_parts, and_from, eq-eqb, ne_eqb, or_cases, or_from}
+use Rattle.std.proofs.lemmas.List.Folds.{list_any-append}
+use Rattle.std.proofs.Math.Bool.{and-false, or-false}
 use Rattle.acl_names.specs.Bits.{has, without}
 use Rattle.acl_nfs4.specs.Ace.{decides, is_allow, is_deny, plain_ace, unless_empty, Nfsace4}
 use Rattle.acl_nfs4.specs.Who.{is_special, matches, same_who}
@@ -18,7 +20,7 @@ use Rattle.acl_nfs4.proofs.MaskOfModes.{has-rest_of_mask, has-mask_of}
 use Rattle.acl_nfs4.proofs.ModeChangeDenials.{denies, same_who-refl, same_who-true, list_any-kept, denied_anyway}
 use Rattle.acl_nfs4.proofs.ModeChangeTwice.{middle, regroup}
 use Rattle.acl_nfs4.proofs.ModeChangeKept.{kept_of-cases, inherited_part, effective_part, reduced, decides-inherited_part, unless_empty-cases}
-use Rattle.acl_names.proofs.AnyLemmas.{and_false, or_false, false_unless, list_any-append, list_any-elim}
+use Rattle.acl_names.proofs.AnyLemmas.{false_unless, list_any-elim}
 use Rattle.acl_names.proofs.AnyLemmas.{list_any-none, list_any-witness, list_any-flat_map, list_any-filter}
 use Rattle.acl_names.proofs.AnyLemmas.{list_any-map, list_any-weaken}
 use Rattle.acl_nfs4.proofs.EvaluationMode.{shown_to-allows}
@@ -85,7 +87,7 @@ module _ (applies : Who → Bool) (bit : ℕ) where
         ap (λ s. has (cond s (without ace.mask mode_bits) (cond (is_allow ace.kind) (without ace.mask (rest_of group)) ace.mask)) bit) e
         ∙ has-without ace.mask mode_bits bit
         ∙ ap (λ b. has ace.mask bit && not b) of_mode
-        ∙ and_false (has ace.mask bit)
+        ∙ and-false (has ace.mask bit)
 
     kept_mask-allow : (group : ℕ) (ace : Nfsace4) → is_allow ace.kind ≡ true → has (rest_of group) bit ≡ true → has (kept_mask group ace) bit ≡ false
     unfolding kept_mask
@@ -94,15 +96,15 @@ module _ (applies : Who → Bool) (bit : ℕ) where
         ∙ go (is_special ace.who)
       where
         go : (s : Bool) → has (cond s (without ace.mask mode_bits) (without ace.mask (rest_of group))) bit ≡ false
-        go true = has-without ace.mask mode_bits bit ∙ ap (λ b. has ace.mask bit && not b) of_mode ∙ and_false (has ace.mask bit)
-        go false = has-without ace.mask (rest_of group) bit ∙ ap (λ b. has ace.mask bit && not b) lacks ∙ and_false (has ace.mask bit)
+        go true = has-without ace.mask mode_bits bit ∙ ap (λ b. has ace.mask bit && not b) of_mode ∙ and-false (has ace.mask bit)
+        go false = has-without ace.mask (rest_of group) bit ∙ ap (λ b. has ace.mask bit && not b) lacks ∙ and-false (has ace.mask bit)
 
     -- an entry that still speaks of a bit of the mode is about a named user or group, and was there
     still_speaks : (group : ℕ) (ace : Nfsace4) → list_any (speaks applies bit) (kept_of_entry group ace) ≡ true
         → ((decides ace && not (is_special ace.who)) && applies ace.who) ≡ true
     still_speaks group ace =
         kept_of-cases group ace (λ these. list_any (speaks applies bit) these ≡ true → ((decides ace && not (is_special ace.who)) && applies ace.who) ≡ true)
-        (λ d e. absurd (true≢false (sym (speaks-parts ace (sym (or_false (speaks applies bit ace)) ∙ e)).0 ∙ d)))
+        (λ d e. absurd (true≢false (sym (speaks-parts ace (sym (or-false (speaks applies bit ace)) ∙ e)).0 ∙ d)))
         (λ d i e.
         from_part (effective_part group ace) d refl refl
         (sym (ap (λ b. b || list_any (speaks applies bit) (unless_empty (effective_part group ace)))
@@ -121,7 +123,7 @@ module _ (applies : Who → Bool) (bit : ℕ) where
             unless_empty-cases part (λ these. list_any (speaks applies bit) these ≡ true → ((decides ace && not (is_special ace.who)) && applies ace.who) ≡ true)
             (λ _ e. absurd (true≢false (sym e)))
             (λ _ e.
-            let parts = speaks-parts part (sym (or_false (speaks applies bit part)) ∙ e) in
+            let parts = speaks-parts part (sym (or-false (speaks applies bit part)) ∙ e) in
             and_from _ _
             (and_from _ _ d (not_special (is_special ace.who) refl (ap (λ m. has m bit) (sym mask) ∙ parts.2)))
             (ap applies (sym who) ∙ parts.1))
@@ -130,7 +132,7 @@ module _ (applies : Who → Bool) (bit : ℕ) where
     still_denies : (group : ℕ) → has (rest_of group) bit ≡ true → (ace : Nfsace4) → list_any speaks_for (kept_of_entry group ace) ≡ true → false ≡ true
     still_denies group lacks ace =
         kept_of-cases group ace (λ these. list_any speaks_for these ≡ true → false ≡ true)
-        (λ d e. sym d ∙ (speaks-parts ace (and_parts (speaks applies bit ace) (is_allow ace.kind) (sym (or_false (speaks_for ace)) ∙ e)).0).0)
+        (λ d e. sym d ∙ (speaks-parts ace (and_parts (speaks applies bit ace) (is_allow ace.kind) (sym (or-false (speaks_for ace)) ∙ e)).0).0)
         (λ d i e.
         from_part (effective_part group ace) refl refl
         (sym (ap (λ b. b || list_any speaks_for (unless_empty (effective_part group ace)))
@@ -146,7 +148,7 @@ module _ (applies : Who → Bool) (bit : ℕ) where
             unless_empty-cases part (λ these. list_any speaks_for these ≡ true → false ≡ true)
             (λ _ e. e)
             (λ _ e.
-            let both = and_parts (speaks applies bit part) (is_allow part.kind) (sym (or_false (speaks_for part)) ∙ e) in
+            let both = and_parts (speaks applies bit part) (is_allow part.kind) (sym (or-false (speaks_for part)) ∙ e) in
             sym (kept_mask-allow group ace (ap is_allow (sym kind) ∙ both.1) lacks)
             ∙ ap (λ m. has m bit) (sym mask) ∙ (speaks-parts part both.0).2)
 
@@ -187,7 +189,7 @@ module _ (applies : Who → Bool) (bit : ℕ) where
           of_denial who =
               unless_empty-cases _ (λ these. list_any (speaks applies bit) these ≡ true → applies who ≡ true)
               (λ _ f. absurd (true≢false (sym f)))
-              (λ _ f. (speaks-parts _ (sym (or_false _) ∙ f)).1)
+              (λ _ f. (speaks-parts _ (sym (or-false _) ∙ f)).1)
 
           go : (list_any (speaks applies bit) (kept_of_list mode.group aces) ≡ true) ⊎ (list_any (speaks applies bit) (denials mode.group aces) ≡ true)
               → names_any applies aces ≡ true
@@ -213,7 +215,7 @@ module _ (applies : Who → Bool) (bit : ℕ) where
           of_denial who =
               unless_empty-cases _ (λ these. list_any speaks_for these ≡ true → false ≡ true)
               (λ _ f. f)
-              (λ _ f. (and_parts _ false (sym (or_false _) ∙ f)).1)
+              (λ _ f. (and_parts _ false (sym (or-false _) ∙ f)).1)
 
           go : (list_any speaks_for (kept_of_list mode.group aces) ≡ true) ⊎ (list_any speaks_for (denials mode.group aces) ≡ true) → false ≡ true
           go (inl k) =
@@ -313,8 +315,8 @@ names-none : (applies : Who → Bool) → ((who : Who) → is_special who ≡ fa
 names-none applies none aces = list_any-none (λ ace. (decides ace && not (is_special ace.who)) && applies ace.who) (λ ace. each (decides ace) ace.who (is_special ace.who) refl) aces
   where
     each : (d : Bool) (who : Who) (s : Bool) → is_special who ≡ s → ((d && not s) && applies who) ≡ false
-    each d who true e = ap (λ b. b && applies who) (and_false d)
-    each d who false e = ap (λ b. (d && true) && b) (none who e) ∙ and_false (d && true)
+    each d who true e = ap (λ b. b && applies who) (and-false d)
+    each d who false e = ap (λ b. (d && true) && b) (none who e) ∙ and-false (d && true)
 
 module _ (aces : List Nfsace4) (mode : Classes) where
   pub grants-owner : GrantsOwner (with_mode aces mode) mode
@@ -335,15 +337,12 @@ module _ (aces : List Nfsace4) (mode : Classes) where
 
 -- a named who is among none of them
 not_of_class : (class : Who) → is_special class ≡ true → (who : Who) → is_special who ≡ false → of_class class who ≡ false
-not_of_class class special who named = or_from (other class special) (other Everyone refl)
+not_of_class class special who named = or_from _ _ (other class special) (other Everyone refl)
   where
     other : (special : Who) → is_special special ≡ true → same_who who special ≡ false
     other special is =
         false_unless (same_who who special)
         (λ same. sym named ∙ ap is_special (same_who-true who special same) ∙ is)
-
-    or_from : {a b : Bool} → a ≡ false → b ≡ false → (a || b) ≡ false
-    or_from a b = ap₂ (λ x y. x || y) a b
 
 -- the mode shown is the mode set
 pub mode_of-with_mode : (aces : List Nfsace4) (mode : Classes) → AreClasses mode → mode_of (with_mode aces mode) ≡ mode

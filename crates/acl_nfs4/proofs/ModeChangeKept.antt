@@ -1,6 +1,8 @@
 -- What an entry leaves beside a mode.
 use Rattle.std.proofs.Common.{◌≡◌, ℕ, ◌^◌, Bool, true, false, cond, not, ◌&&◌, ◌||◌, refl, sym, ap, ◌∙◌, subst, List, [], ◌∷◌, ◌++◌, append-nil, ap₂, ◌==◌, flat_map, bit_or}
 use Rattle.std.proofs.lemmas.Bool.{true≢false, and_parts, and_from, eqb-true}
+use Rattle.std.proofs.lemmas.Grind.{flat_map-append}
+use Rattle.std.proofs.Math.Bool.{and-false, or-true}
 use Rattle.acl_names.specs.Bits.{has, without}
 use Rattle.acl_nfs4.specs.Ace.{decides, is_allow, is_deny, unless_empty, is_inheritable, Nfsace4}
 use Rattle.acl_nfs4.specs.Who.{is_special}
@@ -8,7 +10,6 @@ use Rattle.acl_nfs4.specs.Flags.{inherit_only, inheritance_flags}
 use Rattle.acl_nfs4.specs.Mask.{mode_bits, rest_of}
 use Rattle.acl_nfs4.specs.ModeChange.{split, kept_of_part, kept_of_list, kept_mask, kept_of_entry}
 use Rattle.acl_names.proofs.BitSets.{has-or, has-without, same_bits}
-use Rattle.acl_names.proofs.AnyLemmas.{and_false, or_true, flat_map-append}
 
 -- ---- the list, entry by entry
 
@@ -34,11 +35,11 @@ reduced group ace = record ace { mask = kept_mask group ace }
 pub decides-inherited_part : (ace : Nfsace4) → decides (inherited_part ace) ≡ false
 unfolding decides has
 decides-inherited_part ace =
-    ap (λ b. (is_allow ace.kind || is_deny ace.kind) && not b) (has-or ace.flags (2 ^ inherit_only) inherit_only ∙ or_true (has ace.flags inherit_only))
-    ∙ and_false (is_allow ace.kind || is_deny ace.kind)
+    ap (λ b. (is_allow ace.kind || is_deny ace.kind) && not b) (has-or ace.flags (2 ^ inherit_only) inherit_only ∙ or-true (has ace.flags inherit_only))
+    ∙ and-false (is_allow ace.kind || is_deny ace.kind)
 
 pub cleared : (flags k : ℕ) → has inheritance_flags k ≡ true → has (without flags inheritance_flags) k ≡ false
-cleared flags k e = has-without flags inheritance_flags k ∙ ap (λ b. has flags k && not b) e ∙ and_false (has flags k)
+cleared flags k e = has-without flags inheritance_flags k ∙ ap (λ b. has flags k && not b) e ∙ and-false (has flags k)
 
 pub decides-effective_part : (group : ℕ) (ace : Nfsace4) → decides ace ≡ true → decides (effective_part group ace) ≡ true
 unfolding decides has

@@ -3,7 +3,9 @@ use Rattle.std.proofs.Common.{◌≡◌, ℕ, Bool, true, false, cond, not, ◌&
 use Rattle.std.proofs.Common.{List, [], ◌∷◌, ◌++◌, append-nil, ap₂, Option, Some, None, flat_map, filter_map}
 use Rattle.std.proofs.Common.{bit_or, option_map}
 use Rattle.std.specs.List.{cons_option}
-use Rattle.std.proofs.lemmas.Bool.{and_parts, or_parts}
+use Rattle.std.proofs.lemmas.Bool.{and_parts, or_parts, not-true}
+use Rattle.std.proofs.lemmas.List.Elements.{filter-append}
+use Rattle.std.proofs.Math.Bool.{and-false, or-false}
 use Rattle.acl_names.specs.Bits.{has}
 use Rattle.acl_nfs4.specs.Ace.{decides, is_allow, is_deny, plain_ace, unless_empty, is_inheritable, is_audit_or_alarm, Nfsace4}
 use Rattle.acl_nfs4.specs.Who.{flags_of_who}
@@ -21,9 +23,7 @@ use Rattle.acl_nfs4.specs.declared.inheritance.Kind.TheVariants.{File, Dir}
 use Rattle.acl_nfs4.specs.declared.who.Who.{Who}
 use Rattle.acl_nfs4.specs.declared.who.Who.TheVariants.{Owner, Group, Everyone}
 use Rattle.acl_names.proofs.BitSets.{has-and, has-or, has-without, same_bits}
-use Rattle.acl_nfs4.proofs.ListLemmas.{filter-append}
 use Rattle.acl_nfs4.proofs.ModeChangeKept.{kept_of-cases, kept-cons, inherited_part, effective_part, reduced, unless_empty-cases, is_inheritable-effective_part}
-use Rattle.acl_names.proofs.AnyLemmas.{or_false, and_false}
 use Rattle.acl_nfs4.proofs.AceLemmas.{by_flags_of_who}
 
 -- ---- a function of lists that goes entry by entry, and that a change of mode leaves as it is
@@ -140,16 +140,16 @@ inherited-inherited_part kind ace =
     ∙ sym (has-without ace.flags inheritance_flags k)))
   where
     beside : (k : ℕ) → has 8 k ≡ false → has (bit_or ace.flags 8) k ≡ has ace.flags k
-    beside k e = has-or ace.flags 8 k ∙ ap (λ b. has ace.flags k || b) e ∙ or_false (has ace.flags k)
+    beside k e = has-or ace.flags 8 k ∙ ap (λ b. has ace.flags k || b) e ∙ or-false (has ace.flags k)
 
     within : (k : ℕ) (b : Bool) → ((b || has 8 k) && not (has inheritance_flags k)) ≡ (b && not (has inheritance_flags k))
     within k b = go (has 8 k) refl
       where
         go : (c : Bool) → has 8 k ≡ c → ((b || c) && not (has inheritance_flags k)) ≡ (b && not (has inheritance_flags k))
-        go false e = ap (λ x. x && not (has inheritance_flags k)) (or_false b)
+        go false e = ap (λ x. x && not (has inheritance_flags k)) (or-false b)
         go true e =
             let inside : has inheritance_flags k ≡ true = (and_parts (has 8 k) (has inheritance_flags k) (sym (has-and 8 inheritance_flags k) ∙ e)).1 in
-            ap (λ x. (b || true) && not x) inside ∙ and_false (b || true) ∙ sym (ap (λ x. b && not x) inside ∙ and_false b)
+            ap (λ x. (b || true) && not x) inside ∙ and-false (b || true) ∙ sym (ap (λ x. b && not x) inside ∙ and-false b)
 
 inherited-kept_of : (kind : Kind) (group : ℕ) (ace : Nfsace4) → inherited_list kind (kept_of_entry group ace) ≡ inherited_list kind (ace ∷ [])
 inherited-kept_of kind group ace =
@@ -184,11 +184,7 @@ IsSublist-append (keeps p) q = keeps (IsSublist-append p q)
 
 decides-not_inherit_only : (ace : Nfsace4) → decides ace ≡ true → has ace.flags inherit_only ≡ false
 unfolding decides
-decides-not_inherit_only ace e = opposite (has ace.flags inherit_only) (and_parts (is_allow ace.kind || is_deny ace.kind) _ e).1
-  where
-    opposite : (b : Bool) → not b ≡ true → b ≡ false
-    opposite true h = sym h
-    opposite false h = refl
+decides-not_inherit_only ace e = not-true (has ace.flags inherit_only) (and_parts (is_allow ace.kind || is_deny ace.kind) _ e).1
 
 inherit_only-kept_of : (group : ℕ) (ace : Nfsace4) → IsSublist (inherit_only_entries (ace ∷ [])) (kept_of_entry group ace)
 inherit_only-kept_of group ace =

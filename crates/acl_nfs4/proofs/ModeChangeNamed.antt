@@ -2,18 +2,15 @@
 use Rattle.std.proofs.Common.{ℕ, ◌+◌, ◌<◌, ap₂, take, drop, get_or, length, add-one, append_assoc, ◌≡◌, Bool}
 use Rattle.std.proofs.Common.{true, false, cond, not, ◌&&◌, ◌||◌, refl, sym, ap, ◌∙◌, List, [], ◌∷◌, ◌++◌}
 use Rattle.std.proofs.Common.{append-nil, take-suc, take-append-drop, filter, map, flat_map, true≢false}
-use Rattle.acl_names.proofs.AnyLemmas.{flat_map-append}
 use Rattle.std.specs.List.{list_any}
+use Rattle.std.proofs.lemmas.Grind.{flat_map-append}
+use Rattle.std.proofs.lemmas.List.Elements.{filter-append}
+use Rattle.std.proofs.lemmas.List.{map-append}
 use Rattle.acl_nfs4.specs.Ace.{decides, Nfsace4}
 use Rattle.acl_nfs4.specs.Who.{is_special, same_who}
 use Rattle.acl_nfs4.specs.ModeChange.{without_repeats, named_whos, names, names_someone}
 use Rattle.acl_nfs4.specs.declared.who.Who.{Who}
-use Rattle.acl_nfs4.proofs.ListLemmas.{filter-append}
 use Rattle.acl_nfs4.proofs.ModeChangeDenials.{member, same_who-refl, same_who-true, member-distinct, member-named_in}
-
-map-append : {X Y : Type 0} (f : X → Y) (xs ys : List X) → map f (xs ++ ys) ≡ map f xs ++ map f ys
-map-append f [] ys = refl
-map-append f (x ∷ xs) ys = ap (λ zs. f x ∷ zs) (map-append f xs ys)
 
 same_who-sym : (who other : Who) → same_who who other ≡ same_who other who
 same_who-sym who other = go (same_who who other) refl (same_who other who) refl

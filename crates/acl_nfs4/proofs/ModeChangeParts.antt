@@ -1,9 +1,9 @@
 -- The parts of an entry beside a mode: that they are entries with an effect, and where the list of them ends.
 use Rattle.std.proofs.Common.{◌≡◌, ℕ, Bool, true, false, cond, not, ◌&&◌, ◌||◌, refl, sym, ap, ap₂, subst, ◌∙◌, List, [], ◌∷◌, ◌++◌, length-append, append_assoc, arith}
 use Rattle.std.proofs.lemmas.Bool.{true≢false, and_parts}
+use Rattle.std.proofs.Math.Bool.{and-false, and-true, or-false}
 use Rattle.acl_names.specs.Bits.{has, without, ◌∩◌, ◌∪◌}
 use Rattle.acl_names.proofs.BitSets.{has-or, has-without}
-use Rattle.acl_names.proofs.AnyLemmas.{and_false, and_true, or_false}
 use Rattle.acl_nfs4.specs.Ace.{Nfsace4, IsAce, decides, is_allow, is_idle, is_inheritable, unless_empty}
 use Rattle.acl_nfs4.specs.Acl.{IsTooLong}
 use Rattle.acl_nfs4.specs.Flags.{all_flags, inheritance_flags, identifier_group}
@@ -20,7 +20,7 @@ pub inherit_only-within : (flags : ℕ) → flags ∩ all_flags ≡ flags → (f
 inherit_only-within flags known = within-or flags 8 all_flags known refl
 
 or_eight : (flags k : ℕ) → has 8 k ≡ false → has (flags ∪ 8) k ≡ has flags k
-or_eight flags k outside = has-or flags 8 k ∙ ap (λ b. has flags k || b) outside ∙ or_false (has flags k)
+or_eight flags k outside = has-or flags 8 k ∙ ap (λ b. has flags k || b) outside ∙ or-false (has flags k)
 
 pub inherit_only-group_flag : (flags : ℕ) → has (flags ∪ 8) identifier_group ≡ has flags identifier_group
 unfolding has
@@ -31,12 +31,12 @@ unfolding has
 inherit_only-effective ace inherits =
     ap (λ b. has (ace.flags ∪ 8) 3 && not b)
     (ap₂ (λ f d. f || d) (or_eight ace.flags 0 refl) (or_eight ace.flags 1 refl) ∙ inherits)
-    ∙ and_false (has (ace.flags ∪ 8) 3)
+    ∙ and-false (has (ace.flags ∪ 8) 3)
 
 pub cleared-group_flag : (flags : ℕ) → has (without flags inheritance_flags) identifier_group ≡ has flags identifier_group
 unfolding has
 cleared-group_flag flags =
-    has-without flags inheritance_flags identifier_group ∙ and_true (has flags identifier_group)
+    has-without flags inheritance_flags identifier_group ∙ and-true (has flags identifier_group)
 
 pub cleared-effective : (group : ℕ) (ace : Nfsace4) → is_idle (effective_part group ace) ≡ false
 unfolding has

@@ -2,6 +2,8 @@
 use Rattle.std.proofs.Common.{◌≡◌, ℕ, Bool, true, false, not, ◌&&◌, ◌||◌, refl, sym, ap, ◌∙◌, List, [], ◌∷◌, ◌++◌, append-nil, append_assoc, ap₂, inl, inr, ◌⊎◌, flat_map}
 use Rattle.std.specs.List.{list_any}
 use Rattle.std.proofs.lemmas.Bool.{true≢false, and_parts, and_from, or_cases}
+use Rattle.std.proofs.lemmas.List.Folds.{list_any-append}
+use Rattle.std.proofs.Math.Bool.{and-false, or-true, or-false}
 use Rattle.acl_names.specs.Bits.{has, without}
 use Rattle.acl_nfs4.specs.Ace.{decides, is_allow, is_deny, plain_ace, unless_empty, Nfsace4}
 use Rattle.acl_nfs4.specs.Who.{is_special, flags_of_who, same_who}
@@ -16,7 +18,7 @@ use Rattle.acl_names.proofs.BitSets.{has-without, no_bits}
 use Rattle.acl_nfs4.proofs.MaskOfModes.{mask_of-within}
 use Rattle.acl_nfs4.proofs.ModeChangeDenials.{member, denies, same_who-refl, member-named_in, named_not_special, has-denied_to, list_any-kept, denied_anyway, decides-plain_deny}
 use Rattle.acl_nfs4.proofs.ModeChangeKept.{kept_of-cases, kept-append, kept-none, kept-unchanged, kept-twice, effective_part, reduced, decides-inherited_part, unless_empty-cases}
-use Rattle.acl_names.proofs.AnyLemmas.{and_false, or_true, or_false, list_any-append, list_any-flat_map, list_any-weaken}
+use Rattle.acl_names.proofs.AnyLemmas.{list_any-flat_map, list_any-weaken}
 
 -- ---- sets within the mode's bits
 
@@ -78,14 +80,14 @@ kept-flat_map group f (who ∷ whos) each =
     kept-append group (f who) (flat_map f whos)
     ∙ ap₂ (λ xs ys. xs ++ ys)
     (each who (ap (λ b. b || member who whos) (same_who-refl who)))
-    (kept-flat_map group f whos (λ other is. each other (ap (λ b. same_who who other || b) is ∙ or_true (same_who who other))))
+    (kept-flat_map group f whos (λ other is. each other (ap (λ b. same_who who other || b) is ∙ or-true (same_who who other))))
 
 flat_map-none : (f : Who → List Nfsace4) (whos : List Who) → ((who : Who) → member who whos ≡ true → f who ≡ []) → flat_map f whos ≡ []
 flat_map-none f [] each = refl
 flat_map-none f (who ∷ whos) each =
     ap₂ (λ xs ys. xs ++ ys)
     (each who (ap (λ b. b || member who whos) (same_who-refl who)))
-    (flat_map-none f whos (λ other is. each other (ap (λ b. same_who who other || b) is ∙ or_true (same_who who other))))
+    (flat_map-none f whos (λ other is. each other (ap (λ b. same_who who other || b) is ∙ or-true (same_who who other))))
 
 kept-denials : (group : ℕ) (aces : List Nfsace4) → kept_of_list group (denials group aces) ≡ denials group aces
 kept-denials group aces =
@@ -132,7 +134,7 @@ module _ (aces : List Nfsace4) (mode : Classes) where
   names-special who kind special mask is =
       unless_empty-cases _ (λ these. list_any (names who) these ≡ false) (λ _. refl)
       (λ _. ap (λ b. ((decides (record { kind = kind; flags = flags_of_who special; who = special; mask = mask }) && not b) && same_who special who) || false) is
-      ∙ ap (λ b. (b && same_who special who) || false) (and_false (decides (record { kind = kind; flags = flags_of_who special; who = special; mask = mask }))))
+      ∙ ap (λ b. (b && same_who special who) || false) (and-false (decides (record { kind = kind; flags = flags_of_who special; who = special; mask = mask }))))
 
   names-for_owner : (who : Who) → list_any (names who) (for_owner mode.user) ≡ false
   names-for_owner who =
@@ -151,7 +153,7 @@ module _ (aces : List Nfsace4) (mode : Classes) where
   names-kept_of : (who : Who) (ace : Nfsace4) → list_any (names who) (kept_of_entry mode.group ace) ≡ true → names who ace ≡ true
   names-kept_of who ace =
       kept_of-cases mode.group ace (λ these. list_any (names who) these ≡ true → names who ace ≡ true)
-      (λ d e. sym (or_false (names who ace)) ∙ e)
+      (λ d e. sym (or-false (names who ace)) ∙ e)
       (λ d i e.
       from_part (effective_part mode.group ace) d refl
       (sym (ap (λ b. ((b && not (is_special ace.who)) && same_who ace.who who) || list_any (names who) (unless_empty (effective_part mode.group ace)))
@@ -169,7 +171,7 @@ module _ (aces : List Nfsace4) (mode : Classes) where
       from_part part d same =
           unless_empty-cases part (λ these. list_any (names who) these ≡ true → names who ace ≡ true)
           (λ _ e. absurd (true≢false (sym e)))
-          (λ _ e. same_test (decides ace) d part same (sym (or_false (names who part)) ∙ e))
+          (λ _ e. same_test (decides ace) d part same (sym (or-false (names who part)) ∙ e))
 
   names-denials : (who : Who) → list_any (names who) (denials mode.group aces) ≡ true → list_any (names who) aces ≡ true
   names-denials who e =
@@ -181,13 +183,13 @@ module _ (aces : List Nfsace4) (mode : Classes) where
       each other =
           unless_empty-cases _ (λ these. list_any (names who) these ≡ true → same_who other who ≡ true)
           (λ _ e. absurd (true≢false (sym e)))
-          (λ _ e. (and_parts _ (same_who other who) (sym (or_false _) ∙ e)).1)
+          (λ _ e. (and_parts _ (same_who other who) (sym (or-false _) ∙ e)).1)
 
   names-with_mode : (who : Who) → list_any (names who) (with_mode aces mode) ≡ true → list_any (names who) aces ≡ true
   names-with_mode who e =
       go (or_cases (list_any (names who) (kept_of_list mode.group aces)) (list_any (names who) (denials mode.group aces))
       (sym (list_any-append (names who) (kept_of_list mode.group aces) (denials mode.group aces))
-      ∙ sym (or_false (list_any (names who) middle))
+      ∙ sym (or-false (list_any (names who) middle))
       ∙ sym (ap₂ (λ a b. a || (list_any (names who) middle || b)) (names-for_owner who) (names-for_others who))
       ∙ sym (any-with_mode (names who))
       ∙ e))
@@ -209,7 +211,7 @@ module _ (aces : List Nfsace4) (mode : Classes) where
       ∙ any-with_mode (denies who k)
       ∙ ap (λ b. list_any (denies who k) (for_owner mode.user) || (b || list_any (denies who k) (for_others mode.group mode.other)))
       (denied_anyway mode.group aces who k (names-with_mode who (sym (member-named_in who (with_mode aces mode)) ∙ is)) lacks)
-      ∙ or_true (list_any (denies who k) (for_owner mode.user))))
+      ∙ or-true (list_any (denies who k) (for_owner mode.user))))
 
   -- to set the mode again changes nothing
   pub with_mode-twice : with_mode (with_mode aces mode) mode ≡ with_mode aces mode

@@ -1,6 +1,7 @@
 -- Which fault a piece has that says no entry.
 use Rattle.std.proofs.Common.{◌≡◌, ◌≢◌, ◌↔◌, ℕ, Bool, true, false, cond, List, [], ◌∷◌, Option, Some, None, option_map, Result, Ok, Err, codes, refl, sym, ap, subst, ◌∙◌, bytes_eq}
 use Rattle.std.proofs.lemmas.Slice.Eq.{bytes_eq-Decides}
+use Rattle.std.proofs.lemmas.Option.{cond_some}
 use Rattle.acl_names.specs.Bytes.{at_sign}
 use Rattle.acl_names.specs.Bits.{has}
 use Rattle.acl_names.specs.Directory.{Known, uid_of, gid_of, fault_of}
@@ -8,7 +9,6 @@ use Rattle.acl_names.specs.Ids.{Written, Number, Name, written_id, has_name_shap
 use Rattle.acl_names.specs.Letters.{letters_of}
 use Rattle.acl_names.specs.Pieces.{parts as split_at_byte}
 use Rattle.acl_names.specs.Steps.{◌>>=◌, or_fault}
-use Rattle.acl_names.proofs.StepLemmas.{some_from_cond}
 use Rattle.acl_posix.proofs.PieceFaultLemmas.{knowing, knowing_faultless, knows_user, knows_group, unfound_name}
 use Rattle.acl_posix.proofs.StepFaults.{same_fault, fault_behind, other_fault}
 use Rattle.acl_nfs4.specs.Ace.{Nfsace4, ace_of, is_idle}
@@ -195,7 +195,7 @@ name_at_somewhere is_group name domain written e = go (written_id name) refl e
     go None is e = absurd (cc)
     go (Some (Number n)) is e = absurd (cc)
     go (Some (Name n)) is e =
-        let choice = some_from_cond (has_domain_shape domain) (form.At n domain) written e in
+        let choice = cond_some (has_domain_shape domain) (form.At n domain) written e in
         let writes = name_says name n is in
         subst (IsKnownSomewhere is_group) choice.1 (at_somewhere is_group n domain (ap has_name_shape (sym writes.1) ∙ writes.0) choice.0)
 

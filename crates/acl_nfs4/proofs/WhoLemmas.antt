@@ -7,18 +7,18 @@ use Rattle.std.specs.Char.{is_ascii_digit}
 use Rattle.std.specs.Str.Parse.{digits_value}
 use Rattle.std.proofs.lemmas.List.Sums.{AllPass-from_list_all}
 use Rattle.std.proofs.lemmas.Slice.Eq.{bytes_eq-Decides}
+use Rattle.std.proofs.lemmas.Option.{cond_some}
 use Rattle.acl_names.specs.declared.limits.TheConstants.{MAX_DIGITS, MAX_ID}
 use Rattle.acl_names.specs.Bytes.{at_sign}
 use Rattle.acl_names.specs.Ids.{Number, number_or_name, decimal_value, is_decimal}
 use Rattle.acl_names.proofs.IdTexts.{and_first}
-use Rattle.acl_names.proofs.StepLemmas.{some_from_cond}
 use Rattle.acl_nfs4.specs.AceText.{WrittenWho, special_of, who_of_parts, written_who}
 use Rattle.acl_nfs4.specs.AceText as form
 use Rattle.acl_nfs4.proofs.RoundTrip.{parts_digits}
 
 pub decimal_who : (text : List ℕ) (id : ℕ) → decimal_value text ≡ Some id → written_who text ≡ Some (form.Id (Number id))
 decimal_who text id d =
-    let number = some_from_cond (is_decimal text) (digits_value 10 text) id d in
+    let number = cond_some (is_decimal text) (digits_value 10 text) id d in
     let digits : list_all is_ascii_digit text ≡ true =
     and_first (list_all is_ascii_digit text) (nat_le 1 (length text))
     (and_first (list_all is_ascii_digit text && nat_le 1 (length text)) (nat_le (length text) MAX_DIGITS)

@@ -3,6 +3,7 @@ use Rattle.std.proofs.Common.{◌≡◌, ◌∙◌, ℕ, ◌+◌, ◌≤◌, Boo
 use Rattle.std.specs.List.{list_any, filter}
 use Rattle.std.specs.Option.{option_map_or}
 use Rattle.std.proofs.lemmas.Bool.{cases_Bool, false≢true, le-ltb, lt-ltb}
+use Rattle.std.proofs.Math.Bool.{or-false, and-true}
 use Rattle.acl_names.specs.Requester.{Identity, is_in_group}
 use Rattle.acl_posix.specs.declared.entry.Tag.{Tag}
 use Rattle.acl_posix.specs.declared.entry.Tag.TheVariants.{UserObj, User, GroupObj, Group, Mask, Other}
@@ -11,9 +12,9 @@ use Rattle.acl_names.specs.Bits.{has_all}
 use Rattle.acl_posix.specs.CheckSteps.{has_tag, tag_answer, tag_has, has_group, group_has, mask_allows}
 use Rattle.acl_posix.specs.Validity.{IsValid, count_of}
 use Rattle.acl_posix.specs.Access.{is_for_group_of, first_nonempty, is_under_mask, under_mask, effective_perms, grants}
-use Rattle.acl_names.proofs.AnyLemmas.{list_any-agree, list_any-filter, list_any-and, list_any-none_and, filter-none, or_false}
+use Rattle.acl_names.proofs.AnyLemmas.{list_any-agree, list_any-filter, list_any-and, list_any-none_and, filter-none}
 use Rattle.acl_names.proofs.Counting.{count_by-cons, list_any-count_by}
-use Rattle.acl_posix.proofs.PermsLemmas.{and_true, has_all-masked}
+use Rattle.acl_posix.proofs.PermsLemmas.{has_all-masked}
 
 -- the effective permissions of an entry with the tag, under the mask
 abbrev effective_under : Option ℕ → Tag → ℕ → ℕ
@@ -60,7 +61,7 @@ pub first_kept : (p : EntryValue → Bool) (acl : List EntryValue) (rest : List 
     → first_nonempty (filter p acl ∷ rest) ≡ filter p acl
 first_kept p acl rest some =
     first (filter p acl) rest
-    (sym (list_any-filter p (λ _. true) acl) ∙ list_any-agree (λ e. p e && true) p (λ e. and_true (p e)) acl ∙ some)
+    (sym (list_any-filter p (λ _. true) acl) ∙ list_any-agree (λ e. p e && true) p (λ e. and-true (p e)) acl ∙ some)
 
 pub first_dropped : (p : EntryValue → Bool) (acl : List EntryValue) (rest : List (List EntryValue)) → list_any p acl ≡ false
     → first_nonempty (filter p acl ∷ rest) ≡ first_nonempty rest
@@ -171,7 +172,7 @@ tag_has-perms_of tag (x ∷ xs) request once =
       | inl passes ↦
           let one : cond {A = ℕ} (has x) 1 0 ≡ 1 = ap (λ b. cond {A = ℕ} b 1 0) passes in
           let none : has_tag tag xs ≡ false = list_any-count_by has xs ∙ le-ltb 0 (count_of tag xs) (omega arith) in
-          rw (passes, list_any-none_and has (λ (e : EntryValue). has_all e.perms request) xs none) (or_false (has_all x.perms request))
+          rw (passes, list_any-none_and has (λ (e : EntryValue). has_all e.perms request) xs none) (or-false (has_all x.perms request))
       | inr fails ↦
           let zero_more : cond {A = ℕ} (has x) 1 0 ≡ 0 = ap (λ b. cond {A = ℕ} b 1 0) fails in
           rw fails (tag_has-perms_of tag xs request (omega arith))

@@ -5,8 +5,10 @@ use Rattle.std.specs.Option.{option_map_or}
 use Rattle.std.proofs.lemmas.Bool.{cases_eq, lt-ltb}
 use Rattle.std.proofs.lemmas.Cmp.{tied_itself}
 use Rattle.std.proofs.lemmas.List.Folds.{Any-from_list_any}
+use Rattle.std.proofs.lemmas.List.{get_or_default}
+use Rattle.std.proofs.lemmas.Option.{slice_get-get_or}
 use Rattle.acl_names.specs.Bits.{has_all}
-use Rattle.acl_names.proofs.AscendingLemmas.{find-searched, get_or-within, slice_get-within}
+use Rattle.acl_names.proofs.AscendingLemmas.{find-searched}
 use Rattle.acl_names.proofs.Counting.{list_any-count_by}
 use Rattle.acl_posix.specs.declared.entry.Tag.{Tag}
 use Rattle.acl_posix.specs.declared.entry.Tag.TheVariants.{UserObj, Other}
@@ -26,13 +28,13 @@ module _ (acl : List EntryValue) (valid : IsValid acl) (canonical : IsCanonical 
       let has : EntryValue → Bool = λ e. same_tag e.tag tag in
       let found = Any-from_list_any has acl (list_any-count_by has acl ∙ lt-ltb 0 (count_of tag acl) (omega arith)) in
       let tagged : tag_of (get_or acl found.0 entry) ≡ tag =
-      ap tag_of (get_or-within acl found.0 entry found.1 found.2 ∙ found.3) ∙ same_tag-true (tag_of found.1) tag found.4 in
+      ap tag_of (get_or_default acl found.0 entry found.1 found.2 ∙ found.3) ∙ same_tag-true (tag_of found.1) tag found.4 in
       let place : found.0 ≡ at = elim (cases_eq found.0 at) [ inl same ↦ same | inr other ↦ absurd (apart found.0 found.2 other tagged) ] in
       let is_tag : tag_of entry ≡ tag = ap tag_of here ∙ rw place at tagged in
       let first : find has acl ≡ Some entry =
       find-searched tag_cmp tag_cmp_total tag_of same_tag same_tag-tag_cmp acl tag canonical at inside
-      (λ d. ap (λ e. tag_cmp (tag_of e) tag) (get_or-within acl at d entry inside ∙ sym here) ∙ ap (λ t. tag_cmp t tag) is_tag ∙ tied_itself tag_cmp_total tag)
-      ∙ slice_get-within acl at entry inside ∙ ap Some (sym here) in
+      (λ d. ap (λ e. tag_cmp (tag_of e) tag) (get_or_default acl at d entry inside ∙ sym here) ∙ ap (λ t. tag_cmp t tag) is_tag ∙ tied_itself tag_cmp_total tag)
+      ∙ slice_get-get_or acl at entry inside ∙ ap Some (sym here) in
       sym (tag_has-perms_of tag acl request (omega arith) ∙ ap (λ o. option_map_or (λ p. has_all p request) (option_map (λ e. e.perms) o) false) first)
 
   pub owner_has : (entry : EntryValue) → 0 < length acl → entry ≡ get_or acl 0 entry → has_all entry.perms request ≡ tag_has UserObj acl request

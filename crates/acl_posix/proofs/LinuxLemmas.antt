@@ -3,10 +3,12 @@ use Rattle.std.proofs.Common.{◌≡◌, ◌∙◌, ℕ, Bool, true, false, ◌&
 use Rattle.std.specs.Option.{option_map_or}
 use Rattle.std.proofs.lemmas.Bool.{cases_Bool, cases_eq, eq-eqb, ne_eqb, false≢true, lt-ltb}
 use Rattle.std.proofs.lemmas.Nat.{and_le_l, and_le_r}
-use Rattle.acl_names.proofs.AnyLemmas.{or_false, and_true, and_false, list_any-weaken}
+use Rattle.std.proofs.Math.Bool.{and-false, and-true, or-false}
+use Rattle.acl_names.proofs.AnyLemmas.{list_any-weaken}
 use Rattle.acl_names.proofs.Counting.{list_any-count_by}
 use Rattle.acl_names.specs.Bits.{◌∩◌, has_all}
 use Rattle.acl_names.specs.Requester.{Identity, is_in_group}
+use Rattle.acl_names.proofs.IdTexts.{and_second}
 use Rattle.acl_posix.specs.Access.{grants, is_for_group_of}
 use Rattle.acl_posix.specs.CheckSteps.{has_tag, tag_has, has_group, group_has, mask_allows}
 use Rattle.acl_posix.specs.Entry.{EntryValue, perms_of, same_tag}
@@ -65,29 +67,25 @@ is_named_by-user : (requester : Identity) (tag : Tag) → same_tag tag (User req
 is_named_by-user requester (User uid) is = is
 is_named_by-user requester _ is = absurd (false≢true is)
 
-and-right : (a b : Bool) → (a && b) ≡ true → b ≡ true
-and-right true b is = is
-and-right false b is = absurd (false≢true is)
-
 -- the check of the list of a mode
 module _ (mode : Classes) (owner group : ℕ) (requester : Identity) (request : ℕ) where
   by_mode-owner : (requester.uid == owner) ≡ true → grants (of_mode mode) owner group requester request ≡ has_all mode.user request
   by_mode-owner is_owner =
-      grants-owner (of_mode mode) owner group requester request is_owner refl ∙ or_false (has_all mode.user request)
+      grants-owner (of_mode mode) owner group requester request is_owner refl ∙ or-false (has_all mode.user request)
 
   by_mode-group : (requester.uid == owner) ≡ false → is_in_group requester group ≡ true
       → grants (of_mode mode) owner group requester request ≡ has_all mode.group request
   by_mode-group not_owner inside =
       grants-group (of_mode mode) owner group requester request not_owner refl (ap (λ b. b || false) inside)
-      ∙ and_true ((is_in_group requester group && has_all mode.group request) || false)
-      ∙ or_false (is_in_group requester group && has_all mode.group request)
+      ∙ and-true ((is_in_group requester group && has_all mode.group request) || false)
+      ∙ or-false (is_in_group requester group && has_all mode.group request)
       ∙ ap (λ b. b && has_all mode.group request) inside
 
   by_mode-other : (requester.uid == owner) ≡ false → is_in_group requester group ≡ false
       → grants (of_mode mode) owner group requester request ≡ has_all mode.other request
   by_mode-other not_owner outside =
       grants-other (of_mode mode) owner group requester request not_owner refl (ap (λ b. b || false) outside)
-      ∙ or_false (has_all mode.other request)
+      ∙ or-false (has_all mode.other request)
 
 module _ (acl : List EntryValue) (valid : IsValid acl) (empty : perms_of Mask acl ≡ Some 0) where
   -- the mask stands for the group in the mode
@@ -142,7 +140,7 @@ module _ (acl : List EntryValue) (valid : IsValid acl) (empty : perms_of Mask ac
     -- entries under the empty mask grant nothing
     granted-nothing : (answer : Bool) → grants acl owner group requester request ≡ (answer && mask_allows acl request)
         → grants acl owner group requester request ≡ true → has_all 0 request ≡ true
-    granted-nothing answer is granted = sym (nothing_allowed request) ∙ and-right answer (mask_allows acl request) (sym is ∙ granted)
+    granted-nothing answer is granted = sym (nothing_allowed request) ∙ and_second answer (mask_allows acl request) (sym is ∙ granted)
 
     no_less : grants acl owner group requester request ≡ true → grants (of_mode (mode_of acl)) owner group requester request ≡ true
     no_less granted = elim (cases_Bool (requester.uid == owner)) [
@@ -180,7 +178,7 @@ module _ (acl : List EntryValue) (valid : IsValid acl) (empty : perms_of Mask ac
           let denied : (group_has requester group acl request && has_all 0 request) ≡ has_all 0 request =
           elim (cases_Bool (has_all 0 request)) [
             | inl whole ↦ rw (whole, has_nothing some whole) refl
-            | inr lacks ↦ rw lacks (and_false (group_has requester group acl request))
+            | inr lacks ↦ rw lacks (and-false (group_has requester group acl request))
           ] in
           in_mode-group not_owner (only_file_group some)
           ∙ sym (grants-group acl owner group requester request not_owner no_user_named some

@@ -5,6 +5,7 @@ use Rattle.std.specs.List.Sorted.{IsPermutation}
 use Rattle.std.specs.Option.{option_map, option_map_or}
 use Rattle.std.proofs.lemmas.Bool.{cases_Bool, le-ltb}
 use Rattle.std.proofs.lemmas.List.Sorted.{list_any-IsPermutation}
+use Rattle.std.proofs.Math.Bool.{or-false}
 use Rattle.acl_names.specs.Requester.{Identity}
 use Rattle.acl_posix.specs.declared.entry.Tag.{Tag}
 use Rattle.acl_posix.specs.declared.entry.Tag.TheVariants.{UserObj, User, Mask, Other}
@@ -27,15 +28,11 @@ only_one p f (x ∷ xs) one =
       | inl passes ↦
           let counts : count_by p (x ∷ xs) ≡ 1 + count_by p xs = count_by-cons p x xs ∙ ap (λ b. cond b 1 0 + count_by p xs) passes in
           let none : list_any p xs ≡ false = list_any-count_by p xs ∙ le-ltb 0 (count_by p xs) (omega arith) in
-          rw (passes, list_any-none_and p f xs none) (sym (or_false (f x)))
+          rw (passes, list_any-none_and p f xs none) (sym (or-false (f x)))
       | inr fails ↦
           let counts : count_by p (x ∷ xs) ≡ 0 + count_by p xs = count_by-cons p x xs ∙ ap (λ b. cond b 1 0 + count_by p xs) fails in
           rw fails (only_one p f xs (omega arith))
     ]
-  where
-    or_false : (b : Bool) → (b || false) ≡ b
-    or_false true = refl
-    or_false false = refl
 
 module _ (xs ys : List EntryValue) (moved : IsPermutation xs ys) (valid : IsValid xs) (request : ℕ) where
   same_has_tag : (tag : Tag) → has_tag tag xs ≡ has_tag tag ys

@@ -1,12 +1,13 @@
 -- Which fault a piece has that is no entry.
 use Rattle.std.proofs.Common.{◌≡◌, ◌≢◌, ◌↔◌, ℕ, true, cond, nat_le, List, [], ◌∷◌, Option, Some, None, Result, Ok, Err, codes, refl, sym, ap, subst, ◌∙◌}
 use Rattle.std.proofs.lemmas.Slice.Eq.{bytes_eq-Decides}
+use Rattle.std.proofs.lemmas.Option.{cond_some}
 use Rattle.acl_names.specs.declared.limits.TheConstants.{MAX_ID}
 use Rattle.acl_names.specs.Directory.{Known, uid_of, gid_of, fault_of}
 use Rattle.acl_names.specs.Ids.{Written, Number, Name, written_id, number_or_name, decimal_value, has_name_shape, has_domain_shape, id_of_written}
 use Rattle.acl_names.specs.Names.{names_of}
 use Rattle.acl_names.specs.Steps.{◌>>=◌, or_fault}
-use Rattle.acl_names.proofs.StepLemmas.{given, some_from_cond}
+use Rattle.acl_names.proofs.StepLemmas.{given}
 use Rattle.acl_posix.specs.Entry.{EntryValue}
 use Rattle.acl_posix.specs.EntryText.{Fields, fields_of, tag_word, tag_of, tag_with_id, entry_by, entry_of}
 use Rattle.acl_posix.specs.Faults.{IsEntry, HasUnknownName, HasNoShape}
@@ -100,7 +101,7 @@ unfound_name id_of text w e lost = go (decimal_value text) refl e
         let none : cond (nat_le n MAX_ID) (Some n) None ≡ None = ap (id_of_written id_of) number ∙ lost in
         let some : cond (nat_le n MAX_ID) (Some n) None ≡ Some n = ap (λ b. cond b (Some n) None) (decimal_within text n is) in
         cc
-    go None is e = let choice = some_from_cond (has_name_shape text) (Name text) w e in (choice.0, sym choice.1)
+    go None is e = let choice = cond_some (has_name_shape text) (Name text) w e in (choice.0, sym choice.1)
 
 -- a qualifier whose name is unknown is one where the name is known
 qualified_elsewhere : (tag : ℕ → Tag) (id_of other_of : List ℕ → Option ℕ) (text : List ℕ) → tag_with_id written_id tag id_of text ≡ Err UnknownName → other_of text ≡ Some 0

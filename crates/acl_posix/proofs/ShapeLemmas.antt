@@ -1,5 +1,5 @@
 -- What the reader's function answers is what the shapes say.
-use Rattle.std.proofs.Common.{◌≡◌, ◌⊎◌, ◌||◌, ℕ, Bool, true, false, cond, List, [], ◌∷◌, Option, Some, None}
+use Rattle.std.proofs.Common.{◌≡◌, ℕ, Bool, true, false, cond, List, [], ◌∷◌, Option, Some, None}
 use Rattle.std.proofs.Common.{option_and_then, Result, Ok, ◌<◌, ◌&&◌, nat_le, length, refl, sym, ap, subst}
 use Rattle.std.proofs.Common.{◌∙◌, inl, inr, codes, arith}
 use Rattle.std.specs.Char.{is_ascii_digit}
@@ -7,12 +7,14 @@ use Rattle.std.specs.List.{list_all}
 use Rattle.std.specs.Str.{bytes_eq}
 use Rattle.std.specs.Str.Parse.{digits_value}
 use Rattle.std.proofs.lemmas.Slice.Eq.{bytes_eq-Decides}
+use Rattle.std.proofs.lemmas.Option.{cond_some}
+use Rattle.std.proofs.lemmas.Bool.{or_cases}
 use Rattle.acl_names.specs.declared.limits.TheConstants.{MAX_DIGITS, MAX_ID}
 use Rattle.acl_names.specs.Directory.{Known, uid_of, gid_of}
 use Rattle.acl_names.specs.Ids.{is_decimal, written_id, number_or_name, decimal_value, has_name_shape, id_of_written}
 use Rattle.acl_names.specs.Names.{names_of}
 use Rattle.acl_names.proofs.IdTexts.{and_second, written_name}
-use Rattle.acl_names.proofs.StepLemmas.{bind_ok, given, some_from_cond, written_by}
+use Rattle.acl_names.proofs.StepLemmas.{bind_ok, given, written_by}
 use Rattle.acl_posix.proofs.RoundTrip.{qualified_by, user_tag, group_tag, read_parts}
 use Rattle.acl_names.specs.Steps.{◌>>=◌, or_fault}
 use Rattle.acl_posix.specs.PermsText.{perms_of_text}
@@ -37,10 +39,6 @@ ok_entry entry = Ok entry
 
 same_entries : (x y : EntryValue) → ok_entry x ≡ ok_entry y → x ≡ y
 same_entries x y e = cc
-
-or_cases : (a b : Bool) → (a || b) ≡ true → (a ≡ true) ⊎ (b ≡ true)
-or_cases true b e = inl refl
-or_cases false b e = inr e
 
 qualified_says : (tag : ℕ → Tag) (id_of : List ℕ → Option ℕ) (text : List ℕ) (t : Tag) → tag_with_id written_id tag id_of text ≡ Ok t → (id : ℕ) × WritesId id_of text id × (tag id ≡ t)
 qualified_says tag id_of text t e =
@@ -139,7 +137,7 @@ word_read text word.Other is = elim is [ inl e ↦ ap tag_word e | inr e ↦ ap 
 -- a decimal is within the range of ids
 pub decimal_within : (text : List ℕ) (id : ℕ) → decimal_value text ≡ Some id → nat_le id MAX_ID ≡ true
 decimal_within text id e =
-    let read = some_from_cond (is_decimal text) (digits_value 10 text) id e in
+    let read = cond_some (is_decimal text) (digits_value 10 text) id e in
     let few = list_all is_ascii_digit text && nat_le 1 (length text) && nat_le (length text) MAX_DIGITS in
     ap (λ n. nat_le n MAX_ID) (sym read.1) ∙ and_second few (nat_le (digits_value 10 text) MAX_ID) read.0
 

@@ -1,10 +1,10 @@
 -- Lists as a loop goes through them.
 use Rattle.std.proofs.Common.{◌≡◌, ℕ, ◌+◌, ◌<◌, ap, sym, ◌∙◌, List, [], ◌∷◌, ◌++◌, length, get_or, take, append-nil, add-one, subst}
-use Rattle.acl_names.proofs.AnyLemmas.{flat_map-append}
 use Rattle.std.proofs.Math.Seq.{take-suc}
 use Rattle.std.specs.Prelude.{flat_map}
 use Rattle.std.specs.List.{All}
 use Rattle.std.proofs.lemmas.List.Elements.{All-nil, All-cons, All-append}
+use Rattle.std.proofs.lemmas.Grind.{flat_map-append}
 
 -- what holds of the elements so far, and of the next
 pub All-take-next : {X : Type 0} (P : X → Type 0) (xs : List X) (i : ℕ) (x : X) → i < length xs → x ≡ get_or xs i x

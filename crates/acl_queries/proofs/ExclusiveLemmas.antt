@@ -1,9 +1,10 @@
 -- Lists that decide alike differ for nobody.
-use Rattle.std.proofs.Common.{◌≡◌, ◌∙◌, inl, inr, ℕ, List, [], ◌∷◌, Bool, true, false, ◌&&◌, not, ◌||◌, ap, refl, sym, IsTrue}
+use Rattle.std.proofs.Common.{◌≡◌, ◌∙◌, inl, inr, ℕ, List, [], ◌∷◌, ◌||◌, ap, sym}
 use Rattle.std.specs.List.{AllByRecursion}
 use Rattle.acl_names.specs.Asker.{identity_of}
 use Rattle.acl_names.specs.Bits.{has, ◌∪◌}
 use Rattle.acl_names.proofs.BitSets.{has-or, no_bits}
+use Rattle.acl_names.proofs.AnyLemmas.{not_one_alone}
 use Rattle.acl_nfs4.specs.Comparison.{DecideAlike, Decider, IsDifference}
 use Rattle.acl_nfs4.specs.Mask.{mask_bits}
 use Rattle.acl_nfs4.specs.declared.comparison.Difference.{Difference}
@@ -14,13 +15,6 @@ use Rattle.acl_queries.specs.Compared.{Compared}
 use Rattle.acl_queries.specs.Differences.{AreAlike, Differ, owners_of}
 use Rattle.acl_bridge.specs.declared.any_acl.AnyAcl.{AnyAcl}
 use Rattle.acl_bridge.specs.declared.any_acl.AnyAcl.TheVariants.{Posix, Nfs4}
-
--- one of two that are equal isn't granted alone
-not_one_alone : (asked before after : Bool) → (IsTrue asked → before ≡ after) → (asked && (before && not after)) ≡ false
-not_one_alone false before after alike = refl
-not_one_alone true false after alike = refl
-not_one_alone true true true alike = refl
-not_one_alone true true false alike = alike refl
 
 module _ (before after : Decider) (bits : ℕ) (alike : DecideAlike before after bits) where
   -- the asker of a difference loses and gains nothing

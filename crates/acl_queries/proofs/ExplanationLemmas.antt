@@ -8,7 +8,7 @@ use Rattle.std.specs.Option.{option_map_or}
 use Rattle.std.proofs.lemmas.Bool.{false≢true}
 use Rattle.acl_names.specs.Bits.{has_all}
 use Rattle.acl_names.specs.Requester.{Identity}
-use Rattle.acl_names.proofs.AnyLemmas.{list_any-filter}
+use Rattle.acl_names.proofs.AnyLemmas.{list_any-filter, and_same}
 use Rattle.acl_posix.specs.Access.{effective_perms, first_nonempty, grants, is_for_group_of}
 use Rattle.acl_posix.specs.CheckSteps.{has_group, has_tag, mask_allows}
 use Rattle.acl_posix.specs.Entry.{EntryValue, perms_of, same_tag}
@@ -84,10 +84,6 @@ classes_decide acl owner group requester request valid =
     (list_any (λ entry. is_for_group_of requester group entry.tag) acl) refl refl refl (has_tag-valid acl valid)
 
 -- ---- other permissions in entries that don't count
-
-and_same : (b x y : Bool) → (b ≡ true → x ≡ y) → (b && x) ≡ (b && y)
-and_same true x y same = same refl
-and_same false x y same = refl
 
 module _ (count : Tag → Bool) where
   -- what is asked of tags alone is answered alike

@@ -20,7 +20,7 @@ use Rattle.acl_runs.specs.Workers.{IsServed}
 use Rattle.acl_runs.specs.Threads.{IsReady, Handle, AreStarted, AreGathered, AreServed}
 use Rattle.acl_runs.specs.declared.error_limits.ErrorLimits.{ErrorLimits}
 use Rattle.acl_runs.specs.declared.workers.Gathered.{Gathered}
-use Rattle.acl_runs.proofs.SettlingLemmas.{some_item}
+use Rattle.acl_runs.proofs.LimitLemmas.{some_item}
 
 module _ {C P I R K : Type 0} (rest : C → List I) (handling : P → Handling R K) (replies : P)
     (limit : Option ℕ) (ends : List (End I R)) (sessions : List C) (workers : List (Handle C P I R K))

@@ -25,9 +25,10 @@ some_left (suc left) some = omega arith
 pub ok_isnt_err : {A E : Type 0} {x : A} {e : E} → Ok x ≡ Err e → ⊥
 ok_isnt_err same = cc
 
-some_side : {A : Type 0} (items : List A) (i : ℕ) → i < length items → A
-some_side [] i below = absurd (omega arith)
-some_side (item ∷ items) i below = item
+-- a list with a place has an item
+pub some_item : {A : Type 0} (items : List A) (i : ℕ) → i < length items → A
+some_item [] i below = absurd (omega arith)
+some_item (item ∷ items) i below = item
 
 -- two lists that are one have one last item
 pub last_same : {A : Type 0} (xs ys : List A) (x y : A) → xs ++ x ∷ [] ≡ ys ++ y ∷ [] → x ≡ y
@@ -155,7 +156,7 @@ module _ {I R : Type 0} (is_error : R → Bool) where
               (subst (λ (l : ErrorLimits). IsLimited is_error allowed (get_or l.left.items s left) (get_or sides s side)) (sym (beyond past.1)) (limited.1 s left side within)),
         )
         | inr inside ↦ (
-          (here allowed 0 (some_side sides session (omega (arith, inside.1))) (omega (arith, inside.1)) limited.0).0 ∙ limited.0 ∙ sym others.0,
+          (here allowed 0 (some_item sides session (omega (arith, inside.1))) (omega (arith, inside.1)) limited.0).0 ∙ limited.0 ∙ sym others.0,
           λ s left side below.
               let within : s < length sides = omega (arith, below, others.0) in
               let one = here allowed left side (omega (arith, inside.1)) limited.0 in

@@ -10,13 +10,13 @@ use Rattle.acl_broker.proofs.EachSessions.{each_session, of_session}
 use Rattle.acl_runs.specs.Handling.{Handling, keeping_all}
 use Rattle.acl_runs.specs.RunReport.{IsReport}
 use Rattle.acl_runs.specs.declared.report.RunReport.{RunReport}
-use Rattle.acl_runs.proofs.SettlingLemmas.{some_item}
 use Rattle.acl_runs.specs.Rounds.{entries_of, heads, rounds, Answered, AreRounds}
 use Rattle.acl_runs.specs.Turns.{rests, AllRounds}
 use Rattle.acl_runs.specs.RoundsState.{HasBegun, IsReported}
 use Rattle.acl_runs.specs.declared.rounds.state.Progress.{Progress}
 use Rattle.acl_runs.specs.declared.rounds.state.Run.{Run}
 use Rattle.acl_runs.proofs.RoundLemmas.{items_rounds}
+use Rattle.acl_runs.proofs.LimitLemmas.{some_item}
 
 module _ {I : Type 0} where
   known_entries : (n session : ℕ) (items : List I) → session < n → AllByRecursion (λ entry. entry.session < n) (entries_of session items)

@@ -6,6 +6,7 @@ use Rattle.std.proofs.Common.{ap, sym, ◌∙◌, subst, append_assoc, append-ni
 use Rattle.std.proofs.Common.{inl, inr, ◌≡◌, ◌⊎◌, ℕ, suc, ◌<◌, ◌≤◌, Bool, true, false, List, [], ◌∷◌, ◌++◌}
 use Rattle.std.proofs.Common.{length, map, refl, Option, Some, None, if◌then◌else◌, ◌==◌}
 use Rattle.std.proofs.lemmas.List.{nil_from_length, get_or-map}
+use Rattle.std.proofs.lemmas.Option.{none-some}
 use mathlib.Core.List.{IsPrefix}
 use Rattle.acl_broker.specs.Journal.{items_from, state_after, answers_to}
 use Rattle.acl_broker.specs.Lanes.{fresh_lane}
@@ -28,13 +29,8 @@ use Rattle.acl_runs.specs.Threads.{AreServed}
 use Rattle.acl_runs.specs.declared.error_limits.ErrorLimits.{ErrorLimits}
 use Rattle.acl_runs.specs.declared.report.RunReport.{RunReport}
 use Rattle.acl_runs.specs.declared.workers.Gathered.{Gathered}
-use Rattle.acl_runs.proofs.WorkerLemmas.{errors_in-append, none_isnt_some, some_of}
-use Rattle.acl_runs.proofs.LimitLemmas.{last_same}
-
--- a list with a place has an item
-pub some_item : {A : Type 0} (items : List A) (i : ℕ) → i < length items → A
-some_item [] i below = absurd (omega arith)
-some_item (item ∷ items) i below = item
+use Rattle.acl_runs.proofs.WorkerLemmas.{errors_in-append, some_of}
+use Rattle.acl_runs.proofs.LimitLemmas.{last_same, some_item}
 
 -- the front of a list that is as long as the list is the whole of it
 whole_front : {A : Type 0} (front whole : List A) → IsPrefix front whole → length whole ≤ length front → front ≡ whole
@@ -134,7 +130,7 @@ module _ {State I R K : Type 0} (next : State → I → State) (reply : State �
       → (allowed : ℕ) → limit ≡ Some allowed
       → (((get_or taker.sides session side).cancelled ≡ false → errors_in handling.is_error (answers_to next reply session opening taker.journal) < allowed)
       × ((get_or taker.sides session side).cancelled ≡ true → EndsAtError handling.is_error allowed (answers_to next reply session opening taker.journal)))
-  limit_at opening taker None limits session side keeps limited below allowed is = absurd (none_isnt_some is)
+  limit_at opening taker None limits session side keeps limited below allowed is = absurd (none-some _ is)
   limit_at opening taker (Some most) limits session side keeps limited below allowed is =
       let answers : made (get_or taker.sides session side) ≡ answers_to next reply session opening taker.journal = (of_session _ _ _ keeps.sides session side below).answered in
       let same : most ≡ allowed = ap (λ n. some_of n 0) is in

@@ -2,7 +2,7 @@
 use Rattle.std.specs.List.{AllByRecursion, flat_map}
 use Rattle.std.proofs.Common.{ap, sym, ◌∙◌, subst, append_assoc, append-nil, arith, get_or, ◌≡◌}
 use Rattle.std.proofs.Common.{◌≢◌, ℕ, zero, suc, ◌+◌, ◌<◌, Bool, true, false, List, [], ◌∷◌, ◌++◌, length}
-use Rattle.std.proofs.Common.{map, take, drop, refl, Some, None, slice_set, ◌||◌}
+use Rattle.std.proofs.Common.{map, take, drop, refl, Some, None, slice_set, true≢false}
 use Rattle.std.proofs.lemmas.List.{get_or-map, map-set, length-set, length-map, get_or_default, get_or-append_right, get_or-drop, length-take-le, take_more}
 use Rattle.std.proofs.lemmas.List.Edits.{map_over_more}
 use Rattle.std.proofs.lemmas.Grind.{flat_map-append}
@@ -15,13 +15,6 @@ use Rattle.acl_runs.specs.Rounds.{entries_of, heads, rounds, Answered}
 use Rattle.acl_runs.specs.Turns.{rests, AnswersNext, Turns, TurnsOfFirst, Rounds, AllRounds, WithRoundsLeft}
 use Rattle.acl_runs.specs.declared.rounds.state.Progress.{Progress}
 use Rattle.acl_runs.specs.declared.rounds.state.Run.{Run}
-
-true_isnt_false : true ≡ false → ⊥
-true_isnt_false is = cc
-
-pub neither : (more did : Bool) → (more || did) ≡ false → (more ≡ false) × (did ≡ false)
-neither true did is = absurd (true_isnt_false is)
-neither false did is = (refl, is)
 
 module _ {I : Type 0} where
   -- the heads of one more list
@@ -102,7 +95,7 @@ module _ {C State I R : Type 0} (rest : C → List I) (next : State → I → St
             ∙ (of_session _ _ _ was.sessions session progress below).1) ∙ ap (λ last. flat_map text before ++ text last) answer_is
             ∙ ap (λ last. flat_map text before ++ last) (sym (append-nil (text answer))) ∙ sym (flat_map-append text before (answer ∷ [])) ∙ ap (λ answers. flat_map text answers) (sym grows))
             (λ other differs. ap (λ j. answers_to next reply other opening j) journal ∙ kept_answers next reply session other opening entries item differs) was;
-        none = λ is. absurd (true_isnt_false is);
+        none = λ is. absurd (true≢false is);
       }
 
   -- the turn of a session that has no request left

@@ -1,12 +1,12 @@
 -- A session from step to step.
 use Rattle.std.proofs.Common.{ap, sym, ◌∙◌, subst, append-nil, append_assoc, arith, length-append, inl, inr}
 use Rattle.std.proofs.Common.{◌≡◌, ◌⊎◌, ℕ, ◌+◌, ◌-◌, Bool, true, false, List, [], ◌∷◌, ◌++◌, length, map}
-use Rattle.std.proofs.Common.{refl, Option, Some, None, if◌then◌else◌, filter, flat_map}
+use Rattle.std.proofs.Common.{refl, Option, Some, None, if◌then◌else◌, filter, flat_map, true≢false}
 use Rattle.std.proofs.lemmas.List.Elements.{filter-append}
 use Rattle.std.proofs.lemmas.Grind.{flat_map-append}
 use Rattle.std.specs.Bool.{OnFalse}
-use Rattle.std.proofs.lemmas.Bool.{both_ways}
 use Rattle.std.proofs.lemmas.List.{map-append, length-map}
+use Rattle.std.proofs.lemmas.Option.{none-some}
 use Rattle.acl_broker.specs.Ends.{sent_by, polled_by, StaysEndOf}
 use Rattle.acl_broker.specs.declared.end.End.{End}
 use Rattle.acl_broker.specs.declared.end.End.TheVariants.{Open, Closed}
@@ -34,12 +34,6 @@ module _ {R : Type 0} (is_error : R → Bool) where
       let none : errors_in is_error (answer ∷ []) ≡ 0 = ap (λ b. length (if b then answer ∷ [] else [])) is in
       ap (λ n. Some n) (omega (arith, errors_in-append replies (answer ∷ []), none))
 
-true_isnt_false : true ≡ false → ⊥
-true_isnt_false is = both_ways true is refl
-
-pub none_isnt_some : {A : Type 0} {x : A} → None ≡ Some x → ⊥
-none_isnt_some same = cc
-
 left_none : {R : Type 0} (is_error : R → Bool) (limit : Option ℕ) → left_after is_error limit [] ≡ limit
 left_none is_error None = refl
 left_none is_error (Some allowed) = ap (λ n. Some n) (omega arith)
@@ -49,7 +43,7 @@ some_of None default = default
 some_of (Some x) default = x
 
 uses_up : {R : Type 0} (is_error : R → Bool) (limit : Option ℕ) (replies : List R) (left : Option ℕ) → left ≡ Some 0 → left ≡ left_after is_error limit replies → UsesUp is_error limit replies
-uses_up is_error None replies left over is = absurd (none_isnt_some (sym is ∙ over))
+uses_up is_error None replies left over is = absurd (none-some _ (sym is ∙ over))
 uses_up is_error (Some allowed) replies left over is =
     let none : allowed - errors_in is_error replies ≡ 0 = ap (λ n. some_of n 0) (sym is ∙ over) in
     omega (arith, none)
@@ -138,7 +132,7 @@ module _ {R K : Type 0} (handling : Handling R K) where
         (done : Bool) (count : ℕ) → Advances handling a p wanted b q rest
         → GoesOn handling b q (if done then request ∷ [] else []) c r → OnFalse done (IsOver r) → done ≡ false
         → Submits handling a p wanted count c r
-    submits_less a b c p q r wanted rest request true count advances on over is = absurd (true_isnt_false is)
+    submits_less a b c p q r wanted rest request true count advances on over is = absurd (true≢false is)
     submits_less a b c p q r wanted rest request false count advances on over is = submits_some a b c p q r wanted rest count advances on over
 
     pub advances_by_one : (a b c : End I R) (p q r : Printed K) (wanted rest rest' : List I) (request : I)
@@ -146,7 +140,7 @@ module _ {R K : Type 0} (handling : Handling R K) where
         → GoesOn handling b q (if done then request ∷ [] else []) c r → done ≡ true
         → Advances handling a p wanted c r rest'
     advances_by_one a b c p q r wanted rest rest' request true advances next on is = advances_then a b c p q r wanted rest rest' (request ∷ []) advances next on
-    advances_by_one a b c p q r wanted rest rest' request false advances next on is = absurd (true_isnt_false (sym is))
+    advances_by_one a b c p q r wanted rest rest' request false advances next on is = absurd (true≢false (sym is))
 
     -- a session that has submitted, closed and polled
     pub is_finished : (start end : SessionEnd I R) (closed last : ClosedEnd I R) (p q r s : Printed K)

@@ -6,6 +6,7 @@ use Rattle.std.proofs.lemmas.Iterator.Adapters.{position_from-zero}
 use Rattle.std.specs.Bool.{Decides}
 use Rattle.std.proofs.lemmas.Bool.Decides.{Decides-eqb, nat_tests}
 use Rattle.std.proofs.lemmas.Slice.Eq.{bytes_eq-Decides}
+use Rattle.std.proofs.Math.Bool.{or-true}
 use Rattle.acl_names.proofs.AnyLemmas.{list_any-none}
 use Rattle.acl_names.proofs.Counting.{count_by-cons}
 use Rattle.acl_names.specs.Ascending.{repeats}
@@ -66,16 +67,12 @@ module _ {X K : Type 0} (same : K → K → Bool) (key : X → K) (decides : (a 
   any_alike [] y z is any = cc
   any_alike (b ∷ before) y z is any = go (same (key b) z) refl any (any_alike before y z is)
     where
-      or_true : (a : Bool) → (a || true) ≡ true
-      or_true true = refl
-      or_true false = refl
-
       go : (c : Bool) → same (key b) z ≡ c → (c || list_any (λ b. same (key b) z) before) ≡ true
           → (list_any (λ b. same (key b) z) before ≡ true → list_any (alike y) before ≡ true) → (alike y b || list_any (alike y) before) ≡ true
       go true here any later =
           let both : key y ≡ key b = (decides (key y) z).0 is ∙ sym ((decides (key b) z).0 here) in
           ap (λ (a : Bool). a || list_any (alike y) before) (same_as (key y) (key b) both)
-      go false here any later = ap (λ (a : Bool). alike y b || a) (later any) ∙ or_true (alike y b)
+      go false here any later = ap (λ (a : Bool). alike y b || a) (later any) ∙ or-true (alike y b)
 
   any_behind : (p : X → Bool) (before : List X) (y : X) → list_any p before ≡ true → list_any p (before ++ y ∷ []) ≡ true
   any_behind p [] y any = cc

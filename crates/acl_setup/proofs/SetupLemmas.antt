@@ -1,8 +1,8 @@
 -- What is read so far of the items of a list, and what is left; and what is repeated in a list as it is shown.
-use Rattle.std.proofs.Common.{◌≡◌, ◌+◌, ◌++◌, ℕ, Bool, List, [], ◌∷◌, Option, Result, Ok, Err, map, option_map, refl}
+use Rattle.std.proofs.Common.{◌≡◌, ◌+◌, ◌++◌, ℕ, Bool, List, [], ◌∷◌, Option, Result, Ok, Err, map, option_map, refl, sym}
 use Rattle.std.proofs.lemmas.List.{map-append}
-use Rattle.std.specs.List.{list_any}
 use Rattle.toml.specs.Data.{Data, Items}
+use Rattle.acl_names.proofs.AnyLemmas.{list_any-map}
 use Rattle.acl_setup.specs.PartsKeys.{repeated_from}
 use Rattle.acl_setup.specs.Readings.{each_item}
 use Rattle.acl_setup.specs.SetupTable.{texts_in}
@@ -20,13 +20,9 @@ behind values (Err key) = Err key
 abbrev pub read_after : {A : Type 0} → (ℕ → Data → Result A Key) → List A → ℕ → Items → Result (List A) Key
 read_after read values index left = behind values (each_item read index left)
 
-any-map : {A B : Type 0} (test : B → Bool) (shown : A → B) (values : List A) → list_any (λ value. test (shown value)) values ≡ list_any test (map shown values)
-any-map test shown [] = refl
-any-map test shown (value ∷ values) = rw (any-map test shown values) refl
-
 -- what is repeated is so as it is shown
 pub repeated-map : {A B : Type 0} (same : B → B → Bool) (shown : A → B) (before : List A) (index : ℕ) (values : List A)
     → repeated_from (λ value other. same (shown value) (shown other)) before index values ≡ repeated_from same (map shown before) index (map shown values)
 repeated-map same shown before index [] = refl
 repeated-map same shown before index (value ∷ values) =
-    rw (any-map (same (shown value)) shown before, repeated-map same shown (before ++ value ∷ []) (index + 1) values, map-append shown before (value ∷ [])) refl
+    rw (sym (list_any-map (same (shown value)) shown before), repeated-map same shown (before ++ value ∷ []) (index + 1) values, map-append shown before (value ∷ [])) refl

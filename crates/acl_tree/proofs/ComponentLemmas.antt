@@ -7,6 +7,7 @@ use Rattle.std.proofs.lemmas.List.Elements.{All-head, All-tail, All-weaker}
 use Rattle.std.proofs.lemmas.List.Sums.{fails_before_first, passes_at_first, split_at_first}
 use Rattle.std.proofs.lemmas.List.Splits.{slice_split_at, slice_split_none, slice_split-cons_no, length-slice_split}
 use Rattle.std.proofs.lemmas.Bool.Decides.{nat_tests}
+use Rattle.std.proofs.lemmas.Bool.{not-false, not-true, and_left, and_right}
 use Rattle.acl_names.specs.Pieces.{parts}
 use Rattle.acl_tree.specs.Path.{ends_component, is_component, is_path_byte}
 use Rattle.acl_tree.specs.declared.limits.TheConstants.{MAX_COMPONENT_LEN}
@@ -15,21 +16,13 @@ use Rattle.acl_tree.specs.declared.path.TheConstants.{SLASH}
 abbrev pub ArePathBytes : List ℕ → Type 0
 ArePathBytes bytes = All (λ byte. is_path_byte byte ≡ true) bytes
 
-not_false : (a : Bool) → not a ≡ false → a ≡ true
-not_false true e = refl
-not_false false e = cc
-
-not_true : (a : Bool) → not a ≡ true → a ≡ false
-not_true true e = cc
-not_true false e = refl
-
 -- what stands before the first byte before which a component ends
 pub front_bytes : (text : List ℕ) (n : ℕ) → n ≡ position_or_len ends_component text → n ≤ length text → ArePathBytes (take n text)
 front_bytes text n is within k d inside =
     let len : length (take n text) ≡ n = length-take-le n text within in
     let before : k < position_or_len ends_component text = omega arith in
     let below : k < n = omega arith in
-    rw get_or-take (not_false (is_path_byte (get_or text k d)) (fails_before_first ends_component text k d before))
+    rw get_or-take (not-false (is_path_byte (get_or text k d)) (fails_before_first ends_component text k d before))
 
 slash_in_no_component : (byte : ℕ) → (b : Bool) → (byte == SLASH) ≡ b → is_path_byte byte ≡ true → b ≡ false
 slash_in_no_component byte b is path = grind (arith, nat_tests)
@@ -58,11 +51,7 @@ FirstFails (part ∷ more) = list_all is_path_byte part ≡ false
 
 fails_onto : (byte : ℕ) (all : List (List ℕ)) → FirstFails all → FirstFails (onto_first byte all)
 fails_onto byte [] fails = absurd fails
-fails_onto byte (part ∷ more) fails = both (is_path_byte byte) (list_all is_path_byte part) fails
-  where
-    both : (a b : Bool) → b ≡ false → (a && b) ≡ false
-    both true b is = is
-    both false b is = refl
+fails_onto byte (part ∷ more) fails = and_right (is_path_byte byte) (list_all is_path_byte part) fails
 
 begins_with_bad : (byte : ℕ) (all : List (List ℕ)) (some : (part : List ℕ) × ((more : List (List ℕ)) × (all ≡ part ∷ more))) → is_path_byte byte ≡ false → FirstFails (onto_first byte all)
 begins_with_bad byte all some bad =
@@ -86,14 +75,10 @@ middle_false true true false d e is = refl
 middle_false true false false d e is = refl
 middle_false false b false d e is = refl
 
-none_then : (a b : Bool) → a ≡ false → (a && b) ≡ false
-none_then true b is = cc
-none_then false b is = refl
-
 first_fails_all : (all : List (List ℕ)) → FirstFails all → list_all is_component all ≡ false
 first_fails_all [] fails = absurd fails
 first_fails_all (part ∷ more) fails =
-    none_then (is_component part) (list_all is_component more)
+    and_left (is_component part) (list_all is_component more)
     (middle_false (nat_lt 0 (length part)) (nat_le (length part) MAX_COMPONENT_LEN) (list_all is_path_byte part) (not (bytes_eq part (codes "."))) (not (bytes_eq part (codes ".."))) fails)
 
 -- a byte that no path has
@@ -103,7 +88,7 @@ other_byte front tail byte are bad other = first_fails_all (parts SLASH (front +
 -- the text is one component, or none
 pub at_end : (text : List ℕ) (n : ℕ) → n ≡ position_or_len ends_component text → n ≡ length text → ArePathBytes text × (list_all is_component (parts SLASH text) ≡ (is_component text && true))
 at_end text n is whole =
-    let are : ArePathBytes text = λ k d inside. not_false (is_path_byte (get_or text k d)) (fails_before_first ends_component text k d (omega (arith, is, whole, inside))) in
+    let are : ArePathBytes text = λ k d inside. not-false (is_path_byte (get_or text k d)) (fails_before_first ends_component text k d (omega (arith, is, whole, inside))) in
     (are, last_component text are)
 
 -- the first component ends before a slash
@@ -122,12 +107,8 @@ at_other text n is below other =
     let cut : text ≡ take n text ++ (get_or text n 0 ∷ drop (n + 1) text) =
     subst (λ m. text ≡ take m text ++ (get_or text m 0 ∷ drop (m + 1) text)) (sym is) (split_at_first ends_component text 0 (omega (arith, is, below))) in
     let bad : is_path_byte (get_or text n 0) ≡ false =
-    not_true (is_path_byte (get_or text n 0)) (subst (λ m. ends_component (get_or text m 0) ≡ true) (sym is) (passes_at_first ends_component text 0 (omega (arith, is, below)))) in
+    not-true (is_path_byte (get_or text n 0)) (subst (λ m. ends_component (get_or text m 0) ≡ true) (sym is) (passes_at_first ends_component text 0 (omega (arith, is, below)))) in
     ap (λ all. list_all is_component (parts SLASH all)) cut ∙ other_byte (take n text) (drop (n + 1) text) (get_or text n 0) are bad other
-
-pub and_true : (b : Bool) → (b && true) ≡ b
-and_true true = refl
-and_true false = refl
 
 pub not_same : (x y : ℕ) → x ≢ y → (x == y) ≡ false
 not_same x y differ = grind (arith, nat_tests)

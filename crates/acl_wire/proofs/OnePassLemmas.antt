@@ -9,9 +9,9 @@ use Rattle.std.proofs.lemmas.Bool.{and_parts, cases_Bool, cases_lt, leb-true, lt
 use Rattle.std.proofs.lemmas.Grind.{common_steps}
 use Rattle.std.proofs.lemmas.List.{append-nil}
 use Rattle.std.proofs.lemmas.List.Elements.{All-append}
-use Rattle.std.proofs.lemmas.List.Folds.{find-append, list_any_none}
+use Rattle.std.proofs.lemmas.List.Folds.{find-append, list_any_none, list_any-append}
 use Rattle.std.proofs.lemmas.Option.{none-some}
-use Rattle.acl_names.proofs.AnyLemmas.{list_any-append, list_any-none_and}
+use Rattle.acl_names.proofs.AnyLemmas.{list_any-none_and}
 use Rattle.acl_names.proofs.AscendingLemmas.{find-none}
 use Rattle.acl_names.specs.Bits.{has_all}
 use Rattle.acl_names.specs.Requester.{Identity}

@@ -1,12 +1,12 @@
 -- The numbers from which NFSv4 entries are read are those of the entries, less what plays no part.
-use Rattle.std.proofs.Common.{◌≡◌, ◌∙◌, ℕ, ◌≤◌, ◌^◌, ◌||◌, Bool, true, false, cond, leb, eqb, arith, List, [], ◌∷◌, map, length, Ok, Err, refl, sym, ap, ap₂, subst, inl, inr}
+use Rattle.std.proofs.Common.{◌≡◌, ◌∙◌, ℕ, ◌≤◌, ◌^◌, Bool, true, false, cond, leb, eqb, arith, List, [], ◌∷◌, map, length, Ok, Err, refl, sym, ap, ap₂, subst, inl, inr}
 use Rattle.std.proofs.lemmas.Bool.{cases_Bool, cases_eq, eqb-true, leb-true, ne_eqb}
 use Rattle.std.proofs.lemmas.Nat.{and_mask}
 use Rattle.std.proofs.Math.Nat.{mod-eq_of_lt}
-use Rattle.acl_names.proofs.AnyLemmas.{or_false}
-use Rattle.acl_names.proofs.BitSets.{has-or, has-zero, same_bits}
+use Rattle.std.specs.Int.Bits.{or_zero_r}
 use Rattle.acl_names.specs.Bits.{has, without, ◌∩◌, ◌∪◌}
 use Rattle.acl_names.specs.declared.limits.TheConstants.{MAX_ID}
+use Rattle.acl_names.proofs.StepLemmas.{bind_ok}
 use Rattle.acl_nfs4.specs.Ace.{IsAce, Nfsace4, ace_of, flags_for, is_idle}
 use Rattle.acl_nfs4.specs.Flags.{all_flags, identifier_group}
 use Rattle.acl_nfs4.specs.Mask.{all_masks}
@@ -24,7 +24,7 @@ use Rattle.acl_wire.specs.declared.fault.Nfs4Fault.{Nfs4Fault}
 use Rattle.acl_wire.specs.declared.fault.Nfs4Fault.TheVariants as faults
 use Rattle.acl_wire.specs.declared.raw_ace.Purpose.{Purpose}
 use Rattle.acl_wire.specs.declared.raw_ace.RawAce.{RawAce}
-use Rattle.acl_wire.proofs.StepsBack.{answer, both_answered, ok_same, test_held}
+use Rattle.acl_wire.proofs.StepsBack.{answer, ok_same, test_held}
 
 kind_read : (number : ℕ) (kind : AceType) → kind_of number ≡ Ok kind → kind_number kind ≡ number
 kind_read number kind is = elim (cases_eq number 0) [
@@ -86,9 +86,6 @@ who_read special is_group id who is = elim (cases_eq special 0) [
 small_flags : (flags : ℕ) → flags ≤ all_flags → flags ∩ all_flags ≡ flags
 small_flags flags small = and_mask flags 7 ∙ mod-eq_of_lt {n = flags} {m = 2 ^ 7} (omega (arith, small))
 
-nothing_more : (set : ℕ) → set ∪ 0 ≡ set
-nothing_more set = same_bits (set ∪ 0) set (λ k. has-or set 0 k ∙ ap (λ (b : Bool). has set k || b) (has-zero k) ∙ or_false (has set k))
-
 ace_written : (kind : AceType) (who : Who) (raw : RawAce) → raw.flags ∩ all_flags ≡ raw.flags → raw.mask ∩ all_masks ≡ raw.mask → kind_number kind ≡ raw.kind
     → Says raw.special (has raw.flags identifier_group) raw.id who → raw_of (ace_of kind raw.flags who raw.mask) ≡ tidied_raw raw
 ace_written kind who raw flags mask kind_is says = elim (cases_eq raw.special 0) [
@@ -102,7 +99,7 @@ ace_written kind who raw flags mask kind_is says = elim (cases_eq raw.special 0)
   | inr other ↦
       let unnamed = says.unnamed other in
       let flags_are : flags_for who (raw.flags ∩ all_flags) ≡ without raw.flags (2 ^ identifier_group) =
-      ap₂ (λ (a b : ℕ). without a (2 ^ identifier_group) ∪ b) flags unnamed.0 ∙ nothing_more (without raw.flags (2 ^ identifier_group)) in
+      ap₂ (λ (a b : ℕ). without a (2 ^ identifier_group) ∪ b) flags unnamed.0 ∙ or_zero_r (without raw.flags (2 ^ identifier_group)) in
       let all : raw_of (ace_of kind raw.flags who raw.mask) ≡ record { kind = raw.kind; flags = without raw.flags (2 ^ identifier_group); mask = raw.mask; special = raw.special; id = 0 } =
       λ i. record { kind = kind_is i; flags = flags_are i; mask = mask i; special = says.special_is i; id = unnamed.1 i } in
       all ∙ sym (rw (ne_eqb raw.special 0 other) refl)
@@ -111,12 +108,12 @@ ace_written kind who raw flags mask kind_is says = elim (cases_eq raw.special 0)
 raw_written : (raw : RawAce) (ace : Nfsace4) → ace_of_raw raw ≡ Ok ace → raw_of ace ≡ tidied_raw raw
 unfolding ace_of_raw
 raw_written raw ace is =
-    let kind = both_answered (kind_of raw.kind) _ ace is in
-    let flags = both_answered _ _ ace kind.2 in
+    let kind = bind_ok (kind_of raw.kind) _ ace is in
+    let flags = bind_ok _ _ ace kind.2 in
     let small = test_held (leb raw.flags all_flags) raw.flags flags.0 (flags_fault raw.flags) flags.1 in
-    let mask = both_answered _ _ ace flags.2 in
+    let mask = bind_ok _ _ ace flags.2 in
     let known = test_held (eqb (raw.mask ∩ all_masks) raw.mask) raw.mask mask.0 (mask_fault raw.mask) mask.1 in
-    let who = both_answered (who_of raw.special (has flags.0 identifier_group) raw.id) _ ace mask.2 in
+    let who = bind_ok (who_of raw.special (has flags.0 identifier_group) raw.id) _ ace mask.2 in
     let says : Says raw.special (has raw.flags identifier_group) raw.id who.0 =
     who_read raw.special (has raw.flags identifier_group) raw.id who.0 (ap (λ (f : ℕ). who_of raw.special (has f identifier_group) raw.id) small.1 ∙ who.1) in
     let made : ace_of kind.0 raw.flags who.0 raw.mask ≡ ace =
@@ -128,9 +125,9 @@ aces_written : (purpose : Purpose) (raws : List RawAce) (aces : List Nfsace4) �
 unfolding aces_of
 aces_written purpose [] aces is = ap raws_of (sym (ok_same {F = Nfs4Fault} [] aces is))
 aces_written purpose (raw ∷ raws) aces is =
-    let ace = both_answered (ace_of_raw (seen purpose raw)) _ aces is in
-    let first = both_answered (effective ace.0) _ aces ace.2 in
-    let others = both_answered (aces_of purpose raws) _ aces first.2 in
+    let ace = bind_ok (ace_of_raw (seen purpose raw)) _ aces is in
+    let first = bind_ok (effective ace.0) _ aces ace.2 in
+    let others = bind_ok (aces_of purpose raws) _ aces first.2 in
     let same : ace.0 ≡ first.0 = has_effect ace.0 first.0 first.1 in
     let made : first.0 ∷ others.0 ≡ aces = ok_same (first.0 ∷ others.0) aces others.2 in
     ap raws_of (sym made)

@@ -1,6 +1,5 @@
 -- What an answer says of the steps that led to it.
 use Rattle.std.proofs.Common.{◌≡◌, Bool, true, false, cond, Result, Ok, Err, refl, ap}
-use Rattle.acl_names.specs.Steps.{◌>>=◌}
 
 or_else : {A F : Type 0} → A → Result A F → A
 or_else other (Ok x) = x
@@ -13,11 +12,6 @@ answer F x = Ok x
 pub ok_same : {A F : Type 0} (x y : A) → answer F x ≡ Ok y → x ≡ y
 unfolding or_else
 ok_same x y is = ap (or_else x) is
-
--- both steps answered
-pub both_answered : {A B F : Type 0} (first : Result A F) (then : A → Result B F) (y : B) → (first >>= then) ≡ Ok y → (x : A) × (first ≡ Ok x) × (then x ≡ Ok y)
-both_answered (Ok x) then y is = (x, refl, is)
-both_answered (Err fault) then y is = cc
 
 -- a test held
 pub test_held : {A F : Type 0} (test : Bool) (x y : A) (fault : F) → cond test (Ok x) (Err fault) ≡ Ok y → (test ≡ true) × (x ≡ y)

@@ -8,6 +8,7 @@ use Rattle.std.proofs.lemmas.List.Concat.{flat_map-cons}
 use Rattle.std.proofs.lemmas.Nat.{le_bytes_2, le_bytes_4}
 use Rattle.std.proofs.Math.ListN.{get_or-eq_default}
 use Rattle.std.proofs.Math.Seq.{take-add}
+use Rattle.acl_names.proofs.StepLemmas.{bind_ok}
 use Rattle.acl_posix.specs.Entry.{EntryValue}
 use Rattle.acl_posix.specs.declared.limits.TheConstants.{MAX_ENTRIES}
 use Rattle.acl_posix.specs.declared.entry.Tag.{Tag}
@@ -18,7 +19,7 @@ use Rattle.acl_wire.specs.XattrReading.{body_of, entries_at, entries_of, entry_o
 use Rattle.acl_wire.specs.declared.xattr_reading.Fields.{Fields}
 use Rattle.acl_wire.specs.declared.fault.PosixFault.{PosixFault}
 use Rattle.acl_wire.specs.declared.fault.PosixFault.TheVariants as faults
-use Rattle.acl_wire.proofs.StepsBack.{answer, both_answered, ok_same, test_held}
+use Rattle.acl_wire.proofs.StepsBack.{answer, ok_same, test_held}
 
 -- each element is a byte, and so is what stands behind the end
 
@@ -91,7 +92,7 @@ fields_read bytes fields is = elim (cases_lt (length bytes) 8) [
 entry_read : (fields : Fields) (entry : EntryValue) → entry_of fields ≡ Ok entry → Says fields.tag fields.id entry.tag × (fields.perms ≡ entry.perms)
 unfolding entry_of
 entry_read fields entry is =
-    let tagged = both_answered (tag_of fields.tag fields.id) _ entry is in
+    let tagged = bind_ok (tag_of fields.tag fields.id) _ entry is in
     let held = test_held (ltb fields.perms 8) (record { tag = tagged.0; perms = fields.perms }) entry faults.Perms tagged.2 in (
       subst (λ (t : Tag). Says fields.tag fields.id t) (ap (λ (e : EntryValue). e.tag) held.1) (tag_read fields.tag fields.id tagged.0 tagged.1),
       ap (λ (e : EntryValue). e.perms) held.1,
@@ -117,9 +118,9 @@ entries_written : (n : ℕ) (bytes : List ℕ) (entries : List EntryValue) → B
 unfolding entries_at
 entries_written zero bytes entries are is = ap (flat_map entry_bytes) (sym (ok_same {F = PosixFault} [] entries is))
 entries_written (suc n) bytes entries are is =
-    let read = both_answered (fields_at bytes) _ entries is in
-    let first = both_answered (entry_of read.0.0) _ entries read.2 in
-    let others = both_answered (entries_at n read.0.1) _ entries first.2 in
+    let read = bind_ok (fields_at bytes) _ entries is in
+    let first = bind_ok (entry_of read.0.0) _ entries read.2 in
+    let others = bind_ok (entries_at n read.0.1) _ entries first.2 in
     let fields = fields_read bytes read.0 read.1 in
     let made : first.0 ∷ others.0 ≡ entries = ok_same (first.0 ∷ others.0) entries others.2 in
     let behind : drop 8 bytes ≡ read.0.1 = ap (λ (it : Fields × List ℕ). it.1) fields.1 in
@@ -148,7 +149,7 @@ pub xattrs_written : XattrsWereWritten
 unfolding entries_of
 xattrs_written bytes entries are is =
     let byte = bounded bytes are in
-    let read = both_answered (number_at w32 bytes) _ entries is in
+    let read = bind_ok (number_at w32 bytes) _ entries is in
     let number = number_read bytes read.0 read.1 in
     elim (cases_Bool (read.0.0 == version)) [
       | inl here ↦

@@ -2,8 +2,9 @@ use Rattle.std.proofs.Common.{rules, ◌≡◌, ◌≤◌, ◌+◌, ◌++◌, �
 use Rattle.clap.specs.Words.{Text}
 use Rattle.acl_cli.specs.Failures.{IsUnexplained}
 use Rattle.acl_cli.specs.SessionFiles.{HaveBytes, input_count}
-use Rattle.acl_cli.proofs.SessionFileLemmas.{HaveBytes-more, input_count-next, input_count-take, map-take_more, none_so_far, refused_among, shown, told_before}
+use Rattle.acl_cli.proofs.SessionFileLemmas.{HaveBytes-more, input_count-next, input_count-take, none_so_far, refused_among, shown, told_before}
 use Rattle.std.proofs.lemmas.List.Elements.{All-push}
+use Rattle.std.proofs.lemmas.List.{map_more}
 use Rattle.acl_cli.proofs.session_files.read_sessions.Goals as goal
 
 abbrev no_name : Bor (List ℕ)
@@ -21,7 +22,7 @@ loop-name-preserved g c =
     let first = g.I.Read.remaining c.args.input.now in
     let name : Text = (get_or names at no_name).now in
     let so_far : List Text = shown (take at names) in
-    let next : shown (take (at + 1) names) ≡ so_far ++ name ∷ [] = map-take_more (λ name. name.now) names at no_name c.loop-name-test.true in
+    let next : shown (take (at + 1) names) ≡ so_far ++ name ∷ [] = map_more (λ name. name.now) names at no_name c.loop-name-test.true in
     let few : input_count (so_far ++ name ∷ []) ≤ 1 = omega (arith, ap input_count next, input_count-take names (at + 1), c.requires) in
     let grown : length after ≡ at + 1 = search rules in
     record {
@@ -45,7 +46,7 @@ pub returns-in_err-text-clause-untouched : goal.returns-in_err-text-clause-untou
 returns-in_err-text-clause-untouched g c none =
     let names = c.args.names.now in
     let at = c.loop-name.name-index in
-    let next = map-take_more (λ name. name.now) names at no_name c.loop-name-test.true in
+    let next = map_more (λ name. name.now) names at no_name c.loop-name-test.true in
     let (none_before, other) = none_so_far (shown (take at names)) (get_or names at no_name).now (omega (arith, ap input_count next, input_count-take names (at + 1), none)) in
     c.read_session.ensures.untouched other ∙ c.loop-name.invariant.untouched none_before
 

@@ -2,8 +2,9 @@ use Rattle.std.proofs.Common.{◌≡◌, ◌∙◌, ◌++◌, ◌+◌, take, len
 use Rattle.std.proofs.lemmas.List.{take-append-drop}
 use Rattle.acl_names.specs.Bytes.{newline}
 use Rattle.acl_names.specs.Pieces.{parts}
+use Rattle.acl_names.proofs.Cutting.{parts-few}
 use Rattle.acl_listings.specs.FaultyLine.{lines_read}
-use Rattle.acl_listings.proofs.FaultyLemmas.{few_lines, front_fails, read-room, room-next, taken_next}
+use Rattle.acl_listings.proofs.FaultyLemmas.{front_fails, read-room, room-next, taken_next}
 use Rattle.acl_listings.proofs.faulty.bad_line.Goals as goal
 
 pub returns-in_default-room_behind_line-clause-first : goal.returns-in_default-room_behind_line-clause-first
@@ -29,10 +30,10 @@ returns-in_default-room_behind_line-clause-bad g c =
     ∙ sym c.in_default-room_behind_line.ensures))
 
 pub returns-in_default-room_behind_line-clause-bound : goal.returns-in_default-room_behind_line-clause-bound
-returns-in_default-room_behind_line-clause-bound g c = omega (arith, c.loop-line.invariant.count, few_lines c.args.list.now)
+returns-in_default-room_behind_line-clause-bound g c = omega (arith, c.loop-line.invariant.count, parts-few newline c.args.list.now)
 
 pub overflow_add-before : goal.overflow_add-before
-overflow_add-before g c = omega (arith, c.loop-line.invariant.count, few_lines c.args.list.now)
+overflow_add-before g c = omega (arith, c.loop-line.invariant.count, parts-few newline c.args.list.now)
 
 pub loop-line-preserved : goal.loop-line-preserved
 loop-line-preserved g c =

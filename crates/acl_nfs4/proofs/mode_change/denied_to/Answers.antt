@@ -1,10 +1,11 @@
 use Rattle.std.proofs.Common.{◌≡◌, ◌∙◌, ◌+◌, sym, ap, drop, ◌∷◌, true, false, List, ℕ}
 use Rattle.std.proofs.lemmas.List.{drop_all}
+use Rattle.std.specs.Int.Bits.{or_zero_r}
 use Rattle.acl_names.specs.Bits.{◌∪◌}
 use Rattle.acl_nfs4.specs.Ace.{Nfsace4}
 use Rattle.acl_nfs4.specs.Mask.{mask_bits}
 use Rattle.acl_nfs4.specs.ModeChange.{denied_to}
-use Rattle.acl_nfs4.proofs.ModeChangeDenials.{denied_to-step, or-zero}
+use Rattle.acl_nfs4.proofs.ModeChangeDenials.{denied_to-step}
 use Rattle.acl_nfs4.proofs.ListLemmas.{drop-here}
 use Rattle.acl_nfs4.proofs.mode_change.denied_to.Goals as goal
 use Rattle.acl_nfs4.proofs.mode_change.denied_to.Goals.{then-denies, else-denies}
@@ -30,7 +31,7 @@ loop-ace-preserved c =
 
 pub returns : goal.returns
 returns c =
-    sym (or-zero (mask_bits c.loop-ace.denied))
+    sym (or_zero_r (mask_bits c.loop-ace.denied))
     ∙ ap (λ (xs : List Nfsace4). mask_bits c.loop-ace.denied ∪ denied_to c.args.who.now xs)
     (sym (drop_all c.loop-ace.ace-index c.args.aces.now c.loop-ace-test.false))
     ∙ c.loop-ace.invariant

@@ -2,10 +2,10 @@ use Rattle.std.proofs.Common.{Err, Ok, ap, arith, length, length-append, take}
 use Rattle.std.proofs.lemmas.List.Folds.{length-flat_map-take}
 use Rattle.std.proofs.lemmas.Result.{err_from_is_err_and}
 use Rattle.acl_names.proofs.Pushed.{PushesInRoom-as, PushesInRoom-longer, PushesInRoom-then}
+use Rattle.acl_posix.proofs.TakeLemmas.{All-take-next, flat_map-take-next}
 use Rattle.acl_nfs4.specs.Ace.{Nfsace4}
 use Rattle.acl_nfs4.specs.PrintedText.{aces_text, line_text}
 use Rattle.acl_nfs4.specs.Who.{HasId}
-use Rattle.acl_nfs4.proofs.ListLemmas.{All-take-next, flat_map-take-next}
 use Rattle.acl_nfs4.proofs.printing.push_lines.Goals as goal
 
 pub returns-in_err-push_line-clause-printed : goal.returns-in_err-push_line-clause-printed

@@ -3,10 +3,10 @@ use Rattle.std.proofs.lemmas.List.Folds.{length-flat_map-take}
 use Rattle.std.proofs.lemmas.Result.{err_from_is_err_and}
 use Rattle.acl_names.specs.Bytes.{comma}
 use Rattle.acl_names.proofs.Pushed.{PushesInRoom-as, PushesInRoom-longer, PushesInRoom-then}
+use Rattle.acl_posix.proofs.TakeLemmas.{All-take-next, flat_map-take-next}
 use Rattle.acl_nfs4.specs.Ace.{Nfsace4}
 use Rattle.acl_nfs4.specs.PrintedText.{short_ace}
 use Rattle.acl_nfs4.specs.Who.{HasId}
-use Rattle.acl_nfs4.proofs.ListLemmas.{All-take-next, flat_map-take-next}
 use Rattle.acl_nfs4.proofs.short.push_further_aces.Goals as goal
 
 -- a comma and the entry

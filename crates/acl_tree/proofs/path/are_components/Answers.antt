@@ -1,10 +1,11 @@
 use Rattle.std.proofs.Common.{◌≡◌, ◌&&◌, ◌+◌, ◌∙◌, false, ap, arith, drop, take, sym, true}
 use Rattle.std.specs.List.{list_all}
 use Rattle.std.proofs.lemmas.List.{drop_more, take_rest}
+use Rattle.std.proofs.Math.Bool.{and-true}
 use Rattle.acl_names.specs.Pieces.{parts}
 use Rattle.acl_tree.specs.Path.{is_component}
 use Rattle.acl_tree.specs.declared.path.TheConstants.{SLASH}
-use Rattle.acl_tree.proofs.ComponentLemmas.{all_path_bytes, and_true, at_end, at_other, at_slash, not_same}
+use Rattle.acl_tree.proofs.ComponentLemmas.{all_path_bytes, at_end, at_other, at_slash, not_same}
 use Rattle.acl_tree.proofs.path.are_components.Goals as goal
 
 pub returns-then-end-rest : goal.returns-then-end-rest
@@ -12,7 +13,7 @@ returns-then-end-rest c =
     let rest = c.loop-rest.rest.now in
     let end = c.path_bytes_len-end in
     let whole = at_end rest end.result end.ensures.value (omega (arith, end.ensures.within, c.if-end-rest.true)) in
-    c.is_component_of_path_bytes.ensures (all_path_bytes rest whole.0) ∙ sym (and_true (is_component rest)) ∙ sym whole.1 ∙ c.loop-rest.invariant
+    c.is_component_of_path_bytes.ensures (all_path_bytes rest whole.0) ∙ sym (and-true (is_component rest)) ∙ sym whole.1 ∙ c.loop-rest.invariant
 
 pub returns-then-rest-end-ne-SLASH : goal.returns-then-rest-end-ne-SLASH
 returns-then-rest-end-ne-SLASH c =

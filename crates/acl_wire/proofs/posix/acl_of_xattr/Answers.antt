@@ -1,5 +1,5 @@
-use Rattle.std.proofs.Common.{◌≡◌, Err, refl}
-use Rattle.std.proofs.lemmas.Result.{err_from_is_err_and}
+use Rattle.std.proofs.Common.{◌≡◌, Err}
+use Rattle.acl_names.proofs.StepLemmas.{handed_on}
 use Rattle.acl_wire.specs.Posix.{acl_of, acl_of_entries}
 use Rattle.acl_wire.specs.XattrReading.{entries_of}
 use Rattle.acl_wire.proofs.GivesLemmas.{fails-then, gives-err}
@@ -9,8 +9,7 @@ pub returns-in_err-read_xattr-clause-value : goal.returns-in_err-read_xattr-clau
 unfolding acl_of
 returns-in_err-read_xattr-clause-value c =
     let error = c.in_err-read_xattr.field-0.0 in
-    let p = err_from_is_err_and c.from_residual.result c.from_residual.ensures.1 in
-    let is : c.from_residual.result ≡ Err error = rw (p.1, p.2) refl in
+    let is : c.from_residual.result ≡ Err error = handed_on _ _ c.from_residual.ensures.1 in
     gives-err (λ acl. acl) c.from_residual.result error (acl_of c.args.bytes.now) is (fails-then error (entries_of c.args.bytes.now) acl_of_entries c.in_err-read_xattr.ensures.value)
 
 pub returns-clause-value : goal.returns-clause-value

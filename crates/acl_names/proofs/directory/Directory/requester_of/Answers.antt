@@ -1,5 +1,5 @@
 use Rattle.std.proofs.Common.{◌∙◌, sym, ap, Some, rules}
-use Rattle.acl_names.proofs.AscendingLemmas.{slice_get-within}
+use Rattle.std.proofs.lemmas.Option.{slice_get-get_or}
 use Rattle.acl_names.proofs.DirectoryLemmas.{ready_found, none_ready}
 use Rattle.acl_names.proofs.directory.Directory.requester_of.Goals as goal
 
@@ -15,7 +15,7 @@ returns-in-Some c =
     let found = rw (c.deref.ensures.value, c.value.ensures.value) at c.in-Some.ensures in
     let ready = ready_found c.args.self.now c.self.inside.user_places.items c.self.inside.group_places.items c.self.inside.requesters.items (rw c.self.view_is at c.self.invariant)
     c.args.uid c.in-Some.place found in
-    ap Some c.index.ensures ∙ sym (slice_get-within c.self.inside.requesters.items c.in-Some.place c.index.result.now ready.0) ∙ ready.1
+    ap Some c.index.ensures ∙ sym (slice_get-get_or c.self.inside.requesters.items c.in-Some.place c.index.result.now ready.0) ∙ ready.1
 
 pub returns-in-None : goal.returns-in-None
 returns-in-None c =

@@ -2,7 +2,8 @@ use Rattle.std.proofs.Common.{◌∙◌, ◌<◌, length, sym, ap, Some, rules, 
 use Rattle.std.specs.Cmp.Lexicographic.{slice_cmp}
 use Rattle.std.proofs.lemmas.Cmp.{nat_list_cmp_total}
 use Rattle.std.proofs.lemmas.Fn.{always_returns_same}
-use Rattle.acl_names.proofs.AscendingLemmas.{find-searched, find-absent, slice_get-within}
+use Rattle.std.proofs.lemmas.Option.{slice_get-get_or}
+use Rattle.acl_names.proofs.AscendingLemmas.{find-searched, find-absent}
 use Rattle.acl_names.proofs.Keys.{same_name}
 use Rattle.acl_names.proofs.directory.named.find_by_bytes.Goals as goal
 
@@ -14,7 +15,7 @@ returns-in-Ok g c =
     let inside : c.in-Ok.place < length members = search (rules, c.in-Ok.ensures.bound) in
     ap Some c.index-members-place.is
     ∙ sym (find-searched (slice_cmp nat_cmp) nat_list_cmp_total name_of bytes_eq same_name members c.args.name.now c.requires c.in-Ok.place inside here
-    ∙ slice_get-within members c.in-Ok.place c.index-members-place.result inside)
+    ∙ slice_get-get_or members c.in-Ok.place c.index-members-place.result inside)
 
 pub returns-in-Err : goal.returns-in-Err
 returns-in-Err g c =

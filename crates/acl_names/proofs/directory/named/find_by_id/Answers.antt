@@ -1,5 +1,5 @@
 use Rattle.std.proofs.Common.{◌≡◌, ◌∙◌, get_or, sym, ap, Some, arith}
-use Rattle.acl_names.proofs.AscendingLemmas.{slice_get-within}
+use Rattle.std.proofs.lemmas.Option.{slice_get-get_or}
 use Rattle.acl_names.proofs.Indexes.{place_found, none_found}
 use Rattle.acl_names.proofs.directory.named.find_by_id.Goals as goal
 
@@ -19,7 +19,7 @@ returns-in-Some g c =
     let place = place_found g.T.Named.id_of members c.args.index.now c.requires c.args.id c.in-Some.place c.in-Some.ensures in
     let at : c.in-Some.place ≡ place.behind = omega (arith, place.is) in
     ap Some (c.index-members-place.is ∙ ap (λ k. get_or members k c.index-members-place.result) at)
-    ∙ sym (place.found ∙ slice_get-within members place.behind c.index-members-place.result place.inside)
+    ∙ sym (place.found ∙ slice_get-get_or members place.behind c.index-members-place.result place.inside)
 
 pub returns-in-None : goal.returns-in-None
 returns-in-None g c = sym (none_found g.T.Named.id_of c.args.members.now c.args.index.now c.requires c.args.id c.in-None.ensures)
