@@ -3,7 +3,7 @@ use Rattle.acl_nfs4.specs.Comparison.{OfEach, asker_for}
 use Rattle.acl_nfs4.specs.declared.who.Who.{Who}
 use Rattle.acl_nfs4.specs.declared.who.Who.TheVariants.{Everyone}
 use Rattle.acl_nfs4.proofs.AllowedBits.{match_then}
-use Rattle.acl_nfs4.proofs.ListLemmas.{All-take-next}
+use Rattle.acl_names.proofs.TakeLemmas.{All-take-next}
 use Rattle.acl_nfs4.proofs.pairs.difference_for.Goals as goal
 
 pub loop-entry-preserved : goal.loop-entry-preserved
