@@ -1,17 +1,19 @@
 -- What is printed of an entry, however its id is written, is cut into its fields, which make it.
-use Rattle.std.proofs.Common.{◌≡◌, ◌∙◌, ℕ, Bool, true, false, cond, not, ◌&&◌, ◌||◌, List, [], ◌∷◌, ◌++◌, Option, Some, None, ap, ap₂, arith, bit_or, codes, eqb-true, length-append, map, refl, sym}
+use Rattle.std.proofs.Common.{◌≡◌, ◌∙◌, ℕ, Bool, true, false, cond, not, ◌&&◌, List, [], ◌∷◌, ◌++◌, Option, Some, None, Ok, ap, ap₂, arith, bit_or, codes, length-append, map, refl, sym}
 use Rattle.std.specs.Prelude.{option_to_list}
 use Rattle.std.specs.List.{AllByRecursion, join_with_byte}
 use Rattle.std.proofs.lemmas.Bool.{and_parts}
 use Rattle.acl_names.specs.Bits.{has, without, ◌∩◌}
 use Rattle.acl_names.specs.Bytes.{colon}
+use Rattle.acl_names.specs.Names.{Names}
 use Rattle.acl_names.specs.Pieces.{parts, trim, trimmed_parts}
 use Rattle.acl_names.specs.Plain.{IsField, IsPlain}
-use Rattle.acl_names.proofs.BitSets.{has-and, has-or, has-without, has-zero, same_bits}
+use Rattle.acl_names.proofs.BitSets.{has-and, has-without, same_bits}
 use Rattle.acl_names.proofs.Fields.{fields_again, joined_plain, tested_field}
 use Rattle.acl_names.proofs.PlainJoined.{IsPlainPiece}
 use Rattle.acl_nfs4.specs.Ace.{Nfsace4, IsAce, ace_of, flags_for}
 use Rattle.acl_nfs4.specs.AceText as nfs4
+use Rattle.acl_nfs4.specs.AceText.{refuse_idle}
 use Rattle.acl_nfs4.specs.Flags.{all_flags, identifier_group}
 use Rattle.acl_nfs4.specs.Who.{flags_of_who, is_named_group}
 use Rattle.acl_nfs4.specs.declared.ace.AceType.{AceType}
@@ -19,15 +21,16 @@ use Rattle.acl_nfs4.specs.declared.ace.AceType.TheVariants.{Allow, Deny, Audit, 
 use Rattle.acl_nfs4.specs.declared.who.Who.{Who}
 use Rattle.acl_nfs4.specs.declared.who.Who.TheVariants.{Owner, Group, Everyone, User, NamedGroup}
 use Rattle.acl_nfs4.proofs.AceLemmas.{within-from, within-has}
-use Rattle.acl_nfs4.proofs.MaskBits.{contains-one, lacks-one}
-use Rattle.acl_forms.specs.FormText.{FormFields, as_fields, fields_of, type_of}
+use Rattle.acl_nfs4.proofs.ReadLemmas.{IsRead, refuse_idle_said}
+use Rattle.acl_nfs4.proofs.RoundTrip.{flags_for-same}
+use Rattle.acl_forms.specs.FormText.{FormFields, as_fields, entry_by, fields_of, type_of, who_by}
 use Rattle.acl_forms.specs.Forms.{form_of_fields, form_of_piece, is_type, last_or}
 use Rattle.acl_forms.specs.Marks.{mark_table, perm_table}
 use Rattle.acl_forms.specs.PrintedForm.{fields_text, marks_of_flags, marks_text, tag_by, type_text}
 use Rattle.acl_forms.specs.declared.form.Form.{Form}
 use Rattle.acl_forms.specs.declared.form.Form.TheVariants as form
 use Rattle.acl_forms.specs.declared.printing.Places.{Places}
-use Rattle.acl_forms.proofs.MarksAgain.{marks-field, mark_letters, perm_letters}
+use Rattle.acl_forms.proofs.MarksAgain.{marks-field, marks_again, mark_letters, mark_no_hyphen, mark_table_is, perm_letters, perm_no_hyphen, perm_table_is}
 
 -- ---- an entry's flags are those of its marks and its who
 
@@ -49,46 +52,12 @@ marks_kept flags within = same_bits _ _ (λ k.
     ∙ kept_bit (has flags k) (has all_flags k) (has 64 k) (sym (has-and flags all_flags k) ∙ ap (λ (set : ℕ). has set k) within)
     ∙ sym (has-without flags 64 k))
 
--- the group flag stands if it is to stand
-flags_for-same : (who : Who) (flags : ℕ) → has flags identifier_group ≡ is_named_group who → flags_for who flags ≡ flags
-flags_for-same who flags stands = same_bits _ _ (λ k.
-    has-or (without flags 64) (flags_of_who who) k
-    ∙ ap (λ b. b || has (flags_of_who who) k) (has-without flags 64 k)
-    ∙ by_who who stands k)
-  where
-    alone : (k : ℕ) → flags ∩ 64 ≡ 0 → ((has flags k && not (has 64 k)) || has 0 k) ≡ has flags k
-    alone k none =
-        ap (λ b. (has flags k && not (has 64 k)) || b) (has-zero k)
-        ∙ apart (has flags k) (has 64 k) (sym (has-and flags 64 k) ∙ ap (λ (set : ℕ). has set k) none ∙ has-zero k)
-      where
-        apart : (f g : Bool) → (f && g) ≡ false → ((f && not g) || false) ≡ f
-        apart true true e = sym e
-        apart true false e = refl
-        apart false g e = refl
-
-    there : (k : ℕ) → flags ∩ 64 ≡ 64 → ((has flags k && not (has 64 k)) || has 64 k) ≡ has flags k
-    there k whole = go (has flags k) (has 64 k) (sym (has-and flags 64 k) ∙ ap (λ (set : ℕ). has set k) whole)
-      where
-        go : (f g : Bool) → (f && g) ≡ g → ((f && not g) || g) ≡ f
-        go true true e = refl
-        go true false e = refl
-        go false true e = sym e
-        go false false e = refl
-
-    by_who : (who : Who) → has flags identifier_group ≡ is_named_group who → (k : ℕ)
-        → ((has flags k && not (has 64 k)) || has (flags_of_who who) k) ≡ has flags k
-    by_who Owner e k = alone k (lacks-one flags 6 e)
-    by_who Group e k = alone k (lacks-one flags 6 e)
-    by_who Everyone e k = alone k (lacks-one flags 6 e)
-    by_who (User uid) e k = alone k (lacks-one flags 6 e)
-    by_who (NamedGroup gid) e k = there k (eqb-true (flags ∩ 64) 64 (contains-one flags 6 ∙ e))
-
 flags_again : (who : Who) (flags : ℕ) → flags ∩ all_flags ≡ flags → has flags identifier_group ≡ is_named_group who
     → flags_for who (marks_of_flags flags ∩ all_flags) ≡ flags
 flags_again who flags within stands =
     ap (λ (set : ℕ). bit_or set (flags_of_who who)) (marks_kept flags within) ∙ flags_for-same who flags stands
 
-pub made_again : (ace : Nfsace4) → IsAce ace → ace_of ace.kind (marks_of_flags ace.flags) ace.who ace.mask ≡ ace
+made_again : (ace : Nfsace4) → IsAce ace → ace_of ace.kind (marks_of_flags ace.flags) ace.who ace.mask ≡ ace
 made_again ace is = λ i. record {
   kind = ace.kind;
   flags = flags_again ace.who ace.flags is.known_flags is.group_flag i;
@@ -96,7 +65,7 @@ made_again ace is = λ i. record {
   mask = is.known_mask i;
 }
 
-pub marks_within : (flags : ℕ) → marks_of_flags flags ∩ 0xBF ≡ marks_of_flags flags
+marks_within : (flags : ℕ) → marks_of_flags flags ∩ 0xBF ≡ marks_of_flags flags
 marks_within flags =
     within-from (marks_of_flags flags) 0xBF
     (λ k e. within-has 0x3F 0xBF k refl (and_parts (has flags k) (has 0x3F k) (sym (has-and flags 0x3F k) ∙ e)).1)
@@ -216,7 +185,7 @@ module _ (user group : ℕ → List ℕ) where
     abbrev kind : List ℕ
     kind = type_text ace.kind
 
-    abbrev pub printed_fields : FormFields
+    abbrev printed_fields : FormFields
     printed_fields = record { tag = tag_of ace.who; name = name_of user group ace.who; perms = perms; flags = flags; kind = kind }
 
     text_cut : IsCut text (tag_of ace.who ∷ behind ace.who perms flags kind)
@@ -224,7 +193,7 @@ module _ (user group : ℕ → List ℕ) where
         tag_cut ace.who named perms flags kind (marks-field places perm_table ace.mask perm_letters) (marks-field places mark_table (marks_of_flags ace.flags) mark_letters)
         (type_field ace.kind)
 
-    pub printed_cut : fields_of text ≡ Some printed_fields
+    printed_cut : fields_of text ≡ Some printed_fields
     printed_cut = ap as_fields text_cut.cut ∙ tag_fields ace.who perms flags kind
 
     pub printed_piece : IsPlainPiece text
@@ -235,3 +204,16 @@ module _ (user group : ℕ → List ℕ) where
         form_of_cut text (tag_of ace.who) (behind ace.who perms flags kind) text_cut.cut
         ∙ ap (form_by (tag_of ace.who)) (tag_last ace.who perms flags kind)
         ∙ ap₂ (λ first last. cond first form.Nfs4 (cond last form.Freebsd form.Posix)) (tag_no_type ace.who) (type_is ace.kind)
+
+    -- and says the entry, if its tag means whom it names
+    pub printed_said : (names : Names) → IsRead ace → who_by names (tag_of ace.who) (name_of user group ace.who) ≡ Ok ace.who → entry_by names text ≡ Ok ace
+    unfolding entry_by
+    printed_said names is who_is =
+        rw (
+          printed_cut,
+          marks_again places perm_table ace.mask perm_table_is perm_no_hyphen is.is_ace.known_mask,
+          marks_again places mark_table (marks_of_flags ace.flags) mark_table_is mark_no_hyphen (marks_within ace.flags),
+          type_again ace.kind,
+          who_is,
+        ) (ap refuse_idle (made_again ace is.is_ace))
+        ∙ refuse_idle_said ace is.effective

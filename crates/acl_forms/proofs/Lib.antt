@@ -5,4 +5,3 @@ pub mod EntryFields
 pub mod FormAgain
 pub mod ShortAgain
 pub mod FormShapeLemmas
-pub mod NamedLemmas

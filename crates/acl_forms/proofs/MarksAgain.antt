@@ -10,6 +10,7 @@ use Rattle.acl_names.specs.declared.text.letters.Letter.{Letter}
 use Rattle.acl_names.proofs.IdTexts.{and_first, and_second}
 use Rattle.acl_names.proofs.LettersAgain.{letters_again, occurrences-cons}
 use Rattle.acl_names.proofs.StepLemmas.{some_from_cond}
+use Rattle.acl_nfs4.proofs.LetterLemmas.{letters-field}
 use Rattle.acl_forms.specs.Marks.{is_mark_of, marks_of, mark_table, perm_table}
 use Rattle.acl_forms.specs.PrintedForm.{marks_text, place_of, places_text}
 use Rattle.acl_forms.specs.declared.printing.Places.{Places}
@@ -108,15 +109,6 @@ marks_again Full table bits is none within =
 -- ---- and are fields
 abbrev pub HaveFieldLetters : List Letter → Type 0
 HaveFieldLetters rows = AllByRecursion (λ (row : Letter). is_field_byte row.letter ≡ true) rows
-
-letters-field : (bits : ℕ) (rows : List Letter) → HaveFieldLetters rows → IsField (letters_text rows bits)
-letters-field bits [] each = All-nil (λ byte. is_field_byte byte ≡ true)
-letters-field bits (row ∷ rows) each = go (not (bit_and bits row.bit == 0)) (letters-field bits rows each.1)
-  where
-    go : (b : Bool) → IsField (letters_text rows bits)
-        → IsField (map (λ (r : Letter). r.letter) (cond b (row ∷ filter (λ (r : Letter). not (bit_and bits r.bit == 0)) rows) (filter (λ (r : Letter). not (bit_and bits r.bit == 0)) rows)))
-    go true rest = All-cons (λ byte. is_field_byte byte ≡ true) row.letter _ each.0 rest
-    go false rest = rest
 
 places-field : (bits : ℕ) (rows : List Letter) → HaveFieldLetters rows → IsField (places_text rows bits)
 places-field bits [] each = All-nil (λ byte. is_field_byte byte ≡ true)

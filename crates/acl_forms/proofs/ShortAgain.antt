@@ -1,25 +1,20 @@
 -- An entry that is printed with its ids in decimal is read again, by whatever names.
-use Rattle.std.proofs.Common.{◌≡◌, ◌∙◌, Ok, ap, decimal, refl}
+use Rattle.std.proofs.Common.{◌≡◌, Ok, ap, decimal, refl}
 use Rattle.acl_names.specs.Names.{Names}
 use Rattle.acl_names.proofs.PlainJoined.{IsPlainPiece}
 use Rattle.acl_nfs4.specs.Ace.{Nfsace4}
-use Rattle.acl_nfs4.specs.AceText.{refuse_idle}
 use Rattle.acl_nfs4.specs.NamedAces.{ReadNumbers, who_with}
 use Rattle.acl_nfs4.specs.Who.{HasId}
 use Rattle.acl_nfs4.specs.declared.who.Who.{Who}
 use Rattle.acl_nfs4.specs.declared.who.Who.TheVariants.{Owner, Group, Everyone, User, NamedGroup}
-use Rattle.acl_nfs4.proofs.NamedLemmas.{IsRead}
-use Rattle.acl_nfs4.proofs.ReadLemmas.{refuse_idle_said}
+use Rattle.acl_nfs4.proofs.ReadLemmas.{IsRead}
 use Rattle.acl_nfs4.proofs.RoundTrip.{decimal_field}
 use Rattle.acl_forms.specs.Forms.{form_of_piece}
-use Rattle.acl_forms.specs.Marks.{mark_table, perm_table}
-use Rattle.acl_forms.specs.NamedEntries.{entry_by, who_by}
-use Rattle.acl_forms.specs.PrintedForm.{marks_of_flags}
+use Rattle.acl_forms.specs.FormText.{entry_by, who_by}
 use Rattle.acl_forms.specs.ShortForm.{short_entry}
 use Rattle.acl_forms.specs.declared.form.Form.TheVariants.{Freebsd}
 use Rattle.acl_forms.specs.declared.printing.Places.{Places}
-use Rattle.acl_forms.proofs.EntryFields.{HasField, made_again, marks_within, name_of, printed_cut, printed_form, printed_piece, tag_of, type_again}
-use Rattle.acl_forms.proofs.MarksAgain.{marks_again, mark_table_is, perm_table_is, mark_no_hyphen, perm_no_hyphen}
+use Rattle.acl_forms.proofs.EntryFields.{HasField, name_of, printed_form, printed_piece, printed_said, tag_of}
 
 decimal_is : (who : Who) → HasId who → HasField decimal decimal who
 decimal_is Owner has_id = tt
@@ -43,13 +38,4 @@ module _ (places : Places) (ace : Nfsace4) (has_id : HasId ace.who) where
   short_form = printed_form decimal decimal places ace (decimal_is ace.who has_id)
 
   pub short_again : (names : Names) → ReadNumbers names → IsRead ace → entry_by names (short_entry places ace) ≡ Ok ace
-  unfolding entry_by
-  short_again names numbers is =
-      rw (
-        printed_cut decimal decimal places ace (decimal_is ace.who has_id),
-        marks_again places perm_table ace.mask perm_table_is perm_no_hyphen is.is_ace.known_mask,
-        marks_again places mark_table (marks_of_flags ace.flags) mark_table_is mark_no_hyphen (marks_within ace.flags),
-        type_again ace.kind,
-        who_again names numbers ace.who has_id,
-      ) (ap refuse_idle (made_again ace is.is_ace))
-      ∙ refuse_idle_said ace is.effective
+  short_again names numbers is = printed_said decimal decimal places ace (decimal_is ace.who has_id) names is (who_again names numbers ace.who has_id)

@@ -1,19 +1,19 @@
 -- How entries are written in the freebsd form: `tag:perms:flags:type`.
-use Rattle.std.specs.Prelude.{ℕ, List, [], ◌∷◌, Bool, ◌||◌, Option, Some, None, Result}
-use Rattle.std.specs.Prelude.{codes, option_map, if◌then◌else◌, bytes_eq}
+use Rattle.std.specs.Prelude.{ℕ, List, [], ◌∷◌, Bool, true, false, ◌||◌, Option, Some, None}
+use Rattle.std.specs.Prelude.{Result, Err, codes, if◌then◌else◌, bytes_eq}
 use Rattle.acl_names.specs.Bytes.{colon}
-use Rattle.acl_names.specs.Directory.{Known, uid_of, gid_of}
-use Rattle.acl_names.specs.Ids.{Written, written_id, id_of_written}
+use Rattle.acl_names.specs.Names.{Names}
 use Rattle.acl_names.specs.Pieces.{trimmed_parts}
 use Rattle.acl_names.specs.Steps.{◌>>=◌, or_fault}
 use Rattle.acl_nfs4.specs.Ace.{Nfsace4, ace_of}
 use Rattle.acl_nfs4.specs.AceText.{refuse_idle}
+use Rattle.acl_nfs4.specs.NamedAces.{named_who}
 use Rattle.acl_nfs4.specs.declared.ace.AceType.{AceType}
 use Rattle.acl_nfs4.specs.declared.ace.AceType.TheVariants.{Allow, Deny, Audit, Alarm}
 use Rattle.acl_nfs4.specs.declared.reading.PieceFault.{PieceFault}
-use Rattle.acl_nfs4.specs.declared.reading.PieceFault.TheVariants.{Syntax, UnknownName}
+use Rattle.acl_nfs4.specs.declared.reading.PieceFault.TheVariants.{Syntax}
 use Rattle.acl_nfs4.specs.declared.who.Who.{Who}
-use Rattle.acl_nfs4.specs.declared.who.Who.TheVariants as who
+use Rattle.acl_nfs4.specs.declared.who.Who.TheVariants.{Owner, Group, Everyone}
 use Rattle.acl_forms.specs.Marks.{marks_of, mark_table, perm_table}
 
 -- the fields of a piece; a special tag has no name, and flags that are left out are none
@@ -54,45 +54,29 @@ type_of text =
     else (if bytes_eq text (codes "audit") then Some Audit
     else (if bytes_eq text (codes "alarm") then Some Alarm else None)))
 
--- whom a tag and its name write, whether or not anyone has it
-pub data WrittenTag : Type 0 where
-  Owner : WrittenTag
-  Group : WrittenTag
-  Everyone : WrittenTag
-  User : Written → WrittenTag
-  NamedGroup : Written → WrittenTag
-
-abbrev pub special_of : List ℕ → Option WrittenTag
-special_of tag =
+-- whom a tag means that has no name
+abbrev pub special_who : List ℕ → Option Who
+special_who tag =
     if bytes_eq tag (codes "owner@") then Some Owner
     else (if bytes_eq tag (codes "group@") then Some Group
     else (if bytes_eq tag (codes "everyone@") then Some Everyone else None))
 
-abbrev pub named_of : List ℕ → Option Written → Option WrittenTag
-named_of tag written =
-    if bytes_eq tag (codes "user") then option_map (λ id. User id) written
-    else (if bytes_eq tag (codes "group") then option_map (λ id. NamedGroup id) written else None)
+-- whom a tag means with the name behind it
+abbrev pub who_named : Names → List ℕ → List ℕ → Result Who PieceFault
+who_named names tag name =
+    if bytes_eq tag (codes "user") then named_who names false name
+    else (if bytes_eq tag (codes "group") then named_who names true name else Err Syntax)
 
-abbrev pub written_tag : List ℕ → Option (List ℕ) → Option WrittenTag
-written_tag tag None = special_of tag
-written_tag tag (Some name) = named_of tag (written_id name)
-
--- the one who is written
-abbrev pub who_of_tag : Known → WrittenTag → Option Who
-who_of_tag known Owner = Some who.Owner
-who_of_tag known Group = Some who.Group
-who_of_tag known Everyone = Some who.Everyone
-who_of_tag known (User id) = option_map (λ uid. who.User uid) (id_of_written (uid_of known) id)
-who_of_tag known (NamedGroup id) =
-    option_map (λ gid. who.NamedGroup gid) (id_of_written (gid_of known) id)
+abbrev pub who_by : Names → List ℕ → Option (List ℕ) → Result Who PieceFault
+who_by names tag None = or_fault Syntax (special_who tag)
+who_by names tag (Some name) = who_named names tag name
 
 -- what a piece of a text says: an entry, or what is wrong with it
-unfoldable pub entry_value : Known → List ℕ → Result Nfsace4 PieceFault
-entry_value known piece = do
+unfoldable pub entry_by : Names → List ℕ → Result Nfsace4 PieceFault
+entry_by names piece = do
   fields ← or_fault Syntax (fields_of piece)
-  written ← or_fault Syntax (written_tag fields.tag fields.name)
   mask ← or_fault Syntax (marks_of perm_table fields.perms)
   flags ← or_fault Syntax (marks_of mark_table fields.flags)
   kind ← or_fault Syntax (type_of fields.kind)
-  who ← or_fault UnknownName (who_of_tag known written)
+  who ← who_by names fields.tag fields.name
   refuse_idle (ace_of kind flags who mask)

@@ -5,5 +5,4 @@ pub mod FormViews
 pub mod EntriesFault
 pub mod Forms
 pub mod PrintedForm
-pub mod NamedEntries
 pub mod ShortForm

@@ -4,9 +4,10 @@ ghost use Rattle.std.specs.Prelude.{◌≡◌, ◌<◌, ◌+◌, ◌++◌, ◌�
 ghost use Rattle.std.specs.Prelude.{unwrap_or, vec_capacity, vec_len, OnErr, OnOk};
 ghost use Rattle.acl_names.specs.Bytes.{colon};
 ghost use Rattle.acl_names.specs.ListText.{Spells};
+ghost use Rattle.acl_names.specs.Names.{names_of};
 ghost use Rattle.acl_names.specs.Pushing.{PushesInRoom};
 ghost use Rattle.acl_nfs4.specs.declared.limits.TheConstants.{MAX_ACES};
-ghost use Rattle.acl_forms.specs.FormText.{entry_value};
+ghost use Rattle.acl_forms.specs.FormText.{entry_by};
 ghost use Rattle.acl_forms.specs.PrintedForm.{entries_text, entry_text, line_text, tag_text};
 ghost use Rattle.acl_forms.specs.PrintedForm.{marks_of_flags, marks_text, type_text};
 ghost use Rattle.acl_forms.specs.Marks.{mark_table, perm_table};
@@ -42,7 +43,7 @@ pub fn print_entries(
     ensures room { OnErr result (vec_capacity out.old
         < vec_len out.old + length (entries_text places directory.now acl.now)) }
     // What is printed is read as these entries.
-    ensures read_again { OnOk result (Spells (entry_value directory.now) MAX_ACES
+    ensures read_again { OnOk result (Spells (entry_by (names_of directory.now)) MAX_ACES
         (entries_text places directory.now acl.now) acl.now) }
 {
     directory.names_read_back();

@@ -1,12 +1,12 @@
 -- The forms in which NFSv4 entries are printed with their ids in decimal, and read by any names.
-use Rattle.std.proofs.Common.{◌≡◌, ◌∙◌, ℕ, true, cond, List, [], ◌∷◌, Result, Ok, ap, arith, codes, length-append, refl}
+use Rattle.std.proofs.Common.{◌≡◌, ◌∙◌, ℕ, true, cond, List, [], ◌∷◌, Result, Ok, ap, arith, length-append, refl}
 use Rattle.std.specs.List.{AllByRecursion, join_with_byte}
 use Rattle.acl_names.specs.Bytes.{colon}
 use Rattle.acl_names.specs.Letters.{letters_text}
 use Rattle.acl_names.specs.Names.{Names}
 use Rattle.acl_names.specs.Pieces.{pieces}
 use Rattle.acl_names.specs.Plain.{IsField}
-use Rattle.acl_names.proofs.Fields.{fields_again, joined_plain, tested_field}
+use Rattle.acl_names.proofs.Fields.{fields_again, joined_plain}
 use Rattle.acl_names.proofs.PlainJoined.{IsPlainPiece}
 use Rattle.acl_nfs4.specs.Ace.{Nfsace4}
 use Rattle.acl_nfs4.specs.AceText as nfs4
@@ -19,9 +19,10 @@ use Rattle.acl_nfs4.specs.declared.ace.AceType.TheVariants as kind
 use Rattle.acl_nfs4.specs.declared.reading.PieceFault.{PieceFault}
 use Rattle.acl_nfs4.proofs.LetterLemmas.{flags-field, mask-field}
 use Rattle.acl_nfs4.proofs.NamedAgain.{short_again, short_field}
-use Rattle.acl_nfs4.proofs.NamedLemmas.{IsRead}
+use Rattle.acl_nfs4.proofs.ReadLemmas.{IsRead}
+use Rattle.acl_nfs4.proofs.RoundTrip.{type_field}
 use Rattle.acl_forms.specs.Forms.{form_of_piece, is_type}
-use Rattle.acl_forms.specs.NamedEntries.{entry_by}
+use Rattle.acl_forms.specs.FormText.{entry_by}
 use Rattle.acl_forms.specs.ShortForm.{short_entry}
 use Rattle.acl_forms.specs.declared.form.Form.{Form}
 use Rattle.acl_forms.specs.declared.form.Form.TheVariants as form
@@ -40,12 +41,6 @@ pub record IsAceForm (names : Names) (print : Nfsace4 → List ℕ) : Type 0 whe
   pub form_is : (ace : Nfsace4) → HasId ace.who → form_of_piece (print ace) ≡ form
 
 -- ---- that of nfs4
-
-type_field : (kind : AceType) → IsField (type_text kind)
-type_field kind.Allow = tested_field (codes "A") refl
-type_field kind.Deny = tested_field (codes "D") refl
-type_field kind.Audit = tested_field (codes "U") refl
-type_field kind.Alarm = tested_field (codes "L") refl
 
 type_is : (kind : AceType) → is_type (nfs4.type_of (type_text kind)) ≡ true
 type_is kind.Allow = refl

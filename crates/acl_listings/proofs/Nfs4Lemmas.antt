@@ -20,7 +20,7 @@ use Rattle.acl_nfs4.specs.Acl.{AreAces}
 use Rattle.acl_nfs4.specs.PrintedText.{HaveIds}
 use Rattle.acl_nfs4.specs.Who.{HasId}
 use Rattle.acl_nfs4.specs.declared.limits.TheConstants.{MAX_ACES}
-use Rattle.acl_nfs4.proofs.NamedLemmas.{IsRead}
+use Rattle.acl_nfs4.proofs.ReadLemmas.{IsRead}
 use Rattle.acl_forms.specs.Forms.{form_of_pieces}
 use Rattle.acl_listings.specs.Block.{FileValue, file_by, owners_by, within_limit}
 use Rattle.acl_listings.specs.BlockLists.{lists_by, lists_in}

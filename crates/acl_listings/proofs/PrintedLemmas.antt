@@ -8,12 +8,12 @@ use Rattle.std.proofs.lemmas.List.Elements.{All-append, All-cons, All-head, All-
 use Rattle.std.proofs.lemmas.List.Splits.{slice_split_at, slice_split_none}
 use Rattle.acl_names.specs.Bytes.{newline}
 use Rattle.acl_names.specs.Directory.{Known, NamesReadBack, gid_of, group_name, uid_of, user_name}
-use Rattle.acl_names.specs.Ids.{ReadBack, Written, id_text, id_of_written, written_id}
+use Rattle.acl_names.specs.Ids.{ReadBack, id_text, written_id}
 use Rattle.acl_names.specs.Pieces.{parts, pieces}
 use Rattle.acl_names.specs.Steps.{◌>>=◌, map_fault, or_fault}
 use Rattle.acl_names.specs.declared.limits.TheConstants.{MAX_ID}
 use Rattle.acl_names.proofs.Fields.{field_plain, id_field}
-use Rattle.acl_names.proofs.IdTexts.{id_again}
+use Rattle.acl_names.proofs.IdTexts.{resolved_again}
 use Rattle.acl_names.proofs.PlainLines.{mark_lacks_newline, plain_lacks_newline}
 use Rattle.acl_posix.proofs.AclTextLemmas.{entries_of-spelt}
 use Rattle.acl_posix.proofs.InOrderLemmas.{in_order-acl}
@@ -23,7 +23,6 @@ use Rattle.std.proofs.lemmas.List.Sorted.{IsPermutation-refl}
 use Rattle.std.proofs.lemmas.Grind.{flat_map-append}
 use Rattle.std.proofs.lemmas.Bool.{and_parts, not-true}
 use Rattle.acl_names.specs.Names.{names_of, resolved}
-use Rattle.acl_names.specs.declared.directory.resolve.NameFault.TheVariants.{Malformed, Unknown}
 use Rattle.acl_posix.proofs.RoundTrip.{IsLine, line_is, text_spells}
 use Rattle.acl_posix.specs.Canonical.{IsAcl}
 use Rattle.acl_posix.specs.Entry.{EntryValue, perms_of}
@@ -190,15 +189,6 @@ flags_again known mask first more names ids =
     (no_flags_line first.tag (qualifier_text known first.tag ∷ perms_text first.perms ∷ []) (effective_mark mask first))
 
 -- the header of a block
-
--- what is printed of an id is resolved to that id
-resolved_by : (id_of : List ℕ → Option ℕ) (id : ℕ) (written : Option Written) → option_and_then (id_of_written id_of) written ≡ Some id
-    → (or_fault Malformed written >>= (λ w. or_fault Unknown (id_of_written id_of w))) ≡ Ok id
-resolved_by id_of id None is = cc
-resolved_by id_of id (Some written) is = ap (or_fault Unknown) is
-
-resolved_again : (id_of : List ℕ → Option ℕ) (name_of : ℕ → Option (List ℕ)) (id : ℕ) → ReadBack id_of name_of → id ≤ MAX_ID → resolved written_id id_of (id_text name_of id) ≡ Ok id
-resolved_again id_of name_of id back small = resolved_by id_of id (written_id (id_text name_of id)) (id_again id_of name_of id back small)
 
 abbrev file_word : List ℕ
 file_word = codes "# file: "

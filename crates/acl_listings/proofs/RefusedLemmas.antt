@@ -19,7 +19,7 @@ use Rattle.acl_nfs4.specs.NamedAces.{ace_by}
 use Rattle.acl_nfs4.specs.declared.limits.TheConstants.{MAX_ACES}
 use Rattle.acl_nfs4.specs.declared.reading.PieceFault.{PieceFault}
 use Rattle.acl_forms.specs.Forms.{form_of}
-use Rattle.acl_forms.specs.NamedEntries as freebsd
+use Rattle.acl_forms.specs.FormText as freebsd
 use Rattle.acl_forms.specs.declared.form.Form.{Form}
 use Rattle.acl_forms.specs.declared.form.Form.TheVariants as form
 use Rattle.acl_listings.specs.Access.{acl_by, default_by, if_there, list_of, posix_by}

@@ -16,7 +16,7 @@ use Rattle.acl_nfs4.specs.Ace.{Nfsace4}
 use Rattle.acl_nfs4.specs.NamedAces.{ace_by}
 use Rattle.acl_nfs4.specs.declared.reading.PieceFault.{PieceFault}
 use Rattle.acl_forms.specs.Forms.{form_of}
-use Rattle.acl_forms.specs.NamedEntries as freebsd
+use Rattle.acl_forms.specs.FormText as freebsd
 use Rattle.acl_forms.specs.declared.form.Form.{Form}
 use Rattle.acl_forms.specs.declared.form.Form.TheVariants as form
 use Rattle.acl_listings.specs.Access.{acl_by, default_by, list_of, posix_by}

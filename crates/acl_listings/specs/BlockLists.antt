@@ -12,7 +12,7 @@ use Rattle.acl_nfs4.specs.declared.limits.TheConstants.{MAX_ACES}
 use Rattle.acl_nfs4.specs.declared.reading.PieceFault.{PieceFault}
 use Rattle.acl_nfs4.specs.declared.reading.PieceFault.TheVariants as piece
 use Rattle.acl_forms.specs.Forms.{form_of}
-use Rattle.acl_forms.specs.NamedEntries.{entry_by}
+use Rattle.acl_forms.specs.FormText.{entry_by}
 use Rattle.acl_forms.specs.declared.form.Form.{Form}
 use Rattle.acl_forms.specs.declared.form.Form.TheVariants as form
 use Rattle.acl_listings.specs.Access.{posix_by}

@@ -12,7 +12,7 @@ use Rattle.acl_posix.specs.declared.limits.TheConstants.{MAX_ENTRIES}
 use Rattle.acl_nfs4.specs.NamedAces.{ace_by}
 use Rattle.acl_nfs4.specs.declared.limits.TheConstants.{MAX_ACES}
 use Rattle.acl_forms.specs.Forms.{form_of}
-use Rattle.acl_forms.specs.NamedEntries as freebsd
+use Rattle.acl_forms.specs.FormText as freebsd
 use Rattle.acl_forms.specs.declared.form.Form.{Form}
 use Rattle.acl_forms.specs.declared.form.Form.TheVariants as form
 use Rattle.acl_listings.specs.Header.{after_prefix, path_in}

@@ -13,7 +13,7 @@ use crate::fault::BlockFault;
 use crate::file::lines_behind;
 use crate::header::{after_prefix, read_path, split_line};
 use crate::list_lines::{ListKind, line_of};
-use acl_forms::{Form, NamedEntryReader, form_of};
+use acl_forms::{Form, form_of, read_entry};
 use acl_names::{NameFault, Parts, PieceReader, Pieces, ResolveNames};
 use acl_nfs4::{MAX_ACES, NamedAceReader};
 use acl_posix::{EntryReader, MAX_ENTRIES};
@@ -195,6 +195,6 @@ fn is_entry<N: ResolveNames>(piece: &[u8], kind: ListKind, names: &N) -> bool
     match kind {
         ListKind::Access | ListKind::Default => EntryReader { names }.read(piece).is_ok(),
         ListKind::Nfs4 => NamedAceReader { names }.read(piece).is_ok(),
-        ListKind::Freebsd => NamedEntryReader { names }.read(piece).is_ok(),
+        ListKind::Freebsd => read_entry(piece, names).is_ok(),
     }
 }

@@ -2,13 +2,13 @@
 
 ghost use Rattle.acl_names.specs.Pieces.{pieces};
 ghost use Rattle.acl_nfs4.specs.NamedAces.{ace_by};
-ghost use Rattle.acl_forms.specs.NamedEntries.{entry_by};
+ghost use Rattle.acl_forms.specs.FormText.{entry_by};
 ghost use Rattle.acl_listings.specs.BlockLists.{lists_by, nfs4_by};
 ghost use Rattle.acl_listings.specs.Faults.{ReadsAs};
 
 use crate::access::read_posix;
 use crate::fault::FileFault;
-use acl_forms::{Form, form_of, read_entries_by};
+use acl_forms::{Form, form_of, read_entries};
 use acl_names::ResolveNames;
 use acl_nfs4::{Acl4, read_aces_by};
 use acl_posix::Acl;
@@ -49,6 +49,6 @@ fn read_nfs4<N: ResolveNames>(alloc: Global, list: &[u8], names: &N) -> Result<L
 fn read_freebsd<N: ResolveNames>(alloc: Global, list: &[u8], names: &N) -> Result<Lists, FileFault>
     ensures { ReadsAs (nfs4_by (entry_by (N.names names.now)) (pieces list.now)) result }
 {
-    let acl = read_entries_by(alloc, list, names)?;
+    let acl = read_entries(alloc, list, names)?;
     Ok(Lists::Nfs4 { acl })
 }

@@ -1,6 +1,6 @@
 -- What is printed of an id is read as that id.
 use Rattle.std.proofs.Common.{Bor, sym, option_map, IfSome, ◌≡◌, ℕ, ◌≤◌, ◌<◌, Bool, true, false, ◌&&◌, cond}
-use Rattle.std.proofs.Common.{nat_le, List, [], ◌∷◌, length, Option, option_and_then, Some, None, unwrap_or}
+use Rattle.std.proofs.Common.{nat_le, List, [], ◌∷◌, length, Option, option_and_then, Some, None, Ok, unwrap_or}
 use Rattle.std.proofs.Common.{get_or, lit<, inl, inr, refl, ap, ◌∙◌, arith, decimal, IsUtf8, le-leb}
 use Rattle.std.specs.List.{All, list_all}
 use Rattle.std.specs.Char.{is_ascii_digit}
@@ -13,7 +13,10 @@ use Rattle.std.proofs.lemmas.Fmt.{decimal_is_IsNumeral, length-decimal-le}
 use Rattle.std.proofs.lemmas.Bool.{cases_lt, and_parts}
 use Rattle.std.proofs.lemmas.Bool.Decides.{nat_tests}
 use Rattle.acl_names.specs.declared.limits.TheConstants.{MAX_NAME_LEN, MAX_DIGITS, MAX_ID}
-use Rattle.acl_names.specs.Ids.{Number, Name, written_id, number_or_name, decimal_value, is_decimal, has_name_shape, begins_name, continues_name, id_text, id_of_written, ReadBack}
+use Rattle.acl_names.specs.Ids.{Written, Number, Name, written_id, number_or_name, decimal_value, is_decimal, has_name_shape, begins_name, continues_name, id_text, id_of_written, ReadBack}
+use Rattle.acl_names.specs.Names.{resolved}
+use Rattle.acl_names.specs.Steps.{◌>>=◌, or_fault}
+use Rattle.acl_names.specs.declared.directory.resolve.NameFault.TheVariants.{Malformed, Unknown}
 use Rattle.acl_names.proofs.Decimals.{digits_model}
 
 pub and_first : (a b : Bool) → (a && b) ≡ true → a ≡ true
@@ -69,6 +72,16 @@ id_again id_of name_of id back small = by_name (name_of id) refl
     by_name : (name : Option (List ℕ)) → name_of id ≡ name → option_and_then (id_of_written id_of) (written_id (unwrap_or name (decimal id))) ≡ Some id
     by_name None e = ap (option_and_then (id_of_written id_of)) (written_decimal id small) ∙ ap (λ t. cond t (Some id) None) (le-leb id MAX_ID small)
     by_name (Some name) e = ap (option_and_then (id_of_written id_of)) (written_name name (back id name e).0) ∙ (back id name e).1
+
+-- and is resolved to the id
+resolved_by : (id_of : List ℕ → Option ℕ) (id : ℕ) (written : Option Written) → option_and_then (id_of_written id_of) written ≡ Some id
+    → (or_fault Malformed written >>= (λ w. or_fault Unknown (id_of_written id_of w))) ≡ Ok id
+resolved_by id_of id None is = cc
+resolved_by id_of id (Some written) is = ap (or_fault Unknown) is
+
+pub resolved_again : (id_of : List ℕ → Option ℕ) (name_of : ℕ → Option (List ℕ)) (id : ℕ) → ReadBack id_of name_of → id ≤ MAX_ID
+    → resolved written_id id_of (id_text name_of id) ≡ Ok id
+resolved_again id_of name_of id back small = resolved_by id_of id (written_id (id_text name_of id)) (id_again id_of name_of id back small)
 
 -- a name has 32 bytes at most
 pub name_is_short : (name : List ℕ) → has_name_shape name ≡ true → length name ≤ MAX_NAME_LEN

@@ -25,3 +25,4 @@ pub mod DecimalIds
 mod PlainCounts
 pub mod LettersInTurn
 pub mod NamesLemmas
+pub mod TakeLemmas

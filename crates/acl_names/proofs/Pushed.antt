@@ -1,7 +1,9 @@
 -- One text is put behind another.
-use Rattle.std.proofs.Common.{◌≡◌, ◌∙◌, ℕ, ◌≤◌, List, ◌++◌, length, take, ap, refl, arith, append_assoc, length-append, Ok, Err, Result, Vec, vec_capacity, take_at, subst, sym}
+use Rattle.std.proofs.Common.{◌≡◌, ◌∙◌, ℕ, ◌+◌, ◌<◌, ◌≤◌, List, ◌++◌, flat_map, get_or, length, take, ap, refl, arith, append_assoc, length-append, Ok, Err, Result, Vec, vec_capacity, take_at, subst, sym}
 use Rattle.acl_names.specs.Pushing.{PushesInRoom}
+use Rattle.std.proofs.lemmas.List.Folds.{length-flat_map-take}
 use Rattle.acl_names.proofs.Prefixes.{keeps_front, longer_by}
+use Rattle.acl_names.proofs.TakeLemmas.{flat_map-take-next}
 
 -- what stands behind what was there was put there
 pub PushesInRoom-put : {E Z : Type 0} (bytes : List ℕ) (old new : Vec ℕ Z) → new.items ≡ old.items ++ bytes
@@ -34,3 +36,15 @@ PushesInRoom-then {first = first} {second = second} (Err e) {old} {mid} {new} a 
 pub PushesInRoom-as : {T E Z : Type 0} {bytes text : List ℕ} {result : Result T E} {old new : Vec ℕ Z}
     → text ≡ bytes → PushesInRoom bytes result old new → PushesInRoom text result old new
 PushesInRoom-as {result = result} {old = old} {new = new} is p = subst (λ (bytes : List ℕ). PushesInRoom bytes result old new) (sym is) p
+
+-- the texts of the elements so far were put there, and the next one was, or had no room
+module _ {X E Z : Type 0} (text_of : X → List ℕ) (xs : List X) (i : ℕ) (x : X) (inside : i < length xs) (here : x ≡ get_or xs i x) {old mid new : Vec ℕ Z}
+    (so_far : PushesInRoom {T = Unit {0}} {E = E} (flat_map text_of (take i xs)) (Ok tt) old mid) where
+  pub PushesInRoom-next : PushesInRoom {T = Unit {0}} {E = E} (text_of x) (Ok tt) mid new → PushesInRoom {T = Unit {0}} {E = E} (flat_map text_of (take (i + 1) xs)) (Ok tt) old new
+  PushesInRoom-next next = PushesInRoom-as (flat_map-take-next text_of xs i x inside here) (PushesInRoom-then (Ok tt) so_far next)
+
+  pub PushesInRoom-short : {e f : E} → PushesInRoom {T = Unit {0}} (text_of x) (Err e) mid new → PushesInRoom {T = Unit {0}} (flat_map text_of xs) (Err f) old new
+  PushesInRoom-short next =
+      PushesInRoom-longer (flat_map text_of xs)
+      (omega (arith, length-flat_map-take text_of xs i x inside, ap (λ x. length (text_of x)) here, length-append (flat_map text_of (take i xs)) (text_of x)))
+      (PushesInRoom-then (Err _) so_far next)

@@ -26,24 +26,25 @@ rows-within all test (row ∷ rows) each bits within = go (test row) (rows-withi
     go true rest = rest (bits ∪ row.bit) (within-or bits row.bit all within each.0)
     go false rest = rest bits within
 
-spelt-known : (table : List Letter) (all : ℕ) → AllByRecursion (λ row. row.bit ∩ all ≡ row.bit) table
-    → (text : List ℕ) (bits : ℕ) → Some bits ≡ letters_of table text → bits ∩ all ≡ bits
-unfolding letters_of
-spelt-known table all each text bits e = go (is_letters_text table text) e (rows-within all (λ row. occurs row.letter text) table each 0 refl)
-  where
-    go : (b : Bool) → Some bits ≡ cond b (Some (bits_of_rows (rows_in table text))) None
-        → bits_of_rows (rows_in table text) ∩ all ≡ bits_of_rows (rows_in table text) → bits ∩ all ≡ bits
-    go true e spelt = let same : bits ≡ bits_of_rows (rows_in table text) = cc in subst (λ (n : ℕ). n ∩ all ≡ n) (sym same) spelt
-    go false e spelt = absurd (cc)
+-- the bits of the letters that stand in a text, if the text is one of letters
+pub spelt-known : (table : List Letter) (all : ℕ) → AllByRecursion (λ row. row.bit ∩ all ≡ row.bit) table
+    → (text : List ℕ) (is_text : Bool) (bits : ℕ) → Some bits ≡ cond is_text (Some (bits_of_rows (rows_in table text))) None → bits ∩ all ≡ bits
+spelt-known table all each text true bits e =
+    let same : bits ≡ bits_of_rows (rows_in table text) = cc in
+    subst (λ (n : ℕ). n ∩ all ≡ n) (sym same) (rows-within all (λ row. occurs row.letter text) table each 0 refl)
+spelt-known table all each text false bits e = absurd (cc)
 
 -- flags and masks that are spelt have names
 pub flags-known : (text : List ℕ) (bits : ℕ) → Some bits ≡ letters_of flag_table text → bits ∩ all_flags ≡ bits
-flags-known = spelt-known flag_table all_flags (refl, (refl, (refl, (refl, (refl, (refl, (refl, tt)))))))
+unfolding letters_of
+flags-known text = spelt-known flag_table all_flags (refl, (refl, (refl, (refl, (refl, (refl, (refl, tt))))))) text (is_letters_text flag_table text)
 
 pub mask-known : (text : List ℕ) (bits : ℕ) → Some bits ≡ letters_of mask_table text → bits ∩ all_masks ≡ bits
-mask-known =
+unfolding letters_of
+mask-known text =
     spelt-known mask_table all_masks
     (refl, (refl, (refl, (refl, (refl, (refl, (refl, (refl, (refl, (refl, (refl, (refl, (refl, (refl, tt))))))))))))))
+    text (is_letters_text mask_table text)
 
 pub flags-small : (text : List ℕ) (bits : ℕ) → Some bits ≡ letters_of flag_table text → bits ≤ all_flags
 flags-small text bits e = subst (λ (n : ℕ). n ≤ all_flags) (flags-known text bits e) (and_le_r bits all_flags)
@@ -62,20 +63,19 @@ mask_table_is = record {
   letters = (refl, (refl, (refl, (refl, (refl, (refl, (refl, (refl, (refl, (refl, (refl, (refl, (refl, (refl, tt))))))))))))));
 }
 
-letters-field : (test : Letter → Bool) (rows : List Letter) → AllByRecursion (λ row. is_field_byte row.letter ≡ true) rows
-    → IsField (map (λ (row : Letter). row.letter) (filter test rows))
-letters-field test [] each = All-nil (λ byte. is_field_byte byte ≡ true)
-letters-field test (row ∷ rows) each = go (test row) (letters-field test rows each.1)
+pub letters-field : (bits : ℕ) (rows : List Letter) → AllByRecursion (λ row. is_field_byte row.letter ≡ true) rows → IsField (letters_text rows bits)
+letters-field bits [] each = All-nil (λ byte. is_field_byte byte ≡ true)
+letters-field bits (row ∷ rows) each = go (not (bit_and bits row.bit == 0)) (letters-field bits rows each.1)
   where
-    go : (b : Bool) → IsField (map (λ (row : Letter). row.letter) (filter test rows))
-        → IsField (map (λ (row : Letter). row.letter) (cond b (row ∷ filter test rows) (filter test rows)))
+    go : (b : Bool) → IsField (letters_text rows bits)
+        → IsField (map (λ (r : Letter). r.letter) (cond b (row ∷ filter (λ (r : Letter). not (bit_and bits r.bit == 0)) rows) (filter (λ (r : Letter). not (bit_and bits r.bit == 0)) rows)))
     go true rest = All-cons (λ byte. is_field_byte byte ≡ true) row.letter _ each.0 rest
     go false rest = rest
 
 pub flags-field : (flags : ℕ) → IsField (letters_text flag_table flags)
-flags-field flags = letters-field (λ row. not (bit_and flags row.bit == 0)) flag_table (refl, (refl, (refl, (refl, (refl, (refl, (refl, tt)))))))
+flags-field flags = letters-field flags flag_table (refl, (refl, (refl, (refl, (refl, (refl, (refl, tt)))))))
 
 pub mask-field : (mask : ℕ) → IsField (letters_text mask_table mask)
 mask-field mask =
-    letters-field (λ row. not (bit_and mask row.bit == 0)) mask_table
+    letters-field mask mask_table
     (refl, (refl, (refl, (refl, (refl, (refl, (refl, (refl, (refl, (refl, (refl, (refl, (refl, (refl, tt))))))))))))))

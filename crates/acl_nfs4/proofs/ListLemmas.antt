@@ -4,7 +4,6 @@ use Rattle.std.proofs.Common.{◌∷◌, ◌++◌, Option, Some, None, length, g
 use Rattle.std.proofs.Common.{length-append, add-one, arith, drop-cons}
 use Rattle.std.proofs.Common.{filter_map, Result, Ok, Err, OnErr}
 use Rattle.std.specs.List.{cons_option}
-pub use Rattle.acl_posix.proofs.TakeLemmas.{All-take-next, flat_map-take-next}
 
 module _ {X : Type 0} where
   -- what is left at an element is the element and what is left after it

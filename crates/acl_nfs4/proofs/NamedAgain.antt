@@ -1,5 +1,5 @@
 -- An entry that is printed with its ids in decimal is read again, by whatever names.
-use Rattle.std.proofs.Common.{◌≡◌, ◌∙◌, ◌≤◌, ℕ, Bool, true, false, cond, List, [], ◌∷◌, Some, None, Ok, refl, sym, ap, ap₂, subst, codes, decimal, bytes_eq}
+use Rattle.std.proofs.Common.{◌≡◌, ◌∙◌, ◌≤◌, ℕ, Bool, true, false, cond, List, [], ◌∷◌, Some, None, Ok, refl, sym, ap, ap₂, codes, decimal, bytes_eq}
 use Rattle.std.specs.List.{AllByRecursion}
 use Rattle.std.proofs.lemmas.Slice.Eq.{bytes_eq-Decides}
 use Rattle.acl_names.specs.Bits.{has}
@@ -11,33 +11,18 @@ use Rattle.acl_names.specs.declared.limits.TheConstants.{MAX_ID}
 use Rattle.acl_names.proofs.Fields.{fields_again, tested_field}
 use Rattle.acl_names.proofs.IdTexts.{written_decimal}
 use Rattle.acl_names.proofs.LettersAgain.{letters_again}
-use Rattle.acl_nfs4.specs.Ace.{Nfsace4, IsAce, is_idle}
-use Rattle.acl_nfs4.specs.AceText.{AceFields, as_fields, fields_of, refuse_idle, type_of}
+use Rattle.acl_nfs4.specs.Ace.{Nfsace4}
+use Rattle.acl_nfs4.specs.AceText.{as_fields, fields_of, refuse_idle}
 use Rattle.acl_nfs4.specs.Flags.{identifier_group}
 use Rattle.acl_nfs4.specs.Letters.{flag_table, mask_table}
 use Rattle.acl_nfs4.specs.NamedAces.{ReadNumbers, ace_by, special_or, special_who, who_by, who_with}
 use Rattle.acl_nfs4.specs.PrintedText.{short_ace, short_who, type_text}
 use Rattle.acl_nfs4.specs.Who.{HasId, is_named_group}
-use Rattle.acl_nfs4.specs.declared.ace.AceType.{AceType}
-use Rattle.acl_nfs4.specs.declared.ace.AceType.TheVariants.{Allow, Deny, Audit, Alarm}
 use Rattle.acl_nfs4.specs.declared.who.Who.{Who}
 use Rattle.acl_nfs4.specs.declared.who.Who.TheVariants.{Owner, Group, Everyone, User, NamedGroup}
 use Rattle.acl_nfs4.proofs.LetterLemmas.{flag_table_is, mask_table_is, flags-field, mask-field}
-use Rattle.acl_nfs4.proofs.NamedLemmas.{IsRead}
-use Rattle.acl_nfs4.proofs.ReadLemmas.{refuse_idle_said}
-use Rattle.acl_nfs4.proofs.RoundTrip.{ace_of-same, decimal_field}
-
-type_again : (kind : AceType) → type_of (type_text kind) ≡ Some kind
-type_again Allow = refl
-type_again Deny = refl
-type_again Audit = refl
-type_again Alarm = refl
-
-type_field : (kind : AceType) → IsField (type_text kind)
-type_field Allow = tested_field (codes "A") refl
-type_field Deny = tested_field (codes "D") refl
-type_field Audit = tested_field (codes "U") refl
-type_field Alarm = tested_field (codes "L") refl
+use Rattle.acl_nfs4.proofs.ReadLemmas.{IsRead, refuse_idle_said}
+use Rattle.acl_nfs4.proofs.RoundTrip.{ace_of-same, decimal_field, type_again, type_field}
 
 pub short_field : (who : Who) → HasId who → IsField (short_who who)
 short_field Owner has_id = tested_field (codes "OWNER@") refl

@@ -1,5 +1,5 @@
 -- What a piece says that is read: an entry with an effect.
-use Rattle.std.proofs.Common.{◌≡◌, ℕ, Bool, true, false, cond, List, [], ◌∷◌, Some, Ok, Err, refl, sym, ap, subst, ◌∙◌, All}
+use Rattle.std.proofs.Common.{◌≡◌, ℕ, Bool, true, false, cond, List, [], ◌∷◌, Some, Result, Ok, Err, refl, sym, ap, subst, ◌∙◌, All}
 use Rattle.std.proofs.lemmas.List.Elements.{All-nil, All-cons}
 use Rattle.acl_names.specs.Bits.{has}
 use Rattle.acl_names.specs.Directory.{Known}
@@ -18,12 +18,45 @@ use Rattle.acl_nfs4.specs.declared.reading.PieceFault.TheVariants.{Syntax, Unkno
 use Rattle.acl_nfs4.specs.declared.who.Who.{Who}
 use Rattle.acl_nfs4.proofs.AceLemmas.{IsAce-ace_of}
 
-refuse_idle_ok : (ace made : Nfsace4) → refuse_idle made ≡ Ok ace → (made ≡ ace) × (is_idle made ≡ false)
+pub refuse_idle_ok : (ace made : Nfsace4) → refuse_idle made ≡ Ok ace → (made ≡ ace) × (is_idle made ≡ false)
 refuse_idle_ok ace made e = go (is_idle made) e
   where
     go : (b : Bool) → cond b (Err InheritOnly) (Ok made) ≡ Ok ace → (made ≡ ace) × (b ≡ false)
     go true e = absurd (cc)
     go false e = (cc, refl)
+
+pub refuse_idle_said : (ace : Nfsace4) → is_idle ace ≡ false → refuse_idle ace ≡ Ok ace
+refuse_idle_said ace has_effect = ap (λ b. cond b (Err InheritOnly) (Ok ace)) has_effect
+
+-- an entry of a list
+pub record IsRead (ace : Nfsace4) : Type 0 where
+  pub is_ace : IsAce ace
+  pub effective : is_idle ace ≡ false
+
+-- an entry that isn't refused is one
+pub read_of : (kind : AceType) (flags : ℕ) (who : Who) (mask : ℕ) (ace : Nfsace4) → refuse_idle (ace_of kind flags who mask) ≡ Ok ace → IsRead ace
+read_of kind flags who mask ace e =
+    let last = refuse_idle_ok ace (ace_of kind flags who mask) e in
+    record { is_ace = subst IsAce last.0 (IsAce-ace_of kind flags who mask); effective = ap is_idle (sym last.0) ∙ last.1 }
+
+-- what holds of each value of a piece holds of each member of a list that pieces say
+each_said : {F : Type 0} (P : Nfsace4 → Type 0) (value_of : List ℕ → Result Nfsace4 F) → ((piece : List ℕ) (ace : Nfsace4) → value_of piece ≡ Ok ace → P ace)
+    → (texts : List (List ℕ)) (aces : List Nfsace4) → PiecesSay value_of texts aces → All P aces
+each_said P value_of holds texts [] said = All-nil P
+each_said P value_of holds [] (ace ∷ aces) said = absurd (cc)
+each_said P value_of holds (text ∷ texts) (ace ∷ aces) said =
+    let here : value_of text ≡ Ok ace = cc in
+    let rest : PiecesSay value_of texts aces = cc in
+    All-cons P ace aces (holds text ace here) (each_said P value_of holds texts aces rest)
+
+-- a text whose pieces say entries spells a list of them
+pub AreAces-spelt : {F : Type 0} (value_of : List ℕ → Result Nfsace4 F) → ((piece : List ℕ) (ace : Nfsace4) → value_of piece ≡ Ok ace → IsRead ace)
+    → (text : List ℕ) (aces : List Nfsace4) → Spells value_of MAX_ACES text aces → AreAces aces
+AreAces-spelt value_of read text aces spells = record {
+  within = spells.within;
+  each = each_said IsAce value_of (λ piece ace e. (read piece ace e).is_ace) _ aces spells.said;
+  effective = each_said (λ ace. is_idle ace ≡ false) value_of (λ piece ace e. (read piece ace e).effective) _ aces spells.said;
+}
 
 -- the parts of a piece in the shape of an entry
 pub record Shaped (piece : List ℕ) : Type 0 where
@@ -88,26 +121,10 @@ value_of_parts known piece ace parts =
     let shape = parts.shape in
     rw (shape.cut, shape.kind_is, shape.flags_are, shape.written_is, shape.mask_is, parts.who_is) (ap refuse_idle parts.made)
 
-pub refuse_idle_said : (ace : Nfsace4) → is_idle ace ≡ false → refuse_idle ace ≡ Ok ace
-refuse_idle_said ace has_effect = ap (λ b. cond b (Err InheritOnly) (Ok ace)) has_effect
-
--- what holds of each value of a piece holds of each member of a list that pieces say
-each_said : (P : Nfsace4 → Type 0) (known : Known) → ((piece : List ℕ) (ace : Nfsace4) → piece_value known piece ≡ Ok ace → P ace)
-    → (texts : List (List ℕ)) (aces : List Nfsace4) → PiecesSay (piece_value known) texts aces → All P aces
-each_said P known holds texts [] said = All-nil P
-each_said P known holds [] (ace ∷ aces) said = absurd (cc)
-each_said P known holds (text ∷ texts) (ace ∷ aces) said =
-    let here : piece_value known text ≡ Ok ace = cc in
-    let rest : PiecesSay (piece_value known) texts aces = cc in
-    All-cons P ace aces (holds text ace here) (each_said P known holds texts aces rest)
-
-pub IsAce-read : (known : Known) (piece : List ℕ) (ace : Nfsace4) → piece_value known piece ≡ Ok ace → IsAce ace
-IsAce-read known piece ace e =
-    let parts = (parts_of known piece ace e).0 in subst IsAce parts.made (IsAce-ace_of parts.shape.kind parts.shape.flags parts.who parts.shape.mask)
+piece_read : (known : Known) (piece : List ℕ) (ace : Nfsace4) → piece_value known piece ≡ Ok ace → IsRead ace
+piece_read known piece ace e =
+    let (parts, effective) = parts_of known piece ace e in
+    record { is_ace = subst IsAce parts.made (IsAce-ace_of parts.shape.kind parts.shape.flags parts.who parts.shape.mask); effective = effective }
 
 pub AreAces-read : (known : Known) (text : List ℕ) (aces : List Nfsace4) → Spells (piece_value known) MAX_ACES text aces → AreAces aces
-AreAces-read known text aces spells = record {
-  within = spells.within;
-  each = each_said IsAce known (IsAce-read known) _ aces spells.said;
-  effective = each_said (λ ace. is_idle ace ≡ false) known (λ piece ace e. (parts_of known piece ace e).1) _ aces spells.said;
-}
+AreAces-read known = AreAces-spelt (piece_value known) (piece_read known)

@@ -26,8 +26,8 @@ use Rattle.acl_names.proofs.IdTexts.{and_second, written_name, written_decimal}
 use Rattle.acl_names.proofs.LettersAgain.{letters_again}
 use Rattle.acl_names.proofs.PlainJoined.{IsPlainPiece, pieces_of_joined}
 use Rattle.acl_names.proofs.PlainLines.{IsMark, nothing, pieces_of_lines}
-use Rattle.acl_nfs4.specs.Ace.{Nfsace4, IsAce, ace_of, flags_for, is_idle}
-use Rattle.acl_nfs4.specs.AceText.{AceFields, WrittenWho, as_fields, fields_of, type_of, written_who, who_of_parts, name_at, who_with_id, who_of_written, refuse_idle, piece_value}
+use Rattle.acl_nfs4.specs.Ace.{Nfsace4, IsAce, ace_of, flags_for}
+use Rattle.acl_nfs4.specs.AceText.{WrittenWho, as_fields, type_of, written_who, who_of_parts, name_at, who_with_id, who_of_written, piece_value}
 use Rattle.acl_nfs4.specs.AceText as form
 use Rattle.acl_nfs4.specs.Flags.{identifier_group}
 use Rattle.acl_nfs4.specs.Letters.{flag_table, mask_table}
@@ -40,12 +40,12 @@ use Rattle.acl_nfs4.specs.declared.ace.AceType.TheVariants.{Allow, Deny, Audit, 
 use Rattle.acl_nfs4.specs.declared.who.Who.{Who}
 use Rattle.acl_nfs4.specs.declared.who.Who.TheVariants.{Owner, Group, Everyone, User, NamedGroup}
 use Rattle.acl_nfs4.proofs.LetterLemmas.{flag_table_is, mask_table_is, flags-field, mask-field}
-use Rattle.acl_nfs4.proofs.ReadLemmas.{value_of_parts, refuse_idle_said}
+use Rattle.acl_nfs4.proofs.ReadLemmas.{IsRead, value_of_parts, refuse_idle_said}
 use Rattle.acl_nfs4.proofs.MaskBits.{contains-one, lacks-one}
 
 -- ---- bytes of fields
 
-type_field : (kind : AceType) → IsField (type_text kind)
+pub type_field : (kind : AceType) → IsField (type_text kind)
 type_field Allow = tested_field (codes "A") refl
 type_field Deny = tested_field (codes "D") refl
 type_field Audit = tested_field (codes "U") refl
@@ -110,7 +110,7 @@ parts_digits text digits =
 -- ---- an entry's flags and mask are those of its parts
 
 -- the group flag stands if it is to stand
-flags_for-same : (who : Who) (flags : ℕ) → has flags identifier_group ≡ is_named_group who → flags_for who flags ≡ flags
+pub flags_for-same : (who : Who) (flags : ℕ) → has flags identifier_group ≡ is_named_group who → flags_for who flags ≡ flags
 flags_for-same who flags stands = same_bits _ _ (λ k.
     has-or (without flags 64) (flags_of_who who) k
     ∙ ap (λ b. b || has (flags_of_who who) k) (has-without flags 64 k)
@@ -153,7 +153,7 @@ ace_of-same ace is = λ i. record {
 
 -- ---- an entry, by its who as it is written
 
-type_again : (kind : AceType) → type_of (type_text kind) ≡ Some kind
+pub type_again : (kind : AceType) → type_of (type_text kind) ≡ Some kind
 type_again Allow = refl
 type_again Deny = refl
 type_again Audit = refl
@@ -164,6 +164,17 @@ at_most a b h = grind (arith, nat_tests)
 
 pub decimal_field : (id : ℕ) → id ≤ MAX_ID → IsField (decimal id)
 decimal_field id small = All-weaker (λ byte. is_ascii_digit byte ≡ true) (λ byte. is_field_byte byte ≡ true) digit_in_field (decimal id) (decimal_bytes id small)
+
+-- what is printed is an entry of a list whose id is within its range
+pub record IsPrinted (ace : Nfsace4) : Type 0 where
+  pub read : IsRead ace
+  pub has_id : HasId ace.who
+
+pub are_printed : (aces : List Nfsace4) → AreAces aces → HaveIds aces → All IsPrinted aces
+are_printed aces are have = λ k d inside. record {
+  read = record { is_ace = are.each k d inside; effective = are.effective k d inside };
+  has_id = have k d inside;
+}
 
 module _ (known : Known) where
   -- a who that is read as this one
@@ -187,15 +198,6 @@ module _ (known : Known) where
     pub field : IsField text
     pub reads : ReadsAs text (is_named_group who) who
 
-  -- what is printed is an entry whose id is within its range, and that has an effect
-  pub record IsPrinted (ace : Nfsace4) : Type 0 where
-    pub is_ace : IsAce ace
-    pub has_id : HasId ace.who
-    pub has_effect : is_idle ace ≡ false
-
-  pub are_printed : (aces : List Nfsace4) → AreAces aces → HaveIds aces → All IsPrinted aces
-  are_printed aces are have = λ k d inside. record { is_ace = are.each k d inside; has_id = have k d inside; has_effect = are.effective k d inside }
-
   module _ (text_of : Who → List ℕ) (are_written : (who : Who) → HasId who → IsWritten (text_of who) who) where
     fields_are : (ace : Nfsace4) → HasId ace.who
         → AllByRecursion IsField (type_text ace.kind ∷ letters_text flag_table ace.flags ∷ text_of ace.who ∷ letters_text mask_table ace.mask ∷ [])
@@ -204,7 +206,7 @@ module _ (known : Known) where
     -- an entry is read again
     pub fields_again_as : (ace : Nfsace4) → IsPrinted ace → piece_value known (fields_text (text_of ace.who) ace) ≡ Ok ace
     fields_again_as ace is =
-        let reads = subst (λ (b : Bool). ReadsAs (text_of ace.who) b ace.who) (sym is.is_ace.group_flag) (are_written ace.who is.has_id).reads in
+        let reads = subst (λ (b : Bool). ReadsAs (text_of ace.who) b ace.who) (sym is.read.is_ace.group_flag) (are_written ace.who is.has_id).reads in
         value_of_parts known (fields_text (text_of ace.who) ace) ace
         (record {
           shape = record {
@@ -221,15 +223,15 @@ module _ (known : Known) where
             cut = ap as_fields (fields_again (type_text ace.kind) (letters_text flag_table ace.flags ∷ text_of ace.who ∷ letters_text mask_table ace.mask ∷ [])
                 (fields_are ace is.has_id));
             kind_is = type_again ace.kind;
-            flags_are = letters_again flag_table ace.flags flag_table_is is.is_ace.known_flags;
+            flags_are = letters_again flag_table ace.flags flag_table_is is.read.is_ace.known_flags;
             written_is = reads.written_is;
-            mask_is = letters_again mask_table ace.mask mask_table_is is.is_ace.known_mask;
+            mask_is = letters_again mask_table ace.mask mask_table_is is.read.is_ace.known_mask;
           };
           who = ace.who;
           who_is = reads.who_is;
-          made = ace_of-same ace is.is_ace;
+          made = ace_of-same ace is.read.is_ace;
         })
-        ∙ refuse_idle_said ace is.has_effect
+        ∙ refuse_idle_said ace is.read.effective
 
     -- and is a plain piece
     pub fields_piece : (ace : Nfsace4) → IsPrinted ace → IsPlainPiece (fields_text (text_of ace.who) ace)
@@ -302,16 +304,16 @@ module _ (known : Known) (apart : NamesReadBack known) where
   abbrev IsLine : Nfsace4 → Type 0
   IsLine ace = (0 < length (ace_text known ace)) × IsPlain (ace_text known ace) × IsMark []
 
-  line_is : (ace : Nfsace4) → IsPrinted known ace → IsLine ace
+  line_is : (ace : Nfsace4) → IsPrinted ace → IsLine ace
   line_is ace is =
       let piece = fields_piece known (who_text known) are_written ace is in
       (piece.0, piece.1, nothing)
 
   pub aces_spelt : (aces : List Nfsace4) → AreAces aces → HaveIds aces → Spells (piece_value known) MAX_ACES (aces_text known aces) aces
   aces_spelt aces are have =
-      let printed = are_printed known aces are have in
+      let printed = are_printed aces are have in
       record {
-        said = ap (map (piece_value known)) (pieces_of_lines (ace_text known) (λ _. []) aces (All-weaker (IsPrinted known) IsLine line_is aces printed))
+        said = ap (map (piece_value known)) (pieces_of_lines (ace_text known) (λ _. []) aces (All-weaker IsPrinted IsLine line_is aces printed))
             ∙ each_again known (who_text known) are_written aces printed;
         within = are.within;
       }
@@ -326,17 +328,17 @@ module _ (known : Known) where
   short_written (User uid) has_id = record { field = decimal_field uid has_id; reads = decimal_again known (uid_of known) false (λ id. User id) uid has_id (λ written. refl) }
   short_written (NamedGroup gid) has_id = record { field = decimal_field gid has_id; reads = decimal_again known (gid_of known) true (λ id. NamedGroup id) gid has_id (λ written. refl) }
 
-  pieces_of : (aces : List Nfsace4) → All (IsPrinted known) aces → All IsPlainPiece (map short_ace aces)
+  pieces_of : (aces : List Nfsace4) → All IsPrinted aces → All IsPlainPiece (map short_ace aces)
   pieces_of [] are = All-nil IsPlainPiece
   pieces_of (ace ∷ aces) are =
-      All-cons IsPlainPiece (short_ace ace) (map short_ace aces) (fields_piece known short_who short_written ace (All-head (IsPrinted known) ace aces are))
-      (pieces_of aces (All-tail (IsPrinted known) ace aces are))
+      All-cons IsPlainPiece (short_ace ace) (map short_ace aces) (fields_piece known short_who short_written ace (All-head IsPrinted ace aces are))
+      (pieces_of aces (All-tail IsPrinted ace aces are))
 
   pub short_pieces : (aces : List Nfsace4) → AreAces aces → HaveIds aces → All IsPlainPiece (map short_ace aces)
-  short_pieces aces are have = pieces_of aces (are_printed known aces are have)
+  short_pieces aces are have = pieces_of aces (are_printed aces are have)
 
   pub short_spells : (aces : List Nfsace4) → AreAces aces → HaveIds aces → Spells (piece_value known) MAX_ACES (short_text aces) aces
   short_spells aces are have = record {
-    said = ap (map (piece_value known)) (pieces_of_joined (map short_ace aces) (short_pieces aces are have)) ∙ each_again known short_who short_written aces (are_printed known aces are have);
+    said = ap (map (piece_value known)) (pieces_of_joined (map short_ace aces) (short_pieces aces are have)) ∙ each_again known short_who short_written aces (are_printed aces are have);
     within = are.within;
   }

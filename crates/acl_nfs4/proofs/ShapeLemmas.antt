@@ -15,17 +15,18 @@ use Rattle.acl_names.specs.Pieces.{parts}
 use Rattle.acl_names.proofs.IdTexts.{and_first, and_second, written_name}
 use Rattle.acl_names.proofs.StepLemmas.{some_from_cond, written_by}
 use Rattle.acl_nfs4.specs.Ace.{Nfsace4, flags_for}
-use Rattle.acl_nfs4.specs.AceShapes.{IsTypeLetter, WritesId, IsWho, WritesAce, HasShape}
+use Rattle.acl_nfs4.specs.AceShapes.{WritesId, IsWho, WritesAce, HasShape}
 use Rattle.acl_nfs4.specs.AceText.{WrittenWho, type_of, special_of, name_at, who_of_parts, written_who, who_with_id, who_of_written, refuse_idle, piece_value}
 use Rattle.acl_nfs4.specs.AceText as form
 use Rattle.acl_nfs4.specs.Flags.{identifier_group}
+use Rattle.acl_nfs4.specs.PrintedText.{type_text}
 use Rattle.acl_nfs4.specs.declared.ace.AceType.{AceType}
 use Rattle.acl_nfs4.specs.declared.ace.AceType.TheVariants.{Allow, Deny, Audit, Alarm}
 use Rattle.acl_nfs4.specs.declared.who.Who.{Who}
 use Rattle.acl_nfs4.specs.declared.who.Who.TheVariants as one
 use Rattle.acl_nfs4.proofs.LetterLemmas.{flags-known, mask-known}
 use Rattle.acl_nfs4.proofs.ReadLemmas.{Parts, parts_of, value_of_parts, refuse_idle_said}
-use Rattle.acl_nfs4.proofs.RoundTrip.{at_again, parts_at, parts_name, parts_digits}
+use Rattle.acl_nfs4.proofs.RoundTrip.{at_again, parts_at, parts_digits, parts_name, type_again}
 
 same_bytes : (a b : List ℕ) → bytes_eq a b ≡ true → a ≡ b
 same_bytes a b e = (bytes_eq-Decides a b).0 e
@@ -36,24 +37,24 @@ of_same P x y e p = subst P e p
 
 -- ---- the type
 
-type_says : (text : List ℕ) (kind : AceType) → type_of text ≡ Some kind → IsTypeLetter text kind
-type_says text kind e =
-    go (bytes_eq text (codes "A")) refl (bytes_eq text (codes "D")) refl (bytes_eq text (codes "U")) refl (bytes_eq text (codes "L")) refl e
+-- a text of one of four words is the word of its type
+pub word_of_type : (word : AceType → List ℕ) (text : List ℕ) (kind : AceType)
+    → cond (bytes_eq text (word Allow)) (Some Allow)
+    (cond (bytes_eq text (word Deny)) (Some Deny) (cond (bytes_eq text (word Audit)) (Some Audit) (cond (bytes_eq text (word Alarm)) (Some Alarm) None)))
+    ≡ Some kind → text ≡ word kind
+word_of_type word text kind e = go (bytes_eq text (word Allow)) refl (bytes_eq text (word Deny)) refl (bytes_eq text (word Audit)) refl (bytes_eq text (word Alarm)) refl e
   where
-    go : (a : Bool) → bytes_eq text (codes "A") ≡ a → (d : Bool) → bytes_eq text (codes "D") ≡ d
-        → (u : Bool) → bytes_eq text (codes "U") ≡ u → (l : Bool) → bytes_eq text (codes "L") ≡ l
-        → cond a (Some Allow) (cond d (Some Deny) (cond u (Some Audit) (cond l (Some Alarm) None))) ≡ Some kind → IsTypeLetter text kind
-    go true ea d ed u eu l el e = of_same (IsTypeLetter text) Allow kind (cc) (same_bytes text (codes "A") ea)
-    go false ea true ed u eu l el e = of_same (IsTypeLetter text) Deny kind (cc) (same_bytes text (codes "D") ed)
-    go false ea false ed true eu l el e = of_same (IsTypeLetter text) Audit kind (cc) (same_bytes text (codes "U") eu)
-    go false ea false ed false eu true el e = of_same (IsTypeLetter text) Alarm kind (cc) (same_bytes text (codes "L") el)
-    go false ea false ed false eu false el e = absurd (cc)
+    is : (this : AceType) → bytes_eq text (word this) ≡ true → this ≡ kind → text ≡ word kind
+    is this same e = same_bytes text (word this) same ∙ ap word e
 
-type_read : (text : List ℕ) (kind : AceType) → IsTypeLetter text kind → type_of text ≡ Some kind
-type_read text Allow e = ap type_of e
-type_read text Deny e = ap type_of e
-type_read text Audit e = ap type_of e
-type_read text Alarm e = ap type_of e
+    go : (a : Bool) → bytes_eq text (word Allow) ≡ a → (d : Bool) → bytes_eq text (word Deny) ≡ d
+        → (u : Bool) → bytes_eq text (word Audit) ≡ u → (l : Bool) → bytes_eq text (word Alarm) ≡ l
+        → cond a (Some Allow) (cond d (Some Deny) (cond u (Some Audit) (cond l (Some Alarm) None))) ≡ Some kind → text ≡ word kind
+    go true ea d ed u eu l el e = is Allow ea (cc)
+    go false ea true ed u eu l el e = is Deny ed (cc)
+    go false ea false ed true eu l el e = is Audit eu (cc)
+    go false ea false ed false eu true el e = is Alarm el (cc)
+    go false ea false ed false eu false el e = absurd (cc)
 
 -- ---- ids
 
@@ -237,7 +238,7 @@ ace_of_parts known piece ace parts =
       fields = shape.fields;
       flags = shape.flags;
       cut = shape.cut;
-      kind_is = subst (IsTypeLetter shape.fields.kind) (ap (λ (a : Nfsace4). a.kind) parts.made) (type_says shape.fields.kind shape.kind shape.kind_is);
+      kind_is = word_of_type type_text shape.fields.kind shape.kind shape.kind_is ∙ ap (λ (a : Nfsace4). type_text a.kind) parts.made;
       flags_are = shape.flags_are;
       who_is = subst (IsWho known (has shape.flags identifier_group) shape.fields.who) (ap (λ (a : Nfsace4). a.who) parts.made)
           (who_says known (has shape.flags identifier_group) shape.fields.who shape.written parts.who shape.written_is parts.who_is);
@@ -259,7 +260,7 @@ value_of_written known piece ace shape =
         written = reads.written;
         mask = ace.mask;
         cut = shape.cut;
-        kind_is = type_read shape.fields.kind ace.kind shape.kind_is;
+        kind_is = ap type_of shape.kind_is ∙ type_again ace.kind;
         flags_are = shape.flags_are;
         written_is = reads.written_is;
         mask_is = shape.mask_is;

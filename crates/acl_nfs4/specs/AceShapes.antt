@@ -9,17 +9,9 @@ use Rattle.acl_nfs4.specs.Ace.{Nfsace4, flags_for, is_idle}
 use Rattle.acl_nfs4.specs.AceText.{AceFields, fields_of}
 use Rattle.acl_nfs4.specs.Flags.{identifier_group}
 use Rattle.acl_nfs4.specs.Letters.{flag_table, mask_table}
-use Rattle.acl_nfs4.specs.declared.ace.AceType.{AceType}
-use Rattle.acl_nfs4.specs.declared.ace.AceType.TheVariants.{Allow, Deny, Audit, Alarm}
+use Rattle.acl_nfs4.specs.PrintedText.{type_text}
 use Rattle.acl_nfs4.specs.declared.who.Who.{Who}
 use Rattle.acl_nfs4.specs.declared.who.Who.TheVariants.{Owner, Group, Everyone, User, NamedGroup}
-
--- the letter of each type
-abbrev pub IsTypeLetter : List ℕ → AceType → Type 0
-IsTypeLetter text Allow = text ≡ codes "A"
-IsTypeLetter text Deny = text ≡ codes "D"
-IsTypeLetter text Audit = text ≡ codes "U"
-IsTypeLetter text Alarm = text ≡ codes "L"
 
 -- a name, alone or in the directory's domain
 abbrev pub WritesName : Known → List ℕ → List ℕ → Type 0
@@ -46,7 +38,7 @@ pub record WritesAce (known : Known) (piece : List ℕ) (ace : Nfsace4) : Type 0
   pub fields : AceFields
   pub flags : ℕ
   pub cut : fields_of piece ≡ Some fields
-  pub kind_is : IsTypeLetter fields.kind ace.kind
+  pub kind_is : fields.kind ≡ type_text ace.kind
   pub flags_are : letters_of flag_table fields.flags ≡ Some flags
   pub who_is : IsWho known (has flags identifier_group) fields.who ace.who
   pub mask_is : letters_of mask_table fields.letters ≡ Some ace.mask

@@ -43,7 +43,7 @@ pub use named::{NamedAceReader, named_who, read_aces_by};
 pub use owners::Owners;
 pub use pairs::{AboutWho, Compared, difference_by_pairs};
 pub use printing::push_ace;
-pub use reading::{AceReader, PieceFault, read_aces};
+pub use reading::{AceReader, PieceFault, read_aces, refuse_idle};
 pub use short::push_short_ace;
 pub use who::Who;
 pub use written_who::WrittenWho;

@@ -15,7 +15,7 @@ ghost use Rattle.acl_nfs4.specs.declared.limits.TheConstants.{INLINE_ACES, MAX_A
 use crate::front::fields_in_front;
 use crate::letters::{read_flags, read_letters};
 use crate::limits::MAX_ACES;
-use crate::reading::{AceFields, read_fields, read_type, refuse_idle, text_fault};
+use crate::reading::{AceFields, read_fields, read_type, refuse_idle};
 use crate::{Ace, AceFault, Acl4, PieceFault, Who};
 use acl_names::{Gid, NameFault, PieceReader, ResolveNames, Uid, read_list};
 use std::alloc::Global;
@@ -144,6 +144,6 @@ pub fn read_aces_by<N: ResolveNames>(
 {
     match read_list(alloc, &NamedAceReader { names }, MAX_ACES, text) {
         Ok(aces) => Ok(Acl4::from_items(aces)),
-        Err(fault) => Err(text_fault(fault)),
+        Err(fault) => Err(AceFault::from(fault)),
     }
 }

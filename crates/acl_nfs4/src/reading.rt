@@ -27,6 +27,20 @@ pub enum PieceFault {
     InheritOnly,
 }
 
+impl From<ListFault<PieceFault>> for AceFault {
+    ghost from_gives = { λ fault becomes. list_fault becomes ≡ fault };
+
+    fn from(fault: ListFault<PieceFault>) -> AceFault {
+        match fault {
+            ListFault::Piece(PieceFault::Syntax) => AceFault::Syntax,
+            ListFault::Piece(PieceFault::UnknownName) => AceFault::UnknownName,
+            ListFault::Piece(PieceFault::InheritOnly) => AceFault::InheritOnly,
+            ListFault::TooMany => AceFault::TooMany,
+            ListFault::Memory => AceFault::Memory,
+        }
+    }
+}
+
 /// `type:flags:who:letters`.
 #[derive(Clone, Copy, Debug)]
 pub(crate) struct AceFields<'a> {
@@ -103,19 +117,7 @@ pub fn read_aces(alloc: Global, text: &[u8], directory: &Directory) -> Result<Ac
 {
     match read_list(alloc, &AceReader { directory }, MAX_ACES, text) {
         Ok(aces) => Ok(Acl4::from_items(aces)),
-        Err(fault) => Err(text_fault(fault)),
-    }
-}
-
-pub(crate) fn text_fault(fault: ListFault<PieceFault>) -> AceFault
-    ensures { list_fault result ≡ fault }
-{
-    match fault {
-        ListFault::Piece(PieceFault::Syntax) => AceFault::Syntax,
-        ListFault::Piece(PieceFault::UnknownName) => AceFault::UnknownName,
-        ListFault::Piece(PieceFault::InheritOnly) => AceFault::InheritOnly,
-        ListFault::TooMany => AceFault::TooMany,
-        ListFault::Memory => AceFault::Memory,
+        Err(fault) => Err(AceFault::from(fault)),
     }
 }
 
@@ -152,7 +154,8 @@ pub(crate) fn read_type(text: &[u8]) -> Option<AceType>
     }
 }
 
-pub(crate) fn refuse_idle(ace: Ace) -> Result<Ace, PieceFault>
+/// The entry, or `InheritOnly` if it has an effect neither where it stands nor below.
+pub fn refuse_idle(ace: Ace) -> Result<Ace, PieceFault>
     ensures { result ≡ refuse_idle ace }
 {
     if ace.is_idle() {

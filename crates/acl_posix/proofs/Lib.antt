@@ -23,4 +23,3 @@ pub mod FrontLemmas
 pub mod CopyLemmas
 pub mod EndLemmas
 pub mod KeyLemmas
-pub mod TakeLemmas

@@ -6,7 +6,7 @@ use Rattle.std.proofs.Math.ListN.{set}
 use Rattle.std.proofs.Math.Seq.{drop-cons}
 use Rattle.std.proofs.lemmas.List.Concat.{flat_map-cons}
 use Rattle.acl_posix.specs.Entry.{EntryValue}
-use Rattle.acl_posix.proofs.TakeLemmas.{flat_map-take-next}
+use Rattle.acl_names.proofs.TakeLemmas.{flat_map-take-next}
 use Rattle.acl_wire.specs.Xattr.{entry_bytes, xattr_of}
 
 -- what was put, some bytes more, and the rest of the buffer

@@ -1,5 +1,5 @@
 //! Entries whose names are resolved by whatever knows them, and ids in decimal.
-use acl_forms::{Places, push_short_entry, read_entries_by};
+use acl_forms::{Places, push_short_entry, read_entries};
 use acl_nfs4::{AceFault, push_short_ace, read_aces_by};
 use std::alloc::Global;
 use tests_common::{acl4, directory};
@@ -8,7 +8,7 @@ use tests_common::{acl4, directory};
 fn is_same_by_names(alloc: Global, freebsd: bool, text: &str, own: &str) -> Option<bool> {
     let names = directory(alloc)?;
     let read = if freebsd {
-        read_entries_by(alloc, text.as_bytes(), &names).ok()?
+        read_entries(alloc, text.as_bytes(), &names).ok()?
     } else {
         read_aces_by(alloc, text.as_bytes(), &names).ok()?
     };
@@ -51,7 +51,7 @@ fn what_entries_say(rt: HostRuntime) {
 fn fault_by_names(alloc: Global, freebsd: bool, text: &str) -> Option<AceFault> {
     let names = directory(alloc)?;
     if freebsd {
-        read_entries_by(alloc, text.as_bytes(), &names).err()
+        read_entries(alloc, text.as_bytes(), &names).err()
     } else {
         read_aces_by(alloc, text.as_bytes(), &names).err()
     }

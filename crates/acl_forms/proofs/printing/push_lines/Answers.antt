@@ -1,35 +1,24 @@
-use Rattle.std.proofs.Common.{Err, Ok, ap, arith, length, length-append, take}
-use Rattle.std.proofs.lemmas.List.Folds.{length-flat_map-take}
 use Rattle.std.proofs.lemmas.Result.{err_from_is_err_and}
-use Rattle.acl_names.proofs.Pushed.{PushesInRoom-as, PushesInRoom-longer, PushesInRoom-then}
+use Rattle.acl_names.proofs.Pushed.{PushesInRoom-next, PushesInRoom-short}
+use Rattle.acl_names.proofs.TakeLemmas.{All-take-next}
 use Rattle.acl_nfs4.specs.Ace.{Nfsace4}
-use Rattle.acl_forms.specs.PrintedForm.{entries_text, line_text}
 use Rattle.acl_nfs4.specs.Who.{HasId}
-use Rattle.acl_nfs4.proofs.ListLemmas.{All-take-next, flat_map-take-next}
+use Rattle.acl_forms.specs.PrintedForm.{line_text}
 use Rattle.acl_forms.proofs.printing.push_lines.Goals as goal
 
 pub returns-in_err-push_line-clause-printed : goal.returns-in_err-push_line-clause-printed
 returns-in_err-push_line-clause-printed c =
-    let known = c.args.directory.now in
-    let aces = c.args.aces.now in
-    let i = c.loop-ace.ace-index in
-    let ace = c.ace-item.result in
-    let whole = length-flat_map-take (line_text c.args.places known) aces i ace c.loop-ace-test.true in
-    let here = ap (λ (ace : Nfsace4). length (line_text c.args.places known ace)) c.ace-item.is in
-    let so_far = PushesInRoom-then (Err _) c.loop-ace.invariant.printed c.in_err-push_line.ensures.printed in
     let p = err_from_is_err_and c.from_residual.result c.from_residual.ensures.1 in
-    rw p.1 (PushesInRoom-longer (entries_text c.args.places known aces) (omega (arith, whole, here, length-append (entries_text c.args.places known (take i aces)) (line_text c.args.places known ace))) so_far)
+    rw p.1 (PushesInRoom-short (line_text c.args.places c.args.directory.now) c.args.aces.now c.loop-ace.ace-index c.ace-item.result c.loop-ace-test.true c.ace-item.is
+    c.loop-ace.invariant.printed c.in_err-push_line.ensures.printed)
 
 pub loop-ace-preserved : goal.loop-ace-preserved
 loop-ace-preserved c =
-    let known = c.args.directory.now in
     let aces = c.args.aces.now in
     let i = c.loop-ace.ace-index in
     let ace = c.ace-item.result in
     let so_far = c.loop-ace.invariant in
     record {
-      printed =
-          PushesInRoom-as (flat_map-take-next (line_text c.args.places known) aces i ace c.loop-ace-test.true c.ace-item.is)
-          (PushesInRoom-then (Ok tt) so_far.printed c.in_ok-push_line.ensures.printed);
+      printed = PushesInRoom-next (line_text c.args.places c.args.directory.now) aces i ace c.loop-ace-test.true c.ace-item.is so_far.printed c.in_ok-push_line.ensures.printed;
       have_ids = All-take-next (λ (ace : Nfsace4). HasId ace.who) aces i ace c.loop-ace-test.true c.ace-item.is so_far.have_ids c.in_ok-push_line.ensures.has_id;
     }

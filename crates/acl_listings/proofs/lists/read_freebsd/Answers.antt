@@ -1,6 +1,6 @@
 use Rattle.std.proofs.Common.{Err, rules}
 use Rattle.acl_names.specs.Pieces.{pieces}
-use Rattle.acl_forms.specs.NamedEntries.{entry_by}
+use Rattle.acl_forms.specs.FormText.{entry_by}
 use Rattle.acl_listings.specs.BlockLists.{nfs4_by}
 use Rattle.acl_listings.specs.Faults.{ReadsAs, aces_fault}
 use Rattle.acl_listings.proofs.ListsLemmas.{nfs4_read, nfs4_unread}

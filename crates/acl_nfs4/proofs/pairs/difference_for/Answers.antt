@@ -1,5 +1,5 @@
 use Rattle.std.proofs.Common.{subst, All, take_all}
-use Rattle.acl_posix.proofs.TakeLemmas.{All-take-next}
+use Rattle.acl_names.proofs.TakeLemmas.{All-take-next}
 use Rattle.acl_nfs4.specs.Comparison.{OfEach, asker_for}
 use Rattle.acl_nfs4.specs.declared.who.Who.{Who}
 use Rattle.acl_nfs4.specs.declared.who.Who.TheVariants.{Everyone}

@@ -1,9 +1,8 @@
-use Rattle.std.proofs.Common.{◌∷◌, Err, Ok, ap, arith, length, length-append, take, flat_map, List, ℕ}
-use Rattle.std.proofs.lemmas.List.Folds.{length-flat_map-take}
+use Rattle.std.proofs.Common.{◌∷◌, List, ℕ}
 use Rattle.std.proofs.lemmas.Result.{err_from_is_err_and}
 use Rattle.acl_names.specs.Bytes.{comma}
-use Rattle.acl_names.proofs.Pushed.{PushesInRoom-as, PushesInRoom-longer, PushesInRoom-then}
-use Rattle.acl_posix.proofs.TakeLemmas.{All-take-next, flat_map-take-next}
+use Rattle.acl_names.proofs.Pushed.{PushesInRoom-next, PushesInRoom-short}
+use Rattle.acl_names.proofs.TakeLemmas.{All-take-next}
 use Rattle.acl_nfs4.specs.Ace.{Nfsace4}
 use Rattle.acl_nfs4.specs.PrintedText.{short_ace}
 use Rattle.acl_nfs4.specs.Who.{HasId}
@@ -15,14 +14,9 @@ further ace = comma ∷ short_ace ace
 
 pub returns-in_err-push_further_ace-clause-printed : goal.returns-in_err-push_further_ace-clause-printed
 returns-in_err-push_further_ace-clause-printed c =
-    let aces = c.args.aces.now in
-    let i = c.loop-ace.ace-index in
-    let ace = c.ace-item.result in
-    let whole = length-flat_map-take further aces i ace c.loop-ace-test.true in
-    let here = ap (λ (ace : Nfsace4). length (further ace)) c.ace-item.is in
-    let so_far = PushesInRoom-then (Err _) c.loop-ace.invariant.printed c.in_err-push_further_ace.ensures.printed in
     let p = err_from_is_err_and c.from_residual.result c.from_residual.ensures.1 in
-    rw p.1 (PushesInRoom-longer (flat_map further aces) (omega (arith, whole, here, length-append (flat_map further (take i aces)) (further ace))) so_far)
+    rw p.1 (PushesInRoom-short further c.args.aces.now c.loop-ace.ace-index c.ace-item.result c.loop-ace-test.true c.ace-item.is
+    c.loop-ace.invariant.printed c.in_err-push_further_ace.ensures.printed)
 
 pub loop-ace-preserved : goal.loop-ace-preserved
 loop-ace-preserved c =
@@ -31,8 +25,6 @@ loop-ace-preserved c =
     let ace = c.ace-item.result in
     let so_far = c.loop-ace.invariant in
     record {
-      printed =
-          PushesInRoom-as (flat_map-take-next further aces i ace c.loop-ace-test.true c.ace-item.is)
-          (PushesInRoom-then (Ok tt) so_far.printed c.in_ok-push_further_ace.ensures.printed);
+      printed = PushesInRoom-next further aces i ace c.loop-ace-test.true c.ace-item.is so_far.printed c.in_ok-push_further_ace.ensures.printed;
       have_ids = All-take-next (λ (ace : Nfsace4). HasId ace.who) aces i ace c.loop-ace-test.true c.ace-item.is so_far.have_ids c.in_ok-push_further_ace.ensures.has_id;
     }

@@ -3,7 +3,7 @@ use Rattle.std.specs.Prelude.{codes}
 use Rattle.acl_posix.specs.Entry.{EntryValue}
 use Rattle.acl_posix.specs.Perms.{bits_of}
 use Rattle.acl_posix.specs.PrintedText.{default_text, line_text}
-use Rattle.acl_posix.proofs.TakeLemmas.{flat_map-take-next}
+use Rattle.acl_names.proofs.TakeLemmas.{flat_map-take-next}
 use Rattle.acl_posix.proofs.printing.put_default_lines.Goals as goal
 
 pub loop-entry-preserved : goal.loop-entry-preserved

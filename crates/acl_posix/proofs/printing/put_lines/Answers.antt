@@ -2,7 +2,7 @@ use Rattle.std.proofs.Common.{◌∙◌, ◌++◌, sym, ap, take, option_map, Li
 use Rattle.acl_posix.specs.Entry.{EntryValue}
 use Rattle.acl_posix.specs.Perms.{bits_of}
 use Rattle.acl_posix.specs.PrintedText.{effective_text, line_text, HasId}
-use Rattle.acl_posix.proofs.TakeLemmas.{All-take-next, flat_map-take-next}
+use Rattle.acl_names.proofs.TakeLemmas.{All-take-next, flat_map-take-next}
 use Rattle.acl_posix.proofs.printing.put_lines.Goals as goal
 
 pub loop-entry-preserved : goal.loop-entry-preserved

@@ -2,7 +2,7 @@ use Rattle.std.proofs.Common.{◌∙◌, ◌++◌, ◌∷◌, sym, ap, take, fla
 use Rattle.acl_names.specs.Bytes.{comma}
 use Rattle.acl_posix.specs.Entry.{EntryValue}
 use Rattle.acl_posix.specs.PrintedText.{short_entry, HasId}
-use Rattle.acl_posix.proofs.TakeLemmas.{All-take-next, flat_map-take-next}
+use Rattle.acl_names.proofs.TakeLemmas.{All-take-next, flat_map-take-next}
 use Rattle.acl_posix.proofs.short.put_further_entries.Goals as goal
 
 pub loop-entry-preserved : goal.loop-entry-preserved
