@@ -1,7 +1,5 @@
 -- Decimals are ids to accounts as to a directory.
-use Rattle.std.proofs.Common.{◌≡◌, ℕ, ◌&&◌, true, cond, List, Option, Some, None, option_and_then, option_map, sym, ap, ◌∙◌}
-use Rattle.std.specs.List.{list_all}
-use Rattle.std.specs.Char.{is_ascii_digit}
+use Rattle.std.proofs.Common.{◌≡◌, ℕ, cond, List, Option, Some, None, option_and_then, option_map, ap, ◌∙◌}
 use Rattle.std.specs.Prelude.{nat_le}
 use Rattle.acl_names.specs.Bytes.{colon}
 use Rattle.acl_names.specs.Ids.{Number, decimal_value, id_of_written}

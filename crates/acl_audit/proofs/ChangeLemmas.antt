@@ -1,6 +1,5 @@
 -- What of bits is lost and gained, by the bits that were allowed and are.
 use Rattle.std.proofs.Common.{◌≡◌, ◌⊎◌, ◌∙◌, ℕ, Bool, true, false, cond, not, ◌&&◌, ◌||◌, refl, sym, ap, ap₂, inl, inr, List}
-use Rattle.std.proofs.lemmas.Bool.{false≢true}
 use Rattle.acl_names.specs.Bits.{has, without, ◌∩◌, ◌∪◌}
 use Rattle.acl_names.specs.Requester.{Identity}
 use Rattle.acl_names.proofs.BitSets.{has-and, has-or, has-without}
@@ -11,7 +10,6 @@ use Rattle.acl_posix.specs.Access.{grants}
 use Rattle.acl_posix.specs.Entry.{EntryValue}
 use Rattle.acl_nfs4.proofs.MaskOfModes.{each_mode_bit}
 use Rattle.acl_bridge.specs.Comparison.{granted_by, permission_bits}
-use Rattle.acl_audit.specs.Changes.{BitsAlikeTo}
 use Rattle.acl_audit.specs.Steps.{granted_alone}
 
 -- ---- the bits of a file mode
@@ -49,10 +47,6 @@ allowed_alone_are acl owner group requester bits which bit =
 
 -- ---- what is lost and gained
 
-asked_alike : (b x y : Bool) → (b && x) ≡ (b && y) → b ≡ true → x ≡ y
-asked_alike true x y same asked = same
-asked_alike false x y same asked = absurd (false≢true asked)
-
 module _ (before after : Decider) (bits : ℕ) (requester : Identity) (was is : ℕ)
     (are_before : (bit : ℕ) → has was bit ≡ (has bits bit && before requester bit)) (are_after : (bit : ℕ) → has is bit ≡ (has bits bit && after requester bit)) where
   pub lost-bit : (bit : ℕ) → has (without was is) bit ≡ (has bits bit && (before requester bit && not (after requester bit)))
@@ -60,7 +54,3 @@ module _ (before after : Decider) (bits : ℕ) (requester : Identity) (was is : 
 
   pub gained-bit : (bit : ℕ) → has (without is was) bit ≡ (has bits bit && (after requester bit && not (before requester bit)))
   gained-bit bit = has-without is was bit ∙ ap₂ (λ x y. x && not y) (are_after bit) (are_before bit) ∙ only_one (has bits bit) (after requester bit) (before requester bit)
-
-  pub alike_if_same : was ≡ is → BitsAlikeTo before after bits requester
-  alike_if_same same bit asked =
-      asked_alike (has bits bit) (before requester bit) (after requester bit) (sym (are_before bit) ∙ ap (λ m. has m bit) same ∙ are_after bit) asked

@@ -11,7 +11,6 @@ use Rattle.acl_nfs4.specs.Ace.{Nfsace4, ace_of, flags_for, is_idle, plain_ace, u
 use Rattle.acl_nfs4.specs.Flags.{all_flags, identifier_group}
 use Rattle.acl_nfs4.specs.Mask.{all_masks, mask_of, rest_of}
 use Rattle.acl_nfs4.specs.Who.{flags_of_who, who_of}
-use Rattle.acl_nfs4.proofs.ListLemmas.{drop-here}
 use Rattle.acl_nfs4.specs.declared.ace.AceType.{AceType}
 use Rattle.acl_nfs4.specs.declared.ace.AceType.TheVariants.{Allow, Deny}
 use Rattle.acl_nfs4.specs.declared.who.Who.{Who}
@@ -106,17 +105,6 @@ module _ (effect : Effect) (acl : List EntryValue) (old whole : List Nfsace4) wh
       let n2 = length-append (with_effect effect made) (with_effect effect rest) in
       let n3 = length-append old (with_effect effect made) in
       omega arith
-
-  -- the entry at hand makes no more than the pass
-  pub pass-room : (class : Class) (part : Part) (entries : List EntryValue) (i : ℕ) (entry : EntryValue)
-      → i < length entries → entry ≡ get_or entries i entry → is_in class entry.tag ≡ true
-      → old ++ with_effect effect (flat_map (aces_of_entry part acl) (in_class class (drop i entries))) ≡ whole
-      → length (old ++ with_effect effect (aces_of_entry part acl entry)) ≤ length whole
-  pass-room class part entries i entry inside here taken =
-      let rest = in_class class (drop (i + 1) entries) in
-      room-next _ (aces_of_entry part acl entry) (flat_map (aces_of_entry part acl) rest)
-      (ap (λ (xs : List EntryValue). flat_map (aces_of_entry part acl) (in_class class xs)) (drop-here entries i entry inside here)
-      ∙ ap (λ (b : Bool). flat_map (aces_of_entry part acl) (cond b (entry ∷ rest) rest)) taken)
 
   -- the pass at hand makes no more than all of them
   pub passes-room : (i : ℕ) (default : Class × Part) → i < length passes

@@ -1,11 +1,10 @@
 -- What building a command line by its arguments gives.
-use Rattle.std.proofs.Common.{◌≡◌, ◌∙◌, ap₂, subst, false, true, List, [], Result, Ok, Err, OnOk, IfErr, IfOk, inl, inr}
-use Rattle.clap.specs.Words.{AddsArg, App, FailsBy, HasKind, HasMatchesOf, Kinds, Rule, Text, app_of}
-use Rattle.clap.specs.Words.{fault_of, found_of, is_simple, is_simple_and_free, kind_of, matches_of, rows_of}
-use Rattle.clap.specs.Words.{rule_of, subcommand_of, subcommand_rows_of, with_rule}
+use Rattle.std.proofs.Common.{◌≡◌, ◌∙◌, ap₂, subst, false, true, List, [], Result, Ok, Err, IfErr, inl, inr}
+use Rattle.clap.specs.Words.{AddsArg, App, FailsBy, HasKind, Kinds, Rule, Text, app_of}
+use Rattle.clap.specs.Words.{fault_of, is_simple_and_free, kind_of}
+use Rattle.clap.specs.Words.{rule_of, with_rule}
 use Rattle.clap.specs.declared.error.Error.{Error}
 use Rattle.clap.specs.declared.error.kind.ErrorKind.TheVariants.{OutOfMemory}
-use Rattle.clap.specs.declared.parser.matches.ArgMatches.{ArgMatches}
 use Rattle.clap.specs.declared.builder.arg.Arg.{Arg}
 use Rattle.clap.specs.declared.builder.command.Command.{Command}
 
@@ -18,18 +17,6 @@ module _ (line app : App) (words : List Text) (is : app ≡ line) where
   pub FailsBy-line : {T : Type 0} (r : Result T Error) → is_simple_and_free line ≡ true → (is_simple_and_free app ≡ true → FailsBy (fault_of app words) r) → FailsBy (fault_of line words) r
   FailsBy-line r free fails =
       subst (λ (a : App). is_simple_and_free a ≡ true → FailsBy (fault_of a words) r) is fails free
-
-  HasMatchesOf-line : (m : ArgMatches) → is_simple line ≡ true → HasMatchesOf app words m → rows_of (found_of m) ≡ matches_of line words
-  HasMatchesOf-line m simple has =
-      (subst (λ (a : App). is_simple a ≡ true → (rows_of (found_of m) ≡ matches_of a words) × (subcommand_rows_of m ≡ subcommand_of a words)) is has simple).0
-
-  pub IfOk-matches : (r : Result ArgMatches Error) → is_simple line ≡ true → IfOk r (HasMatchesOf app words) → IfOk r (λ m. rows_of (found_of m) ≡ matches_of line words)
-  IfOk-matches (Ok m) simple has = HasMatchesOf-line m simple has
-  IfOk-matches (Err e) simple has = tt
-
-pub FailsBy-ok : {T : Type 0} (kinds : Kinds) (r : Result T Error) → FailsBy kinds r → OnOk r (kinds ≡ [])
-FailsBy-ok kinds (Ok t) none = none
-FailsBy-ok kinds (Err e) has = tt
 
 pub FailsBy-err : {T : Type 0} (kinds : Kinds) (r : Result T Error) → FailsBy kinds r → IfErr r (λ e. kinds ≡ [] → kind_of e ≡ OutOfMemory)
 FailsBy-err kinds (Ok t) none = tt

@@ -1,11 +1,11 @@
 -- Failures, by their kinds.
-use Rattle.std.proofs.Common.{◌≡◌, ◌≢◌, ◌⊎◌, ◌∙◌, ◌&&◌, [], ℕ, Bool, false, true, ap, List, Result, Err, arith, inl, inr, refl, subst, sym}
+use Rattle.std.proofs.Common.{◌≡◌, ◌≢◌, ◌⊎◌, ◌∙◌, [], ℕ, Bool, true, ap, List, Result, Err, arith, inl, inr, refl, subst, sym}
 use Rattle.std.proofs.lemmas.Bool.{true≢false}
 use Rattle.clap.specs.Words.{HasKind, IsAmong, Kinds, kind_of}
 use Rattle.clap.specs.declared.error.Error.{Error}
 use Rattle.clap.specs.declared.error.kind.ErrorKind.{ErrorKind}
 use Rattle.clap.specs.declared.error.kind.ErrorKind.TheVariants.{OutOfMemory}
-use Rattle.acl_cli.specs.Failures.{AsksForHelp, BecomesFailure, Explains, IsRefusal, IsUnexplained, is_help, status_of}
+use Rattle.acl_cli.specs.Failures.{AsksForHelp, Explains, IsRefusal, IsUnexplained, is_help, status_of}
 use Rattle.acl_cli.specs.declared.failure.Failure.{Failure}
 use Rattle.acl_cli.specs.declared.failure.Failure.TheVariants.{Accounts, BadWords, CannotRead, Field, InputTwice, Lacks, LineTooLong, Mismatch, NoCommand, NoFile, Setup, TooManySessions, TooManyWords, Unread, Usage}
 use Rattle.acl_cli.specs.declared.field_fault.FieldFault.{FieldFault}
@@ -42,29 +42,6 @@ among kinds error (inr is) not_memory = is
 pub asks_for_help : (kinds : Kinds) (error : Error) → HasKind kinds error → is_help (kind_of error) ≡ true → AsksForHelp kinds
 asks_for_help kinds error has help =
     (kind_of error, among kinds error has (λ memory. true≢false (sym help ∙ ap is_help memory)), help)
-
--- what the parser's error becomes, if it isn't help that is an answer, refuses the words
-pub refusal_of : (helps : Bool) (kinds : Kinds) (error : Error) (failure : Failure) → HasKind kinds error → (helps && is_help (kind_of error)) ≡ false
-    → BecomesFailure error failure → IsRefusal helps kinds failure
-refusal_of helps kinds error (Usage same) has no_help (is, not_memory) =
-    subst (λ (e : Error). IsAmong (kind_of e) kinds × ((helps && is_help (kind_of e)) ≡ false)) (sym is) (among kinds error has not_memory, no_help)
-refusal_of helps kinds error (Lacks Memory) has no_help becomes = tt
-refusal_of helps kinds error (Lacks Output) has no_help becomes = absurd becomes
-refusal_of helps kinds error (Lacks Stopped) has no_help becomes = absurd becomes
-refusal_of helps kinds error (Lacks NoThread) has no_help becomes = absurd becomes
-refusal_of helps kinds error (Field fault) has no_help becomes = absurd becomes
-refusal_of helps kinds error InputTwice has no_help becomes = absurd becomes
-refusal_of helps kinds error (Mismatch mismatch) has no_help becomes = absurd becomes
-refusal_of helps kinds error TooManySessions has no_help becomes = absurd becomes
-refusal_of helps kinds error (Setup fault) has no_help becomes = absurd becomes
-refusal_of helps kinds error (Accounts name fault) has no_help becomes = absurd becomes
-refusal_of helps kinds error (CannotRead name reason) has no_help becomes = absurd becomes
-refusal_of helps kinds error LineTooLong has no_help becomes = absurd becomes
-refusal_of helps kinds error (Unread name) has no_help becomes = absurd becomes
-refusal_of helps kinds error (NoFile name path) has no_help becomes = absurd becomes
-refusal_of helps kinds error NoCommand has no_help becomes = absurd becomes
-refusal_of helps kinds error BadWords has no_help becomes = absurd becomes
-refusal_of helps kinds error TooManyWords has no_help becomes = absurd becomes
 
 -- what can't be read for one name can't be for another that it is
 pub IsUnexplained-as : (IsName IsOther : List ℕ → Type 0) → ((name : List ℕ) → IsName name → IsOther name) → (failure : Failure) → IsUnexplained IsName failure → IsUnexplained IsOther failure

@@ -1,5 +1,5 @@
 -- The first piece that doesn't read, of those that are left.
-use Rattle.std.proofs.Common.{◌≡◌, ◌+◌, ℕ, zero, suc, false, List, [], ◌∷◌, Option, None, Result, Ok, Err, refl, take}
+use Rattle.std.proofs.Common.{◌≡◌, ◌+◌, ℕ, suc, false, List, ◌∷◌, Option, Result, Ok, Err, refl, take}
 use Rattle.std.specs.Prelude.{is_err}
 use Rattle.acl_lint.specs.Places.{Piece, first_unread, piece_or}
 
@@ -9,11 +9,6 @@ unread-passed (Ok value) piece other reads = refl
 unread-passed (Err fault) piece other reads = cc
 
 module _ {A F : Type 0} (read : List ℕ → Result A F) where
-  -- none of no pieces
-  pub unread-none : (before most : ℕ) (pieces : List (List ℕ)) → pieces ≡ [] → first_unread read before (take most pieces) ≡ None
-  unread-none before zero pieces none = refl
-  unread-none before (suc most) pieces none = rw none refl
-
   -- of one piece more
   pub unread-next : (before left most : ℕ) (pieces : List (List ℕ)) (piece : List ℕ) (more : List (List ℕ)) → pieces ≡ piece ∷ more → most ≡ suc left
       → first_unread read before (take most pieces) ≡ piece_or (read piece) (record { number = before + 1; text = piece }) (first_unread read (before + 1) (take left more))

@@ -157,9 +157,6 @@ module _ (n : ℕ) (first : List ℕ) (more : List (List ℕ)) (each : All IsFul
 pub blocks-empty_line : (n : ℕ) (rest : List ℕ) → blocks_from n (newline ∷ rest) ≡ blocks_from (n + 1) rest
 blocks-empty_line n rest = ap (blocks_of_lines n) (lines_of-behind [] rest)
 
-pub blocks-none : (n : ℕ) → blocks_from n [] ≡ []
-blocks-none n = refl
-
 module _ (n : ℕ) (block : List ℕ) (full : HasFullLines block) where
   abbrev lines : HasParts false block
   lines = full_parts false block full

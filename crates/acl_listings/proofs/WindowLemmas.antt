@@ -1,8 +1,8 @@
 -- What a window shows after it takes and after it reads.
-use Rattle.std.proofs.Common.{◌≡◌, ℕ, ◌+◌, ◌-◌, ◌≤◌, List, ◌++◌, length, drop, take, Option, Some, None, ap, sym, ◌∙◌, append_assoc, length-append, length-drop, length-take, arith}
+use Rattle.std.proofs.Common.{◌≡◌, ℕ, ◌+◌, ◌-◌, ◌≤◌, List, ◌++◌, length, drop, take, Option, Some, None, ap, sym, ◌∙◌, append_assoc, length-drop, length-take, arith}
 use Rattle.std.proofs.lemmas.List.{drop-take}
 use Rattle.std.proofs.Math.Seq.{drop-drop, take-add}
-use Rattle.std.proofs.lemmas.List.Edits.{length-paste, take-paste}
+use Rattle.std.proofs.lemmas.List.Edits.{take-paste}
 use Rattle.std.specs.List.{copy_within, slice_range}
 use Rattle.std.specs.Io.KnownBytes.{Consumes, Keeps, prepend_known}
 use Rattle.acl_listings.specs.Window.{AreBounds}
@@ -23,26 +23,13 @@ moved buffer start end bounds =
     ap (λ n. take n (copy_within buffer start end 0)) (sym none)
     ∙ take-paste buffer 0 (drop start buffer) (end - start) (omega arith) (omega (arith, bounds.ordered, bounds.within, length-drop start buffer))
 
-pub length-moved : (buffer : List ℕ) (start end : ℕ) → AreBounds buffer start end → length (copy_within buffer start end 0) ≡ length buffer
-length-moved buffer start end bounds =
-    length-paste buffer 0 (drop start buffer) (end - start) (omega (arith, bounds.ordered, bounds.within)) (omega (arith, bounds.ordered, bounds.within, length-drop start buffer))
-
 -- more bytes behind those at the front
 pub grown : (buffer shown : List ℕ) (len count : ℕ) → take len buffer ≡ shown → slice_range buffer 0 (len + count) ≡ shown ++ take count (drop len buffer)
 grown buffer shown len count front =
     let whole : len + count - 0 ≡ len + count = omega arith in
     ap (λ n. take n buffer) whole ∙ take-add len count buffer ∙ ap (λ t. t ++ take count (drop len buffer)) front
 
--- what is to come stays
-pub told_same : (before after : Option (List ℕ)) (shown : List ℕ) → Keeps before after → Keeps (prepend_known shown before) (prepend_known shown after)
-told_same None after shown kept = tt
-told_same (Some told) None shown kept = absurd kept
-told_same (Some told) (Some rest) shown kept = ap (λ t. shown ++ t) kept
-
 pub told_more : (before after : Option (List ℕ)) (shown more : List ℕ) → Consumes before after more → Keeps (prepend_known shown before) (prepend_known (shown ++ more) after)
 told_more None after shown more taken = tt
 told_more (Some told) None shown more taken = absurd taken
 told_more (Some told) (Some rest) shown more taken = append_assoc shown more rest ∙ ap (λ t. shown ++ t) (sym taken)
-
-pub nothing_more : (shown more : List ℕ) (count : ℕ) → count ≡ length more → shown ++ more ≡ shown → count ≡ 0
-nothing_more shown more count is same = omega (arith, is, ap length same, length-append shown more)

@@ -19,8 +19,8 @@ use acl_nfs4::{MAX_ACES, NamedAceReader};
 use acl_posix::{EntryReader, MAX_ENTRIES};
 
 /// The line of a block that is at fault, and how many stand before it: the first for what is wrong
-/// with the block as a whole, and in a list the one in which the first entry stands that doesn't
-/// read or is one too many.
+/// with the block as a whole, and in a list the one in which the first entry stands that is
+/// malformed or is one too many.
 pub fn faulty_line<'t, N: ResolveNames>(
     text: &'t [u8],
     fault: BlockFault,
@@ -91,7 +91,7 @@ fn is_owner_line<N: ResolveNames>(line: &[u8], names: &N) -> bool
     }
 }
 
-/// How many lines of a list stand before the first in which an entry doesn't read or is one too
+/// How many lines of a list stand before the first in which an entry is malformed or is one too
 /// many.
 fn before_bad_entry<N: ResolveNames>(list: &[u8], names: &N) -> usize
     ensures first { IsBadLine (N.names names.now) (faulty_kind (N.names names.now) list.now)
@@ -118,7 +118,7 @@ fn bad_line_or_first<N: ResolveNames>(list: &[u8], kind: ListKind, names: &N) ->
     }
 }
 
-/// How many lines stand before the first in which an entry of the list doesn't read or is one too
+/// How many lines stand before the first in which an entry of the list is malformed or is one too
 /// many, if there is one.
 fn bad_line<N: ResolveNames>(list: &[u8], kind: ListKind, names: &N) -> Option<usize>
     ensures first { IfSome result (IsFirstFaulty (N.names names.now) kind
@@ -153,7 +153,7 @@ fn most(kind: ListKind) -> usize
 }
 
 /// How many more entries of the list may stand behind a line, before which there was room for so
-/// many. `None` if one of its entries doesn't read, or is one too many.
+/// many. `None` if one of its entries is malformed, or is one too many.
 fn room_behind_line<N: ResolveNames>(
     line: &[u8],
     kind: ListKind,

@@ -1,15 +1,14 @@
 -- Of more numbers than there are entries, no entry asks for one.
 use Rattle.std.proofs.Common.{◌≡◌, ◌≢◌, ◌≤◌, ◌+◌, ◌-◌, ◌<◌, ◌==◌, ℕ, zero, suc, Bool, true, false, cond, not}
-use Rattle.std.proofs.Common.{◌&&◌, ◌||◌, refl, sym, ap, ap₂, ◌∙◌, List, [], ◌∷◌, ◌++◌, Option, Some, None}
+use Rattle.std.proofs.Common.{◌&&◌, ◌||◌, refl, sym, ap₂, ◌∙◌, List, [], ◌∷◌, ◌++◌, Option, Some, None}
 use Rattle.std.proofs.Common.{length, length-append, map, arith}
 use Rattle.std.specs.List.{list_any, filter}
-use Rattle.std.proofs.lemmas.Bool.{true≢false, eqb-true, eq-eqb, or_parts}
+use Rattle.std.proofs.lemmas.Bool.{true≢false, eqb-true}
 use Rattle.std.proofs.lemmas.List.{length-map}
-use Rattle.std.proofs.lemmas.List.Elements.{All-nil, All-cons}
 use Rattle.std.proofs.lemmas.List.Folds.{list_any-append}
 use Rattle.acl_names.specs.declared.limits.TheConstants.{NOBODY}
 use Rattle.acl_names.proofs.AnyLemmas.{list_any-agree, list_any-filter, list_any-map, list_any-weaken}
-use Rattle.acl_nfs4.specs.Comparison.{needed_uid, needs_user, asks_for, IsStranger}
+use Rattle.acl_nfs4.specs.Comparison.{needed_uid, needs_user, asks_for}
 use Rattle.acl_nfs4.specs.declared.who.Who.{Who}
 use Rattle.acl_nfs4.specs.declared.who.Who.TheVariants.{Owner, Group, Everyone, User, NamedGroup}
 
@@ -111,12 +110,3 @@ module _ {E : Type 0} (who : E → Who) where
         length-map first (λ (entry : E). needed_uid owner (who entry)),
         length-map second (λ (entry : E). needed_uid other_owner (who entry)),
       )
-
-  -- one whom no entry asks for is a stranger
-  pub is_stranger : (owner uid : ℕ) (entries : List E) → asks_for who owner uid entries ≡ false → IsStranger who owner entries uid
-  is_stranger owner uid [] none = All-nil (λ (entry : E). needed_uid owner (who entry) ≢ Some uid)
-  is_stranger owner uid (entry ∷ rest) none =
-      let parts = or_parts (needs_user owner uid (who entry)) (asks_for who owner uid rest) none in
-      All-cons (λ (other : E). needed_uid owner (who other) ≢ Some uid) entry rest
-      (λ e. true≢false (sym (asked_uid owner uid (who entry) ∙ ap (is_at uid) e ∙ eq-eqb uid uid refl) ∙ parts.0))
-      (is_stranger owner uid rest parts.1)

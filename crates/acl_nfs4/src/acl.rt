@@ -19,7 +19,7 @@ pub enum AceFault {
     TooMany,
     /// `INHERIT_ONLY` without `FILE_INHERIT` or `DIRECTORY_INHERIT`.
     InheritOnly,
-    /// A growth was refused.
+    /// An allocation failed.
     Memory,
 }
 

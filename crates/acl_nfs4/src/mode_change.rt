@@ -30,7 +30,7 @@ use std::alloc::Global;
 pub enum Fault4 {
     /// The list would have more than 128 entries.
     TooMany,
-    /// A growth was refused.
+    /// An allocation failed.
     Memory,
 }
 

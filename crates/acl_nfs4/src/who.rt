@@ -25,7 +25,7 @@ impl Who {
     ghost use Rattle.acl_nfs4.specs.Who.{matches, is_special, same_who, flags_of_who};
 
     /// Whether whoever asks for a file with this owner and this group is meant. Long lists are
-    /// mostly about users, who are told at one look.
+    /// mostly about users, who are recognised at one look.
     pub(crate) fn matches<S: Subject>(&self, owner: Uid, group: Gid, subject: &S) -> bool
         ensures { result ≡ matches owner group (S.identity subject.now) self.now }
     {

@@ -32,7 +32,7 @@ impl<'a> WrittenWho<'a> {
     pub fn read(text: &'a [u8]) -> Option<WrittenWho<'a>>
         ensures { option_map view_who result ≡ written_who text.now }
     {
-        // A decimal and a special identifier, as most are, are told at one look.
+        // A decimal and a special identifier, as most are, are recognised at one look.
         if let Some(number) = read_decimal(text) {
             return Some(WrittenWho::Id(WrittenId::Number(number)));
         }

@@ -8,7 +8,7 @@ use Rattle.std.proofs.lemmas.List.{take-append-drop}
 use Rattle.std.proofs.lemmas.Slice.Eq.{bytes_eq-Decides}
 use Rattle.acl_names.specs.Bytes.{colon}
 use Rattle.acl_names.specs.Ids.{Written, id_of_written}
-use Rattle.acl_names.specs.Names.{BeginsWithId, Names, resolved}
+use Rattle.acl_names.specs.Names.{Names, resolved}
 use Rattle.acl_names.specs.Plain.{IsField, IsFront}
 use Rattle.acl_names.specs.Steps.{◌>>=◌, or_fault}
 use Rattle.acl_names.specs.declared.directory.resolve.NameFault.{NameFault}
@@ -18,13 +18,12 @@ use Rattle.acl_posix.specs.EntryText.{Fields, as_fields, fields_of, entry_by, ta
 use Rattle.acl_posix.specs.Front.{BeginsWithWord, BeginsWithTag, BeginsWithPerms}
 use Rattle.acl_posix.specs.PermsText.{perms_of_text, three_letters}
 use Rattle.acl_posix.specs.declared.entry.Tag.{Tag}
-use Rattle.acl_posix.specs.declared.entry.Tag.TheVariants.{User, Group}
 use Rattle.acl_posix.specs.ReadFault.{fault_of_name}
 use Rattle.acl_posix.specs.declared.reading.PieceFault.TheVariants.{Syntax, UnknownName}
 use Rattle.acl_posix.specs.declared.reading.TagWord.{TagWord}
 use Rattle.acl_posix.specs.declared.reading.TagWord.TheVariants as word
 use Rattle.acl_posix.proofs.ReadLemmas.{three_letters-read}
-use Rattle.acl_posix.proofs.RoundTrip.{group_tag, qualified_by, read_parts, three_pass, user_tag}
+use Rattle.acl_posix.proofs.RoundTrip.{read_parts, three_pass}
 
 -- what is said of the value, if there is one
 pub some_of_match : {X : Type 0} (found : Option X) (P : Type 0) (Q : X → Type 0) → MatchOption found P Q → IfSome found Q

@@ -1,9 +1,8 @@
 -- Of a table that says no setup the first key is told that is at fault.
-use Rattle.std.proofs.Common.{◌≡◌, ◌∙◌, ◌+◌, ◌++◌, ℕ, Bool, true, false, cond, List, [], ◌∷◌, Option, Some, None, Result, Ok, Err, ap, arith, codes, refl, sym}
+use Rattle.std.proofs.Common.{◌≡◌, ◌∙◌, ◌+◌, ◌++◌, ℕ, Bool, cond, List, [], ◌∷◌, Option, Some, None, Result, Ok, Err, ap, arith, codes, refl, sym}
 use Rattle.std.specs.Prelude.{is_none, option_and_then, suc}
 use Rattle.std.specs.List.{find}
 use Rattle.std.specs.Option.{option_or}
-use Rattle.std.proofs.lemmas.List.{append-nil}
 use Rattle.std.proofs.lemmas.List.Folds.{find-append}
 use Rattle.toml.specs.Data.{Data, Items, Members, as_array, as_table, get_item, get_member, item, no_items}
 use Rattle.acl_names.specs.Steps.{◌>>=◌, or_fault}

@@ -166,10 +166,6 @@ module _ (users : List KnownUser) (groups : List KnownGroup) where
   cond_some true key other later = refl
   cond_some false key other later = later refl
 
-  or_rest : (a b : Bool) → (a || b) ≡ true → a ≡ false → b ≡ true
-  or_rest true b any none = cc
-  or_rest false b any none = any
-
   too_many_some : (nat_lt MAX_USERS (length users) || nat_lt MAX_GROUPS (length groups) || list_any is_in_too_many users) ≡ true → IsSome (key_of_too_many users groups)
   too_many_some any =
       cond_some (nat_lt MAX_USERS (length users)) _ _ (λ few.
