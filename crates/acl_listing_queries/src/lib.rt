@@ -10,7 +10,7 @@ mod everyone;
 mod files;
 mod host;
 mod impact;
-pub mod impact_lines;
+mod impact_lines;
 mod laws;
 mod lines;
 mod named;
