@@ -9,11 +9,11 @@ use crate::between::{after_field, before_field, tell_between};
 use crate::host::read_host;
 use crate::named::INPUT;
 use crate::options::{
-    accounts_option, all_option, exit_code_option, setup_option, text_option, user_option,
+    accounts_option, after_word, all_option, before_word, exit_code_option, setup_option,
+    text_option, user_option,
 };
 use crate::people::{read_people, user_fields};
 use acl_cli::fields::flag_field;
-use acl_cli::options::required_word;
 use acl_cli::{Command as CliCommand, CommandLine, Ending, ErrorOutput, Failure, OpenFiles};
 use clap::{ArgMatches, Command};
 use std::alloc::{AllocError, Global};
@@ -64,18 +64,8 @@ impl CommandLine for ImpactOfListings {
             .arg(user_option(alloc))?
             .arg(text_option(alloc))?
             .arg(exit_code_option(alloc))?
-            .arg(required_word(
-                alloc,
-                "listing",
-                "BEFORE",
-                "What getfacl -R printed before, or - for standard input",
-            ))?
-            .arg(required_word(
-                alloc,
-                "after",
-                "AFTER",
-                "What it printed after, or - for standard input",
-            ))
+            .arg(before_word(alloc))?
+            .arg(after_word(alloc))
     }
 }
 

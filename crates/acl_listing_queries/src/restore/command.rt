@@ -1,7 +1,7 @@
 //! The command `restore`.
 use super::teller::RestoreTeller;
 use crate::between::{after_field, before_field, tell_between};
-use acl_cli::options::required_word;
+use crate::options::{after_word, before_word};
 use acl_cli::{Command as CliCommand, CommandLine, Ending, ErrorOutput, Failure, OpenFiles};
 use clap::{ArgMatches, Command};
 use std::alloc::{AllocError, Global};
@@ -41,18 +41,8 @@ impl CommandLine for Restore {
             .bin_name("aclctl restore")?
             .about("Prints what brings back the lists of files as a listing had them.")
             .after_help(ANSWERS)
-            .arg(required_word(
-                alloc,
-                "listing",
-                "BEFORE",
-                "What getfacl -R printed before, or - for standard input",
-            ))?
-            .arg(required_word(
-                alloc,
-                "after",
-                "AFTER",
-                "What it printed after, or - for standard input",
-            ))
+            .arg(before_word(alloc))?
+            .arg(after_word(alloc))
     }
 }
 

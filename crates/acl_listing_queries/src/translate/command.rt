@@ -4,9 +4,9 @@ use super::form::form_field;
 use super::teller::TranslateTeller;
 use crate::host::read_host;
 use crate::named::{listing_field, tell_named};
-use crate::options::{accounts_option, setup_option};
+use crate::options::{accounts_option, listing_word, setup_option};
 use acl_cli::fields::flag_field;
-use acl_cli::options::{flag, optional_option, required_word};
+use acl_cli::options::{flag, optional_option};
 use acl_cli::{Command as CliCommand, CommandLine, Ending, ErrorOutput, Failure, OpenFiles};
 use clap::{ArgMatches, Command};
 use std::alloc::{AllocError, Global};
@@ -64,12 +64,7 @@ impl CommandLine for Translate {
                 "print0",
                 "Tells entries between commas and the path, with a byte of 0 behind each",
             ))?
-            .arg(required_word(
-                alloc,
-                "listing",
-                "LISTING",
-                "What getfacl -R printed, or - for standard input",
-            ))
+            .arg(listing_word(alloc))
     }
 }
 

@@ -11,10 +11,10 @@ use super::listed::ListedTeller;
 use super::reach::ReachTeller;
 use crate::host::{Host, read_host};
 use crate::named::{listing_field, tell_named};
-use crate::options::{accounts_option, letters_option, setup_option, user_option};
+use crate::options::{accounts_option, letters_option, listing_word, setup_option, user_option};
 use crate::people::read_people;
 use acl_cli::fields::flag_field;
-use acl_cli::options::{flag, optional_perms_option, required_word};
+use acl_cli::options::{flag, optional_perms_option};
 use acl_cli::{Command as CliCommand, CommandLine, Ending, ErrorOutput, Failure, OpenFiles};
 use acl_names::Requester;
 use clap::{ArgMatches, Command};
@@ -65,12 +65,7 @@ impl CommandLine for WhoOfListing {
                 "Counts something only if the user may also search each folder above",
             ))?
             .arg(user_option(alloc))?
-            .arg(required_word(
-                alloc,
-                "listing",
-                "LISTING",
-                "What getfacl -R printed, or - for standard input",
-            ))
+            .arg(listing_word(alloc))
     }
 }
 

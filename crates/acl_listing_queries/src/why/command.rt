@@ -11,7 +11,7 @@ use super::question::Question;
 use super::search::seek_named;
 use crate::host::{Host, read_host};
 use crate::named::listing_field;
-use crate::options::{accounts_option, setup_option};
+use crate::options::{accounts_option, listing_word, setup_option};
 use crate::person::Person;
 use crate::written::ReadPerson;
 use acl_cli::fields::text_field;
@@ -69,12 +69,7 @@ impl CommandLine for Why {
                 "The user to ask about, by name or uid",
             ))?
             .arg(perms_option(alloc))?
-            .arg(required_word(
-                alloc,
-                "listing",
-                "LISTING",
-                "What getfacl -R printed, or - for standard input",
-            ))?
+            .arg(listing_word(alloc))?
             .arg(required_word(
                 alloc,
                 "path",
