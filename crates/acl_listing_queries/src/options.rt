@@ -32,7 +32,7 @@ pub fn user_option<'a>(alloc: Global) -> Arg<'a>
     ensures rule { rule_of result ≡ repeated_option (codes "user") }
     ensures local { result.global ≡ false }
 {
-    let help = "A user to ask about, by name or uid; it may be given again. Else all but uid 0";
+    let help = "A user to ask about, by name or uid; it may be given again. Else all users";
     repeated_option(alloc, "user", "NAME", help)
 }
 

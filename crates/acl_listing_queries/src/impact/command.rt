@@ -23,21 +23,20 @@ use std::io::{Read, Write};
 pub const IMPACT_ANSWERS: &str = "For example:
   getfacl -Rn /srv/share > before
   getfacl -Rn /srv/share | aclctl impact before -
-A line for each file where somebody gains or loses: differ NAME UID GIDS LOST GAINED PATH; new \
-PATH in its place,
-and gone PATH at the end. If NAME is -, UID and GIDS are somebody who is none of the users. With \
---all there is a
-line for each user whom it concerns, and with --user one for each of these alone; then a new or \
-gone path is
-followed by such lines too. With --text also: changed WHAT PATH, of what is written otherwise. uid \
-0 isn't asked
-about: it may do nearly everything. What isn't answered is said on standard error: aclctl: \
-LISTING:LINE: WORD: TEXT.
-Exit status: 0 if every block was answered; 1 if a field or a file doesn't read; 2 if the words \
-are wrong; 3 if
-memory runs out, a listing fails while it is read, or the answer can't be written; 4 if there are \
-blocks that
-weren't answered, or a listing has none at all; 5 if there is a line, and --exit-code.";
+
+A line for each file where somebody gains or loses:
+differ NAME UID GIDS LOST GAINED PATH; new PATH in its place, and gone PATH at
+the end. If NAME is -, UID and GIDS are somebody who is none of the users. With
+--all there is a line for each user whom it concerns, and with --user one for
+each of these alone; then a new or gone path is followed by such lines too.
+With --text also: changed WHAT PATH, of what is written otherwise. Of listings
+uid 0 isn't asked about: it may do nearly everything. What isn't answered is
+said on standard error: aclctl: LISTING:LINE: WORD: TEXT.
+
+Exit status: 0 if every block was answered; 1 if a field or a file doesn't
+read; 2 if the words are wrong; 3 if memory runs out, a listing fails while it
+is read, or the answer can't be written; 4 if there are blocks that weren't
+answered, or a listing has none at all; 5 if there is a line, and --exit-code.";
 
 /// `impact` of two listings: for whom it changed what.
 #[derive(Clone, Copy)]
