@@ -8,16 +8,17 @@ use clap::Command;
 use std::alloc::{AllocError, Global};
 
 /// What is reported, and what the exit statuses are.
-const ANSWERS: &str = "A line for each fault, and none if nothing is wrong. Of a setup that is \
+const ANSWERS: &str = "A line for each fault, and none if nothing is wrong. Of a setup that is
 refused:
   FILE: WORD PLACE
-where PLACE is a key, as user[2].uid, counted from 0, or LINE:COLUMN. Sessions aren't looked at
-then. Of a line of a session that has a fault:
+where PLACE is a key, as user[2].uid, counted from 0, or LINE:COLUMN. Sessions
+aren't looked at then. Of a line of a session that has a fault:
   FILE:LINE: WORD PLACE
-where WORD is the one that run answers, and PLACE the piece of a list that doesn't read, counted
-from 1. A PLACE that there isn't is -.
-Exit status: 0 with an answer; 1 if a file can't be read; 2 if the words are wrong; 3 if
-memory runs out or the answer can't be written.";
+where WORD is the one that run answers, and PLACE the piece of a list that
+doesn't read, counted from 1. A PLACE that there isn't is -.
+
+Exit status: 0 with an answer; 1 if a file can't be read; 2 if the words are
+wrong; 3 if memory runs out or the answer can't be written.";
 
 impl CommandLine for Lint {
     ghost use Rattle.acl_lint.specs.LintLine.{lint_line, lint_line-free, lint_line-simple};

@@ -2,6 +2,7 @@ pub mod SetupNamesLemmas
 pub mod HostLemmas
 pub mod PeopleLemmas
 pub mod SetupPeopleLemmas
+pub mod ElsewhereLemmas
 pub mod BlocksLemmas
 pub mod WaysLemmas
 pub mod AnswersLemmas

@@ -6,7 +6,7 @@ use Rattle.std.specs.Option.{option_and_then}
 use Rattle.std.proofs.lemmas.List.{length-map, map-append, take-append-drop, take_all, take_more}
 use Rattle.std.proofs.Math.Seq.{drop-cons}
 use Rattle.std.proofs.lemmas.List.Elements.{filter-append}
-use Rattle.std.proofs.lemmas.Option.{get_or_from_slice_get, slice_get-map, slice_get_within}
+use Rattle.std.proofs.lemmas.Option.{get_or_from_slice_get, slice_get-map, slice_get_past, slice_get_read, slice_get_within}
 use Rattle.clap.specs.Words.{Text}
 use Rattle.acl_names.specs.ListText.{PiecesSay}
 use Rattle.acl_names.specs.ReadList.{each_read}
@@ -37,62 +37,32 @@ listed_at (name ∷ names) [] (suc place) = nobody (slice_get names place)
 listed_at (name ∷ names) (who ∷ whos) zero = refl
 listed_at (name ∷ names) (who ∷ whos) (suc place) = listed_at names whos place
 
-module _ (names : List (List ℕ)) (whos : List Identity) (place : ℕ) where
-  pub listed_there : (name : List ℕ) (who : Identity) → slice_get names place ≡ Some name → slice_get whos place ≡ Some who
-      → slice_get (listed names whos) place ≡ Some (person name who)
-  listed_there name who is_name is_who = listed_at names whos place ∙ rw (is_name, is_who) refl
-
-  pub listed_nameless : slice_get names place ≡ None → slice_get (listed names whos) place ≡ None
-  listed_nameless is = listed_at names whos place ∙ rw is refl
-
 -- there are no more than names
-pub length-listed : (names : List (List ℕ)) (whos : List Identity) → length (listed names whos) ≤ length names
+length-listed : (names : List (List ℕ)) (whos : List Identity) → length (listed names whos) ≤ length names
 length-listed [] whos = omega arith
 length-listed (name ∷ names) [] = omega arith
 length-listed (name ∷ names) (who ∷ whos) = omega (arith, length-listed names whos)
 
--- of accounts
-module _ (known : KnownAccounts) where
-  abbrev account_names : List (List ℕ)
-  account_names = map (λ (user : KnownAccount). user.name) known.users
+-- those of users, of accounts or of a setup
+module _ {X : Type 0} (name_of : X → List ℕ) (users : List X) (whos : List Identity) where
+  pub users_count : length (listed (map name_of users) whos) ≤ length users
+  users_count = omega (arith, length-listed (map name_of users) whos, length-map users name_of)
 
-  pub accounts_count : length (everyone (Accounts known)) ≤ length known.users
-  accounts_count = omega (arith, length-listed account_names known.requesters, length-map known.users (λ (user : KnownAccount). user.name))
+  pub user_there : (place : ℕ) (user : X) → place < length users → user ≡ get_or users place user
+      → option_map (person (name_of user)) (slice_get whos place) ≡ slice_get (listed (map name_of users) whos) place
+  user_there place user within is =
+      let there : slice_get users place ≡ Some user = slice_get_read users (length users) place user refl within is in
+      sym (listed_at (map name_of users) whos place ∙ rw (slice_get-map name_of users place, there) refl)
 
-  module _ (place : ℕ) where
-    pub account_there : (user : KnownAccount) (who : Identity) → Some user ≡ slice_get known.users place → Some who ≡ slice_get known.requesters place
-        → Some (person user.name who) ≡ slice_get (everyone (Accounts known)) place
-    account_there user who is_user is_who =
-        let name : slice_get account_names place ≡ Some user.name = slice_get-map (λ (u : KnownAccount). u.name) known.users place ∙ rw (← is_user) refl in
-        sym (listed_there account_names known.requesters place user.name who name (sym is_who))
+  pub nobody_there : (place : ℕ) → length users ≤ place → None ≡ slice_get (listed (map name_of users) whos) place
+  nobody_there place past =
+      sym (listed_at (map name_of users) whos place ∙ rw (slice_get-map name_of users place, slice_get_past users place past) refl)
 
-    pub account_nameless : None ≡ slice_get known.users place → None ≡ slice_get (everyone (Accounts known)) place
-    account_nameless is =
-        let name : slice_get account_names place ≡ None = slice_get-map (λ (u : KnownAccount). u.name) known.users place ∙ rw (← is) refl in
-        sym (listed_nameless account_names known.requesters place name)
+pub accounts_count : (known : KnownAccounts) → length (everyone (Accounts known)) ≤ length known.users
+accounts_count known = users_count (λ (user : KnownAccount). user.name) known.users known.requesters
 
--- of a setup
-module _ (known : Known) where
-  abbrev setup_names : List (List ℕ)
-  setup_names = map (λ (user : KnownUser). user.name) known.users
-
-  abbrev setup_whos : List Identity
-  setup_whos = map (as_requester known) known.users
-
-  pub setup_count : length (everyone (Setup known)) ≤ length known.users
-  setup_count = omega (arith, length-listed setup_names setup_whos, length-map known.users (λ (user : KnownUser). user.name))
-
-  module _ (place : ℕ) where
-    pub setup_user_there : (user : KnownUser) (who : Identity) → Some user ≡ slice_get known.users place → Some who ≡ slice_get setup_whos place
-        → Some (person user.name who) ≡ slice_get (everyone (Setup known)) place
-    setup_user_there user who is_user is_who =
-        let name : slice_get setup_names place ≡ Some user.name = slice_get-map (λ (u : KnownUser). u.name) known.users place ∙ rw (← is_user) refl in
-        sym (listed_there setup_names setup_whos place user.name who name (sym is_who))
-
-    pub setup_user_nameless : None ≡ slice_get known.users place → None ≡ slice_get (everyone (Setup known)) place
-    setup_user_nameless is =
-        let name : slice_get setup_names place ≡ None = slice_get-map (λ (u : KnownUser). u.name) known.users place ∙ rw (← is) refl in
-        sym (listed_nameless setup_names setup_whos place name)
+pub setup_count : (known : Known) → length (everyone (Setup known)) ≤ length known.users
+setup_count known = users_count (λ (user : KnownUser). user.name) known.users (map (as_requester known) known.users)
 
 one_more : (all : List Person) (place : ℕ) (one : Person) → slice_get all place ≡ Some one
     → without_root (take (place + 1) all) ≡ without_root (take place all) ++ without_root (one ∷ [])

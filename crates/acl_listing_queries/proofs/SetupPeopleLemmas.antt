@@ -31,8 +31,9 @@ use Rattle.acl_setup.specs.declared.fault.SetupError.TheVariants.{BadField, Part
 use Rattle.acl_setup.specs.declared.key.Key.{Key}
 use Rattle.acl_setup.specs.declared.key.Key.TheVariants as at
 use Rattle.acl_setup.proofs.FirstPartLemmas.{tells_the_part}
+use Rattle.acl_listing_queries.specs.Host.{OpensDirectory}
 use Rattle.acl_listing_queries.specs.People.{everyone}
-use Rattle.acl_listing_queries.specs.PeopleLaws.{EveryoneIsInTheSetup, IsUserOf}
+use Rattle.acl_listing_queries.specs.PeopleLaws.{EveryoneIsInTheSetup, IsUserOf, SaysSetup}
 use Rattle.acl_listing_queries.specs.Person.{Person, person}
 use Rattle.acl_listing_queries.specs.declared.host.Host.TheVariants.{Setup}
 
@@ -194,19 +195,27 @@ module _ (said : setup.Setup) (directory : Known) (tree : NodesUnderUmask) where
   unfolding opened_by
   opened_as opened = unless_refused (option_and_then (refused_for said.known) (fault_of said.known)) refl opened
 
-pub everyone_is_in_the_setup : EveryoneIsInTheSetup
-everyone_is_in_the_setup bytes directory opens =
+-- what is so of a setup of which nothing is wrong and as which the directory answers is so of the one that its bytes say
+pub says_setup : (bytes : List ℕ) (directory : Known) (Holds : setup.Setup → Type 0) → OpensDirectory (Some bytes) directory
+    → ((said : setup.Setup) → fault_of said.known ≡ None → AnswersAs directory said.known → Holds said) → SaysSetup bytes Holds
+says_setup bytes directory Holds opens holds =
     let opened : Opens bytes directory opens.tree = subst (λ text. Opens text directory opens.tree) opens.setup_is opens.opened in
     (opened.0, opened.1, by opened.0 (setup_in opened.0) refl opened.2)
   where
-    people : (said : setup.Setup) → (fault_of said.known ≡ None) × AnswersAs directory said.known → (one : Person) → Contains (everyone (Setup directory)) one ↔ IsUserOf said.known one
-    people said (none, answers) one =
+    by : (table : Members) (reading : Result setup.Setup Key) → setup_in table ≡ reading → IsOpened (map_fault BadField reading >>= opened_by) directory opens.tree
+        → (said : setup.Setup) × (setup_in table ≡ Ok said) × Holds said
+    by table (Err key) is opened = absurd opened
+    by table (Ok said) is opened =
+        let (none, answers) = opened_as said directory opens.tree opened in
+        (said, is, holds said none answers)
+
+pub everyone_is_in_the_setup : EveryoneIsInTheSetup
+everyone_is_in_the_setup bytes directory opens =
+    says_setup bytes directory (λ said. (one : Person) → Contains (everyone (Setup directory)) one ↔ IsUserOf said.known one) opens people
+  where
+    people : (said : setup.Setup) → fault_of said.known ≡ None → AnswersAs directory said.known → (one : Person) → Contains (everyone (Setup directory)) one ↔ IsUserOf said.known one
+    people said none answers one =
         let names : repeats bytes_eq (λ (user : KnownUser). user.name) directory.users ≡ false =
         repeats-ascending (slice_cmp nat_cmp) nat_list_cmp_total (λ (user : KnownUser). user.name) bytes_eq same_name directory.users opens.users in
         let once = users_once said.known none in
         (is_in_parts directory said.known answers names once.0 once.1 one, is_in_known directory said.known answers names once.0 once.1 one)
-
-    by : (table : Members) (reading : Result setup.Setup Key) → setup_in table ≡ reading → IsOpened (map_fault BadField reading >>= opened_by) directory opens.tree
-        → (said : setup.Setup) × (setup_in table ≡ Ok said) × ((one : Person) → Contains (everyone (Setup directory)) one ↔ IsUserOf said.known one)
-    by table (Err key) is opened = absurd opened
-    by table (Ok said) is opened = (said, is, people said (opened_as said directory opens.tree opened))

@@ -11,7 +11,7 @@ use Rattle.acl_listings.specs.Block.{FileValue}
 use Rattle.acl_listings.specs.declared.fault.BlockFault.{BlockFault}
 use Rattle.acl_listing_queries.specs.Host.{names_of_host}
 use Rattle.acl_listing_queries.specs.ImpactText.{person_text}
-use Rattle.acl_listing_queries.specs.Asked.{persons_in}
+use Rattle.acl_listing_queries.specs.Concerns.{concern_by}
 use Rattle.acl_listing_queries.specs.Impacting.{ImpactAsking, TellsChange}
 use Rattle.acl_listing_queries.specs.Person.{Person}
 use Rattle.acl_listing_queries.specs.declared.impact.asked.One.{One}
@@ -23,11 +23,7 @@ view_one one = record { name = one.name.now; who = one.requester.now }
 abbrev pub asking_by : ImpactTeller → ImpactAsking
 asking_by teller = record {
   names = names_of_host teller.host.now;
-  concern = record {
-    persons = persons_in teller.people.now;
-    each = teller.each;
-    somebody = teller.somebody;
-  };
+  concern = concern_by teller.people.now teller.each teller.somebody;
   written = teller.written;
   asks = teller.asks;
 }

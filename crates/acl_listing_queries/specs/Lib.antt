@@ -4,6 +4,7 @@ pub mod HostFailures
 pub mod Person
 pub mod People
 pub mod PeopleLaws
+pub mod NameLaws
 pub mod Asked
 pub mod Files
 pub mod Readings

@@ -16,10 +16,14 @@ abbrev pub IsUserOf : Known → Person → Type 0
 IsUserOf known one = (user : KnownUser) × Contains known.users user
     × (one ≡ person user.name (as_requester known user))
 
+-- the bytes are a setup, of which this holds
+abbrev pub SaysSetup : List ℕ → (setup.Setup → Type 0) → Type 0
+SaysSetup bytes Holds = (table : Members) × ReadsAs bytes table
+    × ((said : setup.Setup) × (setup_in table ≡ Ok said) × Holds said)
+
 -- The directory that the bytes of a setup open has as people each user of the setup, and nobody
 -- else.
 abbrev pub EveryoneIsInTheSetup : Type 0
 EveryoneIsInTheSetup = (bytes : List ℕ) (directory : Known) → OpensDirectory (Some bytes) directory
-    → (table : Members) × ReadsAs bytes table
-    × ((said : setup.Setup) × (setup_in table ≡ Ok said)
-    × ((one : Person) → Contains (everyone (Setup directory)) one ↔ IsUserOf said.known one))
+    → SaysSetup bytes (λ said. (one : Person)
+    → Contains (everyone (Setup directory)) one ↔ IsUserOf said.known one)

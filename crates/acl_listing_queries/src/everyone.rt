@@ -1,13 +1,31 @@
 //! All users of a host, in the order of their names.
-ghost use Rattle.std.specs.Prelude.{◌≡◌, ◌≤◌, IfOk, length, slice_get};
+ghost use Rattle.std.specs.Prelude.{◌≡◌, ◌≤◌, IfOk, length, option_map, slice_get};
 ghost use Rattle.acl_listing_queries.specs.People.{everyone};
+ghost use Rattle.acl_listing_queries.specs.Person.{person};
 ghost use Rattle.acl_listing_queries.specs.declared.host.Host.TheVariants as of;
 
 use crate::host::Host;
 use crate::person::Person;
 use acl_accounts::Accounts;
-use acl_names::Directory;
+use acl_names::{Directory, Requester};
 use std::alloc::{AllocError, Global};
+
+/// The user of this name, who asks as the one at this place.
+fn listed_at(
+    alloc: Global,
+    name: &[u8],
+    requesters: &[Requester],
+    place: usize,
+) -> Result<Option<Person>, AllocError>
+    ensures { IfOk result (λ found. found
+        ≡ option_map (person name.now) (slice_get requesters.now place)) }
+{
+    let Some(requester) = requesters.get(place) else {
+        return Ok(None);
+    };
+    let person = Person::listed(alloc, name, requester)?;
+    Ok(Some(person))
+}
 
 /// The user of accounts at this place.
 pub(crate) fn account_at(
@@ -20,11 +38,7 @@ pub(crate) fn account_at(
     let Some(user) = accounts.users().get(place) else {
         return Ok(None);
     };
-    let Some(requester) = accounts.requesters().get(place) else {
-        return Ok(None);
-    };
-    let person = Person::listed(alloc, user.name(), requester)?;
-    Ok(Some(person))
+    listed_at(alloc, user.name(), accounts.requesters(), place)
 }
 
 /// The user of a setup at this place.
@@ -38,11 +52,7 @@ pub(crate) fn setup_user_at(
     let Some(user) = directory.users().get(place) else {
         return Ok(None);
     };
-    let Some(requester) = directory.requesters().get(place) else {
-        return Ok(None);
-    };
-    let person = Person::listed(alloc, user.name.as_bytes(), requester)?;
-    Ok(Some(person))
+    listed_at(alloc, user.name.as_bytes(), directory.requesters(), place)
 }
 
 /// The user at this place.

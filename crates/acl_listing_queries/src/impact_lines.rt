@@ -58,7 +58,7 @@ fn push_what(lost: Mask, gained: Mask, path: &[u8], out: &mut Vec<u8>) -> Result
 
 /// Appends the line of one who is asked about, `differ NAME UID GIDS LOST GAINED PATH`. Fails only
 /// if memory runs out.
-pub fn push_person(
+pub(crate) fn push_person(
     name: &[u8],
     requester: &Requester,
     lost: Mask,
@@ -75,7 +75,7 @@ pub fn push_person(
 }
 
 /// Appends the line of somebody else, whose name is `-`. Fails only if memory runs out.
-pub fn push_somebody(
+pub(crate) fn push_somebody(
     asker: Asker,
     lost: Mask,
     gained: Mask,
@@ -90,8 +90,8 @@ pub fn push_somebody(
     push_what(lost, gained, path, out)
 }
 
-/// Appends the line of a path that is new, `new PATH`. Fails only if memory runs out.
-pub fn push_new(path: &[u8], out: &mut Vec<u8>) -> Result<(), AllocError>
+/// Appends the line of a path that is new.
+fn push_new(path: &[u8], out: &mut Vec<u8>) -> Result<(), AllocError>
     ensures { OnOk result (out.new.items ≡ out.old.items ++ new_text path.now) }
 {
     out.extend_from_slice(b"new ")?;

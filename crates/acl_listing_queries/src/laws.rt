@@ -1,6 +1,7 @@
 //! The laws of what is answered, over the definitions alone.
 ghost use Rattle.acl_listing_queries.specs.AlikeLaws.{AlikeListsAreAlikeFiles};
 ghost use Rattle.acl_listing_queries.specs.AlikeLaws.{DifferencesAreChanges};
+ghost use Rattle.acl_listing_queries.specs.NameLaws.{NamesElsewhereAreNobodys};
 ghost use Rattle.acl_listing_queries.specs.PeopleLaws.{EveryoneIsInTheSetup};
 ghost use Rattle.acl_listing_queries.specs.WayLaws.{WaysAreAllAbove};
 
@@ -16,6 +17,13 @@ pub fn way_laws()
 /// the contract.
 pub fn people_laws()
     ensures setup { EveryoneIsInTheSetup }
+{}
+
+/// By a setup a name in another domain than the setup's is nobody's: where a listing says it, it
+/// has no uid and no gid, and `--user` asks about nobody by it. There is nothing to run here: a
+/// proof cites the contract.
+pub fn name_laws()
+    ensures elsewhere { NamesElsewhereAreNobodys }
 {}
 
 /// Lists are alike to `compare` exactly if to `impact` files of one owner and group that have them

@@ -10,7 +10,7 @@ mod everyone;
 mod files;
 mod host;
 mod impact;
-pub mod impact_lines;
+mod impact_lines;
 mod laws;
 mod lines;
 mod named;
@@ -27,7 +27,7 @@ mod written;
 
 pub use host::Host;
 pub use impact::{Concerned, IMPACT_ANSWERS, ImpactOfListings, each_has_a_line, names_users};
-pub use laws::{alike_laws, people_laws, way_laws};
+pub use laws::{alike_laws, name_laws, people_laws, way_laws};
 pub use people::People;
 pub use restore::{Restore, restore_brings_back};
 pub use setup_people::read_setup_people;

@@ -1,9 +1,10 @@
 //! Options of questions of listings, as the parser of command lines is told of them.
 ghost use Rattle.std.specs.Prelude.{◌≡◌, codes, false};
 ghost use Rattle.clap.specs.Words.{rule_of};
-ghost use Rattle.acl_cli.specs.CommandLine.{flag, optional_option, repeated_option};
+ghost use Rattle.acl_cli.specs.CommandLine.{flag, optional_option, optional_word};
+ghost use Rattle.acl_cli.specs.CommandLine.{repeated_option, required_word};
 
-use acl_cli::options::{flag, optional_option, repeated_option};
+use acl_cli::options::{flag, optional_option, optional_word, repeated_option};
 use clap::Arg;
 use std::alloc::Global;
 
@@ -31,7 +32,7 @@ pub fn user_option<'a>(alloc: Global) -> Arg<'a>
     ensures rule { rule_of result ≡ repeated_option (codes "user") }
     ensures local { result.global ≡ false }
 {
-    let help = "A user to ask about, by name or uid; it may be given again. Else all but uid 0";
+    let help = "A user to ask about, by name or uid; it may be given again. Else all users";
     repeated_option(alloc, "user", "NAME", help)
 }
 
@@ -69,4 +70,55 @@ pub fn exit_code_option<'a>(alloc: Global) -> Arg<'a>
 {
     let help = "Exit status 5 if there is a line";
     flag(alloc, "exit-code", help)
+}
+
+/// The word LISTING, which may be left out: the listing that is asked about.
+pub fn optional_listing_word<'a>(alloc: Global) -> Arg<'a>
+    ensures rule { rule_of result ≡ optional_word (codes "listing") }
+    ensures local { result.global ≡ false }
+{
+    let help = "What getfacl -R printed, or - for standard input";
+    optional_word(alloc, "listing", "LISTING", help)
+}
+
+/// The word LISTING.
+pub(crate) fn listing_word<'a>(alloc: Global) -> Arg<'a>
+    ensures rule { rule_of result ≡ required_word (codes "listing") }
+    ensures local { result.global ≡ false }
+{
+    optional_listing_word(alloc).required(true)
+}
+
+/// The word BEFORE, which may be left out: the first of two listings.
+pub fn optional_before_word<'a>(alloc: Global) -> Arg<'a>
+    ensures rule { rule_of result ≡ optional_word (codes "listing") }
+    ensures local { result.global ≡ false }
+{
+    let help = "What getfacl -R printed before, or - for standard input";
+    optional_word(alloc, "listing", "BEFORE", help)
+}
+
+/// The word BEFORE.
+pub(crate) fn before_word<'a>(alloc: Global) -> Arg<'a>
+    ensures rule { rule_of result ≡ required_word (codes "listing") }
+    ensures local { result.global ≡ false }
+{
+    optional_before_word(alloc).required(true)
+}
+
+/// The word AFTER, which may be left out: the second of two listings.
+pub fn optional_after_word<'a>(alloc: Global) -> Arg<'a>
+    ensures rule { rule_of result ≡ optional_word (codes "after") }
+    ensures local { result.global ≡ false }
+{
+    let help = "What it printed after, or - for standard input";
+    optional_word(alloc, "after", "AFTER", help)
+}
+
+/// The word AFTER.
+pub(crate) fn after_word<'a>(alloc: Global) -> Arg<'a>
+    ensures rule { rule_of result ≡ required_word (codes "after") }
+    ensures local { result.global ≡ false }
+{
+    optional_after_word(alloc).required(true)
 }

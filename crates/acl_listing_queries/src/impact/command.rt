@@ -9,11 +9,11 @@ use crate::between::{after_field, before_field, tell_between};
 use crate::host::read_host;
 use crate::named::INPUT;
 use crate::options::{
-    accounts_option, all_option, exit_code_option, setup_option, text_option, user_option,
+    accounts_option, after_word, all_option, before_word, exit_code_option, setup_option,
+    text_option, user_option,
 };
 use crate::people::{read_people, user_fields};
 use acl_cli::fields::flag_field;
-use acl_cli::options::required_word;
 use acl_cli::{Command as CliCommand, CommandLine, Ending, ErrorOutput, Failure, OpenFiles};
 use clap::{ArgMatches, Command};
 use std::alloc::{AllocError, Global};
@@ -23,21 +23,20 @@ use std::io::{Read, Write};
 pub const IMPACT_ANSWERS: &str = "For example:
   getfacl -Rn /srv/share > before
   getfacl -Rn /srv/share | aclctl impact before -
-A line for each file where somebody gains or loses: differ NAME UID GIDS LOST GAINED PATH; new \
-PATH in its place,
-and gone PATH at the end. If NAME is -, UID and GIDS are somebody who is none of the users. With \
---all there is a
-line for each user whom it concerns, and with --user one for each of these alone; then a new or \
-gone path is
-followed by such lines too. With --text also: changed WHAT PATH, of what is written otherwise. uid \
-0 isn't asked
-about: it may do nearly everything. What isn't answered is said on standard error: aclctl: \
-LISTING:LINE: WORD: TEXT.
-Exit status: 0 if every block was answered; 1 if a field or a file doesn't read; 2 if the words \
-are wrong; 3 if
-memory runs out, a listing fails while it is read, or the answer can't be written; 4 if there are \
-blocks that
-weren't answered, or a listing has none at all; 5 if there is a line, and --exit-code.";
+
+A line for each file where somebody gains or loses:
+differ NAME UID GIDS LOST GAINED PATH; new PATH in its place, and gone PATH at
+the end. If NAME is -, UID and GIDS are somebody who is none of the users. With
+--all there is a line for each user whom it concerns, and with --user one for
+each of these alone; then a new or gone path is followed by such lines too.
+With --text also: changed WHAT PATH, of what is written otherwise. Of listings
+uid 0 isn't asked about: it may do nearly everything. What isn't answered is
+said on standard error: aclctl: LISTING:LINE: WORD: TEXT.
+
+Exit status: 0 if every block was answered; 1 if a field or a file doesn't
+read; 2 if the words are wrong; 3 if memory runs out, a listing fails while it
+is read, or the answer can't be written; 4 if there are blocks that weren't
+answered, or a listing has none at all; 5 if there is a line, and --exit-code.";
 
 /// `impact` of two listings: for whom it changed what.
 #[derive(Clone, Copy)]
@@ -64,18 +63,8 @@ impl CommandLine for ImpactOfListings {
             .arg(user_option(alloc))?
             .arg(text_option(alloc))?
             .arg(exit_code_option(alloc))?
-            .arg(required_word(
-                alloc,
-                "listing",
-                "BEFORE",
-                "What getfacl -R printed before, or - for standard input",
-            ))?
-            .arg(required_word(
-                alloc,
-                "after",
-                "AFTER",
-                "What it printed after, or - for standard input",
-            ))
+            .arg(before_word(alloc))?
+            .arg(after_word(alloc))
     }
 }
 

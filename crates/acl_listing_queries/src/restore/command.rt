@@ -1,7 +1,7 @@
 //! The command `restore`.
 use super::teller::RestoreTeller;
 use crate::between::{after_field, before_field, tell_between};
-use acl_cli::options::required_word;
+use crate::options::{after_word, before_word};
 use acl_cli::{Command as CliCommand, CommandLine, Ending, ErrorOutput, Failure, OpenFiles};
 use clap::{ArgMatches, Command};
 use std::alloc::{AllocError, Global};
@@ -11,15 +11,16 @@ use std::io::{Read, Write};
 const ANSWERS: &str = "For example:
   getfacl -Rn /srv/share > before
   getfacl -Rn /srv/share | aclctl restore before - | setfacl --restore=-
-The blocks of BEFORE whose path AFTER has with another text, byte for byte: what setfacl takes to \
-bring back owner,
-group, flags, access and default list of every file that is still there. Paths that are new or \
-gone are told on
-standard error: aclctl: PATH: new. So is what can't be compared: aclctl: LISTING:LINE: WORD: TEXT.
-Exit status: 0 if every block was compared; 1 if a listing can't be opened; 2 if the words are \
-wrong; 3 if memory
-runs out, a listing fails while it is read, or the answer can't be written; 4 if there are blocks \
-that can't be
+
+The blocks of BEFORE whose path AFTER has with another text, byte for byte:
+what setfacl takes to bring back owner, group, flags, access and default list
+of every file that is still there. Paths that are new or gone are told on
+standard error: aclctl: PATH: new. So is what can't be compared:
+aclctl: LISTING:LINE: WORD: TEXT.
+
+Exit status: 0 if every block was compared; 1 if a listing can't be opened;
+2 if the words are wrong; 3 if memory runs out, a listing fails while it is
+read, or the answer can't be written; 4 if there are blocks that can't be
 compared, or a listing has none at all.";
 
 /// `restore` of two listings: what brings back the lists that there were before.
@@ -41,18 +42,8 @@ impl CommandLine for Restore {
             .bin_name("aclctl restore")?
             .about("Prints what brings back the lists of files as a listing had them.")
             .after_help(ANSWERS)
-            .arg(required_word(
-                alloc,
-                "listing",
-                "BEFORE",
-                "What getfacl -R printed before, or - for standard input",
-            ))?
-            .arg(required_word(
-                alloc,
-                "after",
-                "AFTER",
-                "What it printed after, or - for standard input",
-            ))
+            .arg(before_word(alloc))?
+            .arg(after_word(alloc))
     }
 }
 

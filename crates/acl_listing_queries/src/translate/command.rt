@@ -4,9 +4,9 @@ use super::form::form_field;
 use super::teller::TranslateTeller;
 use crate::host::read_host;
 use crate::named::{listing_field, tell_named};
-use crate::options::{accounts_option, setup_option};
+use crate::options::{accounts_option, listing_word, setup_option};
 use acl_cli::fields::flag_field;
-use acl_cli::options::{flag, optional_option, required_word};
+use acl_cli::options::{flag, optional_option};
 use acl_cli::{Command as CliCommand, CommandLine, Ending, ErrorOutput, Failure, OpenFiles};
 use clap::{ArgMatches, Command};
 use std::alloc::{AllocError, Global};
@@ -15,15 +15,15 @@ use std::io::{Read, Write};
 /// What is told, and what the exit statuses are.
 const ANSWERS: &str = "For example:
   getfacl -Rn /srv/share | aclctl translate -
-The listing again, with an NFSv4 list for each file: the translation of its POSIX list and that of \
-a default list, with
-FILE_INHERIT, DIRECTORY_INHERIT and INHERIT_ONLY. An NFSv4 list stays as it is. ids are told in \
-decimal. What isn't
+
+The listing again, with an NFSv4 list for each file: the translation of its
+POSIX list and that of a default list, with FILE_INHERIT, DIRECTORY_INHERIT and
+INHERIT_ONLY. An NFSv4 list stays as it is. ids are told in decimal. What isn't
 answered is said on standard error: aclctl: LISTING:LINE: WORD: TEXT.
-Exit status: 0 if every file was answered; 1 if a field or a file doesn't read; 2 if the words are \
-wrong; 3 if memory
-runs out, the listing fails while it is read, or the answer can't be written; 4 if there are files \
-that weren't
+
+Exit status: 0 if every file was answered; 1 if a field or a file doesn't read;
+2 if the words are wrong; 3 if memory runs out, the listing fails while it is
+read, or the answer can't be written; 4 if there are files that weren't
 answered, or none at all.";
 
 /// `translate`: a listing with an NFSv4 list for each file.
@@ -64,12 +64,7 @@ impl CommandLine for Translate {
                 "print0",
                 "Tells entries between commas and the path, with a byte of 0 behind each",
             ))?
-            .arg(required_word(
-                alloc,
-                "listing",
-                "LISTING",
-                "What getfacl -R printed, or - for standard input",
-            ))
+            .arg(listing_word(alloc))
     }
 }
 

@@ -11,10 +11,10 @@ use super::listed::ListedTeller;
 use super::reach::ReachTeller;
 use crate::host::{Host, read_host};
 use crate::named::{listing_field, tell_named};
-use crate::options::{accounts_option, letters_option, setup_option, user_option};
+use crate::options::{accounts_option, letters_option, listing_word, setup_option, user_option};
 use crate::people::read_people;
 use acl_cli::fields::flag_field;
-use acl_cli::options::{flag, optional_perms_option, required_word};
+use acl_cli::options::{flag, optional_perms_option};
 use acl_cli::{Command as CliCommand, CommandLine, Ending, ErrorOutput, Failure, OpenFiles};
 use acl_names::Requester;
 use clap::{ArgMatches, Command};
@@ -24,17 +24,17 @@ use std::io::{Read, Write};
 /// What is told of a listing, and what the exit statuses are, as help says it.
 pub const WHO_ANSWERS: &str = "For example:
   getfacl -Rn /srv/share | aclctl who --reach --perms w -
-A line for each file and each user who may do something with it: LETTERS NAME PATH, where - is a \
-letter that is
-denied by itself. With --letters they are all fourteen; of a POSIX list w is w and p there. With \
---perms P only NAME
-PATH, of those who are granted all of P at once. What isn't answered is said on standard error: \
-aclctl: LISTING:LINE:
-WORD: TEXT. uid 0 isn't asked about: it may do nearly everything.
-Exit status: 0 if every file was answered; 1 if a field or a file doesn't read; 2 if the words are \
-wrong; 3 if memory
-runs out, the listing fails while it is read, or the answer can't be written; 4 if there are files \
-that weren't
+
+A line for each file and each user who may do something with it:
+LETTERS NAME PATH, where - is a letter that is denied by itself. With --letters
+they are all fourteen; of a POSIX list w is w and p there. With --perms P only
+NAME PATH, of those who are granted all of P at once. What isn't answered is
+said on standard error: aclctl: LISTING:LINE: WORD: TEXT. Of a listing uid 0
+isn't asked about: it may do nearly everything.
+
+Exit status: 0 if every file was answered; 1 if a field or a file doesn't read;
+2 if the words are wrong; 3 if memory runs out, the listing fails while it is
+read, or the answer can't be written; 4 if there are files that weren't
 answered, or none at all.";
 
 /// `who` of a listing.
@@ -65,12 +65,7 @@ impl CommandLine for WhoOfListing {
                 "Counts something only if the user may also search each folder above",
             ))?
             .arg(user_option(alloc))?
-            .arg(required_word(
-                alloc,
-                "listing",
-                "LISTING",
-                "What getfacl -R printed, or - for standard input",
-            ))
+            .arg(listing_word(alloc))
     }
 }
 

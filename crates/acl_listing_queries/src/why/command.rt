@@ -11,7 +11,7 @@ use super::question::Question;
 use super::search::seek_named;
 use crate::host::{Host, read_host};
 use crate::named::listing_field;
-use crate::options::{accounts_option, setup_option};
+use crate::options::{accounts_option, listing_word, setup_option};
 use crate::person::Person;
 use crate::written::ReadPerson;
 use acl_cli::fields::text_field;
@@ -27,20 +27,20 @@ use std::io::{Read, Write};
 /// What is told, and what the exit statuses are.
 const ANSWERS: &str = "For example:
   getfacl -Rn /srv/share | aclctl why --user alice --perms w - srv/share/plan
-First granted or denied, of P and of reach: the user has to be granted P by the file's list, and \
-x by that of each
-folder above it that the listing has. Then for each of these folders, the outermost first, and for \
-the file:
+
+First granted or denied, of P and of reach: the user has to be granted P by the
+file's list, and x by that of each folder above it that the listing has. Then
+for each of these folders, the outermost first, and for the file:
   folder PATH granted|denied, or file PATH granted|denied
-and why its list decides so, as explain tells it. PATH is written as the listing writes it; the \
-first block that has
-it counts. uid 0 isn't asked about: it may do nearly everything.
-Exit status: 0 with an answer, granted or denied; 1 if a field or a file doesn't read, or the \
-listing has no such
-file; 2 if the words are wrong; 3 if memory runs out, the listing fails while it is read, or the \
-answer can't be
-written; 4 if the file's block doesn't read, or the way to it isn't known, as standard error \
-tells.";
+and why its list decides so, as explain tells it. PATH is written as the
+listing writes it; the first block that has it counts. uid 0 isn't asked about:
+it may do nearly everything.
+
+Exit status: 0 with an answer, granted or denied; 1 if a field or a file
+doesn't read, or the listing has no such file; 2 if the words are wrong; 3 if
+memory runs out, the listing fails while it is read, or the answer can't be
+written; 4 if the file's block doesn't read, or the way to it isn't known, as
+standard error tells.";
 
 /// `why` of a file of a listing.
 #[derive(Clone, Copy)]
@@ -69,12 +69,7 @@ impl CommandLine for Why {
                 "The user to ask about, by name or uid",
             ))?
             .arg(perms_option(alloc))?
-            .arg(required_word(
-                alloc,
-                "listing",
-                "LISTING",
-                "What getfacl -R printed, or - for standard input",
-            ))?
+            .arg(listing_word(alloc))?
             .arg(required_word(
                 alloc,
                 "path",

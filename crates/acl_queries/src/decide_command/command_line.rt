@@ -11,9 +11,10 @@ use std::alloc::{AllocError, Global};
 /// An example, and what the exit statuses are.
 const EXAMPLE: &str = "For example:
   aclctl decide --owner 1000 --group 50 --uid 1001 --gids 50,60 --perms r u::rw,g::r,o::-
+
 Exit status: 0 with an answer, granted or denied; 1 if a field doesn't read;
-    2 if the words are wrong, and with this help; 3 if
-memory runs out or the answer can't be written.";
+2 if the words are wrong, and with this help; 3 if memory runs out or the
+answer can't be written.";
 
 impl CommandLine for Decide {
     ghost use Rattle.acl_queries.specs.DecideLine.{decide_line, decide_line-free};

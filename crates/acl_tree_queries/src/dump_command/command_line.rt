@@ -7,12 +7,13 @@ use clap::Command;
 use std::alloc::{AllocError, Global};
 
 /// What is told, and what the exit statuses are.
-const ANSWERS: &str = "The session closes the root, creates each file in the order of the paths, \
-and gives each its lists.
-Run over the same setup, it makes the same tree. Ids are decimal.
-Exit status: 0 with an answer; 1 if a file doesn't read or a line would be too long; 2 if the \
-words are wrong; 3
-if memory runs out or the answer can't be written.";
+const ANSWERS: &str = "The session closes the root, creates each file in the order of the paths, and
+gives each its lists. Run over the same setup, it makes the same tree. Ids are
+decimal.
+
+Exit status: 0 with an answer; 1 if a file doesn't read or a line would be too
+long; 2 if the words are wrong; 3 if memory runs out or the answer can't be
+written.";
 
 impl CommandLine for Dump {
     ghost use Rattle.acl_tree_queries.specs.DumpLine.{dump_line, dump_line-free, dump_line-simple};

@@ -2,10 +2,11 @@
 
 use super::Impact;
 use acl_cli::CommandLine;
-use acl_cli::options::{optional_option, optional_word};
+use acl_cli::options::optional_option;
 use acl_listing_queries::IMPACT_ANSWERS;
 use acl_listing_queries::options::{
-    accounts_option, all_option, exit_code_option, setup_option, text_option, user_option,
+    accounts_option, all_option, exit_code_option, optional_after_word, optional_before_word,
+    setup_option, text_option, user_option,
 };
 use clap::Command;
 use std::alloc::{AllocError, Global};
@@ -46,17 +47,7 @@ impl CommandLine for Impact {
                 "SESSION",
                 "Asks what a session changes on a setup's tree: a file with its commands, or -",
             ))?
-            .arg(optional_word(
-                alloc,
-                "listing",
-                "BEFORE",
-                "What getfacl -R printed before, or - for standard input",
-            ))?
-            .arg(optional_word(
-                alloc,
-                "after",
-                "AFTER",
-                "What it printed after, or - for standard input",
-            ))
+            .arg(optional_before_word(alloc))?
+            .arg(optional_after_word(alloc))
     }
 }

@@ -2,9 +2,11 @@
 
 use super::Who;
 use acl_cli::CommandLine;
-use acl_cli::options::{flag, optional_option, optional_perms_option, optional_word};
+use acl_cli::options::{flag, optional_option, optional_perms_option};
 use acl_listing_queries::WHO_ANSWERS;
-use acl_listing_queries::options::{accounts_option, letters_option, setup_option, user_option};
+use acl_listing_queries::options::{
+    accounts_option, letters_option, optional_listing_word, setup_option, user_option,
+};
 use clap::Command;
 use std::alloc::{AllocError, Global};
 
@@ -41,11 +43,6 @@ impl CommandLine for Who {
                 "SESSION",
                 "Asks about the tree that a session leaves: a file with its commands, or -",
             ))?
-            .arg(optional_word(
-                alloc,
-                "listing",
-                "LISTING",
-                "What getfacl -R printed, or - for standard input",
-            ))
+            .arg(optional_listing_word(alloc))
     }
 }

@@ -18,5 +18,5 @@ returns c =
     let user = app_of-arg _ c.in_ok-arg-4.field-0 _ c.in_ok-arg-4.ensures c.user_option.ensures.local all c.user_option.ensures.rule in
     let written = app_of-arg _ c.in_ok-arg-5.field-0 _ c.in_ok-arg-5.ensures c.text_option.ensures.local user c.text_option.ensures.rule in
     let code = app_of-arg _ c.in_ok-arg-6.field-0 _ c.in_ok-arg-6.ensures c.exit_code_option.ensures.local written c.exit_code_option.ensures.rule in
-    let before = app_of-arg _ c.in_ok-arg-7.field-0 _ c.in_ok-arg-7.ensures c.required_word.ensures.local code c.required_word.ensures.rule in
-    IfOk-weaker c.arg-8.result _ _ (λ command added. app_of-arg _ command _ added c.required_word-2.ensures.local before c.required_word-2.ensures.rule) c.arg-8.ensures
+    let before = app_of-arg _ c.in_ok-arg-7.field-0 _ c.in_ok-arg-7.ensures c.before_word.ensures.local code c.before_word.ensures.rule in
+    IfOk-weaker c.arg-8.result _ _ (λ command added. app_of-arg _ command _ added c.after_word.ensures.local before c.after_word.ensures.rule) c.arg-8.ensures

@@ -12,5 +12,5 @@ returns c =
     let described : app_of c.after_help.result ≡ new_app
     (codes "restore") = ap app_of_fields c.after_help.ensures ∙ ap app_of_fields c.about.ensures
     ∙ ap app_of_fields c.in_ok-bin_name.ensures.0 ∙ c.new.ensures.app in
-    let before = app_of-arg _ c.in_ok-arg.field-0 _ c.in_ok-arg.ensures c.required_word.ensures.local described c.required_word.ensures.rule in
-    IfOk-weaker c.arg-2.result _ _ (λ command added. app_of-arg _ command _ added c.required_word-2.ensures.local before c.required_word-2.ensures.rule) c.arg-2.ensures
+    let before = app_of-arg _ c.in_ok-arg.field-0 _ c.in_ok-arg.ensures c.before_word.ensures.local described c.before_word.ensures.rule in
+    IfOk-weaker c.arg-2.result _ _ (λ command added. app_of-arg _ command _ added c.after_word.ensures.local before c.after_word.ensures.rule) c.arg-2.ensures

@@ -17,4 +17,4 @@ returns c =
     let form = app_of-arg _ c.in_ok-arg-3.field-0 _ c.in_ok-arg-3.ensures c.optional_option.ensures.local setup c.optional_option.ensures.rule in
     let attributes = app_of-arg _ c.in_ok-arg-4.field-0 _ c.in_ok-arg-4.ensures c.flag.ensures.local form c.flag.ensures.rule in
     let pairs = app_of-arg _ c.in_ok-arg-5.field-0 _ c.in_ok-arg-5.ensures c.flag-2.ensures.local attributes c.flag-2.ensures.rule in
-    IfOk-weaker c.arg-6.result _ _ (λ command added. app_of-arg _ command _ added c.required_word.ensures.local pairs c.required_word.ensures.rule) c.arg-6.ensures
+    IfOk-weaker c.arg-6.result _ _ (λ command added. app_of-arg _ command _ added c.listing_word.ensures.local pairs c.listing_word.ensures.rule) c.arg-6.ensures

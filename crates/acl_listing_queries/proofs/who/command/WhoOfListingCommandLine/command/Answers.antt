@@ -18,4 +18,4 @@ returns c =
     let letters = app_of-arg _ c.in_ok-arg-4.field-0 _ c.in_ok-arg-4.ensures c.letters_option.ensures.local perms c.letters_option.ensures.rule in
     let reach = app_of-arg _ c.in_ok-arg-5.field-0 _ c.in_ok-arg-5.ensures c.flag.ensures.local letters c.flag.ensures.rule in
     let user = app_of-arg _ c.in_ok-arg-6.field-0 _ c.in_ok-arg-6.ensures c.user_option.ensures.local reach c.user_option.ensures.rule in
-    IfOk-weaker c.arg-7.result _ _ (λ command added. app_of-arg _ command _ added c.required_word.ensures.local user c.required_word.ensures.rule) c.arg-7.ensures
+    IfOk-weaker c.arg-7.result _ _ (λ command added. app_of-arg _ command _ added c.listing_word.ensures.local user c.listing_word.ensures.rule) c.arg-7.ensures

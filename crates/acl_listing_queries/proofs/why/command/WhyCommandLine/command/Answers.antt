@@ -16,5 +16,5 @@ returns c =
     let setup = app_of-arg _ c.in_ok-arg-2.field-0 _ c.in_ok-arg-2.ensures c.setup_option.ensures.local accounts c.setup_option.ensures.rule in
     let user = app_of-arg _ c.in_ok-arg-3.field-0 _ c.in_ok-arg-3.ensures c.required_option.ensures.local setup c.required_option.ensures.rule in
     let perms = app_of-arg _ c.in_ok-arg-4.field-0 _ c.in_ok-arg-4.ensures c.perms_option.ensures.local user c.perms_option.ensures.rule in
-    let listing = app_of-arg _ c.in_ok-arg-5.field-0 _ c.in_ok-arg-5.ensures c.required_word.ensures.local perms c.required_word.ensures.rule in
-    IfOk-weaker c.arg-6.result _ _ (λ command added. app_of-arg _ command _ added c.required_word-2.ensures.local listing c.required_word-2.ensures.rule) c.arg-6.ensures
+    let listing = app_of-arg _ c.in_ok-arg-5.field-0 _ c.in_ok-arg-5.ensures c.listing_word.ensures.local perms c.listing_word.ensures.rule in
+    IfOk-weaker c.arg-6.result _ _ (λ command added. app_of-arg _ command _ added c.required_word.ensures.local listing c.required_word.ensures.rule) c.arg-6.ensures

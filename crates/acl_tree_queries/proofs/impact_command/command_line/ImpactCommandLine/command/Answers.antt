@@ -20,5 +20,5 @@ returns c =
     let code = app_of-arg _ c.in_ok-arg-6.field-0 _ c.in_ok-arg-6.ensures c.exit_code_option.ensures.local written c.exit_code_option.ensures.rule in
     let before = app_of-arg _ c.in_ok-arg-7.field-0 _ c.in_ok-arg-7.ensures c.optional_option.ensures.local code c.optional_option.ensures.rule in
     let session = app_of-arg _ c.in_ok-arg-8.field-0 _ c.in_ok-arg-8.ensures c.optional_option-2.ensures.local before c.optional_option-2.ensures.rule in
-    let listing = app_of-arg _ c.in_ok-arg-9.field-0 _ c.in_ok-arg-9.ensures c.optional_word.ensures.local session c.optional_word.ensures.rule in
-    IfOk-weaker c.arg-10.result _ _ (λ command added. app_of-arg _ command _ added c.optional_word-2.ensures.local listing c.optional_word-2.ensures.rule) c.arg-10.ensures
+    let listing = app_of-arg _ c.in_ok-arg-9.field-0 _ c.in_ok-arg-9.ensures c.optional_before_word.ensures.local session c.optional_before_word.ensures.rule in
+    IfOk-weaker c.arg-10.result _ _ (λ command added. app_of-arg _ command _ added c.optional_after_word.ensures.local listing c.optional_after_word.ensures.rule) c.arg-10.ensures

@@ -19,4 +19,4 @@ returns c =
     let reach = app_of-arg _ c.in_ok-arg-5.field-0 _ c.in_ok-arg-5.ensures c.flag.ensures.local letters c.flag.ensures.rule in
     let user = app_of-arg _ c.in_ok-arg-6.field-0 _ c.in_ok-arg-6.ensures c.user_option.ensures.local reach c.user_option.ensures.rule in
     let session = app_of-arg _ c.in_ok-arg-7.field-0 _ c.in_ok-arg-7.ensures c.optional_option.ensures.local user c.optional_option.ensures.rule in
-    IfOk-weaker c.arg-8.result _ _ (λ command added. app_of-arg _ command _ added c.optional_word.ensures.local session c.optional_word.ensures.rule) c.arg-8.ensures
+    IfOk-weaker c.arg-8.result _ _ (λ command added. app_of-arg _ command _ added c.optional_listing_word.ensures.local session c.optional_listing_word.ensures.rule) c.arg-8.ensures
