@@ -28,8 +28,6 @@ module _ {X : Type 0} (name_of : X → List ℕ) where
     pub firsts_are : AreFirsts name_of (take i members) firsts
     pub low : (j : ℕ) (d : X) → i ≤ j → j < length members → All (λ x. is_lt (cmp (get_or members j d) x) ≡ false) firsts
 
-  }
-
   below : (x y : X) → bytes_eq (name_of x) (name_of y) ≡ false → is_lt (cmp y x) ≡ false → cmp x y ≡ Less
   below x y apart high = go (cmp x y) refl
     where

@@ -14,8 +14,8 @@ refused:
 where PLACE is a key, as user[2].uid, counted from 0, or LINE:COLUMN. Sessions
 aren't looked at then. Of a line of a session that has a fault:
   FILE:LINE: WORD PLACE
-where WORD is the one that run answers, and PLACE the piece of a list that
-doesn't read, counted from 1. A PLACE that there isn't is -.
+where WORD is the one that run answers, and PLACE the malformed piece of a
+list, counted from 1. A PLACE that there isn't is -.
 
 Exit status: 0 with an answer; 1 if a file can't be read; 2 if the words are
 wrong; 3 if memory runs out or the answer can't be written.";

@@ -1,5 +1,5 @@
 -- What is kept of a file is answered of each file whose block has the same lines behind its first.
-use Rattle.std.proofs.Common.{◌≡◌, ◌∙◌, ◌<◌, ◌≤◌, ◌++◌, ℕ, zero, suc, true, false, List, [], ◌∷◌, Option, Some, None, Ok, IfSome, arith, bytes_eq, length, option_map, refl, set, subst, sym}
+use Rattle.std.proofs.Common.{◌≡◌, ◌∙◌, ◌<◌, ◌≤◌, ℕ, zero, suc, true, false, List, [], ◌∷◌, Option, Some, None, Ok, IfSome, arith, bytes_eq, length, option_map, refl, set, subst, sym}
 use Rattle.std.specs.Prelude.{is_some}
 use Rattle.std.specs.Option.{option_map_or}
 use Rattle.std.proofs.lemmas.List.{get_or-set_same}
@@ -14,12 +14,6 @@ use Rattle.acl_listing_queries.specs.declared.who.answers.Kept.{Kept}
 use Rattle.acl_listing_queries.specs.declared.who.answers.Users.{Users}
 
 -- ---- nothing is kept at first
-
-pub none_more : (kept : List (Option Kept)) → ((place : ℕ) → kept_at kept place ≡ None) → (place : ℕ) → kept_at (kept ++ None ∷ []) place ≡ None
-none_more [] none zero = refl
-none_more [] none (suc place) = refl
-none_more (first ∷ kept) none zero = none zero
-none_more (first ∷ kept) none (suc place) = none_more kept (λ place. none (suc place)) place
 
 -- ---- one more is kept
 

@@ -66,11 +66,6 @@ module _ (name : List ℕ) (names : Names) (part : List (List ℕ) → List ℕ 
       subst (λ blocks. IsBegunBy false (old (Some blocks)) earlier (told_of item.part ++ rest) (said ++ others)) (sym hands)
       (first_more (items_after part behind left) said is rest others begins)
 
-  ends_more : (coming more : Option (List Block)) → HandsOut coming block more → (ending : Ending) → EndsBy false (new more) behind ending → EndsBy false (old coming) earlier ending
-  ends_more None more hands ending ends = tt
-  ends_more (Some blocks) None hands ending ends = absurd hands
-  ends_more (Some blocks) (Some left) hands ending ends = subst (λ blocks. EndsBy false (old (Some blocks)) earlier ending) (sym hands) ends
-
 -- nothing yet is a front
 pub begun_nothing : (left : Left) (closed : Bool) (earlier : List (List ℕ)) → IsBegunBy closed left earlier [] []
 begun_nothing left true earlier = (refl, refl)
@@ -146,13 +141,6 @@ module _ (Old New : List (List ℕ) → Type 0) (left next : Left) (block : Bloc
 
   pub begun_now : (witness : List (List ℕ)) → Old witness → BeginsOf New next [] []
   begun_now witness there = ((witness ++ block.text ∷ [], is.stands witness there), λ earlier stands. begun_nothing next next.closed earlier)
-
-  pub ends_on : (ending : Ending) → EndsOf New next ending → EndsOf Old left ending
-  ends_on ending ends = λ earlier stands.
-      let now = ends (earlier ++ block.text ∷ []) (is.stands earlier stands) in
-      let at = subst (λ (next : Left). EndsBy next.closed next (earlier ++ block.text ∷ []) ending) (next_is earlier stands) now in
-      let all = ends_more left.name left.names left.part left.tally earlier block left.coming next.coming is.hands ending at in
-      subst (λ (left : Left). EndsBy left.closed left earlier ending) (sym left_is) all
 
 -- the end is told
 module _ (Stands : List (List ℕ) → Type 0) (left : Left) (coming : Option (List Block)) (was_open : left.closed ≡ false) (over : IsOver left.coming) where

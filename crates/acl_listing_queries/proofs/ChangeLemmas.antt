@@ -45,14 +45,6 @@ module _ (wording : Wording) (name : List ℕ) (before : List Block) where
   pub begun_now : (left : Left) → BeginsLeft wording name before left [] []
   begun_now left = front_none (TellsTold wording name before) (left_to_tell wording before left)
 
-  pub ends_on : (old new : Left) (out out' beside beside' : List ℕ) (is : IsStep wording name before old new out out' beside beside')
-      → (ending : Ending) → EndsLeft wording before new ending → EndsLeft wording before old ending
-  ends_on old new out out' beside beside' is ending ends = by (final_tally wording before old) is.final
-    where
-      by : (final : Option Tally) → IfSome final (λ tally. final_tally wording before new ≡ Some tally) → IfSome final (λ tally. ending ≡ ending_of tally)
-      by None same = tt
-      by (Some tally) same = subst (λ final. IfSome final (λ tally. ending ≡ ending_of tally)) same ends
-
   -- ---- the next thing is at hand
 
   pub hands_opening : (old new : Left) → old.stage ≡ stage.Opening → new ≡ record old { stage = stage.After }
@@ -437,6 +429,3 @@ module _ (wording : Wording) (name : List ℕ) (before : List Block) where
   step_missing old new place is within is_new out out' beside beside' appended =
       let both = hands_missing wording name before old place is new within is_new in
       record { step = Missing old.seen.met place; hands = both.0; appended = appended; final = both.1 }
-
-  pub step_last : (old : Left) (place : ℕ) → old.stage ≡ stage.Gone place → length before ≤ place → (out beside : List ℕ) → IsLast wording name before old old out out beside beside
-  step_last old place is past out beside = record { stays = refl; out_is = refl; beside_is = refl; none = none_left wording name before old place is past }

@@ -1,5 +1,5 @@
 -- Whom a change concerns, person by person.
-use Rattle.std.proofs.Common.{◌≡◌, ◌∙◌, ◌+◌, ◌≤◌, ◌++◌, ◌&&◌, IfOk, Result, Ok, Err, ℕ, zero, suc, Bool, true, false, List, [], ◌∷◌, Option, Some, None, ap, append_assoc, append-nil, arith, drop, inl, is_none, inr, length, length-append, map as each, option_map, refl, subst, sym, take}
+use Rattle.std.proofs.Common.{◌≡◌, ◌∙◌, ◌+◌, ◌≤◌, ◌++◌, ◌&&◌, IfOk, Result, Ok, Err, ℕ, zero, suc, Bool, true, false, List, [], ◌∷◌, Option, Some, None, ap, append_assoc, append-nil, arith, drop, inl, is_none, inr, length, length-append, map as each, refl, subst, sym, take}
 use Rattle.std.specs.Prelude.{nat_eq, slice_get}
 use Rattle.std.specs.List.{flat_map}
 use Rattle.std.proofs.lemmas.Bool.{true≢false}
@@ -21,11 +21,6 @@ use Rattle.acl_listing_queries.specs.declared.impact.changed.Changed.{Changed}
 use Rattle.acl_listing_queries.proofs.TellerLemmas.{nothing_if, told_if}
 
 -- ---- who is at a place
-
-pub get_map : {X Y : Type 0} (f : X → Y) (items : List X) (place : ℕ) → slice_get (each f items) place ≡ option_map f (slice_get items place)
-get_map f [] place = refl
-get_map f (item ∷ items) zero = refl
-get_map f (item ∷ items) (suc place) = get_map f items place
 
 abbrev pub both_of : Option (List ℕ) → Option Identity → Option Person
 both_of (Some name) (Some who) = Some (record { name = name; who = who })

@@ -1,8 +1,8 @@
 -- The blocks of a listing that were seen, one more at a time.
-use Rattle.std.proofs.Common.{◌∙◌, ◌++◌, List, [], ◌∷◌, Option, Some, None, ap, append_assoc, append-nil, refl, sym}
-use Rattle.acl_listings.specs.Cursor.{HandsOut, IsOver}
+use Rattle.std.proofs.Common.{◌∙◌, ◌++◌, List, [], ◌∷◌, Option, Some, None, ap, append_assoc, refl, sym}
+use Rattle.acl_listings.specs.Cursor.{HandsOut}
 use Rattle.acl_listings.specs.Listing.{Block}
-use Rattle.acl_listing_queries.specs.Kept.{AreAll, Splits}
+use Rattle.acl_listing_queries.specs.Kept.{Splits}
 
 pub splits_begun : (coming : Option (List Block)) → Splits coming [] coming
 splits_begun None = tt
@@ -15,9 +15,3 @@ splits_on (Some blocks) seen None new block splits hands = absurd splits
 splits_on (Some blocks) seen (Some left) None block splits hands = absurd hands
 splits_on (Some blocks) seen (Some left) (Some more) block splits hands =
     splits ∙ ap (λ blocks. seen ++ blocks) hands ∙ sym (append_assoc seen (block ∷ []) more)
-
--- once no block is left, all were seen
-pub seen_all : (coming left : Option (List Block)) (seen : List Block) → Splits coming seen left → IsOver left → AreAll coming seen
-seen_all None left seen splits over = tt
-seen_all (Some blocks) None seen splits over = absurd splits
-seen_all (Some blocks) (Some left) seen splits over = splits ∙ ap (λ blocks. seen ++ blocks) over ∙ append-nil seen

@@ -1,14 +1,13 @@
 -- What is said of the listing before, one block more at a time.
-use Rattle.std.proofs.Common.{◌≡◌, ◌∙◌, ◌+◌, ◌<◌, ◌≤◌, ◌++◌, ℕ, suc, zero, List, [], ◌∷◌, Option, Some, None, ap, append_assoc, append-nil, arith, length, refl, subst, sym, take}
+use Rattle.std.proofs.Common.{◌≡◌, ◌∙◌, ◌+◌, ◌++◌, ℕ, suc, zero, List, [], ◌∷◌, Option, Some, ap, append_assoc, append-nil, arith, refl, subst, sym, take}
 use Rattle.std.specs.Prelude.{slice_get}
-use Rattle.std.proofs.lemmas.List.{take_all}
 use Rattle.acl_names.specs.Names.{Names}
 use Rattle.acl_listings.specs.Listing.{Block}
 use Rattle.acl_listings.specs.declared.fault.BlockFault.{BlockFault}
-use Rattle.acl_listing_queries.specs.ChangeSteps.{IsOpenedTo, IsOpening, counted}
+use Rattle.acl_listing_queries.specs.ChangeSteps.{IsOpenedTo, counted}
 use Rattle.acl_listing_queries.specs.Changes.{Wording, fault_before, item_of, items_of, part_of, tally_of, unless_repeated}
 use Rattle.acl_listing_queries.specs.Kept.{is_earlier, place_of}
-use Rattle.acl_listing_queries.specs.Listed.{AreSaid, IsSaid, Item, closing, first_guess, is_fault, is_unread}
+use Rattle.acl_listing_queries.specs.Listed.{AreSaid, IsSaid, Item, first_guess, is_fault, is_unread}
 use Rattle.acl_listing_queries.specs.declared.tally.Tally.{Tally}
 use Rattle.acl_listing_queries.proofs.ChangeLemmas.{items_more, tally_more}
 use Rattle.acl_listing_queries.proofs.PlacedLemmas.{put}
@@ -29,11 +28,6 @@ counted_so tally more fault text same is blocks faults unread guess =
     ∙ ap (λ unread. record more { blocks = tally.blocks + 1; faults = tally.faults + is_fault fault; unread = unread }) unread
     ∙ ap (λ guess. record more { blocks = tally.blocks + 1; faults = tally.faults + is_fault fault; unread = tally.unread + is_unread fault; guess = guess }) (guess ∙ ap (first_guess tally.guess) is)
 
-none_at : (blocks : List Block) (place : ℕ) → slice_get blocks place ≡ None → place < length blocks → ⊥
-none_at [] place none within = omega (arith, within)
-none_at (block ∷ blocks) zero none within = cc
-none_at (block ∷ blocks) (suc place) none within = none_at blocks place none (omega (arith, within))
-
 take_one : (blocks : List Block) (place : ℕ) (here : Block) → slice_get blocks place ≡ Some here → take (suc place) blocks ≡ take place blocks ++ here ∷ []
 take_one [] place here is = cc
 take_one (block ∷ blocks) zero here is =
@@ -42,9 +36,6 @@ take_one (block ∷ blocks) zero here is =
 take_one (block ∷ blocks) (suc place) here is = ap (λ blocks. block ∷ blocks) (take_one blocks place here is)
 
 module _ (wording : Wording) (name : List ℕ) (blocks : List Block) where
-  pub opened_to_none : (tally : Tally) → tally ≡ tally_of [] → IsOpenedTo wording name blocks 0 [] tally
-  opened_to_none tally is = record { said_are = refl; tally_is = is }
-
   pub opened_to_more : (place : ℕ) (here : Block) (said : List ℕ) (tally : Tally) → slice_get blocks place ≡ Some here → IsOpenedTo wording name blocks place said tally
       → (fault : Option BlockFault) → fault ≡ unless_repeated (is_earlier place (place_of blocks here.text)) (wording.fault here.text)
       → (more said' : List ℕ) → IsSaid name wording.names here (part_of fault) more → said' ≡ said ++ more → (tally' : Tally) → tally' ≡ counted tally here.text fault
@@ -67,19 +58,3 @@ module _ (wording : Wording) (name : List ℕ) (blocks : List Block) where
             ∙ sym (tally_more (fault_before wording) earlier here)
             ∙ ap (λ blocks. tally_of (items_of (fault_before wording) blocks)) (sym grown);
       }
-
-  -- all blocks were
-  pub opened_to_all : (place : ℕ) (said : List ℕ) (tally : Tally) → length blocks ≤ place → IsOpenedTo wording name blocks place said tally
-      → (said' : List ℕ) → said' ≡ said ++ closing name tally → IsOpening wording (record { name = name; blocks = blocks }) said' tally
-  opened_to_all place said tally all was said' said_is =
-      let whole : take place blocks ≡ blocks = take_all place blocks all in
-      record {
-        faults = said;
-        faults_are = subst (λ blocks. AreSaid name wording.names (items_of (fault_before wording) blocks) said) whole was.said_are;
-        tally_is = was.tally_is ∙ ap (λ blocks. tally_of (items_of (fault_before wording) blocks)) whole;
-        said_is = said_is;
-      }
-
-  -- there is a block at each place
-  pub none_past : (place : ℕ) → slice_get blocks place ≡ None → place < length blocks → ⊥
-  none_past place none within = none_at blocks place none within

@@ -15,8 +15,7 @@ use Rattle.acl_cli.specs.declared.field_fault.FieldFault.{FieldFault}
 use Rattle.acl_names.specs.Requester.{Identity}
 use Rattle.acl_names.specs.Directory.{Known, KnownUser, as_requester}
 use Rattle.acl_accounts.specs.Accounts.{KnownAccount, KnownAccounts}
-use Rattle.acl_listing_queries.specs.People.{asked_of, everyone, people_of, person_asked, setup_people_of, setup_person}
-use Rattle.acl_listing_queries.specs.declared.host.Host.{Host}
+use Rattle.acl_listing_queries.specs.People.{everyone}
 use Rattle.acl_listing_queries.specs.declared.host.Host.TheVariants.{Accounts, Setup}
 use Rattle.acl_listing_queries.specs.Person.{Person, is_root, person, without_root}
 
@@ -83,23 +82,6 @@ pub people_root : (all : List Person) (place : ℕ) (one : Person) → slice_get
 people_root all place one is root =
     let gone : without_root (one ∷ []) ≡ [] = rw root refl in
     one_more all place one is ∙ ap (λ rest. without_root (take place all) ++ rest) gone ∙ append-nil (without_root (take place all))
-
--- without a text all people are asked about, and else those of the texts
-pub asked_of_none : (host : Host) (texts : List Text) → length texts ≡ 0 → asked_of host texts ≡ Ok (people_of host)
-asked_of_none host [] none = refl
-asked_of_none host (text ∷ texts) none = absurd (omega arith)
-
-pub asked_of_some : (host : Host) (texts : List Text) → 0 < length texts → asked_of host texts ≡ each_read (person_asked host) texts
-asked_of_some host [] some = absurd (omega arith)
-asked_of_some host (text ∷ texts) some = refl
-
-pub setup_people_of_none : (known : Known) (texts : List Text) → length texts ≡ 0 → setup_people_of known texts ≡ Ok (everyone (Setup known))
-setup_people_of_none known [] none = refl
-setup_people_of_none known (text ∷ texts) none = absurd (omega arith)
-
-pub setup_people_of_some : (known : Known) (texts : List Text) → 0 < length texts → setup_people_of known texts ≡ each_read (setup_person known) texts
-setup_people_of_some known [] some = absurd (omega arith)
-setup_people_of_some known (text ∷ texts) some = refl
 
 -- one more place has one more of the users
 pub users_more : (all : List Person) (place : ℕ) (one : Person) → slice_get all place ≡ Some one → take (place + 1) all ≡ take place all ++ one ∷ []

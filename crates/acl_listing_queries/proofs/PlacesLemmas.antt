@@ -109,11 +109,6 @@ module _ {X : Type 0} (test : X → Bool) where
           (here, subst (λ place. slice_get (here ∷ items) place ≡ Some here) is refl, passes)
       by false fails more same = later (first_place test items) more refl same
 
--- of things as they are shown
-pub place_shown : {X Y : Type 0} (test : Y → Bool) (shown : X → Y) (items : List X) → first_place test (each shown items) ≡ first_place (λ item. test (shown item)) items
-place_shown test shown [] = refl
-place_shown test shown (item ∷ items) = ap (λ found. cond (test (shown item)) (Some 0) (option_map suc found)) (place_shown test shown items)
-
 -- where it passes, but nowhere before, is the first place
 pub first_here : {X : Type 0} (test : X → Bool) (earlier : List X) (here : X) (rest : List X) → list_any test earlier ≡ false → test here ≡ true
     → first_place test (earlier ++ here ∷ rest) ≡ Some (length earlier)
@@ -137,9 +132,6 @@ any_place test (here ∷ items) = by (test here) (any_place test items)
     by false more = more ∙ later (first_place test items)
 
 -- ---- the path of a block
-
-has_it : (path other : List ℕ) (b : Bool) → bytes_eq path other ≡ b → path ≡ other → b ≡ true
-has_it path other b is same = sym is ∙ (bytes_eq-Decides path other).1 same
 
 -- a block that has a path has no other
 one_path : (path other : List ℕ) (block : Block) → has_path path block ≡ true → has_path other block ≡ true → path ≡ other

@@ -9,7 +9,6 @@ use Rattle.acl_audit.specs.Reach.{reaches}
 use Rattle.acl_audit.proofs.ReachLemmas.{both_are}
 use Rattle.acl_listings.specs.Block.{FileValue, file_by, path_of}
 use Rattle.acl_listings.specs.declared.fault.BlockFault.{BlockFault}
-use Rattle.acl_listings.specs.declared.fault.BlockFault.TheVariants.{UnknownWay}
 use Rattle.acl_listings.proofs.PathLemmas.{path_of-file}
 use Rattle.acl_tree.specs.Nodes.{may}
 use Rattle.acl_tree.specs.declared.node.Node.{Node}
@@ -162,14 +161,6 @@ stands who answers before folders found stack is behind = by stack (subst (λ fo
     by [] behind = absurd behind
     by (block ∷ way) (path, placed, are) = record { block = block; way = way; stack_is = refl; path = path; placed = placed; are = are }
 
-pub nothing : (who : List Identity) (answers : Answers) (folders : List Folder) (found : Option Before) (seen : List Reading) (here : Reading) → found ≡ None
-    → IsBehind who answers found folders (fold way_on [] seen) → AreFolders who folders (way_of seen here)
-nothing who answers folders found seen here is behind = by (fold way_on [] seen) (subst (λ found. IsBehind who answers found folders (fold way_on [] seen)) is behind)
-  where
-    by : (stack : List Reading) → IsBehind who answers None folders stack → AreFolders who folders (those_above here stack)
-    by [] none = subst (λ folders. AreFolders who folders []) (sym none) refl
-    by (block ∷ way) behind = absurd behind
-
 -- ---- what is told
 
 -- a block without a path doesn't read, whatever the way
@@ -194,10 +185,6 @@ some_way who (Some above) marks is = (above, refl, by is)
     by : Some marks ≡ Some (map (reaches above) who) → marks ≡ map (reaches above) who
     by is = cc
 some_way who None marks is = cc
-
-no_way : (who : List Identity) (way : Option (List Node)) → None ≡ marks_of who way → way ≡ None
-no_way who (Some above) is = cc
-no_way who None is = refl
 
 abbrev folder_said : Option (List ℕ) → Result FileValue BlockFault → Option Node
 folder_said path said = folder_of (record { path = path; file = said })
@@ -228,11 +215,6 @@ pub told_on_way : (asking : Asking) (whos : List Identity) (text : List ℕ) (wa
 told_on_way asking whos text way marks file reads shown =
     let known = some_way whos way marks shown in
     (known.0, known.2, ap (λ said. part_by asking said way) reads ∙ ap (part_by asking (Ok file)) known.1)
-
-pub unknown_told : (asking : Asking) (whos : List Identity) (text : List ℕ) (way : Option (List Node)) (file : FileValue) → file_by asking.names text ≡ Ok file → None ≡ marks_of whos way
-    → part_by asking (file_by asking.names text) way ≡ Err UnknownWay
-unknown_told asking whos text way file reads none =
-    ap (λ said. part_by asking said way) reads ∙ ap (part_by asking (Ok file)) (no_way whos way none)
 
 -- ---- who reaches what is in a folder
 

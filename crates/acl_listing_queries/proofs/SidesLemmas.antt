@@ -6,9 +6,9 @@ use Rattle.acl_listings.specs.Listing.{Block}
 use Rattle.acl_listings.specs.declared.fault.BlockFault.{BlockFault}
 use Rattle.acl_listings.specs.declared.fault.BlockFault.TheVariants.{TooLong, BadHeader}
 use Rattle.acl_listing_queries.specs.ChangeSteps.{Appended, TellsMissing}
-use Rattle.acl_listing_queries.specs.Changes.{TellsIf, TellsNextBy, TellsSince, Wording, fault_before, part_of, unless_repeated}
+use Rattle.acl_listing_queries.specs.Changes.{TellsIf, TellsNextBy, Wording, fault_before, part_of, unless_repeated}
 use Rattle.acl_listing_queries.specs.Kept.{is_earlier, place_of}
-use Rattle.acl_listing_queries.specs.Listed.{IsFaultLine, IsSaid}
+use Rattle.acl_listing_queries.specs.Listed.{IsSaid}
 use Rattle.acl_listing_queries.specs.Paths.{lists}
 use Rattle.acl_listing_queries.proofs.PlacedLemmas.{put}
 use Rattle.acl_listing_queries.proofs.PlacesLemmas.{earlier_repeats}
@@ -29,21 +29,6 @@ module _ (wording : Wording) (name : List ℕ) (was : Option Block) (block : Blo
   pub tells_said : (fault : Option BlockFault) → is_none fault ≡ false → (out beside beside' said : List ℕ) → IsSaid name wording.names block (part_of fault) said → beside' ≡ beside ++ said
       → Appended (TellsNextBy wording name was block fault) out out beside beside'
   tells_said fault some out beside beside' said is said_is = record { told = []; said = said; tells = told_said fault some said is; out_is = sym (append-nil out); beside_is = said_is }
-
-  -- what is told unless there is a fault
-
-  pub tells_none : (out out' beside beside' : List ℕ) → Appended (TellsSince wording was block.text) out out' beside beside' → Appended (TellsNextBy wording name was block None) out out' beside beside'
-  tells_none out out' beside beside' is = record { told = is.told; said = is.said; tells = is.tells; out_is = is.out_is; beside_is = is.beside_is }
-
-  pub tells_fault : (fault : BlockFault) (out out' beside beside' last said : List ℕ) → Appended (TellsIf false (TellsSince wording was block.text)) out out' beside beside'
-      → IsFaultLine name wording.names block fault said → last ≡ beside' ++ said → Appended (TellsNextBy wording name was block (Some fault)) out out' beside last
-  tells_fault fault out out' beside beside' last said is line same = record {
-    told = [];
-    said = said;
-    tells = (refl, line);
-    out_is = is.out_is ∙ ap (λ text. out ++ text) is.tells.0;
-    beside_is = same ∙ ap (λ text. text ++ said) (is.beside_is ∙ ap (λ text. beside ++ text) is.tells.1 ∙ append-nil beside);
-  }
 
 -- ---- a block before whose path may be gone
 

@@ -19,11 +19,6 @@ module _ (asking : WhyAsking) (earlier : List Reading) (text : List ℕ) where
   abbrev way_here : List Reading
   way_here = way_of earlier here
 
-  -- a block that doesn't read
-  pub part_unread : (fault : FileFault) → IsFaultOf (file_by asking.names text) fault → IsFaultOf (why_part asking earlier text) fault
-  part_unread (file.Block fault) is = ap (λ said. why_by asking way_here said (known_way way_here here)) is
-  part_unread file.Memory is = tt
-
   module _ (said : FileValue) (reads : file_by asking.names text ≡ Ok said) where
     by_nodes : (nodes : Option (List Node)) → known_way way_here here ≡ nodes → why_part asking earlier text ≡ why_by asking way_here (Ok said) nodes
     by_nodes nodes known = ap (λ said. why_by asking way_here said (known_way way_here here)) reads ∙ ap (why_by asking way_here (Ok said)) known

@@ -112,16 +112,6 @@ pub none_with : (found : Option Node) → with_folder found None ≡ None
 none_with None = refl
 none_with (Some folder) = refl
 
-none_onto : (known : Option (List Node)) → with_folder None known ≡ None
-none_onto known = refl
-
-pub unknown-apart : (way : List Reading) (folder : Reading) → is_held way folder.path ≡ false → known_folders (folder ∷ way) ≡ None
-unknown-apart way folder apart =
-    ap (with_folder (folder_of folder)) (known_way-held way folder ∙ ap (λ b. cond b (known_folders way) None) apart) ∙ none_with (folder_of folder)
-
-pub unknown-unread : (way : List Reading) (folder : Reading) → folder_of folder ≡ None → known_folders (folder ∷ way) ≡ None
-unknown-unread way folder unread = ap (λ found. with_folder found (known_way way folder)) unread ∙ none_onto (known_way way folder)
-
 none_either : (b : Bool) (known : Option (List Node)) → known ≡ None → cond b known None ≡ None
 none_either true known none = none
 none_either false known none = refl

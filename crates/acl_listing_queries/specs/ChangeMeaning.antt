@@ -29,7 +29,7 @@ FailsForListings before after failure =
     ⊎ (IsListingFailure before failure ⊎ (IsListingFailure after failure
     ⊎ (failure ≡ failed_write))))
 
--- listings of these names, of which it is told in this way
+-- listings of these names, of which it is reported in this way
 abbrev pub change_meaning : Wording → (Text → Option (List ℕ)) → Option (List ℕ) → Text → Text
     → Meaning
 change_meaning wording bytes_of input before after = record {

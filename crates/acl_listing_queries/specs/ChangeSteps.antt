@@ -1,4 +1,4 @@
--- How it is told of two listings block by block. Private steps, which no public clause cites.
+-- How it is reported of two listings block by block. Private steps, which no public clause cites.
 use Rattle.std.specs.Prelude.{◌≡◌, ◌<◌, ◌+◌, ◌-◌, ℕ, zero, suc, Bool, true, false, not, ◌&&◌, ◌||◌}
 use Rattle.std.specs.Prelude.{List, [], ◌∷◌, ◌++◌, Option, Some, None, IfSome, get_or, is_none}
 use Rattle.std.specs.Prelude.{is_some, length, nat_eq, option_map, replicate, set, slice_get}
@@ -136,7 +136,7 @@ told_from wording before seen [] =
 told_from wording before seen (block ∷ blocks) =
     Here seen block ∷ told_from wording before (seen_on wording before seen block) blocks
 
--- how far it was told
+-- how far it was reported
 pub record Left : Type 0 where
   pub stage : Stage
   -- what is said of the listing before
@@ -157,7 +157,7 @@ left_by wording before left (stage.Gone place) =
 abbrev pub left_to_tell : Wording → List Block → Left → Option (List Told)
 left_to_tell wording before left = left_by wording before left left.stage
 
--- what is told of a block before whose place wasn't met
+-- what is reported of a block before whose place wasn't met
 abbrev pub TellsMissing : Wording → List Block → List Bool → ℕ → List ℕ → List ℕ → Type 0
 TellsMissing wording before met place told said = IfSome (slice_get before place) (λ block.
     TellsIf (is_none (fault_before wording (record { earlier = take place before; here = block }))
@@ -182,7 +182,7 @@ final_by wording before left stage = option_map (λ blocks.
 abbrev pub final_tally : Wording → List Block → Left → Option Tally
 final_tally wording before left = final_by wording before left left.stage
 
--- ---- one more thing is told
+-- ---- one more thing is reported
 
 -- this was the first of known things
 abbrev pub HandsOn : {A : Type 0} → Option (List A) → A → Option (List A) → Type 0
@@ -211,7 +211,7 @@ abbrev pub EndsLeft : Wording → List Block → Left → Ending → Type 0
 EndsLeft wording before left ending = IfSome (final_tally wording before left) (λ tally.
     ending ≡ ending_of tally)
 
--- nothing more is told
+-- nothing more is reported
 pub record IsLast (wording : Wording) (name : List ℕ) (before : List Block) (old new : Left)
     (out out' beside beside' : List ℕ) : Type 0 where
   pub stays : new ≡ old

@@ -1,4 +1,4 @@
--- What is told of two listings, the one before and the one after.
+-- What is reported of two listings, the one before and the one after.
 use Rattle.std.specs.Prelude.{◌≡◌, ℕ, Bool, true, false, not, ◌&&◌, List, [], ◌∷◌, ◌++◌, Option}
 use Rattle.std.specs.Prelude.{Some, None, IfSome, Ok, Err, is_none, map, take}
 use Rattle.std.specs.List.{list_any}
@@ -18,8 +18,8 @@ use Rattle.acl_listing_queries.specs.Paths.{block_for, first_path, lists}
 use Rattle.acl_listing_queries.specs.Placed.{Placed, in_places}
 use Rattle.acl_listing_queries.specs.declared.tally.Tally.{Tally}
 
--- How changes are told: each relation is of blocks' texts, of what is told on standard output, and
--- of what is said on standard error.
+-- How changes are reported: each relation is of blocks' texts, of what is reported on standard
+-- output, and of what is said on standard error.
 pub record Wording : Type 1 where
   -- by which names the line of a block is found that is at fault
   pub names : Names
@@ -33,11 +33,11 @@ pub record Wording : Type 1 where
   pub IsGone : List ℕ → List ℕ → List ℕ → Type 0
   -- what is said where no path is in both listings, by the first path of each
   pub apart : List ℕ → List ℕ → List ℕ
-  -- whether the exit status tells that something is told
+  -- whether the exit status tells that something is reported
   pub asks : Bool
 
 -- what is wrong with a block of a path that was there, if anything is: what is wrong with its size
--- and its first line is told before that, and what is wrong with the rest after it
+-- and its first line is reported before that, and what is wrong with the rest after it
 abbrev pub unless_repeated : Bool → Option BlockFault → Option BlockFault
 unless_repeated false fault = fault
 unless_repeated true (Some TooLong) = Some TooLong
@@ -55,7 +55,7 @@ fault_after wording before placed = unless_repeated
     (lists before placed.here.text && lists placed.earlier placed.here.text)
     (wording.fault placed.here.text)
 
--- blocks as those of a listing of which nothing is told but faults
+-- blocks as those of a listing of which nothing is reported but faults
 abbrev pub part_of : Option BlockFault → Part
 part_of None = Ok []
 part_of (Some fault) = Err fault
@@ -69,7 +69,7 @@ items_of fault blocks = map (item_of fault) (in_places blocks)
 abbrev pub tally_of : List Item → Tally
 tally_of items = tally_with no_blocks items
 
--- this is told and said if it holds, and else nothing
+-- this is reported and said if it holds, and else nothing
 abbrev pub TellsIf : Bool → (List ℕ → List ℕ → Type 0) → List ℕ → List ℕ → Type 0
 TellsIf true Tells told said = Tells told said
 TellsIf false Tells told said = (told ≡ []) × (said ≡ [])
@@ -122,9 +122,9 @@ items_before wording before = items_of (fault_before wording) before.blocks
 abbrev pub items_after : Wording → Named → Named → List Item
 items_after wording before after = items_of (fault_after wording before.blocks) after.blocks
 
--- What is told, one after the other: the faults of the listing before, and how many there are; each
--- block of the listing after; how many of these are faults; and each block before, whose path may
--- be gone.
+-- What is reported, one after the other: the faults of the listing before, and how many there are;
+-- each block of the listing after; how many of these are faults; and each block before, whose path
+-- may be gone.
 pub data Step : Type 0 where
   Before : Step
   Next : Placed Block → Step
@@ -160,7 +160,7 @@ abbrev pub ending_of_both : Ending → Ending → Ending
 ending_of_both Answered second = second
 ending_of_both first second = InPart
 
--- and differ if something is told, where this is asked
+-- and differ if something is reported, where this is asked
 abbrev pub with_difference : Bool → Ending → Ending
 with_difference true Answered = Differs
 with_difference _ ending = ending
@@ -185,7 +185,7 @@ pub record IsChangeBegun (wording : Wording) (before after : Named) (answer : An
     pub first : TellsEach (TellsStep wording before after) (take count (steps_of before after))
         answer.text answer.beside
 
--- of a listing after with this name and these bytes, if they are told: of a block that is too long
+-- of a listing after with this name and these bytes, if they are known: of a block that is too long
 -- its first bytes
 abbrev pub OfAfter : (Named → Named → Answer → Type 0) → Named → List ℕ → Option (List ℕ) → Answer
     → Type 0

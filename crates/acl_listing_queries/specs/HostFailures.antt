@@ -13,7 +13,8 @@ use Rattle.acl_cli.specs.declared.mismatch.Mismatch.TheVariants.{AccountsAndSetu
 use Rattle.acl_cli.specs.declared.run_fault.RunFault.TheVariants.{Memory}
 use Rattle.acl_listing_queries.specs.Host.{groups_file, own_text, users_file}
 
--- what a fault of the host's own accounts is told of, whose lines are counted through both files
+-- what a fault of the host's own accounts is reported of, whose lines are counted through both
+-- files
 abbrev pub own_files : Text
 own_files = codes "/etc/passwd, /etc/group"
 
@@ -22,8 +23,8 @@ pub record IsNoAccounts (known : Option (List ℕ)) (fault : AccountsFault) : Ty
   pub refused : IfSome known (λ text. rows_within text ≡ Err fault)
   pub because : fault ≢ accounts.Memory
 
--- a file of accounts isn't taken for this, which is told of this name: it can't be read, it is too
--- long, or memory ran out
+-- a file of accounts isn't taken for this, which is reported of this name: it can't be read, it is
+-- too long, or memory ran out
 abbrev pub IsTextFailure : Option (List ℕ) → Text → Text → Failure → Type 0
 IsTextFailure known file name (failure.CannotRead refused reason) = refused.now ≡ file
 IsTextFailure known file name (failure.Accounts refused fault) = (refused.now ≡ name)
@@ -31,8 +32,8 @@ IsTextFailure known file name (failure.Accounts refused fault) = (refused.now �
 IsTextFailure known file name (failure.Lacks lack) = lack ≡ Memory
 IsTextFailure known file name _ = ⊥
 
--- the text of files of these names gives no accounts for this, which is told of this name: one of
--- them can't be read, the text is no accounts, or memory ran out
+-- the text of files of these names gives no accounts for this, which is reported of this name: one
+-- of them can't be read, the text is no accounts, or memory ran out
 abbrev pub IsAccountsFailure : Option (List ℕ) → List Text → Text → Failure → Type 0
 IsAccountsFailure known files name (failure.CannotRead refused reason) = Contains files refused.now
 IsAccountsFailure known files name (failure.Accounts refused fault) =

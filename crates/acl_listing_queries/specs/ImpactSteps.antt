@@ -1,5 +1,5 @@
--- How it is told what changed for those who are asked about. Private steps, which no public clause
--- cites.
+-- How it is reported what changed for those who are asked about. Private steps, which no public
+-- clause cites.
 use Rattle.std.specs.Prelude.{◌≡◌, ℕ, Bool, true, false, List, [], ◌++◌, Option, Some, None}
 use Rattle.std.specs.Prelude.{Result, Ok, Err}
 use Rattle.acl_nfs4.specs.Mask.{mask_bits}
@@ -28,7 +28,7 @@ asking_by teller = record {
   asks = teller.asks;
 }
 
--- what is told of a file, where this is what its block before says
+-- what is reported of a file, where this is what its block before says
 abbrev pub TellsRead : ImpactAsking → Result FileValue BlockFault → FileValue → List ℕ → Type 0
 TellsRead asking (Ok before) after text = TellsChange asking before after text
 TellsRead asking (Err fault) after text = text ≡ []

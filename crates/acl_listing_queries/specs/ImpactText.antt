@@ -1,4 +1,4 @@
--- How it is told what changed for somebody.
+-- How it is reported what changed for somebody.
 use Rattle.std.specs.Prelude.{ℕ, Bool, true, false, List, [], ◌∷◌, ◌++◌, codes, decimal}
 use Rattle.std.specs.List.{flat_map}
 use Rattle.acl_names.specs.Bytes.{comma}

@@ -79,7 +79,7 @@ TellsAnybody true before after path text = (found : Option Difference)
     × FindsAnybody (access.file_of before) (access.file_of after) found
     × (text ≡ found_text path found)
 
--- what is told of a file at a path that became another
+-- what is reported of a file at a path that became another
 pub record TellsImpact (concern : Concern) (before after : Node) (path text : List ℕ) : Type 0 where
   pub lines : List ℕ
   pub lines_are : TellsThose concern.each before after path concern.persons lines
@@ -87,7 +87,7 @@ pub record TellsImpact (concern : Concern) (before after : Node) (path text : Li
   pub other_is : TellsAnybody (concern.somebody && is_empty lines) before after path other
   pub text_is : text ≡ lines ++ other
 
--- and what is told of two blocks of one path
+-- and what is reported of two blocks of one path
 pub record TellsChange (asking : ImpactAsking) (before after : FileValue) (text : List ℕ) : Type 0
   where
     pub impact : List ℕ
@@ -116,7 +116,7 @@ abbrev pub lines_if : Bool → (Person → List ℕ) → List Person → List �
 lines_if true line persons = flat_map line persons
 lines_if false line persons = []
 
--- what is told of a path whose file is gone, or else new
+-- what is reported of a path whose file is gone, or else new
 abbrev pub told_at : Bool → Concern → List ℕ → Node → List ℕ
 told_at gone concern path node =
     path_text gone path ++ lines_if concern.each (may_line gone path node) concern.persons

@@ -1,4 +1,4 @@
--- What is told of a listing, block by block, and how the answer ends.
+-- What is reported of a listing, block by block, and how the answer ends.
 use Rattle.std.specs.Prelude.{◌≡◌, ◌⊎◌, ℕ, ◌+◌, ◌==◌, ◌||◌, not, List, [], ◌∷◌, ◌++◌, fold}
 use Rattle.std.specs.Prelude.{IfSome, Option, Some, None, Result, Ok, Err, codes, decimal}
 use Rattle.std.specs.Prelude.{if◌then◌else◌}
@@ -20,23 +20,23 @@ use Rattle.acl_listings.specs.declared.fault.BlockFault.TheVariants.{InvalidAcl,
 use Rattle.acl_listings.specs.declared.guess.Guess.{Guess}
 use Rattle.acl_listing_queries.specs.declared.tally.Tally.{Tally}
 
--- what a block comes to: what is told of it, or why that isn't known
+-- what a block results in: what is reported of it, or why that isn't known
 abbrev pub Part : Type 0
 Part = Result (List ℕ) BlockFault
 
--- a block, and what it comes to
+-- a block, and what it results in
 pub record Item : Type 0 where
   pub block : Block
   pub part : Part
 
--- blocks behind these texts, each with what it comes to behind those before it
+-- blocks behind these texts, each with what it results in behind those before it
 abbrev pub items_after : (List (List ℕ) → List ℕ → Part) → List (List ℕ) → List Block → List Item
 items_after part earlier [] = []
 items_after part earlier (block ∷ blocks) =
     record { block = block; part = part earlier block.text }
     ∷ items_after part (earlier ++ block.text ∷ []) blocks
 
--- what is told on standard output
+-- what is reported on standard output
 abbrev pub told_of : Part → List ℕ
 told_of (Ok text) = text
 told_of (Err fault) = []
@@ -67,7 +67,7 @@ AreSaid name names (item ∷ items) text = (first : List ℕ) × (rest : List �
     × IsSaid name names item.block item.part first × AreSaid name names items rest
     × (text ≡ first ++ rest)
 
--- how many blocks there were, how many weren't answered, how many don't read, and what the first
+-- how many blocks there were, how many weren't answered, how many are malformed, and what the first
 -- was taken for
 
 abbrev pub no_blocks : Tally
@@ -125,8 +125,8 @@ abbrev pub ending_of : Tally → Ending
 ending_of tally =
     if (tally.blocks == 0) || not (tally.faults == 0) then InPart else Answered
 
--- the texts are what is told and said of the first of them, and maybe at the end, of a listing of
--- which so much was counted before
+-- the texts are what is reported and said of the first of them, and maybe at the end, of a listing
+-- of which so much was counted before
 pub record AreBegun (name : List ℕ) (names : Names) (tally : Tally) (items : List Item)
     (text more : List ℕ) : Type 0 where
   pub first : List Item
@@ -138,7 +138,7 @@ pub record AreBegun (name : List ℕ) (names : Names) (tally : Tally) (items : L
   pub more_is : (more ≡ said)
       ⊎ ((rest ≡ []) × (more ≡ said ++ closing name (tally_with tally first)))
 
--- the answer about the listing of this name, of whose blocks this is told
+-- the answer about the listing of this name, of whose blocks this is reported
 pub record IsAnswer (name : List ℕ) (names : Names) (items : List Item) (answer : Answer) : Type 0
   where
     pub text : answer.text ≡ told items
@@ -152,7 +152,7 @@ abbrev pub IsBegunAnswer : List ℕ → Names → List Item → Answer → Type 
 IsBegunAnswer name names items answer =
     AreBegun name names no_blocks items answer.text answer.beside
 
--- of a listing with these bytes, if they are told: of a block that is too long its first bytes
+-- of a listing with these bytes, if they are known: of a block that is too long its first bytes
 abbrev pub AnswersListing : List ℕ → Names → (List (List ℕ) → List ℕ → Part) → Option (List ℕ)
     → Answer → Type 0
 AnswersListing name names part bytes answer = IfSome (blocks_to_come 1 bytes) (λ blocks.

@@ -1,4 +1,4 @@
--- What blocks come to, by their texts.
+-- What blocks result in, by their texts.
 use Rattle.std.specs.Prelude.{ℕ, List, Option, Result}
 use Rattle.acl_names.specs.Names.{Names}
 use Rattle.acl_listings.specs.Block.{FileValue, file_by, path_of}

@@ -31,7 +31,7 @@ abbrev pub printed_text : Option (List ℕ) → List ℕ
 printed_text None = []
 printed_text (Some text) = block_text text
 
--- what is told of a block after is the block that is printed for it
+-- what is reported of a block after is the block that is printed for it
 abbrev pub PrintsBlocks : Type 0
 PrintsBlocks = (name : List ℕ) (before : List Block) (placed : Placed Block) (told said : List ℕ)
     → TellsNext restoring name before placed told said

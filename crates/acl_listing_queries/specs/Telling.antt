@@ -1,4 +1,4 @@
--- How a listing is told, block by block. Private steps, which no public clause cites.
+-- How a listing is reported, block by block. Private steps, which no public clause cites.
 use Rattle.std.specs.Prelude.{◌≡◌, ⊤, ℕ, Bool, true, false, List, [], ◌++◌, Option, IfSome}
 use Rattle.std.specs.Prelude.{Result, Ok, Err}
 use Rattle.acl_names.specs.Names.{Names}
@@ -26,8 +26,8 @@ abbrev pub UnlessMemory : {A : Type 0} → Result A FileFault → Type 0 → Typ
 UnlessMemory (Err file.Memory) P = ⊤
 UnlessMemory result P = P
 
--- what was appended to an answer is what is told of an item, of which this is wrong, and what was
--- appended beside it is what is said of it
+-- what was appended to an answer is what is reported of an item, of which this is wrong, and what
+-- was appended beside it is what is said of it
 abbrev pub IsItemTold : List ℕ → Names → Item → Option BlockFault → List ℕ → List ℕ → List ℕ
     → List ℕ → Type 0
 IsItemTold name names item fault out out' beside beside' =
@@ -35,14 +35,14 @@ IsItemTold name names item fault out out' beside beside' =
     × ((said : List ℕ) × IsSaid name names item.block item.part said × (beside' ≡ beside ++ said))
     × (fault_in item.part ≡ fault)
 
--- what there is to tell of a listing of this name: how it is read, what a block comes to behind
+-- what there is to tell of a listing of this name: how it is read, what a block results in behind
 -- others, and what was counted
 pub record Left : Type 0 where
   pub name : List ℕ
   pub names : Names
   pub part : List (List ℕ) → List ℕ → Part
   pub tally : Tally
-  -- whether the end was told
+  -- whether the end was reported
   pub closed : Bool
   -- the blocks that are still to come, if that is known
   pub coming : Option (List Block)
@@ -55,7 +55,7 @@ abbrev pub IsSaidLeft : Left → List Item → List ℕ → Type 0
 IsSaidLeft left items text = (said : List ℕ) × AreSaid left.name left.names items said
     × (text ≡ said ++ closing left.name (tally_with left.tally items))
 
--- these texts are all that is told and said behind blocks with these texts
+-- these texts are all that is reported and said behind blocks with these texts
 abbrev pub IsToldBy : Bool → Left → List (List ℕ) → List ℕ → List ℕ → Type 0
 IsToldBy true left earlier text more = (text ≡ []) × (more ≡ [])
 IsToldBy false left earlier text more = IfSome left.coming (λ blocks.
@@ -65,7 +65,7 @@ IsToldBy false left earlier text more = IfSome left.coming (λ blocks.
 abbrev pub IsTold : Left → List (List ℕ) → List ℕ → List ℕ → Type 0
 IsTold left = IsToldBy left.closed left
 
--- what is told and said of the first of them, and maybe at the end
+-- what is reported and said of the first of them, and maybe at the end
 abbrev pub IsBegunBy : Bool → Left → List (List ℕ) → List ℕ → List ℕ → Type 0
 IsBegunBy true left earlier text more = (text ≡ []) × (more ≡ [])
 IsBegunBy false left earlier text more = IfSome left.coming (λ blocks.
@@ -83,13 +83,13 @@ EndsBy false left earlier ending = IfSome left.coming (λ blocks.
 abbrev pub EndsSo : Left → List (List ℕ) → Ending → Type 0
 EndsSo left = EndsBy left.closed left
 
--- of what stands so: these texts are all that is told and said from here on, behind whatever blocks
--- it stands
+-- of what stands so: these texts are all that is reported and said from here on, behind whatever
+-- blocks it stands
 abbrev pub TellsOf : (List (List ℕ) → Type 0) → Left → List ℕ → List ℕ → Type 0
 TellsOf Stands left text more =
     (earlier : List (List ℕ)) → Stands earlier → IsTold left earlier text more
 
--- they are what is told and said of the first; and it stands behind some
+-- they are what is reported and said of the first; and it stands behind some
 abbrev pub BeginsOf : (List (List ℕ) → Type 0) → Left → List ℕ → List ℕ → Type 0
 BeginsOf Stands left text more = ((earlier : List (List ℕ)) × Stands earlier)
     × ((earlier : List (List ℕ)) → Stands earlier → IsBegun left earlier text more)
@@ -98,7 +98,7 @@ abbrev pub EndsOf : (List (List ℕ) → Type 0) → Left → Ending → Type 0
 EndsOf Stands left ending =
     (earlier : List (List ℕ)) → Stands earlier → EndsSo left earlier ending
 
--- an item was told, said and counted
+-- an item was reported, said and counted
 pub record IsItemDone (name : List ℕ) (names : Names) (item : Item) (tally tally' : Tally)
     (out out' beside beside' : List ℕ) : Type 0 where
   pub text : out' ≡ out ++ told_of item.part

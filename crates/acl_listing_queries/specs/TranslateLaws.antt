@@ -1,5 +1,5 @@
--- What the laws of `translate` say: of a file, of what is told of it, and of what `impact` tells of
--- the two.
+-- What the laws of `translate` say: of a file, of what is reported of it, and of what `impact`
+-- tells of the two.
 use Rattle.std.specs.Prelude.{◌≡◌, ◌<◌, ◌↔◌, ℕ, Bool, false, List, [], Ok, length}
 use Rattle.acl_names.specs.Names.{Names}
 use Rattle.acl_nfs4.specs.Acl.{AreAces}
@@ -13,8 +13,8 @@ use Rattle.acl_listing_queries.specs.Translated.{aces_of, translated}
 use Rattle.acl_listing_queries.specs.declared.host.Host.{Host}
 use Rattle.acl_listing_queries.specs.declared.translate.form.AceForm.{AceForm}
 
--- A block says the file, and in this form this is told of it. The list that is told has entries,
--- and they are ones, whose ids are within their range.
+-- A block says the file, and in this form this is reported of it. The list that is reported has
+-- entries, and they are ones, whose ids are within their range.
 pub record IsTold (host : Host) (form : AceForm) (attributes : Bool) (text : List ℕ)
     (file : FileValue) (told : List ℕ) : Type 0 where
   pub file_is : file_by (names_of_host host) text ≡ Ok file
@@ -28,7 +28,7 @@ pub record IsTold (host : Host) (form : AceForm) (attributes : Bool) (text : Lis
     pairs = false;
   }) text ≡ Ok told
 
--- the file with the list that is told of it
+-- the file with the list that is reported of it
 abbrev pub with_told : Bool → FileValue → FileValue
 with_told attributes file = record file { lists = Nfs4 (aces_of attributes file.lists) }
 

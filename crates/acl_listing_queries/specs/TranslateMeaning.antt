@@ -28,7 +28,7 @@ form_of (Some text) = if bytes_eq text (codes "nfs4") then Ok Nfs4
 abbrev pub form_in : List Row → Result AceForm FieldFault
 form_in rows = form_of (first_of (codes "form") rows)
 
--- the files say who there is, the words how it is told, and the answer is what follows from it
+-- the files say who there is, the words how it is reported, and the answer is what follows from it
 pub record TranslateAnswers (Is : Text → Names → (List (List ℕ) → List ℕ → Part)
     → Option (List ℕ) → Answer → Type 0) (bytes_of : Text → Option (List ℕ))
     (input : Option (List ℕ)) (rows : List Row) (answer : Answer) : Type 0 where
@@ -44,7 +44,7 @@ pub record TranslateAnswers (Is : Text → Names → (List (List ℕ) → List �
         pairs = flag_in (codes "print0") rows;
       })) (bytes_named bytes_of input (listing_in rows)) answer
 
--- a field doesn't read, the files don't say who there is, or the listing fails
+-- a field is malformed, the files don't say who there is, or the listing fails
 abbrev pub FailsForTranslate : (Text → Option (List ℕ)) → List Row → Failure → Type 0
 FailsForTranslate bytes_of rows failure = Explains (form_in rows) failure
     ⊎ (IsHostFailure bytes_of rows failure ⊎ FailsForListing (listing_in rows) failure)

@@ -30,8 +30,8 @@ use Rattle.acl_listing_queries.specs.declared.translate.form.AceForm.TheVariants
 use Rattle.acl_listing_queries.specs.declared.translate.lists.TheConstants.{ATTRIBUTES}
 use Rattle.acl_listing_queries.specs.declared.translate.lists.TheConstants.{OWNER_ATTRIBUTES}
 
--- by which names blocks are read, in which form entries are told, whether with what servers check
--- besides, and whether as pairs of a list and a path
+-- by which names blocks are read, in which form entries are reported, whether with what servers
+-- check besides, and whether as pairs of a list and a path
 pub record Translating : Type 0 where
   pub names : Names
   pub form : AceForm
@@ -60,7 +60,7 @@ aces_of attributes (Nfs4 acl) = acl
 abbrev pub as_list : List Nfsace4 → Result (List Nfsace4) BlockFault
 as_list aces = if nat_le (length aces) MAX_ACES then Ok aces else Err (Acl TooMany)
 
--- ---- how it is told, with ids in decimal
+-- ---- how it is reported, with ids in decimal
 
 abbrev pub entry_in : AceForm → Nfsace4 → List ℕ
 entry_in form.Nfs4 ace = short_ace ace

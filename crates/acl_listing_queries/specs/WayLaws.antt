@@ -8,7 +8,7 @@ use Rattle.acl_listing_queries.specs.WhoSteps.{lacks_path}
 abbrev pub is_in : Reading → Reading → Bool
 is_in folder reading = may_be_above folder.path reading.path
 
--- those at the front that are in a folder
+-- those at the prefix that are in a folder
 abbrev pub first_in : Reading → List Reading → List Reading
 first_in folder [] = []
 first_in folder (reading ∷ more) =

@@ -9,7 +9,8 @@ use Rattle.acl_tree.specs.declared.node.Node.{Node}
 use Rattle.acl_listing_queries.specs.Files.{node_of}
 use Rattle.acl_listing_queries.specs.Readings.{Reading}
 
--- of two paths: the one is above the other; a path that isn't told may be above any, and below any
+-- of two paths: the one is above the other; a path that isn't reported may be above any, and below
+-- any
 abbrev pub may_be_above : Option (List ℕ) → Option (List ℕ) → Bool
 may_be_above (Some folder) (Some path) = is_above folder path
 may_be_above _ _ = true

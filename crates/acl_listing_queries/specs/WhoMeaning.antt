@@ -27,7 +27,7 @@ listing_in rows = unwrap_or (first_of (codes "listing") rows) []
 abbrev pub is_input : Text → Bool
 is_input name = bytes_eq name (codes "-")
 
--- its bytes, if they are told
+-- its bytes, if they are known
 abbrev pub bytes_named : (Text → Option (List ℕ)) → Option (List ℕ) → Text → Option (List ℕ)
 bytes_named bytes_of input name = if is_input name then input else bytes_of name
 
@@ -40,7 +40,7 @@ abbrev pub FailsForListing : Text → Failure → Type 0
 FailsForListing name (CannotRead refused reason) = refused.now ≡ name
 FailsForListing name failure = IsListingFailure name failure ⊎ (failure ≡ failed_write)
 
--- a listing of this name that is told by these names, part by part
+-- a listing of this name that is reported by these names, part by part
 abbrev pub listing_meaning : (Text → Option (List ℕ)) → Option (List ℕ) → Text → Names
     → (List (List ℕ) → List ℕ → Part) → Meaning
 listing_meaning bytes_of input name names part = record {

@@ -21,7 +21,7 @@ pub record Asking : Type 0 where
   pub asked : Asked
   pub reach : Bool
 
--- what is told of a file on this way, if it is known
+-- what is reported of a file on this way, if it is known
 abbrev pub part_on : Asking → FileValue → Option (List Node) → Part
 part_on asking file (Some way) =
     Ok (who_text asking.persons asking.asked way file.path (node_of file))

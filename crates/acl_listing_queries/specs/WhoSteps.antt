@@ -1,4 +1,4 @@
--- How it is told block by block who may do what. Private steps, which no public clause cites.
+-- How it is reported block by block who may do what. Private steps, which no public clause cites.
 use Rattle.std.specs.Prelude.{◌≡◌, ℕ, Bool, true, false, List, [], ◌∷◌, Option, Some, None}
 use Rattle.std.specs.Prelude.{Result, Ok, Err, IfSome, get_or, is_none, length, map, option_map}
 use Rattle.std.specs.Prelude.{⊤, reverse, slice_get, if◌then◌else◌}
@@ -221,7 +221,7 @@ pub record IsOnWay (state : ReachTeller) (earlier : List (List ℕ)) : Type 0 wh
       state.before state.folders.items
       (fold way_on [] (readings_of state.answers.users earlier))
 
--- it has come to a block to which this is the way
+-- it has brought a block to which this is the way
 pub record IsCome (state : ReachTeller) (way : List Reading) : Type 0 where
   pub reach : state.answers.users.reach ≡ true
   pub right : AreRight state.answers

@@ -44,7 +44,7 @@ pub record IsFirstOf (path : List ℕ) (blocks : List Block) (placed : Placed Bl
 abbrev pub readings : Names → List Block → List Reading
 readings names blocks = map (λ block. reading_of names block.text) blocks
 
--- what it comes to, behind them
+-- what it results in, behind them
 abbrev pub placed_part : WhyAsking → Placed Block → Part
 placed_part asking placed = why_part asking (readings asking.names placed.earlier) placed.here.text
 
@@ -60,7 +60,7 @@ pub record IsWhyAnswer (asking : WhyAsking) (name : Text) (placed : Placed Block
   pub ending : answer.ending ≡ part_ending (placed_part asking placed)
 
 -- the answer about the first block of the path, of a listing of this name that has these blocks, if
--- they are told
+-- they are known
 abbrev pub AnswersPath : WhyAsking → Text → Text → Option (List Block) → Answer → Type 0
 AnswersPath asking name path coming answer = IfSome coming (λ blocks. (placed : Placed Block)
     × IsFirstOf path blocks placed × IsWhyAnswer asking name placed answer)
@@ -71,7 +71,7 @@ FailsForPath name path coming (NoFile listing file) = (listing.now ≡ name) × 
     × IfSome coming (λ blocks. is_among path blocks ≡ false)
 FailsForPath name path coming failure = FailsForListing name failure
 
--- the blocks of the listing that the words name, if they are told
+-- the blocks of the listing that the words name, if they are known
 abbrev pub blocks_named : (Text → Option (List ℕ)) → Option (List ℕ) → Text → Option (List Block)
 blocks_named bytes_of input name = blocks_to_come 1 (bytes_named bytes_of input name)
 
@@ -99,7 +99,7 @@ pub record WhyAnswers (bytes_of : Text → Option (List ℕ)) (input : Option (L
       (record { names = names_of_host host; who = person.who; perms = perms }) (listing_in rows)
       (path_in rows) (blocks_named bytes_of input (listing_in rows)) answer
 
--- a field doesn't read, the files don't say who there is, nobody is asked about, no block has the
+-- a field is malformed, the files don't say who there is, nobody is asked about, no block has the
 -- path, or the listing fails
 abbrev pub FailsForWhy : (Text → Option (List ℕ)) → Option (List ℕ) → List Row → Failure → Type 0
 FailsForWhy bytes_of input rows failure = Explains (perms_in rows) failure

@@ -1,4 +1,4 @@
--- How the way to a path is kept, and told. Private steps, which no public clause cites.
+-- How the way to a path is kept, and reported. Private steps, which no public clause cites.
 use Rattle.std.specs.Prelude.{◌≡◌, ⊤, ℕ, Bool, true, false, List, [], ◌∷◌, Option, Some, None}
 use Rattle.std.specs.Prelude.{Vec, map, reverse}
 use Rattle.std.specs.List.{flat_map, list_any}
@@ -60,7 +60,7 @@ IsNearest None [] = ⊤
 IsNearest (Some text) (folder ∷ above) = path_of text.now ≡ folder.path
 IsNearest _ _ = ⊥
 
--- the folders of this way are told
+-- the folders of this way are reported
 pub record AreTold (asking : WhyAsking) (way : List Reading) (folders : Folders) : Type 0 where
   pub nodes : List Node
   pub known : known_folders way ≡ Some nodes

@@ -60,7 +60,7 @@ why_text asking nodes way file =
     ++ flat_map (folder_text asking.who) (reverse way)
     ++ decision_text (codes "file") file.path (node_of file) asking.who asking.perms
 
--- what is told of a file on this way, whose folders are these, if they are known
+-- what is reported of a file on this way, whose folders are these, if they are known
 abbrev pub why_on : WhyAsking → List Reading → FileValue → Option (List Node) → Part
 why_on asking way file (Some nodes) = Ok (why_text asking nodes way file)
 why_on asking way file None = Err UnknownWay

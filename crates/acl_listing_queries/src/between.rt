@@ -1,4 +1,4 @@
-//! What is told of two listings, one before and one after.
+//! What is reported of two listings, one before and one after.
 
 mod changes;
 mod faults;

@@ -1,4 +1,4 @@
-//! What is told of a listing, block by block.
+//! What is reported of a listing, block by block.
 ghost use Rattle.std.specs.Prelude.{◌≡◌, ◌+◌, ◌++◌, ◌∷◌, ◌⊎◌, ℕ, IfErr, IfOk, List, [], OnErr};
 ghost use Rattle.std.specs.Prelude.{OnOk, codes, decimal};
 ghost use Rattle.std.specs.Bool.{MatchBool};
@@ -21,15 +21,15 @@ use acl_listings::{BlockFault, Blocks, FileFault, ReadFault, faulty_line};
 use std::alloc::Global;
 use std::io::{Read, Write};
 
-/// What is told of the blocks of a listing, one after the other.
+/// What is reported of the blocks of a listing, one after the other.
 pub(crate) trait BlockTeller {
     /// It stands behind blocks with these texts.
     ghost Stands: { Self → List (List ℕ) → Type 0 };
 
-    /// What a block with a text comes to, behind blocks with others.
+    /// What a block with a text results in, behind blocks with others.
     ghost part: { Self → List (List ℕ) → List ℕ → Part };
 
-    /// Appends what is told of the block with this text, or tells why that isn't known.
+    /// Appends what is reported of the block with this text, or tells why that isn't known.
     fn push(&mut self, alloc: Global, text: &[u8], out: &mut Vec<u8>) -> Result<(), FileFault>
         ensures same { UnlessMemory result (part self.new ≡ part self.old) }
         ensures stands { (earlier : List (List ℕ)) → Stands self.old earlier
@@ -92,7 +92,7 @@ pub(crate) fn push_fault<'n>(
     push_fault_at(name, line, before, fault, faulty, out)
 }
 
-/// Appends what is told of the block with this text, or what is said of it, and returns what is
+/// Appends what is reported of the block with this text, or what is said of it, and returns what is
 /// wrong with it, if anything is.
 fn tell_block<'n, T: BlockTeller>(
     alloc: Global,
@@ -243,8 +243,8 @@ impl<'n, 't, T: BlockTeller + Drop, R: Read + Drop> Telling<'n> for Listing<'n, 
     }
 }
 
-/// Writes what is told of each block of the listing that the reader reads, in pieces as they are
-/// read, and says what is wrong with others, and at the end how many these are.
+/// Writes what is reported of each block of the listing that the reader reads, in pieces as they
+/// are read, and says what is wrong with others, and at the end how many these are.
 pub(crate) fn tell_listing<'n, 't, T, R, W, E>(
     alloc: Global,
     name: &'n str,
@@ -283,7 +283,7 @@ where
     if listing.closed {
         Ok(listing.tally.ending())
     } else {
-        // All is told only once the end is.
+        // All is reported only once the end is.
         Err(Failure::Unread(name))
     }
 }

@@ -8,7 +8,7 @@ use acl_listings::{BlockFault, push_shown};
 use itoa::Buffer;
 use std::alloc::AllocError;
 
-/// Appends the front of a line: the program's name, and that of the listing.
+/// Appends the prefix of a line: the program's name, and that of the listing.
 pub(crate) fn push_start(name: &str, out: &mut Vec<u8>) -> Result<(), AllocError>
     ensures { OnOk result (out.new.items ≡ out.old.items ++ codes "aclctl: " ++ name.now) }
 {

@@ -23,8 +23,8 @@ pub(crate) fn listing_field<'a>(matches: &ArgMatches<'a>) -> &'a str
     text_field(matches, "listing").unwrap_or("")
 }
 
-/// Writes what is told of each block of the listing of this name: of `-` that of `input`, and else
-/// that of the name's file, which leaves `input` as it is.
+/// Writes what is reported of each block of the listing of this name: of `-` that of `input`, and
+/// else that of the name's file, which leaves `input` as it is.
 pub(crate) fn tell_named<'n, F, T, I, W, E>(
     alloc: Global,
     files: &F,

@@ -1,4 +1,4 @@
-//! Options of questions of listings, as the parser of command lines is told of them.
+//! Options of questions of listings, as the parser of command lines gets them.
 ghost use Rattle.std.specs.Prelude.{◌≡◌, codes, false};
 ghost use Rattle.clap.specs.Words.{rule_of};
 ghost use Rattle.acl_cli.specs.CommandLine.{flag, optional_option, optional_word};
@@ -36,7 +36,7 @@ pub fn user_option<'a>(alloc: Global) -> Arg<'a>
     repeated_option(alloc, "user", "NAME", help)
 }
 
-/// The option `--letters`: whether all letters are told.
+/// The option `--letters`: whether all letters are reported.
 pub fn letters_option<'a>(alloc: Global) -> Arg<'a>
     ensures rule { rule_of result ≡ flag (codes "letters") }
     ensures local { result.global ≡ false }

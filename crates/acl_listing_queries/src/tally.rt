@@ -14,7 +14,7 @@ use std::alloc::AllocError;
 pub(crate) struct Tally {
     blocks: u64,
     faults: u64,
-    /// How many of these don't read, whatever the way to them.
+    /// How many of these are malformed, whatever the way to them.
     unread: u64,
     guess: Option<Guess>,
 }
@@ -29,7 +29,7 @@ fn is_fault(fault: Option<BlockFault>) -> u64
     }
 }
 
-/// 1 if the block doesn't read. One of which only the way is unknown reads all the same.
+/// 1 if the block is malformed. One of which only the way is unknown reads all the same.
 fn is_unread(fault: Option<BlockFault>) -> u64
     ensures { result ≡ is_unread fault }
 {

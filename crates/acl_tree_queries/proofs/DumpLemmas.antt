@@ -1,11 +1,11 @@
 -- The lines of a dump, one more at a time.
-use Rattle.std.proofs.Common.{◌≡◌, ◌∙◌, ◌<◌, ◌≤◌, ◌+◌, ◌++◌, ℕ, zero, suc, List, [], ◌∷◌, Result, Err, IfErr, inl, inr}
+use Rattle.std.proofs.Common.{◌≡◌, ◌∙◌, ◌<◌, ◌+◌, ◌++◌, ℕ, zero, suc, List, [], ◌∷◌, Result, Err, IfErr, inl, inr}
 use Rattle.std.proofs.Common.{ap, append_assoc, append-nil, arith, get_or, length, length-append, map as each}
 use Rattle.std.proofs.Common.{refl, subst, sym, take}
 use Rattle.std.specs.List.{flat_map}
 use Rattle.std.proofs.lemmas.Grind.{flat_map-append}
 use Rattle.std.proofs.lemmas.List.{map-append, take_more}
-use Rattle.std.proofs.lemmas.List.Elements.{All-append, All-cons, All-nil, Contains-append_left, Contains-append_right}
+use Rattle.std.proofs.lemmas.List.Elements.{All-append, Contains-append_left, Contains-append_right}
 use Rattle.std.proofs.lemmas.Result.{IfErr-weaker}
 use Rattle.acl_names.specs.Bytes.{newline}
 use Rattle.acl_tree.specs.Entries.{Entry}
@@ -13,22 +13,10 @@ use Rattle.acl_tree.specs.declared.request.Request.{Request}
 use Rattle.acl_lang.specs.CommandText.{command_text, session_text}
 use Rattle.acl_lang.specs.declared.limits.TheConstants.{MAX_LINE_LEN}
 use Rattle.acl_tree_queries.specs.TreeQuestions.{IsAnswerFailure}
-use Rattle.acl_tree_queries.specs.DumpText.{AddsLines, HasLongLine, IsDumped, SaysAgain}
+use Rattle.acl_tree_queries.specs.DumpText.{AddsLines, HasLongLine, IsDumped}
 use Rattle.acl_cli.specs.declared.failure.Failure.{Failure}
 
 -- ---- what was added
-
-pub no_lines : (text : List ℕ) → AddsLines [] text text
-no_lines text = record { text = sym (append-nil text); dumped = All-nil IsDumped }
-
-pub one_line : (request : Request) (old command new : List ℕ) → command ≡ old ++ command_text request → new ≡ command ++ newline ∷ []
-    → length command ≤ length old + MAX_LINE_LEN → SaysAgain request → AddsLines (request ∷ []) old new
-one_line request old command new is ended short says =
-    let text = command_text request in
-    record {
-      text = ended ∙ ap (λ bytes. bytes ++ newline ∷ []) is ∙ append_assoc old text (newline ∷ []) ∙ ap (λ bytes. old ++ bytes) (sym (append-nil (text ++ newline ∷ [])));
-      dumped = All-cons IsDumped request [] (omega (arith, short, ap length is, length-append old text), says) (All-nil IsDumped);
-    }
 
 pub more_lines : (first second : List Request) (old mid new : List ℕ) → AddsLines first old mid → AddsLines second mid new → AddsLines (first ++ second) old new
 more_lines first second old mid new before behind = record {

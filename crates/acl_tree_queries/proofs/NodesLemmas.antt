@@ -1,6 +1,5 @@
 -- What is told of nodes, one more at a time.
-use Rattle.std.proofs.Common.{◌≡◌, ◌<◌, ◌≤◌, ◌+◌, ◌∙◌, ◌++◌, ℕ, suc, List, [], ◌∷◌, Bor, Result, Ok, Err, OnErr, OnOk, Option, ap, append_assoc, append-nil, drop, get_or, length, map as each, refl, arith, subst, sym, take, zero}
-use Rattle.std.specs.Io.KnownBytes.{Appends}
+use Rattle.std.proofs.Common.{◌≡◌, ◌<◌, ◌≤◌, ◌+◌, ◌∙◌, ◌++◌, ℕ, suc, List, [], ◌∷◌, Bor, Result, Ok, Err, OnErr, OnOk, Option, ap, drop, get_or, length, map as each, refl, arith, subst, sym, take, zero}
 use Rattle.std.specs.Map.Iter.{deref_pair}
 use Rattle.std.proofs.lemmas.List.{drop_more, get_or-map, length-map}
 use Rattle.acl_cli.specs.ErrorOutput.{ErrorText, Tells as GoesTo}
@@ -69,13 +68,6 @@ stays_quiet (Ok value) Tells Begins Written Cut err err' (text, said, (tells, no
 stays_quiet (Err fault) Tells Begins Written Cut err err' written (text, said, (tells, none), cut, goes) = goes.none none
 
 module _ {B : Type 0} (Tells : B → List ℕ → Type 0) where
-  -- what is told of one after the others
-  pub one_more : (entries : List B) (told : List ℕ) → TellsOfEach Tells entries told → (entry : B) (text : List ℕ) → Tells entry text
-      → TellsOfEach Tells (entries ++ entry ∷ []) (told ++ text)
-  one_more [] told is entry text tells = (text, [], tells, refl, ap (λ bytes. bytes ++ text) is ∙ sym (append-nil text))
-  one_more (before ∷ entries) told (first, rest, is_first, is_rest, is) entry text tells =
-      (first, rest ++ text, is_first, one_more entries rest is_rest entry text tells, ap (λ bytes. bytes ++ text) is ∙ append_assoc first rest text)
-
   -- a front of what is told of some nodes is what a run that failed wrote
   pub cut_short : {T E : Type 0} (result : Result T E) (entries : List B) (old new : Option (List ℕ)) (count : ℕ) (text : List ℕ)
       → TellsOfEach Tells (take count entries) text → AppendsFront old new text

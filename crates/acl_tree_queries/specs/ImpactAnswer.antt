@@ -16,7 +16,7 @@ use Rattle.acl_tree_queries.specs.TreeQuestions.{IsNeverRefused, tree_meaning}
 use Rattle.acl_tree_queries.specs.declared.impact_command.question.ImpactQuestion.{ImpactQuestion}
 use Rattle.acl_tree_queries.specs.declared.trees.Trees.{Trees}
 
--- what is told of a node that is there after, as of a file of a listing: it is new, or what it
+-- what is reported of a node that is there after, as of a file of a listing: it is new, or what it
 -- means for access that the one before became it
 abbrev pub TellsFrom : Concern → Option Node → Entry → List ℕ → Type 0
 TellsFrom concern None entry text = text ≡ told_at false concern entry.0 entry.1
@@ -34,7 +34,7 @@ concern_in question trees = record {
   somebody = question.somebody;
 }
 
--- what is told of each node after the sessions, in the order of their paths
+-- what is reported of each node after the sessions, in the order of their paths
 abbrev pub IsImpactAnswer : ImpactQuestion → Trees → List ℕ → Type 0
 IsImpactAnswer question trees text =
     TellsOfEach (TellsImpactOn (concern_in question trees) trees.before)

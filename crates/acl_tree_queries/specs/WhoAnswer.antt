@@ -15,7 +15,8 @@ use Rattle.acl_tree_queries.specs.TreeQuestions.{IsNeverRefused, tree_meaning}
 use Rattle.acl_tree_queries.specs.WhoAsked.{WhoAsked, who_asked_in}
 use Rattle.acl_tree_queries.specs.declared.trees.Trees.{Trees}
 
--- what is told of a node, as of a file of a listing: of those who reach what lies behind this way
+-- what is reported of a node, as of a file of a listing: of those who reach what lies behind this
+-- way
 abbrev pub who_text_on : List Person → Option ℕ → List Node → Entry → List ℕ
 who_text_on persons perms way entry = who_text persons (asked_by perms) way entry.0 entry.1
 
@@ -33,7 +34,7 @@ abbrev pub TellsNode : List Person → WhoAsked → NodesUnderUmask → Bool →
 TellsNode persons asked tree false = TellsWho persons asked.perms
 TellsNode persons asked tree true = TellsWhoReaches persons asked.perms tree
 
--- what is told of each node after the sessions, in the order of their paths
+-- what is reported of each node after the sessions, in the order of their paths
 abbrev pub IsWho : WhoAsked → Trees → List ℕ → Type 0
 IsWho asked trees text =
     TellsOfEach (TellsNode (persons_in trees.people) asked trees.after asked.reach)

@@ -26,7 +26,7 @@ use std::io::{Read, Write};
 /// The exit status is 0 with the session, and with help; 1 if a file can't be opened or read or is
 /// too long, the setup is refused, or a line would be longer than 1024 bytes; 2 if the parser of
 /// command lines refuses the words; and 3 if memory runs out or `out` can't be written. At 1 and 2
-/// nothing was written, and at 3 nothing or a front of the session.
+/// nothing was written, and at 3 nothing or a prefix of the session.
 #[derive(Clone, Copy)]
 pub struct Dump;
 

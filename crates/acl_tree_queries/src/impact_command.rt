@@ -37,7 +37,7 @@ use std::io::{Read, Write};
 /// too long, the setup is refused, or nobody has the NAME; 2 if the parser of command lines refuses
 /// the words, they don't go together, or both sessions are `-`, before any file is opened; and 3 if
 /// memory runs out or `out` can't be written. 4 and 5 are those of listings alone. At 1 and 2
-/// nothing was written, and at 3 nothing or a front of the answer.
+/// nothing was written, and at 3 nothing or a prefix of the answer.
 #[derive(Clone, Copy)]
 pub struct Impact;
 

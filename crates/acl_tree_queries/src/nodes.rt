@@ -1,4 +1,4 @@
-//! What is told of each node of a tree, written piece by piece.
+//! What is reported of each node of a tree, written piece by piece.
 ghost use Rattle.std.specs.Prelude.{◌≡◌, ◌++◌, ℕ, IfErr, List, OnErr, OnOk};
 ghost use Rattle.std.specs.FinMap as map;
 ghost use Rattle.std.specs.Io.KnownBytes.{Appends};
@@ -12,12 +12,12 @@ use acl_tree::{Node, Tree};
 use std::alloc::{AllocError, Global};
 use std::io::Write;
 
-/// What is told of a node.
+/// What is reported of a node.
 pub(crate) trait NodeText {
-    /// The text is what is told of the node at the path.
+    /// The text is what is reported of the node at the path.
     ghost Tells: { Self → Entry → List ℕ → Type 0 };
 
-    /// Appends what is told of the node at the path. It fails only if memory runs out.
+    /// Appends what is reported of the node at the path. It fails only if memory runs out.
     fn push(
         &self,
         alloc: Global,
@@ -68,8 +68,9 @@ impl<'n, 't, T: NodeText> Telling<'n> for EachNode<'t, T> {
     }
 }
 
-/// Writes what is told of each node of the tree, in the order of their paths, in pieces of some 64
-/// KiB. If memory runs out or a write fails, a front of what is told of the first nodes went out.
+/// Writes what is reported of each node of the tree, in the order of their paths, in pieces of some
+/// 64 KiB. If memory runs out or a write fails, a prefix of what is reported of the first nodes
+/// went out.
 pub(crate) fn write_nodes<'n, T: NodeText, W: Write, E: Write + Drop>(
     alloc: Global,
     teller: &T,

@@ -34,8 +34,8 @@ pub(crate) trait Question {
         ensures { result ≡ asked_in (rows_of (found_of matches.now)) };
 
     /// Writes the answer, and leaves standard error as it is. If memory runs out or a write fails,
-    /// a front of what is told of the first nodes went out; if the question is refused, nothing
-    /// did.
+    /// a prefix of what is reported of the first nodes went out; if the question is refused,
+    /// nothing did.
     fn write<'n, W: Write, E: Write + Drop>(
         &self,
         alloc: Global,

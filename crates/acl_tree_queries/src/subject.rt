@@ -64,7 +64,7 @@ fn listings_subject(matches: &ArgMatches<'_>) -> Result<Subject, Mismatch>
     Ok(Subject::Listing)
 }
 
-/// Whether the words ask for what is told of listings alone.
+/// Whether the words ask for what is reported of listings alone.
 fn asks_of_listings(matches: &ArgMatches<'_>) -> bool
     ensures { result ≡ asks_of_listings (rows_of (found_of matches.now)) }
 {

@@ -30,11 +30,11 @@ use std::io::{Read, Write};
 /// of its own. It is written in pieces of some 64 KiB. What is wrong goes to `err`; a fault while
 /// writing there changes nothing.
 ///
-/// The exit status is 0 with the answer, and with help; 1 if P doesn't read, a file can't be opened
+/// The exit status is 0 with the answer, and with help; 1 if P is malformed, a file can't be opened
 /// or read or is too long, the setup is refused, or nobody has the NAME; 2 if the parser of command
 /// lines refuses the words, or they don't go together: LISTING and a session, `--letters` without
 /// LISTING, or neither a LISTING nor a setup; and 3 if memory runs out or `out` can't be written. 4
-/// is that of listings alone. At 1 and 2 nothing was written, and at 3 nothing or a front of the
+/// is that of listings alone. At 1 and 2 nothing was written, and at 3 nothing or a prefix of the
 /// answer.
 #[derive(Clone, Copy)]
 pub struct Who;

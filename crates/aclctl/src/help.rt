@@ -38,9 +38,10 @@ A list by itself is asked about by ids, in decimal:
   aclctl decide --owner 1000 --group 50 --uid 1001 --gids 50,60 --perms r u::rw,g::r,o::-
 
 Exit status: 0 with an answer (granted or denied, alike or differ, a run's
-outputs), 1 if something doesn't read, 2 if the words are wrong, 3 if memory or a
-thread is lacking or the output can't be written, 4 if there is an answer, but not
-about every file of a listing, and 5 if there is a difference and --exit-code.
+outputs), 1 if something is malformed or can't be read, 2 if the words are
+wrong, 3 if memory or a thread is lacking or the output can't be written, 4 if
+there is an answer, but not about every file of a listing, and 5 if there is a
+difference and --exit-code.
 ";
 
 /// The most bytes of a word that is shown.

@@ -1,4 +1,4 @@
-//! What is told of two listings, one thing after the other.
+//! What is reported of two listings, one thing after the other.
 ghost use Rattle.std.specs.Prelude.{◌≡◌, ◌&&◌, ◌⊎◌, IfErr, IfOk, OnErr};
 ghost use Rattle.acl_cli.specs.Commands.{FrontWentOut, NothingWentOut, WentOut};
 ghost use Rattle.acl_cli.specs.Failures.{failed_write};
@@ -84,8 +84,8 @@ fn with_difference(asks: bool, some: bool, ending: Ending) -> Ending
     }
 }
 
-/// Writes what is told of the listing in memory, which has the first name, and of the one of the
-/// other name that the reader reads after it, in pieces as they are read.
+/// Writes what is reported of the listing in memory, which has the first name, and of the one of
+/// the other name that the reader reads after it, in pieces as they are read.
 fn tell_changes<'n, C: ChangeTeller, A, W, E>(
     alloc: Global,
     teller: &C,
@@ -138,12 +138,12 @@ where
             let asks = teller.asks();
             Ok(with_difference(asks, some, ending))
         }
-        // All is told only once the end is.
+        // All is reported only once the end is.
         _ => Err(Failure::Unread(other)),
     }
 }
 
-/// Writes what is told of two listings, each of which has a name and a reader.
+/// Writes what is reported of two listings, each of which has a name and a reader.
 pub(super) fn tell_both<'n, C: ChangeTeller, B, A, W, E>(
     alloc: Global,
     teller: &C,

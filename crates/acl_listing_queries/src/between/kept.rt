@@ -55,7 +55,7 @@ fn keep_each<'n, R: Read + Drop>(
 }
 
 /// The blocks of the listing that the reader reads, in its order. Of a block that is too long only
-/// the first bytes are kept, of which as much is told.
+/// the first bytes are kept, of which as much is reported.
 pub(super) fn keep_blocks<'n, R: Read + Drop>(
     alloc: Global,
     name: &'n str,

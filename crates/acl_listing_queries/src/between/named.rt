@@ -40,7 +40,8 @@ fn open<'n, F: OpenFiles>(files: &F, name: &'n str) -> Result<F::File, Failure<'
     }
 }
 
-/// Writes what is told of the listings of these names, of which one may be `-`, which is `input`.
+/// Writes what is reported of the listings of these names, of which one may be `-`, which is
+/// `input`.
 pub(crate) fn tell_between<'n, C, F, I, W, E>(
     alloc: Global,
     teller: &C,

@@ -10,7 +10,7 @@ use crate::tally::Tally;
 use acl_cli::Failure;
 use std::alloc::Global;
 
-/// What is said of the listing before, and how many of its blocks don't read.
+/// What is said of the listing before, and how many of its blocks are malformed.
 #[derive(Drop)]
 pub(super) struct Opening {
     pub said: Vec<u8>,

@@ -1,4 +1,4 @@
-//! How far it was told of two listings.
+//! How far it saw two listings.
 ghost use Rattle.std.specs.Prelude.{◌≡◌, IfErr, IfOk, OnOk};
 ghost use Rattle.std.specs.Bool.{MatchBool};
 ghost use Rattle.acl_listings.specs.Cursor.{HandsOut, IsOver};
@@ -16,7 +16,7 @@ use std::alloc::{AllocError, Global};
 use std::io::Read;
 use std::marker::Model;
 
-/// What is told next.
+/// What is reported next.
 #[derive(Clone, Copy, Debug, PartialEq, Eq)]
 pub(super) enum Stage {
     /// What is said of the listing before.
@@ -27,7 +27,7 @@ pub(super) enum Stage {
     Gone(usize),
 }
 
-/// How far it was told of two listings.
+/// How far it saw two listings.
 #[derive(Drop)]
 pub(super) struct Progress<A: Read + Drop> {
     pub stage: Stage,
@@ -52,7 +52,7 @@ impl<A: Read + Drop> Model for Progress<A> {
 }
 
 impl<A: Read + Drop> Progress<A> {
-    /// What is told next.
+    /// What is reported next.
     pub fn stage(&self) -> Stage
         ensures { result ≡ self.now.stage }
     {

@@ -16,7 +16,7 @@ use acl_cli::Failure;
 use acl_listings::BlockFault;
 use std::alloc::{AllocError, Global};
 
-/// Two listings, and how it is told what changed between them.
+/// Two listings, and how it is reported what changed between them.
 #[derive(Drop)]
 pub(super) struct Sides<'n, 't, C: ChangeTeller> {
     /// The name of the listing after.
@@ -26,8 +26,8 @@ pub(super) struct Sides<'n, 't, C: ChangeTeller> {
 }
 
 impl<'n, 't, C: ChangeTeller> Sides<'n, 't, C> {
-    /// Appends what is told of a block after with this text, whose path the block before at this
-    /// place has, unless something is wrong with it.
+    /// Appends what is reported of a block after with this text, whose path the block before at
+    /// this place has, unless something is wrong with it.
     fn push_since(
         &self,
         alloc: Global,
@@ -52,8 +52,8 @@ impl<'n, 't, C: ChangeTeller> Sides<'n, 't, C> {
         }
     }
 
-    /// Appends what is told of a block after with this text, whose path the block before at this
-    /// place has, and which repeats no path, or what is wrong with it.
+    /// Appends what is reported of a block after with this text, whose path the block before at
+    /// this place has, and which repeats no path, or what is wrong with it.
     fn tell_once(
         &self,
         alloc: Global,
@@ -78,8 +78,8 @@ impl<'n, 't, C: ChangeTeller> Sides<'n, 't, C> {
         Ok(Some(fault))
     }
 
-    /// Appends what is told of a block after with this text, whose path the block before at this
-    /// place has, or what is wrong with it.
+    /// Appends what is reported of a block after with this text, whose path the block before at
+    /// this place has, or what is wrong with it.
     pub fn tell_block(
         &self,
         alloc: Global,
@@ -120,7 +120,7 @@ impl<'n, 't, C: ChangeTeller> Sides<'n, 't, C> {
         }
     }
 
-    /// Appends what is said once all blocks after were told of.
+    /// Appends what is said once all blocks after were reported.
     pub fn say_closing(&self, seen: &Seen, beside: &mut Vec<u8>) -> Result<(), AllocError>
         ensures { OnOk result (beside.new.items ≡ beside.old.items
             ++ (apart_by (C.wording self.now.teller.now) seen.now.known
@@ -131,7 +131,7 @@ impl<'n, 't, C: ChangeTeller> Sides<'n, 't, C> {
         seen.tally().push_closing(self.name, beside)
     }
 
-    /// Appends what is told of the block before at this place, if its path is gone.
+    /// Appends what is reported of the block before at this place, if its path is gone.
     pub fn tell_missing(
         &self,
         alloc: Global,

@@ -1,4 +1,4 @@
-//! How changes are told.
+//! How changes are reported.
 ghost use Rattle.std.specs.Prelude.{◌≡◌, ◌++◌, IfOk, OnOk, is_none};
 ghost use Rattle.acl_listings.specs.FaultyLine.{IsFaultyAt, line_at};
 ghost use Rattle.acl_listing_queries.specs.ChangeSteps.{Appended};
@@ -7,12 +7,12 @@ ghost use Rattle.acl_listing_queries.specs.Changes.{TellsIf, TellsOld, Wording};
 use acl_listings::BlockFault;
 use std::alloc::{AllocError, Global};
 
-/// What is told of blocks of two listings.
+/// What is reported of blocks of two listings.
 pub(crate) trait ChangeTeller {
-    /// How it is told.
+    /// How it is reported.
     ghost wording: { Self → Wording };
 
-    /// Whether the exit status tells that something is told.
+    /// Whether the exit status tells that something is reported.
     fn asks(&self) -> bool
         ensures { result ≡ (wording self.now).asks };
 
@@ -25,7 +25,7 @@ pub(crate) trait ChangeTeller {
         ensures at { IsFaultyAt (wording self.now).names fault text.now result.0 }
         ensures line { result.1.now ≡ line_at text.now result.0 };
 
-    /// Appends what is told of a block whose path is new, unless something is wrong with it.
+    /// Appends what is reported of a block whose path is new, unless something is wrong with it.
     fn push_new(
         &self,
         alloc: Global,
@@ -38,8 +38,8 @@ pub(crate) trait ChangeTeller {
             (TellsIf (is_none fault) ((wording self.now).IsNew text.now)) out.old.items
             out.new.items beside.old.items beside.new.items) };
 
-    /// Appends what is told of a block whose path has this one before, unless something is wrong
-    /// with one of them.
+    /// Appends what is reported of a block whose path has this one before, unless something is
+    /// wrong with one of them.
     fn push_changed(
         &self,
         alloc: Global,
@@ -53,8 +53,8 @@ pub(crate) trait ChangeTeller {
             (TellsIf (is_none fault) (TellsOld (wording self.now) old.now text.now)) out.old.items
             out.new.items beside.old.items beside.new.items) };
 
-    /// Appends what is told of a block before whose path is gone, unless something is wrong with
-    /// it.
+    /// Appends what is reported of a block before whose path is gone, unless something is wrong
+    /// with it.
     fn push_gone(
         &self,
         alloc: Global,

@@ -15,10 +15,10 @@ const USERS_FILE: &str = "/etc/passwd";
 /// This host's groups.
 const GROUPS_FILE: &str = "/etc/group";
 
-/// What a fault of these files is told of: its line is counted through both.
+/// What a fault of these files is reported of: its line is counted through both.
 const OWN_FILES: &str = "/etc/passwd, /etc/group";
 
-/// The bytes of a file of accounts, of which the fault is told under this name if there are too
+/// The bytes of a file of accounts, of which the fault is reported under this name if there are too
 /// many of them.
 fn read_text<'a, F: OpenFiles>(
     alloc: Global,

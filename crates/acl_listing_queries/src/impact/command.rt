@@ -19,7 +19,7 @@ use clap::{ArgMatches, Command};
 use std::alloc::{AllocError, Global};
 use std::io::{Read, Write};
 
-/// What is told of two listings, and what the exit statuses are, as help says it.
+/// What is reported of two listings, and what the exit statuses are, as help says it.
 pub const IMPACT_ANSWERS: &str = "For example:
   getfacl -Rn /srv/share > before
   getfacl -Rn /srv/share | aclctl impact before -
@@ -33,10 +33,11 @@ With --text also: changed WHAT PATH, of what is written otherwise. Of listings
 uid 0 isn't asked about: it may do nearly everything. What isn't answered is
 said on standard error: aclctl: LISTING:LINE: WORD: TEXT.
 
-Exit status: 0 if every block was answered; 1 if a field or a file doesn't
-read; 2 if the words are wrong; 3 if memory runs out, a listing fails while it
-is read, or the answer can't be written; 4 if there are blocks that weren't
-answered, or a listing has none at all; 5 if there is a line, and --exit-code.";
+Exit status: 0 if every block was answered; 1 if a field is malformed or a file
+can't be read; 2 if the words are wrong; 3 if memory runs out, a listing fails
+while it is read, or the answer can't be written; 4 if there are blocks that
+weren't answered, or a listing has none at all; 5 if there is a line, and
+--exit-code.";
 
 /// `impact` of two listings: for whom it changed what.
 #[derive(Clone, Copy)]

@@ -44,7 +44,7 @@ impl<'t> ImpactTeller<'t> {
         }
     }
 
-    /// Appends what is told of a file that is gone, or else new.
+    /// Appends what is reported of a file that is gone, or else new.
     fn push_file(
         &self,
         alloc: Global,
@@ -60,7 +60,7 @@ impl<'t> ImpactTeller<'t> {
         self.concerned().push_path(gone, &node, path, out)
     }
 
-    /// Appends what is told of a file that became another.
+    /// Appends what is reported of a file that became another.
     fn push_files(
         &self,
         alloc: Global,
@@ -81,7 +81,8 @@ impl<'t> ImpactTeller<'t> {
 }
 
 impl<'t> ImpactTeller<'t> {
-    /// Appends what is told of a file of which the block before has this text, if that one reads.
+    /// Appends what is reported of a file of which the block before has this text, if that one
+    /// reads.
     fn push_old(
         &self,
         alloc: Global,

@@ -7,7 +7,7 @@ use clap::{ArgMatches, Command};
 use std::alloc::{AllocError, Global};
 use std::io::{Read, Write};
 
-/// What is told, and what the exit statuses are.
+/// What is reported, and what the exit statuses are.
 const ANSWERS: &str = "For example:
   getfacl -Rn /srv/share > before
   getfacl -Rn /srv/share | aclctl restore before - | setfacl --restore=-

@@ -12,19 +12,19 @@ use clap::{ArgMatches, Command};
 use std::alloc::{AllocError, Global};
 use std::io::{Read, Write};
 
-/// What is told, and what the exit statuses are.
+/// What is reported, and what the exit statuses are.
 const ANSWERS: &str = "For example:
   getfacl -Rn /srv/share | aclctl translate -
 
 The listing again, with an NFSv4 list for each file: the translation of its
 POSIX list and that of a default list, with FILE_INHERIT, DIRECTORY_INHERIT and
-INHERIT_ONLY. An NFSv4 list stays as it is. ids are told in decimal. What isn't
+INHERIT_ONLY. An NFSv4 list stays as it is. ids are decimal. What isn't
 answered is said on standard error: aclctl: LISTING:LINE: WORD: TEXT.
 
-Exit status: 0 if every file was answered; 1 if a field or a file doesn't read;
-2 if the words are wrong; 3 if memory runs out, the listing fails while it is
-read, or the answer can't be written; 4 if there are files that weren't
-answered, or none at all.";
+Exit status: 0 if every file was answered; 1 if a field is malformed or a file
+can't be read; 2 if the words are wrong; 3 if memory runs out, the listing
+fails while it is read, or the answer can't be written; 4 if there are files
+that weren't answered, or none at all.";
 
 /// `translate`: a listing with an NFSv4 list for each file.
 #[derive(Clone, Copy)]
@@ -52,7 +52,7 @@ impl CommandLine for Translate {
                 alloc,
                 "form",
                 "FORM",
-                "How entries are told: nfs4, as nfs4_getfacl prints them, or freebsd; else nfs4",
+                "How entries are written: nfs4, as nfs4_getfacl prints them, or freebsd; else nfs4",
             ))?
             .arg(flag(
                 alloc,

@@ -1,4 +1,4 @@
-//! The form in which entries are told.
+//! The form in which entries are reported.
 ghost use Rattle.std.specs.Prelude.{◌≡◌, IfErr, IfOk, Ok, Err, Some};
 ghost use Rattle.clap.specs.Words.{found_of, rows_of};
 ghost use Rattle.acl_listing_queries.specs.TranslateMeaning.{form_in, form_of};

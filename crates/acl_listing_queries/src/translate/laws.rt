@@ -17,9 +17,9 @@ ghost use Rattle.acl_listing_queries.specs.Translated.{aces_of};
 ghost use Rattle.acl_listing_queries.specs.declared.host.Host.{Host as HostValue};
 ghost use Rattle.acl_listing_queries.specs.declared.translate.form.AceForm.{AceForm as FormValue};
 
-/// A block that is told, in either form, is read again, by the names by which its block was read:
-/// as the same file, with the NFSv4 list that was told. There is nothing to run here: a proof cites
-/// the contract.
+/// A block that is reported, in either form, is read again, by the names by which its block was
+/// read: as the same file, with the NFSv4 list that was reported. There is nothing to run here: a
+/// proof cites the contract.
 pub fn translations_are_read_again()
     ensures { (host : HostValue) (form : FormValue) (attributes : Bool) (text told : List ℕ)
         (file : FileValue) → IsTold host form attributes text file told
@@ -27,19 +27,19 @@ pub fn translations_are_read_again()
         × (file_by (names_of_host host) block ≡ Ok (with_told attributes file)) }
 {}
 
-/// A file's POSIX lists and what is told of them decide alike for everybody, of reading, of writing
-/// and of executing, each by itself: the list that Linux looks at, and the NFSv4 list. There is
-/// nothing to run here: a proof cites the contract.
+/// A file's POSIX lists and what is reported of them decide alike for everybody, of reading, of
+/// writing and of executing, each by itself: the list that Linux looks at, and the NFSv4 list.
+/// There is nothing to run here: a proof cites the contract.
 pub fn translations_decide_alike()
     ensures { (attributes : Bool) (access : List EntryValue) (default : Option (List EntryValue))
         → IsValid (linux_list access)
         → DecideAlike (linux_list access) (aces_of attributes (Posix access default)) }
 {}
 
-/// A file that a block says and the same file with what is told of it are decided about alike for
-/// everybody, of each bit that is compared. So of the two `impact` tells exactly nothing, whoever
-/// is asked about; nor does it of the two blocks, unless it is asked what is written otherwise.
-/// There is nothing to run here: a proof cites the contract.
+/// A file that a block says and the same file with what is reported of it are decided about alike
+/// for everybody, of each bit that is compared. So of the two `impact` tells exactly nothing,
+/// whoever is asked about; nor does it of the two blocks, unless it is asked what is written
+/// otherwise. There is nothing to run here: a proof cites the contract.
 pub fn translations_change_nothing()
     ensures alike { (names : Names) (attributes : Bool) (text : List ℕ) (file : FileValue)
         → file_by names text ≡ Ok file

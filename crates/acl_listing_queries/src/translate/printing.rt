@@ -1,4 +1,4 @@
-//! How a file's NFSv4 list is told.
+//! How a file's NFSv4 list is reported.
 ghost use Rattle.std.specs.Prelude.{◌≡◌, ◌++◌, ◌∷◌, [], OnOk};
 ghost use Rattle.std.specs.List.{flat_map};
 ghost use Rattle.acl_names.specs.Bytes.{comma, newline};

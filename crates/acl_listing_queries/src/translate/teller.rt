@@ -19,11 +19,11 @@ pub(super) struct TranslateTeller<'t> {
     pub form: AceForm,
     /// Whether what servers check besides is added.
     pub attributes: bool,
-    /// Whether pairs of a list and a path are told, and no blocks.
+    /// Whether pairs of a list and a path are reported, and no blocks.
     pub pairs: bool,
 }
 
-/// Appends what is told of a file with these entries.
+/// Appends what is reported of a file with these entries.
 fn push_told(
     pairs: bool,
     form: AceForm,

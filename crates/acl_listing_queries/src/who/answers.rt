@@ -141,7 +141,7 @@ impl<'t> Users<'t> {
         })
     }
 
-    /// Appends what is told of a file at the path, whose answers these are.
+    /// Appends what is reported of a file at the path, whose answers these are.
     fn push(
         &self,
         kept: &Kept,
@@ -230,7 +230,7 @@ impl<'t> Answers<'t> {
         Ok(place)
     }
 
-    /// Appends what is told of the file of the block, whose answers are kept at the place.
+    /// Appends what is reported of the file of the block, whose answers are kept at the place.
     pub fn push_at(
         &self,
         place: usize,

@@ -21,7 +21,7 @@ use clap::{ArgMatches, Command};
 use std::alloc::{AllocError, Global};
 use std::io::{Read, Write};
 
-/// What is told of a listing, and what the exit statuses are, as help says it.
+/// What is reported of a listing, and what the exit statuses are, as help says it.
 pub const WHO_ANSWERS: &str = "For example:
   getfacl -Rn /srv/share | aclctl who --reach --perms w -
 
@@ -32,10 +32,10 @@ NAME PATH, of those who are granted all of P at once. What isn't answered is
 said on standard error: aclctl: LISTING:LINE: WORD: TEXT. Of a listing uid 0
 isn't asked about: it may do nearly everything.
 
-Exit status: 0 if every file was answered; 1 if a field or a file doesn't read;
-2 if the words are wrong; 3 if memory runs out, the listing fails while it is
-read, or the answer can't be written; 4 if there are files that weren't
-answered, or none at all.";
+Exit status: 0 if every file was answered; 1 if a field is malformed or a file
+can't be read; 2 if the words are wrong; 3 if memory runs out, the listing
+fails while it is read, or the answer can't be written; 4 if there are files
+that weren't answered, or none at all.";
 
 /// `who` of a listing.
 #[derive(Clone, Copy)]
@@ -80,7 +80,7 @@ fn everyone(alloc: Global, requesters: &[Requester]) -> Result<Vec<bool>, AllocE
     Ok(marks)
 }
 
-/// Writes what is told of each block of the listing of this name.
+/// Writes what is reported of each block of the listing of this name.
 fn tell_who<'n, F, I, W, E>(
     alloc: Global,
     files: &F,

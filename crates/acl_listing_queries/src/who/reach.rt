@@ -45,8 +45,8 @@ pub(super) struct ReachTeller<'t> {
     lost: bool,
 }
 
-/// Appends what is told of the block, where these reach it; none if that isn't known. It returns
-/// where the answers of its file are kept.
+/// Appends what is reported of the block, where these reach it; none if that isn't known. It
+/// returns where the answers of its file are kept.
 fn push_block<'t>(
     alloc: Global,
     answers: &mut Answers<'t>,
@@ -141,7 +141,7 @@ impl<'t> ReachTeller<'t> {
         Ok(())
     }
 
-    /// Appends what is told of the block, to whose path the way has come, and returns where the
+    /// Appends what is reported of the block, to whose path the way has come, and returns where the
     /// answers of its file are kept.
     fn push_here(
         &mut self,
@@ -189,7 +189,7 @@ impl<'t> ReachTeller<'t> {
         Ok(())
     }
 
-    /// Appends what is told of the block, which has this path, and goes on to it.
+    /// Appends what is reported of the block, which has this path, and goes on to it.
     fn push_at(
         &mut self,
         alloc: Global,
@@ -220,7 +220,7 @@ impl<'t> ReachTeller<'t> {
         }
     }
 
-    /// Appends what is told of a block without a path, behind which no way is known.
+    /// Appends what is reported of a block without a path, behind which no way is known.
     fn push_lost(&mut self, alloc: Global, text: &[u8], out: &mut Vec<u8>) -> Result<(), FileFault>
         ensures users { self.new.answers.users ≡ self.old.answers.users }
         ensures stands { (earlier : List (List ℕ)) → IsOnWay self.old earlier

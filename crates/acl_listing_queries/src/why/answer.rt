@@ -41,7 +41,7 @@ impl Model for Made {
     } };
 }
 
-/// What is told of the file of the block with this text, to which this is the way; or why that
+/// What is reported of the file of the block with this text, to which this is the way; or why that
 /// isn't known.
 fn tell_block(
     alloc: Global,

@@ -24,7 +24,7 @@ use clap::{ArgMatches, Command};
 use std::alloc::{AllocError, Global};
 use std::io::{Read, Write};
 
-/// What is told, and what the exit statuses are.
+/// What is reported, and what the exit statuses are.
 const ANSWERS: &str = "For example:
   getfacl -Rn /srv/share | aclctl why --user alice --perms w - srv/share/plan
 
@@ -36,11 +36,11 @@ and why its list decides so, as explain tells it. PATH is written as the
 listing writes it; the first block that has it counts. uid 0 isn't asked about:
 it may do nearly everything.
 
-Exit status: 0 with an answer, granted or denied; 1 if a field or a file
-doesn't read, or the listing has no such file; 2 if the words are wrong; 3 if
-memory runs out, the listing fails while it is read, or the answer can't be
-written; 4 if the file's block doesn't read, or the way to it isn't known, as
-standard error tells.";
+Exit status: 0 with an answer, granted or denied; 1 if a field is malformed, a
+file can't be read, or the listing has no such file; 2 if the words are wrong;
+3 if memory runs out, the listing fails while it is read, or the answer can't
+be written; 4 if the file's block is malformed, or the way to it isn't known,
+as standard error tells.";
 
 /// `why` of a file of a listing.
 #[derive(Clone, Copy)]

@@ -1,4 +1,4 @@
-//! What is told of the folders on the way to a file, list by list.
+//! What is reported of the folders on the way to a file, list by list.
 ghost use Rattle.std.specs.Prelude.{◌≡◌, ◌∷◌, [], IfErr, IfOk, List, OnOk, Some, option_map};
 ghost use Rattle.std.specs.Prelude.{reverse};
 ghost use Rattle.acl_listing_queries.specs.Readings.{Reading, reading_of};
@@ -16,7 +16,7 @@ use acl_listings::{BlockFault, FileFault, path_of, read_file};
 use acl_posix::Perms;
 use std::alloc::Global;
 
-/// What is told of folders, the outermost first.
+/// What is reported of folders, the outermost first.
 #[derive(Drop)]
 pub(super) struct Folders<'t> {
     pub text: Vec<u8>,
@@ -49,8 +49,8 @@ impl<'t> Folders<'t> {
         }
     }
 
-    /// Appends what is told of one folder more, of which this is the block. Its way isn't known if
-    /// it doesn't lie in the nearest of the others, or doesn't read.
+    /// Appends what is reported of one folder more, of which this is the block. Its way isn't known
+    /// if it doesn't lie in the nearest of the others, or is malformed.
     fn push(
         &mut self,
         alloc: Global,
@@ -84,7 +84,7 @@ impl<'t> Folders<'t> {
     }
 }
 
-/// What is told of the folders of these blocks, the outermost first, which are on the way to a
+/// What is reported of the folders of these blocks, the outermost first, which are on the way to a
 /// path.
 pub(super) fn tell_folders<'t>(
     alloc: Global,

@@ -1,4 +1,4 @@
-//! What is told of a list that decides, and why it decides so.
+//! What is reported of a list that decides, and why it decides so.
 ghost use Rattle.std.specs.Prelude.{◌≡◌, ◌++◌, IfOk, OnOk};
 ghost use Rattle.acl_posix.specs.Perms.{bits_of};
 ghost use Rattle.acl_tree.specs.Nodes.{may};

@@ -54,7 +54,7 @@ impl Way {
         Ok(())
     }
 
-    /// What is told of the folders on the way to the path, if they are known.
+    /// What is reported of the folders on the way to the path, if they are known.
     pub fn tell(
         &self,
         alloc: Global,

@@ -10,7 +10,7 @@ use std::alloc::{AllocError, Global};
 const EXAMPLE: &str = "For example:
   aclctl compare --owner 1000 --group 50 posix u::rw,g::r,o::- posix u::rw,g::r,o::r
 
-Exit status: 0 with an answer, whichever it is; 1 if a field doesn't read; 2 if
+Exit status: 0 with an answer, whichever it is; 1 if a field is malformed; 2 if
 the words are wrong; 3 if memory runs out or the answer can't be written.";
 
 impl CommandLine for Compare {

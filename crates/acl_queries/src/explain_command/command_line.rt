@@ -12,8 +12,8 @@ use std::alloc::{AllocError, Global};
 const EXAMPLE: &str = "For example:
   aclctl explain --owner 1000 --group 50 --uid 1001 --gids 60 --perms rw nfs4 A::OWNER@:rwa,D:g:60:w
 
-Exit status: 0 with an answer, granted or denied; 1 if a field doesn't read;
-2 if the words are wrong; 3 if memory runs out or the answer can't be written.";
+Exit status: 0 with an answer, granted or denied; 1 if a field is malformed; 2
+if the words are wrong; 3 if memory runs out or the answer can't be written.";
 
 impl CommandLine for Explain {
     ghost use Rattle.acl_queries.specs.ExplainLine.{explain_line, explain_line-free};

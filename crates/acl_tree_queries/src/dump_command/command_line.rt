@@ -6,12 +6,12 @@ use acl_cli::options::{optional_word, setup_option};
 use clap::Command;
 use std::alloc::{AllocError, Global};
 
-/// What is told, and what the exit statuses are.
+/// What is reported, and what the exit statuses are.
 const ANSWERS: &str = "The session closes the root, creates each file in the order of the paths, and
 gives each its lists. Run over the same setup, it makes the same tree. Ids are
 decimal.
 
-Exit status: 0 with an answer; 1 if a file doesn't read or a line would be too
+Exit status: 0 with an answer; 1 if a file can't be read or a line would be too
 long; 2 if the words are wrong; 3 if memory runs out or the answer can't be
 written.";
 

@@ -19,7 +19,7 @@ pub(super) struct WhoText<'t> {
 }
 
 impl<'t> WhoText<'t> {
-    /// Appends what is told of the node at the path, to which this is the way.
+    /// Appends what is reported of the node at the path, to which this is the way.
     fn push_on(
         &self,
         alloc: Global,
