@@ -9,7 +9,7 @@ use Rattle.acl_tree.specs.Steps.{◌>>=◌, or_refused}
 use Rattle.acl_tree.specs.Tree.{NodesUnderUmask}
 use Rattle.acl_tree.specs.declared.faults.TreeFault.TheVariants.{NoSuchPath}
 use Rattle.acl_tree.specs.declared.node.Node.{Node}
-use Rattle.acl_audit.specs.Letters.{LetterIsChecked}
+use Rattle.acl_audit.specs.Checks.{LetterIsChecked}
 
 -- of these letters, each is there if it was put there
 abbrev letters : Bool → Bool → Bool → ℕ

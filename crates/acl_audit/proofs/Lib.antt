@@ -1,13 +1,7 @@
 pub mod LetterLemmas
-pub mod ChangeLemmas
-pub mod FoundLemmas
-pub mod ImpactLemmas
-pub mod GroupLemmas
-pub mod ChangesLeft
+pub mod AlikeLemmas
 pub mod QuietLemmas
 pub mod PutLemmas
 pub mod GroupsLemmas
 pub mod ParentLemmas
 pub mod DumpLemmas
-pub mod ReachLemmas
-pub mod GrantedLemmas

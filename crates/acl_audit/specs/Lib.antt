@@ -1,9 +1,4 @@
-pub mod Letters
-pub mod Changes
-pub mod Steps
-pub mod Impact
-pub mod Who
+pub mod Checks
 pub mod Reach
-pub mod Answers
 pub mod Quiet
 pub mod Dump

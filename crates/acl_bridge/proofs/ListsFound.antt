@@ -11,6 +11,7 @@ use Rattle.acl_nfs4.specs.Mask.{all_masks, mask_bits}
 use Rattle.acl_nfs4.specs.declared.comparison.Difference.{Difference}
 use Rattle.acl_nfs4.specs.declared.owners.Owners.{Owners}
 use Rattle.acl_bridge.specs.Comparison.{GrantAlikeToAll, IsFirstDifference, granted_at, grants_at, permission_bits, whole_requests}
+use Rattle.acl_bridge.specs.Files.{file_with}
 use Rattle.acl_bridge.specs.Lists.{Finds}
 use Rattle.acl_bridge.specs.declared.any_acl.AnyAcl.TheVariants.{Nfs4, Posix}
 
@@ -19,7 +20,7 @@ module _ (owners other_owners : Owners) where
   pub nfs4_found : (found : Option Difference) (first second : List Nfsace4) (bits : ℕ) → bits ≡ all_masks
       → (found ≡ None) ↔ DecideAlike (decided_at first owners) (decided_at second other_owners) bits
       → IfSome found (IsDifference (decided_at first owners) (decided_at second other_owners) bits)
-      → Finds (Nfs4 first) owners (Nfs4 second) other_owners found
+      → Finds (file_with owners (Nfs4 first)) (file_with other_owners (Nfs4 second)) found
   nfs4_found None first second bits all none some =
       (subst (λ (b : ℕ). DecideAlike (decided_at first owners) (decided_at second other_owners) b) all (none.0 refl), tt)
   nfs4_found (Some difference) first second bits all none some =
@@ -30,7 +31,7 @@ module _ (owners other_owners : Owners) where
       → DecideAlike (granted_at first owners) (granted_at second other_owners) permission_bits
       → MatchOption found (AllByRecursion (GrantAlikeToAll (grants_at first owners) (grants_at second other_owners)) whole_requests)
       (IsFirstDifference (grants_at first owners) (grants_at second other_owners) whole_requests)
-      → Finds (Posix first) owners (Posix second) other_owners found
+      → Finds (file_with owners (Posix first)) (file_with other_owners (Posix second)) found
   whole_found None first second alike all = (alike, all)
   whole_found (Some difference) first second alike is = inr (alike, is)
 

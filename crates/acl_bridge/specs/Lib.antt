@@ -3,4 +3,5 @@ pub mod TranslationLaws
 pub mod Comparison
 pub mod Effects
 pub mod Style
+pub mod Files
 pub mod Lists

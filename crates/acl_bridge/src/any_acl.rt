@@ -1,6 +1,6 @@
 //! Access control lists of either style.
 ghost use Rattle.std.specs.Prelude.{◌≡◌};
-ghost use Rattle.acl_bridge.specs.Lists.{view_list};
+ghost use Rattle.acl_bridge.specs.Files.{view_list};
 
 use acl_nfs4::Acl4;
 use acl_posix::Acl;

@@ -4,6 +4,7 @@
 mod any_acl;
 pub mod bits;
 mod comparison;
+mod file_acl;
 mod laws;
 mod lists;
 mod passes;
@@ -13,7 +14,8 @@ mod translation;
 mod whole_requests;
 
 pub use any_acl::{AnyAcl, AnyAclRef};
-pub use comparison::{difference_from_posix, posix_difference};
+pub use comparison::posix_difference;
+pub use file_acl::FileAcl;
 pub use laws::{default_translation_laws, posix_comparison_laws, translation_laws};
 pub use lists::list_difference;
 pub use requests::{Unlike, request_difference};

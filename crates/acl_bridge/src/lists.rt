@@ -1,11 +1,12 @@
-//! Comparing lists of either style for everyone.
+//! Comparing the lists of files, of either style, for everyone.
 ghost use Rattle.std.specs.Prelude.{IfOk};
-ghost use Rattle.acl_bridge.specs.Lists.{Finds, view_list};
+ghost use Rattle.acl_bridge.specs.Files.{file_with, view_acl};
+ghost use Rattle.acl_bridge.specs.Lists.{Finds};
 ghost use Rattle.acl_bridge.specs.declared.any_acl.AnyAcl.TheVariants as list;
 
-use crate::AnyAclRef;
 use crate::comparison::{difference_from_posix, posix_difference};
 use crate::whole_requests::whole_request_difference;
+use crate::{AnyAclRef, FileAcl};
 use acl_nfs4::{Acl4, Difference, Mask, Owners};
 use acl_posix::Acl;
 use bitflags::Flags;
@@ -20,8 +21,8 @@ fn between_posix_lists(
     after: &Acl,
     other_owners: &Owners,
 ) -> Result<Option<Difference>, AllocError>
-    ensures { IfOk result (Finds (list.Posix before.now) owners.now (list.Posix after.now)
-        other_owners.now) }
+    ensures { IfOk result (Finds (file_with owners.now (list.Posix before.now))
+        (file_with other_owners.now (list.Posix after.now))) }
 {
     match posix_difference(alloc, before, owners, after, other_owners)? {
         Some(difference) => Ok(Some(difference)),
@@ -37,8 +38,8 @@ fn from_posix(
     after: &Acl4,
     other_owners: &Owners,
 ) -> Result<Option<Difference>, AllocError>
-    ensures { IfOk result (Finds (list.Posix before.now) owners.now (list.Nfs4 after.now)
-        other_owners.now) }
+    ensures { IfOk result (Finds (file_with owners.now (list.Posix before.now))
+        (file_with other_owners.now (list.Nfs4 after.now))) }
 {
     difference_from_posix(alloc, before, owners, after, other_owners)
 }
@@ -51,8 +52,8 @@ fn towards_posix(
     after: &Acl,
     other_owners: &Owners,
 ) -> Result<Option<Difference>, AllocError>
-    ensures { IfOk result (Finds (list.Nfs4 before.now) owners.now (list.Posix after.now)
-        other_owners.now) }
+    ensures { IfOk result (Finds (file_with owners.now (list.Nfs4 before.now))
+        (file_with other_owners.now (list.Posix after.now))) }
 {
     match difference_from_posix(alloc, after, other_owners, before, owners)? {
         Some(difference) => Ok(Some(difference.reversed())),
@@ -67,14 +68,15 @@ fn between_nfs4_lists(
     after: &Acl4,
     other_owners: &Owners,
 ) -> Option<Difference>
-    ensures { Finds (list.Nfs4 before.now) owners.now (list.Nfs4 after.now) other_owners.now result }
+    ensures { Finds (file_with owners.now (list.Nfs4 before.now))
+        (file_with other_owners.now (list.Nfs4 after.now)) result }
 {
     before.difference(owners, after, other_owners, Mask::all())
 }
 
-/// What two lists of either style decide differently, each for a file of its own owners: none
-/// exactly if they decide alike for every requester, of whatever uid and groups; else someone in at
-/// most two groups, with what only the one and what only the other grants.
+/// What two files' lists decide differently, each for its own owners: none exactly if they decide
+/// alike for every requester, of whatever uid and groups; else someone in at most two groups, with
+/// what only the one and what only the other grants.
 ///
 /// Between NFSv4 lists all bits of a mask are compared; between POSIX lists the permissions, first
 /// each by itself and then the requests of several, as a whole; between lists of different styles
@@ -82,15 +84,13 @@ fn between_nfs4_lists(
 /// out.
 pub fn list_difference(
     alloc: Global,
-    before: AnyAclRef<'_>,
-    owners: &Owners,
-    after: AnyAclRef<'_>,
-    other_owners: &Owners,
+    before: &FileAcl<'_>,
+    after: &FileAcl<'_>,
 ) -> Result<Option<Difference>, AllocError>
-    ensures { IfOk result (Finds (view_list before.entry) owners.now (view_list after.entry)
-        other_owners.now) }
+    ensures { IfOk result (Finds (view_acl before.now) (view_acl after.now)) }
 {
-    match (before, after) {
+    let (owners, other_owners) = (&before.owners, &after.owners);
+    match (before.list, after.list) {
         (AnyAclRef::Posix(before), AnyAclRef::Posix(after)) => {
             between_posix_lists(alloc, before, owners, after, other_owners)
         }

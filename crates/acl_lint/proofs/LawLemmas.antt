@@ -3,11 +3,12 @@ use Rattle.std.proofs.Common.{◌≡◌, ◌∙◌, ◌+◌, ◌++◌, ℕ, Bool
 use Rattle.std.proofs.lemmas.List.{map-append}
 use Rattle.acl_names.specs.Directory.{Known, requester_of}
 use Rattle.acl_names.specs.Pieces.{lines_of}
+use Rattle.acl_nfs4.specs.Evaluation.{grants4}
 use Rattle.acl_nfs4.specs.Mask.{mask_bits}
 use Rattle.acl_posix.specs.Perms.{bits_of}
 use Rattle.acl_tree.specs.Apply.{reply_to_change, next, reply, reply_to_question}
 use Rattle.acl_tree.specs.Commands.{change_mode, create, granted_or_denied, node_at, set_access, set_default, set_nfs4, translation_reply}
-use Rattle.acl_tree.specs.NodeAcls.{PosixLists, grants4, nfs4_list, posix_lists}
+use Rattle.acl_tree.specs.NodeAcls.{PosixLists, nfs4_list, posix_lists}
 use Rattle.acl_tree.specs.Nodes.{may, view_of}
 use Rattle.acl_tree.specs.Steps.{Outcome, ◌>>=◌}
 use Rattle.acl_tree.specs.Tree.{NodesUnderUmask}

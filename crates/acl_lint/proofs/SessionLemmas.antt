@@ -1,10 +1,8 @@
 -- What is told of the lines of a session, one more at a time, and of sessions.
-use Rattle.std.proofs.Common.{◌≡◌, ◌∙◌, ◌<◌, ◌≤◌, ◌+◌, ◌++◌, ◌==◌, ℕ, Bor, List, [], ◌∷◌, Vec, Global, ap, append_assoc, arith, drop, get_or, length, map, refl, sym}
+use Rattle.std.proofs.Common.{◌≡◌, ◌∙◌, ◌<◌, ◌+◌, ◌++◌, ℕ, Bor, List, [], ◌∷◌, Vec, Global, ap, append_assoc, drop, get_or, length, map, refl, sym}
 use Rattle.std.specs.List.{flat_map}
 use Rattle.std.proofs.lemmas.Grind.{flat_map-append}
 use Rattle.std.proofs.lemmas.List.{drop_more}
-use Rattle.std.proofs.lemmas.List.Splits.{length-slice_split}
-use Rattle.std.proofs.lemmas.List.Sums.{count_by-le-length}
 use Rattle.clap.specs.Words.{Text}
 use Rattle.acl_names.specs.Bytes.{newline}
 use Rattle.acl_names.specs.Directory.{Known}
@@ -39,15 +37,11 @@ module _ (known : Known) where
         ap (told_from known name number) are ∙ flat_map-append (found_text name) (found_in_line known (number + 1) line) (found_from known (number + 1) more) in
         ap (λ bytes. sent ++ (bytes ++ rest)) is ∙ ap (λ bytes. sent ++ bytes) (append_assoc kept told rest)
         ∙ ap (λ bytes. sent ++ (kept ++ bytes)) (sym split) ∙ left
-    -- what was kept went out, or stays
 
+-- what was kept went out, or stays
 pub session-sent : (sent kept rest more new all : List ℕ) → sent ++ (kept ++ rest) ≡ all → kept ≡ more ++ new → (sent ++ more) ++ (new ++ rest) ≡ all
 session-sent sent kept rest more new all left is =
     append_assoc sent more (new ++ rest) ∙ ap (λ bytes. sent ++ bytes) (sym (append_assoc more new rest)) ∙ ap (λ bytes. sent ++ (bytes ++ rest)) (sym is) ∙ left
-
--- a text has at most one part more than bytes
-pub parts-few : (text : List ℕ) → length (parts newline text) ≤ length text + 1
-parts-few text = omega (arith, length-slice_split (λ byte. byte == newline) text, count_by-le-length (λ byte. byte == newline) text)
 
 -- the names themselves
 abbrev pub shown : List (Bor (List ℕ)) → List Text

@@ -13,7 +13,6 @@ use Rattle.acl_service.specs.Files.{IsFilesFailure}
 use Rattle.acl_service.specs.RunWords.{CanRun, sessions_in}
 use Rattle.acl_cli.specs.SessionFiles.{HasBytes, HaveBytes, input_count, setup_in}
 use Rattle.acl_cli.specs.declared.command.Ending.TheVariants.{Answered}
-use Rattle.acl_cli.specs.declared.failure.Failure.{Failure}
 use Rattle.acl_setup.specs.SetupFaults.{setup_error_words}
 use Rattle.acl_setup.specs.Opened.{IsRefusedBy}
 use Rattle.acl_setup.specs.declared.fault.SetupError.{SetupError}

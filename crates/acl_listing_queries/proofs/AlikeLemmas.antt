@@ -4,14 +4,15 @@ use Rattle.std.specs.List.{AllByRecursion}
 use Rattle.acl_names.specs.Asker.{identity_of}
 use Rattle.acl_names.specs.Requester.{Identity}
 use Rattle.acl_bridge.specs.Comparison.{Granter}
-use Rattle.acl_audit.specs.Changes.{File, IsAlikeToAll, IsChangeFor, change_of, file_of, granter_of, requests_between}
-use Rattle.acl_audit.specs.declared.changes.Change.{Change}
-use Rattle.acl_audit.proofs.ImpactLemmas.{changes_are_not_alike}
+use Rattle.acl_bridge.specs.Lists.{requests_between}
+use Rattle.acl_access.specs.Changes.{IsAlikeToAll, IsChangeFor, change_of}
+use Rattle.acl_access.specs.declared.changes.Change.{Change}
+use Rattle.acl_access.proofs.ExclusiveLemmas.{changes_are_not_alike}
 use Rattle.acl_cli.specs.Telling.{is_empty}
-use Rattle.acl_tree.specs.declared.node.Node.{Node}
+use Rattle.acl_bridge.specs.Files.{File, may}
 use Rattle.acl_listings.specs.Block.{FileValue, file_by}
 use Rattle.acl_listings.specs.declared.fault.BlockFault.{BlockFault}
-use Rattle.acl_listing_queries.specs.Files.{node_of}
+use Rattle.acl_listing_queries.specs.Files.{file_of}
 use Rattle.acl_listing_queries.specs.ImpactSteps.{TellsRead}
 use Rattle.acl_listing_queries.specs.Impacting.{Concern, ImpactAsking, Tells, TellsAnybody, TellsChange, TellsFirst, TellsImpact, TellsPerson, TellsPersons, TellsThose}
 use Rattle.acl_listing_queries.specs.Person.{Person}
@@ -20,7 +21,7 @@ use Rattle.acl_listing_queries.specs.declared.impact.changed.Changed.{Changed}
 
 -- ---- files that are decided about alike
 
-module _ (before after : Node) (path : List ℕ) (alike : IsAlikeToAll (file_of before) (file_of after)) where
+module _ (before after : File) (path : List ℕ) (alike : IsAlikeToAll before after) where
   none_of_all : (persons : List Person) → TellsPersons before after path persons []
   none_of_all [] = refl
   none_of_all (person ∷ persons) = ([], [], inl (alike person.who, refl), none_of_all persons, refl)
@@ -51,8 +52,8 @@ module _ (before after : Node) (path : List ℕ) (alike : IsAlikeToAll (file_of 
 
   -- and whatever is told of them is nothing
 
-  unlike : (requester : Identity) (change : Change) → IsChangeFor (file_of before) (file_of after) requester change → ⊥
-  unlike requester change is = changes_are_not_alike (file_of before) (file_of after) requester change (alike requester) is
+  unlike : (requester : Identity) (change : Change) → IsChangeFor before after requester change → ⊥
+  unlike requester change is = changes_are_not_alike before after requester change (alike requester) is
 
   nothing_of : (person : Person) (text : List ℕ) → TellsPerson before after path person text → text ≡ []
   nothing_of person text (inl (same, none)) = none
@@ -95,7 +96,7 @@ granted_alike granter requester (request ∷ requests) = (refl, granted_alike gr
 pub alike_itself : (file : File) → IsAlikeToAll file file
 alike_itself file requester = record {
   bits = λ bit is. refl;
-  requests = granted_alike (granter_of file) requester (requests_between file.acl file.acl);
+  requests = granted_alike (may file) requester (requests_between file.list file.list);
 }
 
 abbrev pub unchanged : Changed
@@ -117,7 +118,7 @@ nothing_written false path = refl
 stays : (asking : ImpactAsking) (file : FileValue) → TellsChange asking file file []
 stays asking file = record {
   impact = [];
-  impact_is = nobody (node_of file) (node_of file) file.path (alike_itself (file_of (node_of file))) asking.concern;
+  impact_is = nobody (file_of file) (file_of file) file.path (alike_itself (file_of file)) asking.concern;
   written = [];
   written_is = (unchanged, is_unchanged file, nothing_written asking.written file.path);
   text_is = refl;

@@ -5,13 +5,13 @@ use Rattle.std.specs.List.{flat_map}
 use Rattle.std.proofs.lemmas.Bool.{true≢false}
 use Rattle.std.proofs.lemmas.Bool.Decides.{Decides-eqb}
 use Rattle.acl_names.specs.Requester.{Identity}
-use Rattle.acl_tree.specs.declared.node.Node.{Node}
+use Rattle.acl_bridge.specs.Files.{File}
 use Rattle.acl_listings.specs.Block.{FileValue, file_by}
 use Rattle.acl_listings.specs.declared.fault.BlockFault.{BlockFault}
 use Rattle.acl_cli.specs.Telling.{is_empty}
 use Rattle.acl_listing_queries.specs.ChangeSteps.{Appended}
 use Rattle.acl_listing_queries.specs.Changes.{TellsIf, TellsOld}
-use Rattle.acl_listing_queries.specs.Files.{node_of}
+use Rattle.acl_listing_queries.specs.Files.{file_of}
 use Rattle.acl_listing_queries.specs.ImpactSteps.{TellsAt, TellsBy, TellsRead, line_at}
 use Rattle.acl_listing_queries.specs.Impacting.{Concern, ImpactAsking, Tells, TellsAnybody, TellsChange, TellsFirst, TellsImpact, TellsPerson, TellsPersons, TellsThose, fault_of, impacting, told_gone, told_new}
 use Rattle.acl_listing_queries.specs.Person.{Person}
@@ -52,7 +52,7 @@ none_left names whos place past = drop_past (persons_of names whos) place (omega
 
 -- ---- their lines
 
-module _ (before after : Node) (path : List ℕ) where
+module _ (before after : File) (path : List ℕ) where
   either : (some : Bool) (person : Person) (text : List ℕ) → TellsBy some before after path person text → TellsPerson before after path person text
   either true person text tells = inr tells
   either false person text tells = inl tells
@@ -153,7 +153,7 @@ same_length out (byte ∷ lines) = by (nat_eq (length (out ++ byte ∷ lines)) (
         let same : length (out ++ byte ∷ lines) ≡ length out = (Decides-eqb (length (out ++ byte ∷ lines)) (length out)).0 is in
         absurd (omega (arith, same, length-append out (byte ∷ lines)))
 
-pub impact_told : (concern : Concern) (before after : Node) (path out mid out' : List ℕ) → Tells (TellsThose concern.each before after path concern.persons) out mid
+pub impact_told : (concern : Concern) (before after : File) (path out mid out' : List ℕ) → Tells (TellsThose concern.each before after path concern.persons) out mid
     → (asked : Bool) → asked ≡ (concern.somebody && nat_eq (length mid) (length out)) → Tells (TellsAnybody asked before after path) mid out' → Tells (TellsImpact concern before after path) out out'
 impact_told concern before after path out mid out' those asked asked_is other =
     let empty : nat_eq (length mid) (length out) ≡ is_empty those.text = ap (λ text. nat_eq (length text) (length out)) those.out_is ∙ same_length out those.text in
@@ -171,7 +171,7 @@ impact_told concern before after path out mid out' those asked asked_is other =
     }
 
 -- and behind it what is written otherwise
-pub change_told : (asking : ImpactAsking) (before after : FileValue) (old new : Node) → old ≡ node_of before → new ≡ node_of after → (out mid out' : List ℕ)
+pub change_told : (asking : ImpactAsking) (before after : FileValue) (old new : File) → old ≡ file_of before → new ≡ file_of after → (out mid out' : List ℕ)
     → Tells (TellsImpact asking.concern old new after.path) out mid → (changed : Changed) → IsChanged before after changed → out' ≡ mid ++ changed_text asking.written changed after.path
     → Tells (TellsChange asking before after) out out'
 change_told asking before after old new old_is new_is out mid out' told changed changed_is is =
@@ -180,7 +180,7 @@ change_told asking before after old new old_is new_is out mid out' told changed 
       text = told.text ++ written;
       is = record {
         impact = told.text;
-        impact_is = subst (λ (old : Node). TellsImpact asking.concern old (node_of after) after.path told.text) old_is (subst (λ (new : Node). TellsImpact asking.concern old new after.path told.text) new_is told.is);
+        impact_is = subst (λ (old : File). TellsImpact asking.concern old (file_of after) after.path told.text) old_is (subst (λ (new : File). TellsImpact asking.concern old new after.path told.text) new_is told.is);
         written = written;
         written_is = (changed, changed_is, refl);
         text_is = refl;

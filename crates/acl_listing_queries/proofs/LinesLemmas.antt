@@ -4,18 +4,18 @@ use Rattle.std.specs.Prelude.{Vec, slice_get}
 use Rattle.std.specs.List.{enumerate_from, flat_map}
 use Rattle.std.specs.declared.alloc.Global.{Global}
 use Rattle.acl_names.specs.Requester.{Identity}
-use Rattle.acl_audit.specs.Answers.{is_set}
-use Rattle.acl_audit.specs.Letters.{effective, granted_mask, mask_text}
-use Rattle.acl_audit.specs.Reach.{places_from, reaches}
-use Rattle.acl_audit.specs.Who.{may_line}
+use Rattle.acl_access.specs.Marks.{is_set}
+use Rattle.acl_access.specs.Letters.{effective, granted_mask, mask_text}
+use Rattle.acl_access.specs.Marks.{places_from}
+use Rattle.acl_access.specs.Reach.{reaches}
+use Rattle.acl_access.specs.Who.{may_line}
 use Rattle.acl_nfs4.specs.Mask.{mask_bits}
 use Rattle.acl_nfs4.specs.declared.mask.Mask.{Mask}
 use Rattle.acl_posix.specs.Perms.{bits_of}
 use Rattle.acl_posix.specs.PermsText.{perms_text}
 use Rattle.acl_posix.specs.declared.perms.Perms.{Perms}
-use Rattle.acl_tree.specs.Nodes.{may}
-use Rattle.acl_tree.specs.declared.node.Node.{Node}
-use Rattle.acl_audit.proofs.ReachLemmas.{at_place}
+use Rattle.acl_bridge.specs.Files.{File, may}
+use Rattle.acl_access.proofs.ReachLemmas.{at_place}
 use Rattle.acl_listing_queries.specs.Asked.{persons_of}
 use Rattle.acl_listing_queries.specs.WhoSteps.{IsGranted, letters_line_at, letters_lines, may_line_at, may_line_of, may_lines}
 use Rattle.acl_listing_queries.specs.WhoText.{AllLetters, Asked, Request, ThreeLetters, letters_line_if, person_line, person_line_if, who_text}
@@ -32,24 +32,24 @@ none_there f default (first ∷ before) more =
     let next : length (first ∷ before) + more ≡ suc (length before + more) = omega arith in
     ap (λ place. get_or (map f (first ∷ before)) place default) next ∙ none_there f default before more
 
-module _ (way : List Node) (path : List ℕ) (node : Node) where
+module _ (way : List File) (path : List ℕ) (file : File) where
   abbrev reach : List Identity → List Bool
   reach whos = map (reaches way) whos
 
   -- letters that are written and granted so
 
-  module _ (text : ℕ → List ℕ) (granted : Node → Identity → ℕ) where
+  module _ (text : ℕ → List ℕ) (granted : File → Identity → ℕ) where
     abbrev letters : List Identity → List ℕ
-    letters whos = map (granted node) whos
+    letters whos = map (granted file) whos
 
     -- the line of somebody at a place
     one_letters : (whos before after : List Identity) (name : List ℕ) (who : Identity) (place : ℕ) → whos ≡ before ++ who ∷ after → place ≡ length before
-        → letters_line_at text path (letters whos) (reach whos) (place, name) ≡ person_line text granted way path node (record { name = name; who = who })
+        → letters_line_at text path (letters whos) (reach whos) (place, name) ≡ person_line text granted way path file (record { name = name; who = who })
     one_letters whos before after name who place is there =
         ap (λ place. letters_line_at text path (letters whos) (reach whos) (place, name)) there
         ∙ ap (λ whos. letters_line_at text path (letters whos) (reach whos) (length before, name)) is
         ∙ ap (λ b. letters_line_if text path name (cond b (get_or (letters (before ++ who ∷ after)) (length before) 0) 0)) (at_place (reaches way) false before after who)
-        ∙ ap (λ perms. letters_line_if text path name (cond (reaches way who) perms 0)) (at_place (granted node) 0 before after who)
+        ∙ ap (λ perms. letters_line_if text path name (cond (reaches way who) perms 0)) (at_place (granted file) 0 before after who)
 
     -- where nobody is any more there is no line
     no_letters : (whos : List Identity) (names : List (List ℕ)) (more : ℕ) → flat_map (letters_line_at text path (letters whos) (reach whos)) (enumerate_from (length whos + more) names) ≡ []
@@ -61,7 +61,7 @@ module _ (way : List Node) (path : List ℕ) (node : Node) where
         ∙ ap (λ place. flat_map (letters_line_at text path (letters whos) (reach whos)) (enumerate_from place names)) next ∙ no_letters whos names (more + 1)
 
     letters_behind : (whos before after : List Identity) (names : List (List ℕ)) (place : ℕ) → whos ≡ before ++ after → place ≡ length before
-        → flat_map (letters_line_at text path (letters whos) (reach whos)) (enumerate_from place names) ≡ flat_map (person_line text granted way path node) (persons_of names after)
+        → flat_map (letters_line_at text path (letters whos) (reach whos)) (enumerate_from place names) ≡ flat_map (person_line text granted way path file) (persons_of names after)
     letters_behind whos before after [] place is there = refl
     letters_behind whos before [] (name ∷ names) place is there =
         let whole : before ≡ whos = sym (append-nil before) ∙ sym is in
@@ -70,14 +70,14 @@ module _ (way : List Node) (path : List ℕ) (node : Node) where
     letters_behind whos before (who ∷ after) (name ∷ names) place is there =
         let next : place + 1 ≡ length (before ++ who ∷ []) = simp length-append (omega (arith, there)) in
         ap (λ line. line ++ flat_map (letters_line_at text path (letters whos) (reach whos)) (enumerate_from (place + 1) names)) (one_letters whos before after name who place is there)
-        ∙ ap (λ lines. person_line text granted way path node (record { name = name; who = who }) ++ lines)
+        ∙ ap (λ lines. person_line text granted way path file (record { name = name; who = who }) ++ lines)
         (letters_behind whos (before ++ who ∷ []) after names (place + 1) (is ∙ sym (append_assoc before (who ∷ []) after)) next)
 
   -- of those who may
 
   module _ (perms : ℕ) where
     abbrev test : Identity → Bool
-    test who = may node who perms
+    test who = may file who perms
 
     abbrev line : List (List ℕ) → List Identity → ℕ → List ℕ
     line names whos place = may_line_at path names (reach whos) place
@@ -121,51 +121,51 @@ module _ (way : List Node) (path : List ℕ) (node : Node) where
 
     lines_behind : (names before_names after_names : List (List ℕ)) (whos before after : List Identity) (place : ℕ)
         → names ≡ before_names ++ after_names → place ≡ length before_names → whos ≡ before ++ after → place ≡ length before
-        → flat_map (line names whos) (places_from test place after) ≡ flat_map (person_line_if way path node perms) (persons_of after_names after)
+        → flat_map (line names whos) (places_from test place after) ≡ flat_map (person_line_if way path file perms) (persons_of after_names after)
     lines_behind names before_names [] whos before after place names_are at is there = no_names names before_names whos after place names_are at
     lines_behind names before_names (name ∷ after_names) whos before [] place names_are at is there = refl
     lines_behind names before_names (name ∷ after_names) whos before (who ∷ after) place names_are at is there =
         let next_name : place + 1 ≡ length (before_names ++ name ∷ []) = simp length-append (omega (arith, at)) in
         let next : place + 1 ≡ length (before ++ who ∷ []) = simp length-append (omega (arith, there)) in
-        let rest : flat_map (line names whos) (places_from test (place + 1) after) ≡ flat_map (person_line_if way path node perms) (persons_of after_names after) =
+        let rest : flat_map (line names whos) (places_from test (place + 1) after) ≡ flat_map (person_line_if way path file perms) (persons_of after_names after) =
         lines_behind names (before_names ++ name ∷ []) after_names whos (before ++ who ∷ []) after (place + 1)
         (names_are ∙ sym (append_assoc before_names (name ∷ []) after_names)) next_name (is ∙ sym (append_assoc before (who ∷ []) after)) next in
         let here = one_line names before_names after_names whos before after name who place names_are at is there in
         elim (test who) as (λ b. flat_map (line names whos) (cond b (place ∷ places_from test (place + 1) after) (places_from test (place + 1) after))
-        ≡ cond (b && reaches way who) (may_line path name) [] ++ flat_map (person_line_if way path node perms) (persons_of after_names after)) [
+        ≡ cond (b && reaches way who) (may_line path name) [] ++ flat_map (person_line_if way path file perms) (persons_of after_names after)) [
           | true ↦ ap (λ first. first ++ flat_map (line names whos) (places_from test (place + 1) after)) here
               ∙ ap (λ lines. cond (reaches way who) (may_line path name) [] ++ lines) rest
           | false ↦ rest
         ]
 
-module _ (names : List (List ℕ)) (whos : List Identity) (way : List Node) (path : List ℕ) (node : Node) (marks : List Bool) (marks_are : marks ≡ map (reaches way) whos) where
-  lettered : (text : ℕ → List ℕ) (granted : Node → Identity → ℕ) (letters : List ℕ) → letters ≡ map (granted node) whos
-      → letters_lines text path names letters marks ≡ flat_map (person_line text granted way path node) (persons_of names whos)
+module _ (names : List (List ℕ)) (whos : List Identity) (way : List File) (path : List ℕ) (file : File) (marks : List Bool) (marks_are : marks ≡ map (reaches way) whos) where
+  lettered : (text : ℕ → List ℕ) (granted : File → Identity → ℕ) (letters : List ℕ) → letters ≡ map (granted file) whos
+      → letters_lines text path names letters marks ≡ flat_map (person_line text granted way path file) (persons_of names whos)
   lettered text granted letters is =
       ap (λ marks. letters_lines text path names letters marks) marks_are
       ∙ ap (λ letters. letters_lines text path names letters (map (reaches way) whos)) is
-      ∙ letters_behind way path node text granted whos [] whos names 0 refl refl
+      ∙ letters_behind way path file text granted whos [] whos names 0 refl refl
 
-  pub letters_text : (asked : Asked) (letters : Vec Perms Global) → IsGranted whos asked node (Letters letters)
-      → letters_lines perms_text path names (map bits_of letters.items) marks ≡ who_text (persons_of names whos) asked way path node
+  pub letters_text : (asked : Asked) (letters : Vec Perms Global) → IsGranted whos asked file (Letters letters)
+      → letters_lines perms_text path names (map bits_of letters.items) marks ≡ who_text (persons_of names whos) asked way path file
   letters_text ThreeLetters letters is = lettered perms_text effective (map bits_of letters.items) is
   letters_text AllLetters letters is = absurd is
   letters_text (Request perms) letters is = absurd is
 
-  pub masks_text : (asked : Asked) (masks : Vec Mask Global) → IsGranted whos asked node (Masks masks)
-      → letters_lines mask_text path names (map mask_bits masks.items) marks ≡ who_text (persons_of names whos) asked way path node
+  pub masks_text : (asked : Asked) (masks : Vec Mask Global) → IsGranted whos asked file (Masks masks)
+      → letters_lines mask_text path names (map mask_bits masks.items) marks ≡ who_text (persons_of names whos) asked way path file
   masks_text ThreeLetters masks is = absurd is
   masks_text AllLetters masks is = lettered mask_text granted_mask (map mask_bits masks.items) is
   masks_text (Request perms) masks is = absurd is
 
-  pub those_text : (asked : Asked) (places : Vec ℕ Global) → IsGranted whos asked node (Those places)
-      → may_lines path names places.items marks ≡ who_text (persons_of names whos) asked way path node
+  pub those_text : (asked : Asked) (places : Vec ℕ Global) → IsGranted whos asked file (Those places)
+      → may_lines path names places.items marks ≡ who_text (persons_of names whos) asked way path file
   those_text ThreeLetters places is = absurd is
   those_text AllLetters places is = absurd is
   those_text (Request perms) places is =
       ap (λ marks. may_lines path names places.items marks) marks_are
       ∙ ap (λ places. may_lines path names places (map (reaches way) whos)) is
-      ∙ lines_behind way path node perms names [] names whos [] whos 0 refl refl refl refl
+      ∙ lines_behind way path file perms names [] names whos [] whos 0 refl refl refl refl
 
 -- the name at a place, as a list of bytes
 pub name_at : (names : List (Vec ℕ Global)) (at : ℕ) (name : Vec ℕ Global) → get_or names at name ≡ name → get_or (map (λ name. name.items) names) at name.items ≡ name.items

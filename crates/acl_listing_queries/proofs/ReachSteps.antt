@@ -4,17 +4,16 @@ use Rattle.std.specs.Prelude.{is_none}
 use Rattle.std.specs.List.{filter, fold, list_all, list_any}
 use Rattle.std.proofs.lemmas.Bool.{or_parts}
 use Rattle.acl_names.specs.Requester.{Identity}
-use Rattle.acl_audit.specs.Answers.{both}
-use Rattle.acl_audit.specs.Reach.{reaches}
-use Rattle.acl_audit.proofs.ReachLemmas.{both_are}
+use Rattle.acl_access.specs.Marks.{both}
+use Rattle.acl_access.specs.Reach.{reaches}
+use Rattle.acl_access.proofs.ReachLemmas.{both_are}
 use Rattle.acl_listings.specs.Block.{FileValue, file_by, path_of}
 use Rattle.acl_listings.specs.declared.fault.BlockFault.{BlockFault}
 use Rattle.acl_listings.proofs.PathLemmas.{path_of-file}
-use Rattle.acl_tree.specs.Nodes.{may}
-use Rattle.acl_tree.specs.declared.node.Node.{Node}
+use Rattle.acl_bridge.specs.Files.{File, may}
 use Rattle.acl_listings.specs.declared.fault.FileFault.{FileFault}
 use Rattle.acl_listings.specs.declared.fault.FileFault.TheVariants as file
-use Rattle.acl_listing_queries.specs.Files.{node_of}
+use Rattle.acl_listing_queries.specs.Files.{file_of}
 use Rattle.acl_listing_queries.specs.Listed.{Part}
 use Rattle.acl_listing_queries.specs.Telling.{IsPart}
 use Rattle.acl_listing_queries.specs.Readings.{Reading, reading_of}
@@ -164,7 +163,7 @@ stands who answers before folders found stack is behind = by stack (subst (λ fo
 -- ---- what is told
 
 -- a block without a path doesn't read, whatever the way
-pub pathless : (asking : Asking) (text : List ℕ) → path_of text ≡ None → (way other : Option (List Node))
+pub pathless : (asking : Asking) (text : List ℕ) → path_of text ≡ None → (way other : Option (List File))
     → part_by asking (file_by asking.names text) way ≡ part_by asking (file_by asking.names text) other
 pathless asking text none way other = by (file_by asking.names text) refl
   where
@@ -179,29 +178,29 @@ refused A B part file.Memory old new is = tt
 
 -- ---- where a block's answers are kept
 
-some_way : (who : List Identity) (way : Option (List Node)) (marks : List Bool) → Some marks ≡ marks_of who way → (above : List Node) × (way ≡ Some above) × (marks ≡ map (reaches above) who)
+some_way : (who : List Identity) (way : Option (List File)) (marks : List Bool) → Some marks ≡ marks_of who way → (above : List File) × (way ≡ Some above) × (marks ≡ map (reaches above) who)
 some_way who (Some above) marks is = (above, refl, by is)
   where
     by : Some marks ≡ Some (map (reaches above) who) → marks ≡ map (reaches above) who
     by is = cc
 some_way who None marks is = cc
 
-abbrev folder_said : Option (List ℕ) → Result FileValue BlockFault → Option Node
+abbrev folder_said : Option (List ℕ) → Result FileValue BlockFault → Option File
 folder_said path said = folder_of (record { path = path; file = said })
 
 searched : (users one : Users) (file : FileValue) (kept : Kept) → one ≡ users → users.reach ≡ true → AreAnswersOf one file kept
-    → kept.search.items ≡ map (λ user. may (node_of file) user 1) (whos_of users)
+    → kept.search.items ≡ map (λ user. may (file_of file) user 1) (whos_of users)
 searched users one file kept same asks are =
-    subst (λ asks. IsSearch (whos_of users) asks (node_of file) kept.search.items) asks (subst (λ users. AreAnswersOf users file kept) same are).search
+    subst (λ asks. IsSearch (whos_of users) asks (file_of file) kept.search.items) asks (subst (λ users. AreAnswersOf users file kept) same are).search
 
-pub folder_at : (users : Users) (answers : Answers) (place : ℕ) (text : List ℕ) (way : Option (List Node)) (marks : List Bool) (file : FileValue) → users.reach ≡ true → answers.users ≡ users
+pub folder_at : (users : Users) (answers : Answers) (place : ℕ) (text : List ℕ) (way : Option (List File)) (marks : List Bool) (file : FileValue) → users.reach ≡ true → answers.users ≡ users
     → file_by (names_by users) text ≡ Ok file → IsAnsweredAt answers place file → Some marks ≡ marks_of (whos_of users) way
     → IsFolderAt (whos_of users) answers place (reading_of (names_by users) text) way
 folder_at users answers place text way marks file asks same reads at shown =
     let known = some_way (whos_of users) way marks shown in
     let kept = at.kept in
     record {
-      folder = node_of file;
+      folder = file_of file;
       is = ap (folder_said (path_of text)) reads;
       above = known.0;
       known = known.1;
@@ -209,9 +208,9 @@ folder_at users answers place text way marks file asks same reads at shown =
     }
 
 -- what is told of a file on a way of which these marks are
-pub told_on_way : (asking : Asking) (whos : List Identity) (text : List ℕ) (way : Option (List Node)) (marks : List Bool) (file : FileValue) → file_by asking.names text ≡ Ok file
-    → Some marks ≡ marks_of whos way → (above : List Node) × (marks ≡ map (reaches above) whos)
-    × (part_by asking (file_by asking.names text) way ≡ Ok (who_text asking.persons asking.asked above file.path (node_of file)))
+pub told_on_way : (asking : Asking) (whos : List Identity) (text : List ℕ) (way : Option (List File)) (marks : List Bool) (file : FileValue) → file_by asking.names text ≡ Ok file
+    → Some marks ≡ marks_of whos way → (above : List File) × (marks ≡ map (reaches above) whos)
+    × (part_by asking (file_by asking.names text) way ≡ Ok (who_text asking.persons asking.asked above file.path (file_of file)))
 told_on_way asking whos text way marks file reads shown =
     let known = some_way whos way marks shown in
     (known.0, known.2, ap (λ said. part_by asking said way) reads ∙ ap (part_by asking (Ok file)) known.1)
@@ -219,7 +218,7 @@ told_on_way asking whos text way marks file reads shown =
 -- ---- who reaches what is in a folder
 
 module _ (who : List Identity) (answers : Answers) (place : ℕ) (block : Reading) (way : List Reading) (at : IsFolderAt who answers place block (known_way way block)) where
-  abbrev above : Option (List Node)
+  abbrev above : Option (List File)
   above = known_way way block
 
   pub below_reach : (kept : Kept) (marks made : List Bool) → Some kept ≡ kept_at answers.kept.items place → Some marks ≡ marks_of who above → made ≡ both kept.search.items marks

@@ -1,6 +1,6 @@
 -- An id or a name alone is read by a setup as it is without one.
 use Rattle.std.proofs.Common.{◌≡◌, ◌∙◌, ℕ, Bool, true, false, cond, List, Option, Some, None, refl, ap, option_and_then, option_map}
-use Rattle.acl_names.specs.Ids.{Name, Number, Written, decimal_value, has_name_shape, id_of_written, number_or_name, written_id}
+use Rattle.acl_names.specs.Ids.{Name, Written, decimal_value, has_name_shape, id_of_written, number_or_name, written_id}
 use Rattle.acl_names.specs.Names.{BeginsWithId}
 use Rattle.acl_names.proofs.IdTexts.{written_name}
 use Rattle.acl_nfs4.specs.AceText.{Id, who_of_parts, written_who}

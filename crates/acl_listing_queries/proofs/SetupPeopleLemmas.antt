@@ -20,9 +20,7 @@ use Rattle.acl_names.specs.declared.directory.fault.SetupFault.TheVariants.{BadN
 use Rattle.acl_names.proofs.AscendingLemmas.{Contains-find, find-distinct, repeats-ascending}
 use Rattle.acl_names.proofs.Keys.{same_id, same_name}
 use Rattle.acl_bridge.proofs.FilterLemmas.{find-passes}
-use Rattle.acl_tree.specs.Commands.{root_alone}
-use Rattle.acl_tree.specs.Tree.{NodesUnderUmask}
-use Rattle.acl_setup.specs.Opened.{IsOpened, Opened, Opens, opened_by, refused_for, unless}
+use Rattle.acl_setup.specs.Opened.{KnowsThem, Opened, OpensDirectory, opened_by, refused_for, unless}
 use Rattle.acl_setup.specs.PartsKeys.{key_of_parts}
 use Rattle.acl_setup.specs.Setup as setup
 use Rattle.acl_setup.specs.Setup.{setup_in}
@@ -31,7 +29,7 @@ use Rattle.acl_setup.specs.declared.fault.SetupError.TheVariants.{BadField, Part
 use Rattle.acl_setup.specs.declared.key.Key.{Key}
 use Rattle.acl_setup.specs.declared.key.Key.TheVariants as at
 use Rattle.acl_setup.proofs.FirstPartLemmas.{tells_the_part}
-use Rattle.acl_listing_queries.specs.Host.{OpensDirectory}
+use Rattle.acl_listing_queries.specs.Host.{ReadsAsSetup}
 use Rattle.acl_listing_queries.specs.People.{everyone}
 use Rattle.acl_listing_queries.specs.PeopleLaws.{EveryoneIsInTheSetup, IsUserOf, SaysSetup}
 use Rattle.acl_listing_queries.specs.Person.{Person, person}
@@ -167,46 +165,48 @@ not_refused known (Some fault) is none = absurd (by (key_of_parts known.domain k
     by None some none = absurd (true≢false (sym some))
     by (Some key) some none = cc
 
-module _ (said : setup.Setup) (directory : Known) (tree : NodesUnderUmask) where
+module _ (said : setup.Setup) (directory : Known) where
+  abbrev opened_for : Known → ℕ → ℕ → Opened
+  opened_for known owner group =
+      record { known = known; owner = owner; group = group; mode = said.root.mode; style = said.root.style; umask = said.umask }
+
   abbrev rest : Known → Result Opened SetupError
   rest known =
       or_fault (BadField at.RootOwner) (uid_of known said.root.owner)
-      >>= (λ owner. or_fault (BadField at.RootGroup) (gid_of known said.root.group)
-      >>= (λ group. Ok (record { known = known; tree = root_alone owner group said.root.mode said.root.style said.umask })))
+      >>= (λ owner. or_fault (BadField at.RootGroup) (gid_of known said.root.group) >>= (λ group. Ok (opened_for known owner group)))
 
-  answers_as : (known : Known) → IsOpened (rest known) directory tree → AnswersAs directory known
+  answers_as : (known : Known) → KnowsThem (rest known) directory → AnswersAs directory known
   answers_as known = by (uid_of known said.root.owner) (gid_of known said.root.group)
     where
       by : (owner group : Option ℕ)
-          → IsOpened (or_fault (BadField at.RootOwner) owner
-          >>= (λ owner. or_fault (BadField at.RootGroup) group
-          >>= (λ group. Ok (record { known = known; tree = root_alone owner group said.root.mode said.root.style said.umask })))) directory tree
+          → KnowsThem (or_fault (BadField at.RootOwner) owner
+          >>= (λ owner. or_fault (BadField at.RootGroup) group >>= (λ group. Ok (opened_for known owner group)))) directory
           → AnswersAs directory known
       by None group opened = absurd opened
       by (Some owner) None opened = absurd opened
-      by (Some owner) (Some group) opened = opened.0
+      by (Some owner) (Some group) opened = opened
 
   unless_refused : (refusal : Option SetupError) → option_and_then (refused_for said.known) (fault_of said.known) ≡ refusal
-      → IsOpened (unless said.known refusal >>= rest) directory tree → (fault_of said.known ≡ None) × AnswersAs directory said.known
+      → KnowsThem (unless said.known refusal >>= rest) directory → (fault_of said.known ≡ None) × AnswersAs directory said.known
   unless_refused None none opened = (not_refused said.known (fault_of said.known) refl none, answers_as said.known opened)
   unless_refused (Some error) is opened = absurd opened
 
-  opened_as : IsOpened (opened_by said) directory tree → (fault_of said.known ≡ None) × AnswersAs directory said.known
+  opened_as : KnowsThem (opened_by said) directory → (fault_of said.known ≡ None) × AnswersAs directory said.known
   unfolding opened_by
   opened_as opened = unless_refused (option_and_then (refused_for said.known) (fault_of said.known)) refl opened
 
 -- what is so of a setup of which nothing is wrong and as which the directory answers is so of the one that its bytes say
-pub says_setup : (bytes : List ℕ) (directory : Known) (Holds : setup.Setup → Type 0) → OpensDirectory (Some bytes) directory
+pub says_setup : (bytes : List ℕ) (directory : Known) (Holds : setup.Setup → Type 0) → ReadsAsSetup (Some bytes) directory
     → ((said : setup.Setup) → fault_of said.known ≡ None → AnswersAs directory said.known → Holds said) → SaysSetup bytes Holds
 says_setup bytes directory Holds opens holds =
-    let opened : Opens bytes directory opens.tree = subst (λ text. Opens text directory opens.tree) opens.setup_is opens.opened in
+    let opened : OpensDirectory bytes directory = subst (λ text. OpensDirectory text directory) opens.setup_is opens.opened in
     (opened.0, opened.1, by opened.0 (setup_in opened.0) refl opened.2)
   where
-    by : (table : Members) (reading : Result setup.Setup Key) → setup_in table ≡ reading → IsOpened (map_fault BadField reading >>= opened_by) directory opens.tree
+    by : (table : Members) (reading : Result setup.Setup Key) → setup_in table ≡ reading → KnowsThem (map_fault BadField reading >>= opened_by) directory
         → (said : setup.Setup) × (setup_in table ≡ Ok said) × Holds said
     by table (Err key) is opened = absurd opened
     by table (Ok said) is opened =
-        let (none, answers) = opened_as said directory opens.tree opened in
+        let (none, answers) = opened_as said directory opened in
         (said, is, holds said none answers)
 
 pub everyone_is_in_the_setup : EveryoneIsInTheSetup

@@ -7,14 +7,15 @@ use Rattle.acl_posix.specs.Linux.{has_empty_mask, linux_list}
 use Rattle.acl_posix.specs.Mode.{Classes, mode_of, of_mode}
 use Rattle.acl_posix.specs.Validity.{IsValid}
 use Rattle.acl_posix.proofs.ValidityLemmas.{IsValid-from_fault_of}
-use Rattle.acl_audit.specs.Changes.{File, IsAlikeToAll, file_of}
+use Rattle.acl_bridge.specs.Files.{File, file_with}
+use Rattle.acl_access.specs.Changes.{IsAlikeToAll}
 use Rattle.acl_listings.specs.Block.{FileValue, file_by}
 use Rattle.acl_listings.specs.declared.fault.BlockFault.{BlockFault}
 use Rattle.acl_listings.specs.declared.file_flags.FileFlags.{FileFlags}
 use Rattle.acl_listings.specs.declared.lists.Lists.{Lists}
 use Rattle.acl_listings.specs.declared.lists.Lists.TheVariants.{Nfs4, Posix}
 use Rattle.acl_listings.proofs.ValidLemmas.{HasValidAccess, file_valid}
-use Rattle.acl_listing_queries.specs.Files.{decided_by, node_of}
+use Rattle.acl_listing_queries.specs.Files.{deciding_list, file_of}
 use Rattle.acl_listing_queries.specs.Host.{names_of_host}
 use Rattle.acl_listing_queries.specs.Impacting.{ImpactAsking, TellsChange}
 use Rattle.acl_listing_queries.specs.TranslateLaws.{IsTold, TellsNothing, TellsNothingOf, with_told}
@@ -43,7 +44,7 @@ linux_valid acl valid = go (has_empty_mask acl)
 
 -- a file with these lists, as what decides about access to it
 abbrev deciding : ℕ → ℕ → Lists → File
-deciding owner group lists = record { owner = owner; group = group; acl = decided_by lists }
+deciding owner group lists = file_with (record { owner = owner; group = group }) (deciding_list lists)
 
 lists_alike : (attributes : Bool) (owner group : ℕ) (lists : Lists) → HasValidAccess lists
     → IsAlikeToAll (deciding owner group lists) (deciding owner group (Nfs4 (aces_of attributes lists)))
@@ -54,11 +55,11 @@ lists_alike attributes owner group (Posix access default) valid requester = reco
 lists_alike attributes owner group (Nfs4 acl) valid requester = alike_itself (deciding owner group (Nfs4 acl)) requester
 
 module _ (names : Names) (attributes : Bool) (text : List ℕ) (file : FileValue) (reads : file_by names text ≡ Ok file) where
-  pub told_alike : IsAlikeToAll (file_of (node_of file)) (file_of (node_of (with_told attributes file)))
+  pub told_alike : IsAlikeToAll (file_of file) (file_of (with_told attributes file))
   told_alike = lists_alike attributes file.owner file.group file.lists (file_valid names text file reads)
 
-  pub told_nothing : TellsNothing (node_of file) (node_of (with_told attributes file))
-  told_nothing concern path text = tells_nothing (node_of file) (node_of (with_told attributes file)) path told_alike concern text
+  pub told_nothing : TellsNothing (file_of file) (file_of (with_told attributes file))
+  told_nothing concern path text = tells_nothing (file_of file) (file_of (with_told attributes file)) path told_alike concern text
 
 -- ---- what is written otherwise
 
@@ -88,7 +89,7 @@ is_told_changed attributes path owner group flags (Nfs4 acl) = is_unchanged (rec
 -- ---- blocks
 
 -- what is told of two files that are decided about alike, unless that is asked
-module _ (asking : ImpactAsking) (unasked : asking.written ≡ false) (before after : FileValue) (alike : IsAlikeToAll (file_of (node_of before)) (file_of (node_of after)))
+module _ (asking : ImpactAsking) (unasked : asking.written ≡ false) (before after : FileValue) (alike : IsAlikeToAll (file_of before) (file_of after))
     (differs : Changed) (is_differs : IsChanged before after differs) where
   unwritten : (changed : Changed) → changed_text asking.written changed after.path ≡ []
   unwritten changed = ap (λ asked. changed_text asked changed after.path) unasked
@@ -96,11 +97,11 @@ module _ (asking : ImpactAsking) (unasked : asking.written ≡ false) (before af
   change_nothing : (told : List ℕ) → TellsChange asking before after told ↔ (told ≡ [])
   change_nothing told = (
     λ tells. tells.text_is
-        ∙ ap₂ (λ (a b : List ℕ). a ++ b) ((tells_nothing (node_of before) (node_of after) after.path alike asking.concern tells.impact).0 tells.impact_is)
+        ∙ ap₂ (λ (a b : List ℕ). a ++ b) ((tells_nothing (file_of before) (file_of after) after.path alike asking.concern tells.impact).0 tells.impact_is)
         (tells.written_is.2 ∙ unwritten tells.written_is.0),
     λ none. subst (TellsChange asking before after) (sym none) (record {
       impact = [];
-      impact_is = nobody (node_of before) (node_of after) after.path alike asking.concern;
+      impact_is = nobody (file_of before) (file_of after) after.path alike asking.concern;
       written = [];
       written_is = (differs, is_differs, sym (unwritten differs));
       text_is = refl;

@@ -5,10 +5,10 @@ use Rattle.std.specs.List.{filter, list_all, list_any}
 use Rattle.std.proofs.lemmas.Bool.{or_parts}
 use Rattle.std.proofs.lemmas.List.{reverse-append}
 use Rattle.acl_names.specs.Requester.{Identity}
-use Rattle.acl_audit.specs.Reach.{reaches}
+use Rattle.acl_access.specs.Reach.{reaches}
 use Rattle.acl_listings.specs.Way.{is_above, is_folder_of}
 use Rattle.acl_listings.proofs.WayLemmas.{is_above-trans}
-use Rattle.acl_tree.specs.declared.node.Node.{Node}
+use Rattle.acl_bridge.specs.Files.{File}
 use Rattle.acl_listing_queries.specs.Readings.{Reading}
 use Rattle.acl_listing_queries.specs.Ways.{holds, known_way, may_be_above, those_above}
 use Rattle.acl_listing_queries.specs.WhoSteps.{AreFolders, IsChain, folders_to, lacks_path, levels, marks_of, shown_folder}
@@ -186,7 +186,7 @@ module _ (who : List Identity) (folders : List Folder) (here : Reading) (path : 
         let holds_is : holds nearest.path here.path ≡ b = ap (λ found. holds found here.path) on.path ∙ ap (holds (Some top.path.items)) is ∙ holds_it in
         ap (λ way. marks_of who (known_way way here)) on.way_is ∙ ap (λ b. marks_of who (cond b (folders_to nearest on.above) None)) holds_is ∙ by b (folders_to nearest on.above) on.reach
       where
-        by : (b : Bool) (known : Option (List Node)) → marks_of who known ≡ option_map (λ marks. marks.items) top.reach
+        by : (b : Bool) (known : Option (List File)) → marks_of who known ≡ option_map (λ marks. marks.items) top.reach
             → marks_of who (cond b known None) ≡ cond b (option_map (λ marks. marks.items) top.reach) None
         by true known reach = reach
         by false known reach = refl

@@ -5,7 +5,7 @@ use Rattle.acl_listings.specs.Faults.{IsFaultOf}
 use Rattle.acl_listings.specs.declared.fault.FileFault.{FileFault}
 use Rattle.acl_listings.specs.declared.fault.FileFault.TheVariants as file
 use Rattle.acl_listings.proofs.PathLemmas.{path_of-file}
-use Rattle.acl_tree.specs.declared.node.Node.{Node}
+use Rattle.acl_bridge.specs.Files.{File}
 use Rattle.acl_listing_queries.specs.Readings.{Reading, reading_of}
 use Rattle.acl_listing_queries.specs.Ways.{known_way, way_of}
 use Rattle.acl_listing_queries.specs.WhySteps.{IsUnknown, IsWayTo}
@@ -20,8 +20,8 @@ module _ (asking : WhyAsking) (earlier : List Reading) (text : List ℕ) where
   way_here = way_of earlier here
 
   module _ (said : FileValue) (reads : file_by asking.names text ≡ Ok said) where
-    by_nodes : (nodes : Option (List Node)) → known_way way_here here ≡ nodes → why_part asking earlier text ≡ why_by asking way_here (Ok said) nodes
-    by_nodes nodes known = ap (λ said. why_by asking way_here said (known_way way_here here)) reads ∙ ap (why_by asking way_here (Ok said)) known
+    by_nodes : (files : Option (List File)) → known_way way_here here ≡ files → why_part asking earlier text ≡ why_by asking way_here (Ok said) files
+    by_nodes files known = ap (λ said. why_by asking way_here said (known_way way_here here)) reads ∙ ap (why_by asking way_here (Ok said)) known
 
     -- one to which no way is known
     pub part_unknown : (fault : FileFault) → IsUnknown (known_way way_here here) fault → IsFaultOf (why_part asking earlier text) fault
@@ -29,8 +29,8 @@ module _ (asking : WhyAsking) (earlier : List Reading) (text : List ℕ) where
     part_unknown file.Memory unknown = tt
 
     -- and any other
-    pub part_known : (nodes : List Node) → known_way way_here here ≡ Some nodes → why_part asking earlier text ≡ Ok (why_text asking nodes way_here said)
-    part_known nodes known = by_nodes (Some nodes) known
+    pub part_known : (files : List File) → known_way way_here here ≡ Some files → why_part asking earlier text ≡ Ok (why_text asking files way_here said)
+    part_known files known = by_nodes (Some files) known
 
     -- the way to its path is kept
     pub way_to_it : (path : List ℕ) (way : Way) → path_of text ≡ Some path → IsWayTo asking.names path earlier way → IsWayTo asking.names said.path earlier way

@@ -21,7 +21,7 @@ use Rattle.acl_listing_queries.specs.WhoSteps.{lacks_path}
 use Rattle.acl_listing_queries.specs.WhySteps.{IsUnknown, IsWayTo, is_held, known_folders, readings_of}
 use Rattle.acl_listing_queries.specs.WhyText.{folder_text}
 use Rattle.acl_listing_queries.specs.declared.why.way.Way.{Way}
-use Rattle.acl_tree.specs.declared.node.Node.{Node}
+use Rattle.acl_bridge.specs.Files.{File}
 
 -- ---- tests of lists
 
@@ -102,17 +102,17 @@ pub known_way-held : (way : List Reading) (here : Reading) → known_way way her
 known_way-held [] here = refl
 known_way-held (folder ∷ above) here = refl
 
-pub known-more : (way : List Reading) (folder : Reading) (node : Node) (nodes : List Node) → known_folders way ≡ Some nodes → is_held way folder.path ≡ true → folder_of folder ≡ Some node
-    → known_folders (folder ∷ way) ≡ Some (node ∷ nodes)
-known-more way folder node nodes known held reads =
-    ap (with_folder (folder_of folder)) (known_way-held way folder ∙ ap (λ b. cond b (known_folders way) None) held ∙ known) ∙ ap (λ found. with_folder found (Some nodes)) reads
+pub known-more : (way : List Reading) (folder : Reading) (acl : File) (files : List File) → known_folders way ≡ Some files → is_held way folder.path ≡ true → folder_of folder ≡ Some acl
+    → known_folders (folder ∷ way) ≡ Some (acl ∷ files)
+known-more way folder acl files known held reads =
+    ap (with_folder (folder_of folder)) (known_way-held way folder ∙ ap (λ b. cond b (known_folders way) None) held ∙ known) ∙ ap (λ found. with_folder found (Some files)) reads
 
 -- what no folder is added to
-pub none_with : (found : Option Node) → with_folder found None ≡ None
+pub none_with : (found : Option File) → with_folder found None ≡ None
 none_with None = refl
 none_with (Some folder) = refl
 
-none_either : (b : Bool) (known : Option (List Node)) → known ≡ None → cond b known None ≡ None
+none_either : (b : Bool) (known : Option (List File)) → known ≡ None → cond b known None ≡ None
 none_either true known none = none
 none_either false known none = refl
 

@@ -12,8 +12,7 @@ use Rattle.acl_names.specs.Names.{Names}
 use Rattle.acl_accounts.specs.Accounts as accounts
 use Rattle.acl_accounts.specs.Accounts.{AreOf, KnownAccounts, rows_within}
 use Rattle.acl_accounts.specs.Rows.{Rows}
-use Rattle.acl_setup.specs.Opened.{Opens}
-use Rattle.acl_tree.specs.Tree.{NodesUnderUmask}
+use Rattle.acl_setup.specs.Opened.{OpensDirectory}
 use Rattle.acl_listing_queries.specs.SetupNames.{setup_names}
 use Rattle.acl_listing_queries.specs.declared.host.Host.{Host}
 use Rattle.acl_listing_queries.specs.declared.host.Host.TheVariants.{Accounts, Setup}
@@ -46,19 +45,18 @@ pub record ReadsAsAccounts (known : Option (List ℕ)) (accounts : KnownAccounts
   pub rows_are : rows_within text ≡ Ok rows
   pub accounts_are : AreOf rows accounts
 
--- a setup opens the directory, whose users stand in the order of their names; of the tree nothing
--- counts
-pub record OpensDirectory (known : Option (List ℕ)) (directory : Known) : Type 0 where
+-- the directory is that of a setup, which is the known one if it is known; its users stand in the
+-- order of their names
+pub record ReadsAsSetup (known : Option (List ℕ)) (directory : Known) : Type 0 where
   pub setup : List ℕ
   pub setup_is : IfSome known (λ those. setup ≡ those)
-  pub tree : NodesUnderUmask
-  pub opened : Opens setup directory tree
+  pub opened : OpensDirectory setup directory
   pub users : IsAscending (slice_cmp nat_cmp) (λ user. user.name) directory.users
 
 -- the files say who there is: that of accounts, or that of a setup, or else the host's own
 abbrev pub IsHostBy : (Text → Option (List ℕ)) → Option Text → Option Text → Host → Type 0
 IsHostBy bytes_of (Some name) None (Accounts known) = ReadsAsAccounts (bytes_of name) known
-IsHostBy bytes_of None (Some name) (Setup known) = OpensDirectory (bytes_of name) known
+IsHostBy bytes_of None (Some name) (Setup known) = ReadsAsSetup (bytes_of name) known
 IsHostBy bytes_of None None (Accounts known) = ReadsAsAccounts (own_text bytes_of) known
 IsHostBy bytes_of _ _ _ = ⊥
 

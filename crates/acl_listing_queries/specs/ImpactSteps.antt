@@ -1,12 +1,11 @@
 -- How it is reported what changed for those who are asked about. Private steps, which no public
 -- clause cites.
-use Rattle.std.specs.Prelude.{◌≡◌, ℕ, Bool, true, false, List, [], ◌++◌, Option, Some, None}
+use Rattle.std.specs.Prelude.{◌≡◌, ℕ, Bool, true, false, List, [], Option, Some, None}
 use Rattle.std.specs.Prelude.{Result, Ok, Err}
 use Rattle.acl_nfs4.specs.Mask.{mask_bits}
-use Rattle.acl_tree.specs.declared.node.Node.{Node}
-use Rattle.acl_audit.specs.Changes as access
-use Rattle.acl_audit.specs.Changes.{IsAlikeTo, IsChangeFor}
-use Rattle.acl_audit.specs.declared.changes.Change.{Change}
+use Rattle.acl_bridge.specs.Files.{File}
+use Rattle.acl_access.specs.Changes.{IsAlikeTo, IsChangeFor}
+use Rattle.acl_access.specs.declared.changes.Change.{Change}
 use Rattle.acl_listings.specs.Block.{FileValue}
 use Rattle.acl_listings.specs.declared.fault.BlockFault.{BlockFault}
 use Rattle.acl_listing_queries.specs.Host.{names_of_host}
@@ -34,15 +33,15 @@ TellsRead asking (Ok before) after text = TellsChange asking before after text
 TellsRead asking (Err fault) after text = text ≡ []
 
 -- the line of somebody whom a change concerns, and of somebody whom it doesn't
-abbrev pub TellsBy : Bool → Node → Node → List ℕ → Person → List ℕ → Type 0
+abbrev pub TellsBy : Bool → File → File → List ℕ → Person → List ℕ → Type 0
 TellsBy true before after path person text = (change : Change)
-    × IsChangeFor (access.file_of before) (access.file_of after) person.who change
+    × IsChangeFor before after person.who change
     × (text ≡ person_text person (mask_bits change.lost) (mask_bits change.gained) path)
 TellsBy false before after path person text =
-    IsAlikeTo (access.file_of before) (access.file_of after) person.who × (text ≡ [])
+    IsAlikeTo before after person.who × (text ≡ [])
 
 -- of who is at a place, if somebody is
-abbrev pub TellsAt : Bool → Node → Node → List ℕ → Option Person → List ℕ → Type 0
+abbrev pub TellsAt : Bool → File → File → List ℕ → Option Person → List ℕ → Type 0
 TellsAt some before after path None text = (some ≡ false) × (text ≡ [])
 TellsAt some before after path (Some person) text = TellsBy some before after path person text
 

@@ -7,17 +7,16 @@ use Rattle.acl_names.specs.Names.{Names}
 use Rattle.acl_nfs4.specs.Mask.{mask_bits}
 use Rattle.acl_nfs4.specs.declared.comparison.Difference.{Difference}
 use Rattle.acl_bridge.specs.Comparison.{mask_for}
-use Rattle.acl_tree.specs.declared.node.Node.{Node}
-use Rattle.acl_audit.specs.Changes as access
-use Rattle.acl_audit.specs.Changes.{FindsAnybody, IsAlikeTo, IsChangeFor}
-use Rattle.acl_audit.specs.Letters.{effective}
-use Rattle.acl_audit.specs.declared.changes.Change.{Change}
+use Rattle.acl_bridge.specs.Files.{File}
+use Rattle.acl_access.specs.Changes.{FindsAnybody, IsAlikeTo, IsChangeFor}
+use Rattle.acl_access.specs.Letters.{effective}
+use Rattle.acl_access.specs.declared.changes.Change.{Change}
 use Rattle.acl_cli.specs.ErrorOutput.{line_of_words}
 use Rattle.acl_cli.specs.Telling.{is_empty}
 use Rattle.acl_listings.specs.Block.{FileValue, file_by}
 use Rattle.acl_listings.specs.declared.fault.BlockFault.{BlockFault}
 use Rattle.acl_listing_queries.specs.Changes.{Wording}
-use Rattle.acl_listing_queries.specs.Files.{node_of}
+use Rattle.acl_listing_queries.specs.Files.{file_of}
 use Rattle.acl_listing_queries.specs.ImpactText.{path_text, person_text, somebody_text}
 use Rattle.acl_listing_queries.specs.Person.{Person}
 use Rattle.acl_listing_queries.specs.WrittenChanges.{TellsWritten}
@@ -39,31 +38,31 @@ pub record ImpactAsking : Type 0 where
 
 -- the text is the line of somebody whom it concerns that a file became another, and nothing if that
 -- one is decided about alike
-abbrev pub TellsPerson : Node → Node → List ℕ → Person → List ℕ → Type 0
+abbrev pub TellsPerson : File → File → List ℕ → Person → List ℕ → Type 0
 TellsPerson before after path person text =
-    (IsAlikeTo (access.file_of before) (access.file_of after) person.who × (text ≡ []))
+    (IsAlikeTo before after person.who × (text ≡ []))
     ⊎ ((change : Change)
-    × IsChangeFor (access.file_of before) (access.file_of after) person.who change
+    × IsChangeFor before after person.who change
     × (text ≡ person_text person (mask_bits change.lost) (mask_bits change.gained) path))
 
 -- of each of them
-abbrev pub TellsPersons : Node → Node → List ℕ → List Person → List ℕ → Type 0
+abbrev pub TellsPersons : File → File → List ℕ → List Person → List ℕ → Type 0
 TellsPersons before after path [] text = text ≡ []
 TellsPersons before after path (person ∷ persons) text = (first : List ℕ) × (rest : List ℕ)
     × TellsPerson before after path person first × TellsPersons before after path persons rest
     × (text ≡ first ++ rest)
 
 -- of the first of them that has one
-abbrev pub TellsFirst : Node → Node → List ℕ → List Person → List ℕ → Type 0
+abbrev pub TellsFirst : File → File → List ℕ → List Person → List ℕ → Type 0
 TellsFirst before after path [] text = text ≡ []
 TellsFirst before after path (person ∷ persons) text =
-    (IsAlikeTo (access.file_of before) (access.file_of after) person.who
+    (IsAlikeTo before after person.who
     × TellsFirst before after path persons text)
     ⊎ ((change : Change)
-    × IsChangeFor (access.file_of before) (access.file_of after) person.who change
+    × IsChangeFor before after person.who change
     × (text ≡ person_text person (mask_bits change.lost) (mask_bits change.gained) path))
 
-abbrev pub TellsThose : Bool → Node → Node → List ℕ → List Person → List ℕ → Type 0
+abbrev pub TellsThose : Bool → File → File → List ℕ → List Person → List ℕ → Type 0
 TellsThose true before after path persons text = TellsPersons before after path persons text
 TellsThose false before after path persons text = TellsFirst before after path persons text
 
@@ -73,14 +72,14 @@ found_text path None = []
 found_text path (Some found) = somebody_text found path
 
 -- anybody else is asked about
-abbrev pub TellsAnybody : Bool → Node → Node → List ℕ → List ℕ → Type 0
+abbrev pub TellsAnybody : Bool → File → File → List ℕ → List ℕ → Type 0
 TellsAnybody false before after path text = text ≡ []
 TellsAnybody true before after path text = (found : Option Difference)
-    × FindsAnybody (access.file_of before) (access.file_of after) found
+    × FindsAnybody before after found
     × (text ≡ found_text path found)
 
 -- what is reported of a file at a path that became another
-pub record TellsImpact (concern : Concern) (before after : Node) (path text : List ℕ) : Type 0 where
+pub record TellsImpact (concern : Concern) (before after : File) (path text : List ℕ) : Type 0 where
   pub lines : List ℕ
   pub lines_are : TellsThose concern.each before after path concern.persons lines
   pub other : List ℕ
@@ -91,7 +90,7 @@ pub record TellsImpact (concern : Concern) (before after : Node) (path text : Li
 pub record TellsChange (asking : ImpactAsking) (before after : FileValue) (text : List ℕ) : Type 0
   where
     pub impact : List ℕ
-    pub impact_is : TellsImpact asking.concern (node_of before) (node_of after) after.path impact
+    pub impact_is : TellsImpact asking.concern (file_of before) (file_of after) after.path impact
     pub written : List ℕ
     pub written_is : TellsWritten asking.written before after written
     pub text_is : text ≡ impact ++ written
@@ -103,26 +102,26 @@ pub record Tells (Is : List ℕ → Type 0) (out out' : List ℕ) : Type 0 where
   pub out_is : out' ≡ out ++ text
 
 -- the letters that somebody is granted, as bits of a mask
-abbrev pub granted_bits : Node → Person → ℕ
-granted_bits node person = mask_for (effective node person.who)
+abbrev pub granted_bits : File → Person → ℕ
+granted_bits file person = mask_for (effective file person.who)
 
 -- the line of somebody who may do something with a new file, or might with a gone one
-abbrev pub may_line : Bool → List ℕ → Node → Person → List ℕ
-may_line gone path node person = if effective node person.who == 0 then []
-    else if gone then person_text person (granted_bits node person) 0 path
-    else person_text person 0 (granted_bits node person) path
+abbrev pub may_line : Bool → List ℕ → File → Person → List ℕ
+may_line gone path file person = if effective file person.who == 0 then []
+    else if gone then person_text person (granted_bits file person) 0 path
+    else person_text person 0 (granted_bits file person) path
 
 abbrev pub lines_if : Bool → (Person → List ℕ) → List Person → List ℕ
 lines_if true line persons = flat_map line persons
 lines_if false line persons = []
 
 -- what is reported of a path whose file is gone, or else new
-abbrev pub told_at : Bool → Concern → List ℕ → Node → List ℕ
-told_at gone concern path node =
-    path_text gone path ++ lines_if concern.each (may_line gone path node) concern.persons
+abbrev pub told_at : Bool → Concern → List ℕ → File → List ℕ
+told_at gone concern path file =
+    path_text gone path ++ lines_if concern.each (may_line gone path file) concern.persons
 
 abbrev pub told_of : Bool → ImpactAsking → FileValue → List ℕ
-told_of gone asking file = told_at gone asking.concern file.path (node_of file)
+told_of gone asking file = told_at gone asking.concern file.path (file_of file)
 
 abbrev pub told_new : ImpactAsking → FileValue → List ℕ
 told_new = told_of false

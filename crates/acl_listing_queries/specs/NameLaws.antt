@@ -4,7 +4,7 @@ use Rattle.acl_names.specs.Bytes.{at_sign}
 use Rattle.acl_names.specs.Directory.{Known, gid_of, uid_of}
 use Rattle.acl_names.specs.Names.{resolved}
 use Rattle.acl_cli.specs.declared.field_fault.FieldFault.TheVariants.{UnknownUser}
-use Rattle.acl_listing_queries.specs.Host.{OpensDirectory}
+use Rattle.acl_listing_queries.specs.Host.{ReadsAsSetup}
 use Rattle.acl_listing_queries.specs.People.{person_asked, setup_person}
 use Rattle.acl_listing_queries.specs.PeopleLaws.{SaysSetup}
 use Rattle.acl_listing_queries.specs.SetupNames.{written_in}
@@ -22,6 +22,6 @@ pub record IsNobodys (known : Known) (text : List ℕ) : Type 0 where
 -- setup's domain.
 abbrev pub NamesElsewhereAreNobodys : Type 0
 NamesElsewhereAreNobodys = (bytes : List ℕ) (directory : Known)
-    → OpensDirectory (Some bytes) directory
+    → ReadsAsSetup (Some bytes) directory
     → SaysSetup bytes (λ said. (name domain : List ℕ) → domain ≢ said.known.domain
     → IsNobodys directory (name ++ at_sign ∷ domain))

@@ -6,7 +6,7 @@ use Rattle.acl_names.specs.Directory.{Known, KnownUser, as_requester}
 use Rattle.acl_setup.specs.Setup as setup
 use Rattle.acl_setup.specs.Setup.{setup_in}
 use Rattle.acl_setup.specs.SetupTable.{ReadsAs}
-use Rattle.acl_listing_queries.specs.Host.{OpensDirectory}
+use Rattle.acl_listing_queries.specs.Host.{ReadsAsSetup}
 use Rattle.acl_listing_queries.specs.People.{everyone}
 use Rattle.acl_listing_queries.specs.Person.{Person, person}
 use Rattle.acl_listing_queries.specs.declared.host.Host.TheVariants.{Setup}
@@ -24,6 +24,6 @@ SaysSetup bytes Holds = (table : Members) × ReadsAs bytes table
 -- The directory that the bytes of a setup open has as people each user of the setup, and nobody
 -- else.
 abbrev pub EveryoneIsInTheSetup : Type 0
-EveryoneIsInTheSetup = (bytes : List ℕ) (directory : Known) → OpensDirectory (Some bytes) directory
+EveryoneIsInTheSetup = (bytes : List ℕ) (directory : Known) → ReadsAsSetup (Some bytes) directory
     → SaysSetup bytes (λ said. (one : Person)
     → Contains (everyone (Setup directory)) one ↔ IsUserOf said.known one)

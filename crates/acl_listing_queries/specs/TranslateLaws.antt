@@ -4,7 +4,7 @@ use Rattle.std.specs.Prelude.{◌≡◌, ◌<◌, ◌↔◌, ℕ, Bool, false, L
 use Rattle.acl_names.specs.Names.{Names}
 use Rattle.acl_nfs4.specs.Acl.{AreAces}
 use Rattle.acl_nfs4.specs.PrintedText.{HaveIds}
-use Rattle.acl_tree.specs.declared.node.Node.{Node}
+use Rattle.acl_bridge.specs.Files.{File}
 use Rattle.acl_listings.specs.Block.{FileValue, file_by}
 use Rattle.acl_listings.specs.declared.lists.Lists.TheVariants.{Nfs4}
 use Rattle.acl_listing_queries.specs.Host.{names_of_host}
@@ -33,7 +33,7 @@ abbrev pub with_told : Bool → FileValue → FileValue
 with_told attributes file = record file { lists = Nfs4 (aces_of attributes file.lists) }
 
 -- Of a file that became another `impact` tells exactly nothing, whoever is asked about.
-abbrev pub TellsNothing : Node → Node → Type 0
+abbrev pub TellsNothing : File → File → Type 0
 TellsNothing before after =
     (concern : Concern) (path text : List ℕ)
     → TellsImpact concern before after path text ↔ (text ≡ [])

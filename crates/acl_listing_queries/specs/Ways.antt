@@ -5,8 +5,8 @@ use Rattle.std.specs.List.{filter, fold}
 use Rattle.acl_listings.specs.Block.{FileValue}
 use Rattle.acl_listings.specs.Way.{is_above, is_folder_of}
 use Rattle.acl_listings.specs.declared.fault.BlockFault.{BlockFault}
-use Rattle.acl_tree.specs.declared.node.Node.{Node}
-use Rattle.acl_listing_queries.specs.Files.{node_of}
+use Rattle.acl_bridge.specs.Files.{File}
+use Rattle.acl_listing_queries.specs.Files.{file_of}
 use Rattle.acl_listing_queries.specs.Readings.{Reading}
 
 -- of two paths: the one is above the other; a path that isn't reported may be above any, and below
@@ -34,21 +34,21 @@ abbrev pub way_of : List Reading → Reading → List Reading
 way_of earlier here = those_above here (fold way_on [] earlier)
 
 -- the folder that a block says, if it reads
-abbrev pub folder_of : Reading → Option Node
+abbrev pub folder_of : Reading → Option File
 folder_of reading = by reading.file
   where
-    by : Result FileValue BlockFault → Option Node
-    by (Ok file) = Some (node_of file)
+    by : Result FileValue BlockFault → Option File
+    by (Ok file) = Some (file_of file)
     by (Err fault) = None
 
 -- the nearest folder, and those above it, if they are known
-abbrev pub with_folder : Option Node → Option (List Node) → Option (List Node)
+abbrev pub with_folder : Option File → Option (List File) → Option (List File)
 with_folder (Some folder) (Some above) = Some (folder ∷ above)
 with_folder _ _ = None
 
 -- The folders on a way to a block, the nearest first, if they are known: the nearest one holds it
 -- and reads, and so on, up to one that nothing of the listing is above.
-abbrev pub known_way : List Reading → Reading → Option (List Node)
+abbrev pub known_way : List Reading → Reading → Option (List File)
 known_way [] here = Some []
 known_way (folder ∷ above) here = if holds folder.path here.path
     then with_folder (folder_of folder) (known_way above folder) else None

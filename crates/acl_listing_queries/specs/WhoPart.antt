@@ -5,8 +5,8 @@ use Rattle.acl_names.specs.Names.{Names}
 use Rattle.acl_listings.specs.Block.{FileValue}
 use Rattle.acl_listings.specs.declared.fault.BlockFault.{BlockFault}
 use Rattle.acl_listings.specs.declared.fault.BlockFault.TheVariants.{UnknownWay}
-use Rattle.acl_tree.specs.declared.node.Node.{Node}
-use Rattle.acl_listing_queries.specs.Files.{node_of}
+use Rattle.acl_bridge.specs.Files.{File}
+use Rattle.acl_listing_queries.specs.Files.{file_of}
 use Rattle.acl_listing_queries.specs.Listed.{Part}
 use Rattle.acl_listing_queries.specs.Person.{Person}
 use Rattle.acl_listing_queries.specs.Readings.{Reading, reading_of}
@@ -22,18 +22,18 @@ pub record Asking : Type 0 where
   pub reach : Bool
 
 -- what is reported of a file on this way, if it is known
-abbrev pub part_on : Asking → FileValue → Option (List Node) → Part
+abbrev pub part_on : Asking → FileValue → Option (List File) → Part
 part_on asking file (Some way) =
-    Ok (who_text asking.persons asking.asked way file.path (node_of file))
+    Ok (who_text asking.persons asking.asked way file.path (file_of file))
 part_on asking file None = Err UnknownWay
 
 -- of a block that says this
-abbrev pub part_by : Asking → Result FileValue BlockFault → Option (List Node) → Part
+abbrev pub part_by : Asking → Result FileValue BlockFault → Option (List File) → Part
 part_by asking (Ok file) way = part_on asking file way
 part_by asking (Err fault) way = Err fault
 
 -- the way that counts to a block behind these
-abbrev pub way_for : Bool → List Reading → Reading → Option (List Node)
+abbrev pub way_for : Bool → List Reading → Reading → Option (List File)
 way_for false earlier here = Some []
 way_for true earlier here = known_way (way_of earlier here) here
 

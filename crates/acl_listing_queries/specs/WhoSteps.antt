@@ -2,32 +2,30 @@
 use Rattle.std.specs.Prelude.{◌≡◌, ℕ, Bool, true, false, List, [], ◌∷◌, Option, Some, None}
 use Rattle.std.specs.Prelude.{Result, Ok, Err, IfSome, get_or, is_none, length, map, option_map}
 use Rattle.std.specs.Prelude.{⊤, reverse, slice_get, if◌then◌else◌}
-use Rattle.std.specs.List.{enumerate_from, flat_map, fold, list_all, list_any, zip}
+use Rattle.std.specs.List.{enumerate_from, flat_map, fold, list_all, list_any}
 use Rattle.acl_names.specs.Names.{Names}
 use Rattle.acl_names.specs.Requester.{Identity}
-use Rattle.acl_audit.specs.Answers.{is_set, letters_at}
-use Rattle.acl_audit.specs.Letters.{effective, granted_mask}
-use Rattle.acl_audit.specs.Reach.{places_from, reaches}
-use Rattle.acl_audit.specs.Who.{may_line}
+use Rattle.acl_access.specs.Marks.{is_set, letters_at}
+use Rattle.acl_access.specs.Letters.{effective, granted_mask}
+use Rattle.acl_access.specs.Marks.{places_from}
+use Rattle.acl_access.specs.Reach.{reaches}
+use Rattle.acl_access.specs.Who.{may_line}
 use Rattle.acl_listings.specs.Block.{FileValue, file_by}
 use Rattle.acl_listings.specs.Lines.{after_line}
 use Rattle.acl_listings.specs.declared.fault.FileFault.{FileFault}
 use Rattle.acl_listings.specs.declared.fault.FileFault.TheVariants as file
 use Rattle.acl_nfs4.specs.Mask.{mask_bits}
 use Rattle.acl_posix.specs.Perms.{bits_of}
-use Rattle.acl_tree.specs.Nodes.{may}
-use Rattle.acl_tree.specs.declared.node.Node.{Node}
+use Rattle.acl_bridge.specs.Files.{File, may}
 use Rattle.acl_listing_queries.specs.Asked.{names_of_people, persons_of}
-use Rattle.acl_listing_queries.specs.Files.{node_of}
+use Rattle.acl_listing_queries.specs.Files.{file_of}
 use Rattle.acl_listing_queries.specs.Host.{names_of_host}
-use Rattle.acl_listing_queries.specs.Person.{Person}
 use Rattle.acl_listing_queries.specs.Readings.{Reading, reading_of}
 use Rattle.acl_listing_queries.specs.Ways.{folder_of, known_way, may_be_above, way_on}
 use Rattle.acl_listing_queries.specs.Ways.{with_folder}
 use Rattle.acl_listing_queries.specs.WhoPart.{Asking}
 use Rattle.acl_listing_queries.specs.WhoText.{AllLetters, Asked, Request, ThreeLetters}
 use Rattle.acl_listing_queries.specs.WhoText.{letters_line_if}
-use Rattle.acl_listing_queries.specs.declared.people.People.{People}
 use Rattle.acl_listing_queries.specs.declared.who.answers.Answers.{Answers}
 use Rattle.acl_listing_queries.specs.declared.who.answers.Granted.{Granted}
 use Rattle.acl_listing_queries.specs.declared.who.answers.Granted.TheVariants.{Letters, Masks}
@@ -89,24 +87,24 @@ may_lines path names places reach = flat_map (may_line_at path names reach) plac
 
 -- ---- what is kept of a file
 
--- of all of these what the node grants: the letters, or the places of those who are granted it all
-abbrev pub IsGranted : List Identity → Asked → Node → Granted → Type 0
-IsGranted whos ThreeLetters node (Letters letters) =
-    map bits_of letters.items ≡ map (effective node) whos
-IsGranted whos AllLetters node (Masks masks) =
-    map mask_bits masks.items ≡ map (granted_mask node) whos
-IsGranted whos (Request perms) node (Those places) =
-    places.items ≡ places_from (λ who. may node who perms) 0 whos
-IsGranted whos _ node _ = ⊥
+-- of all of these what the file grants: the letters, or the places of those who are granted it all
+abbrev pub IsGranted : List Identity → Asked → File → Granted → Type 0
+IsGranted whos ThreeLetters file (Letters letters) =
+    map bits_of letters.items ≡ map (effective file) whos
+IsGranted whos AllLetters file (Masks masks) =
+    map mask_bits masks.items ≡ map (granted_mask file) whos
+IsGranted whos (Request perms) file (Those places) =
+    places.items ≡ places_from (λ who. may file who perms) 0 whos
+IsGranted whos _ file _ = ⊥
 
--- and, if it is asked, of each whether the node may be searched
-abbrev pub IsSearch : List Identity → Bool → Node → List Bool → Type 0
-IsSearch whos false node marks = ⊤
-IsSearch whos true node marks = marks ≡ map (λ who. may node who 1) whos
+-- and, if it is asked, of each whether the file may be searched
+abbrev pub IsSearch : List Identity → Bool → File → List Bool → Type 0
+IsSearch whos false file marks = ⊤
+IsSearch whos true file marks = marks ≡ map (λ who. may file who 1) whos
 
 pub record AreAnswersOf (users : Users) (file : FileValue) (kept : Kept) : Type 0 where
-  pub granted : IsGranted (whos_of users) (asked_of users.asked) (node_of file) kept.granted
-  pub search : IsSearch (whos_of users) users.reach (node_of file) kept.search.items
+  pub granted : IsGranted (whos_of users) (asked_of users.asked) (file_of file) kept.granted
+  pub search : IsSearch (whos_of users) users.reach (file_of file) kept.search.items
 
 -- the answers are those of the file of a block with these lines behind its first
 pub record IsKept (users : Users) (kept : Kept) : Type 0 where
@@ -132,11 +130,11 @@ pub record IsAnsweredAt (answers : Answers) (place : ℕ) (file : FileValue) : T
 
 -- ---- the way
 
-abbrev pub folders_to : Reading → List Reading → Option (List Node)
+abbrev pub folders_to : Reading → List Reading → Option (List File)
 folders_to folder above = with_folder (folder_of folder) (known_way above folder)
 
 -- of each of these whether each folder of a known way may be searched
-abbrev pub marks_of : List Identity → Option (List Node) → Option (List Bool)
+abbrev pub marks_of : List Identity → Option (List File) → Option (List Bool)
 marks_of who way = option_map (λ way. map (reaches way) who) way
 
 -- a way's folders, the nearest first: the path of each, and who reaches what is in it
@@ -162,7 +160,7 @@ IsChain (folder ∷ above) =
     (list_all (λ other. may_be_above other.path folder.path) above ≡ true) × IsChain above
 
 -- Where the answers of a folder are kept, of these users.
-pub record IsSearchAt (who : List Identity) (answers : Answers) (place : ℕ) (folder : Node)
+pub record IsSearchAt (who : List Identity) (answers : Answers) (place : ℕ) (folder : File)
     : Type 0 where
   pub kept : Kept
   pub there : kept_at answers.kept.items place ≡ Some kept
@@ -170,20 +168,20 @@ pub record IsSearchAt (who : List Identity) (answers : Answers) (place : ℕ) (f
 
 -- a block on a known way reads, and its answers are kept there
 pub record IsFolderAt (who : List Identity) (answers : Answers) (place : ℕ) (block : Reading)
-    (way : Option (List Node)) : Type 0 where
-  pub folder : Node
+    (way : Option (List File)) : Type 0 where
+  pub folder : File
   pub is : folder_of block ≡ Some folder
-  pub above : List Node
+  pub above : List File
   pub known : way ≡ Some above
   pub search : IsSearchAt who answers place folder
 
-abbrev pub IsPlacedAt : List Identity → Answers → Option ℕ → Reading → Option (List Node) → Type 0
+abbrev pub IsPlacedAt : List Identity → Answers → Option ℕ → Reading → Option (List File) → Type 0
 IsPlacedAt who answers None block way = with_folder (folder_of block) way ≡ None
 IsPlacedAt who answers (Some place) block way = IsFolderAt who answers place block way
 
 -- by what a call returned of it; out of memory says nothing
 abbrev pub IsPlacedBy : List Identity → Answers → Result ℕ FileFault → Reading
-    → Option (List Node) → Type 0
+    → Option (List File) → Type 0
 IsPlacedBy who answers (Ok place) block way = IsPlacedAt who answers (Some place) block way
 IsPlacedBy who answers (Err (file.Block fault)) block way = IsPlacedAt who answers None block way
 IsPlacedBy who answers (Err file.Memory) block way = ⊤

@@ -2,12 +2,11 @@
 use Rattle.std.specs.Prelude.{ℕ, ◌==◌, ◌&&◌, List, [], Option, Some, None, if◌then◌else◌}
 use Rattle.std.specs.List.{flat_map}
 use Rattle.acl_names.specs.Requester.{Identity}
-use Rattle.acl_audit.specs.Letters.{effective, granted_mask, mask_text}
-use Rattle.acl_audit.specs.Reach.{reaches}
-use Rattle.acl_audit.specs.Who.{may_line, written_line}
+use Rattle.acl_access.specs.Letters.{effective, granted_mask, mask_text}
+use Rattle.acl_access.specs.Reach.{reaches}
+use Rattle.acl_access.specs.Who.{may_line, written_line}
 use Rattle.acl_posix.specs.PermsText.{perms_text}
-use Rattle.acl_tree.specs.Nodes.{may}
-use Rattle.acl_tree.specs.declared.node.Node.{Node}
+use Rattle.acl_bridge.specs.Files.{File, may}
 use Rattle.acl_listing_queries.specs.Person.{Person}
 
 -- what is asked for: the letters r, w and x, all fourteen letters of a mask, or who may do all of
@@ -29,22 +28,22 @@ letters_line_if text path name letters =
 
 -- the letters that a file grants who reaches it on this way, of letters that are written and
 -- granted so
-abbrev pub person_line : (ℕ → List ℕ) → (Node → Identity → ℕ) → List Node → List ℕ → Node → Person
+abbrev pub person_line : (ℕ → List ℕ) → (File → Identity → ℕ) → List File → List ℕ → File → Person
     → List ℕ
-person_line text granted way path node person =
+person_line text granted way path file person =
     letters_line_if text path person.name
-    (if reaches way person.who then granted node person.who else 0)
+    (if reaches way person.who then granted file person.who else 0)
 
 -- `NAME PATH`, of somebody to whom a check grants the permissions, and who reaches it
-abbrev pub person_line_if : List Node → List ℕ → Node → ℕ → Person → List ℕ
-person_line_if way path node perms person =
-    if may node person.who perms && reaches way person.who then may_line path person.name else []
+abbrev pub person_line_if : List File → List ℕ → File → ℕ → Person → List ℕ
+person_line_if way path file perms person =
+    if may file person.who perms && reaches way person.who then may_line path person.name else []
 
 -- of all of these people: their letters, or those who are granted the permissions
-abbrev pub who_text : List Person → Asked → List Node → List ℕ → Node → List ℕ
-who_text persons ThreeLetters way path node =
-    flat_map (person_line perms_text effective way path node) persons
-who_text persons AllLetters way path node =
-    flat_map (person_line mask_text granted_mask way path node) persons
-who_text persons (Request perms) way path node =
-    flat_map (person_line_if way path node perms) persons
+abbrev pub who_text : List Person → Asked → List File → List ℕ → File → List ℕ
+who_text persons ThreeLetters way path file =
+    flat_map (person_line perms_text effective way path file) persons
+who_text persons AllLetters way path file =
+    flat_map (person_line mask_text granted_mask way path file) persons
+who_text persons (Request perms) way path file =
+    flat_map (person_line_if way path file perms) persons

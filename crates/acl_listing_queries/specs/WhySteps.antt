@@ -4,7 +4,7 @@ use Rattle.std.specs.Prelude.{Vec, map, reverse}
 use Rattle.std.specs.List.{flat_map, list_any}
 use Rattle.std.specs.declared.alloc.Global.{Global}
 use Rattle.std.specs.Borrow.{Bor}
-use Rattle.acl_audit.specs.Reach.{reaches}
+use Rattle.acl_access.specs.Reach.{reaches}
 use Rattle.acl_listings.specs.Block.{path_of}
 use Rattle.acl_listings.specs.Listing.{Block}
 use Rattle.acl_listings.specs.declared.fault.BlockFault.TheVariants.{UnknownWay}
@@ -12,7 +12,7 @@ use Rattle.acl_listings.specs.declared.fault.FileFault.{FileFault}
 use Rattle.acl_listings.specs.declared.fault.FileFault.TheVariants as file
 use Rattle.acl_names.specs.Names.{Names}
 use Rattle.acl_posix.specs.Perms.{bits_of}
-use Rattle.acl_tree.specs.declared.node.Node.{Node}
+use Rattle.acl_bridge.specs.Files.{File}
 use Rattle.acl_listing_queries.specs.Host.{names_of_host}
 use Rattle.acl_listing_queries.specs.Kept.{Splits}
 use Rattle.acl_listing_queries.specs.Paths.{is_among}
@@ -45,7 +45,7 @@ pub record IsWayTo (names : Names) (path : List ℕ) (earlier : List Reading) (w
         → readings_of names way.folders.items ≡ reverse (way_of earlier here)
 
 -- the folders of a way, the nearest first, if they are known
-abbrev pub known_folders : List Reading → Option (List Node)
+abbrev pub known_folders : List Reading → Option (List File)
 known_folders [] = Some []
 known_folders (folder ∷ above) = with_folder (folder_of folder) (known_way above folder)
 
@@ -62,22 +62,22 @@ IsNearest _ _ = ⊥
 
 -- the folders of this way are reported
 pub record AreTold (asking : WhyAsking) (way : List Reading) (folders : Folders) : Type 0 where
-  pub nodes : List Node
-  pub known : known_folders way ≡ Some nodes
-  pub reach : folders.reach ≡ reaches nodes asking.who
+  pub files : List File
+  pub known : known_folders way ≡ Some files
+  pub reach : folders.reach ≡ reaches files asking.who
   pub text : folders.text.items ≡ flat_map (folder_text asking.who) (reverse way)
   pub last : IsNearest folders.last way
 
 -- and they are all those on the way to a block
 pub record IsWayTold (asking : WhyAsking) (way : List Reading) (here : Reading) (folders : Folders)
     : Type 0 where
-  pub nodes : List Node
-  pub known : known_way way here ≡ Some nodes
-  pub reach : folders.reach ≡ reaches nodes asking.who
+  pub files : List File
+  pub known : known_way way here ≡ Some files
+  pub reach : folders.reach ≡ reaches files asking.who
   pub text : folders.text.items ≡ flat_map (folder_text asking.who) (reverse way)
 
 -- they aren't known; out of memory says nothing
-abbrev pub IsUnknown : Option (List Node) → FileFault → Type 0
+abbrev pub IsUnknown : Option (List File) → FileFault → Type 0
 IsUnknown known (file.Block fault) = (known ≡ None) × (fault ≡ UnknownWay)
 IsUnknown known file.Memory = ⊤
 

@@ -2,7 +2,7 @@
 use Rattle.std.specs.Prelude.{ℕ, ◌&&◌, List, ◌++◌, Option, Some, None, Result, Ok, Err, [], codes}
 use Rattle.std.specs.Prelude.{reverse}
 use Rattle.std.specs.List.{flat_map}
-use Rattle.acl_audit.specs.Reach.{reaches}
+use Rattle.acl_access.specs.Reach.{reaches}
 use Rattle.acl_listings.specs.Block.{FileValue}
 use Rattle.acl_listings.specs.declared.fault.BlockFault.{BlockFault}
 use Rattle.acl_listings.specs.declared.fault.BlockFault.TheVariants.{UnknownWay}
@@ -10,12 +10,9 @@ use Rattle.acl_names.specs.Names.{Names}
 use Rattle.acl_names.specs.Requester.{Identity}
 use Rattle.acl_queries.specs.AclText.{nobody}
 use Rattle.acl_queries.specs.DecideAnswer.{answer_line}
-use Rattle.acl_queries.specs.Reasons.{FileRequestValue, nfs4_reasons, posix_reasons}
-use Rattle.acl_tree.specs.Nodes.{may}
-use Rattle.acl_tree.specs.declared.node.Node.{Node}
-use Rattle.acl_tree.specs.declared.node_acl.NodeAcl.{NodeAcl}
-use Rattle.acl_tree.specs.declared.node_acl.NodeAcl.TheVariants.{Posix, Nfs4}
-use Rattle.acl_listing_queries.specs.Files.{node_of}
+use Rattle.acl_queries.specs.Reasons.{reasons}
+use Rattle.acl_bridge.specs.Files.{File, may}
+use Rattle.acl_listing_queries.specs.Files.{file_of}
 use Rattle.acl_listing_queries.specs.Listed.{Part}
 use Rattle.acl_listing_queries.specs.Readings.{Reading, reading_of}
 use Rattle.acl_listing_queries.specs.Ways.{known_way, way_of}
@@ -26,50 +23,46 @@ pub record WhyAsking : Type 0 where
   pub who : Identity
   pub perms : ℕ
 
--- why a list decides as it does, as `explain` tells it
-abbrev pub list_reasons : FileRequestValue → NodeAcl → List ℕ
-list_reasons asked (Posix access default) = posix_reasons nobody asked access
-list_reasons asked (Nfs4 acl) = nfs4_reasons nobody asked acl
-
-abbrev pub node_reasons : Node → Identity → ℕ → List ℕ
-node_reasons node who perms = list_reasons (record {
-  owner = node.owner;
-  group = node.group;
+-- why its list decides as it does, as `explain` tells it
+abbrev pub file_reasons : File → Identity → ℕ → List ℕ
+file_reasons file who perms = reasons nobody (record {
+  owner = file.owners.owner;
+  group = file.owners.group;
   requester = who;
   request = perms;
-}) node.acl
+}) file.list
 
 -- `WORD PATH granted` or `WORD PATH denied`, and why
-abbrev pub decision_text : List ℕ → List ℕ → Node → Identity → ℕ → List ℕ
-decision_text word path node who perms = word ++ codes " " ++ path ++ codes " "
-    ++ answer_line (may node who perms) ++ node_reasons node who perms
+abbrev pub decision_text : List ℕ → List ℕ → File → Identity → ℕ → List ℕ
+decision_text word path file who perms = word ++ codes " " ++ path ++ codes " "
+    ++ answer_line (may file who perms) ++ file_reasons file who perms
 
 -- of a folder that reads, whether it may be searched
 abbrev pub folder_text : Identity → Reading → List ℕ
 folder_text who folder = by folder.file
   where
     by : Result FileValue BlockFault → List ℕ
-    by (Ok file) = decision_text (codes "folder") file.path (node_of file) who 1
+    by (Ok file) = decision_text (codes "folder") file.path (file_of file) who 1
     by (Err fault) = []
 
 -- Whether the file grants it to one who reaches it on this way; then each folder on the way, the
 -- outermost first; and the file.
-abbrev pub why_text : WhyAsking → List Node → List Reading → FileValue → List ℕ
-why_text asking nodes way file =
-    answer_line (may (node_of file) asking.who asking.perms && reaches nodes asking.who)
+abbrev pub why_text : WhyAsking → List File → List Reading → FileValue → List ℕ
+why_text asking folders way file =
+    answer_line (may (file_of file) asking.who asking.perms && reaches folders asking.who)
     ++ flat_map (folder_text asking.who) (reverse way)
-    ++ decision_text (codes "file") file.path (node_of file) asking.who asking.perms
+    ++ decision_text (codes "file") file.path (file_of file) asking.who asking.perms
 
 -- what is reported of a file on this way, whose folders are these, if they are known
-abbrev pub why_on : WhyAsking → List Reading → FileValue → Option (List Node) → Part
-why_on asking way file (Some nodes) = Ok (why_text asking nodes way file)
+abbrev pub why_on : WhyAsking → List Reading → FileValue → Option (List File) → Part
+why_on asking way file (Some folders) = Ok (why_text asking folders way file)
 why_on asking way file None = Err UnknownWay
 
 -- of a block that says this
-abbrev pub why_by : WhyAsking → List Reading → Result FileValue BlockFault → Option (List Node)
+abbrev pub why_by : WhyAsking → List Reading → Result FileValue BlockFault → Option (List File)
     → Part
-why_by asking way (Ok file) nodes = why_on asking way file nodes
-why_by asking way (Err fault) nodes = Err fault
+why_by asking way (Ok file) folders = why_on asking way file folders
+why_by asking way (Err fault) folders = Err fault
 
 -- what `why` tells of a block, by its text and what those before it say
 abbrev pub why_part : WhyAsking → List Reading → List ℕ → Part

@@ -3,16 +3,16 @@ use Rattle.std.specs.Prelude.{◌≡◌, ◌≢◌, ◌↔◌, ◌||◌, ◌&&�
 use Rattle.std.specs.Prelude.{◌∷◌, ◌++◌, Option, None, codes, if◌then◌else◌}
 use Rattle.acl_names.specs.Bytes.{comma}
 use Rattle.acl_posix.specs.Entry.{EntryValue}
-use Rattle.acl_tree.specs.declared.node_acl.NodeAcl.{NodeAcl}
-use Rattle.acl_tree.specs.declared.node_acl.NodeAcl.TheVariants.{Posix, Nfs4}
+use Rattle.acl_bridge.specs.declared.any_acl.AnyAcl.{AnyAcl}
+use Rattle.acl_bridge.specs.declared.any_acl.AnyAcl.TheVariants.{Posix, Nfs4}
 use Rattle.acl_listings.specs.Block.{FileValue}
 use Rattle.acl_listings.specs.declared.lists.Lists.{Lists}
 use Rattle.acl_listings.specs.declared.lists.Lists.TheVariants as lists
 use Rattle.acl_listing_queries.specs.declared.impact.changed.Changed.{Changed}
 
 -- the access list, and the default list if there is one
-abbrev pub access_in : Lists → NodeAcl
-access_in (lists.Posix access default) = Posix access None
+abbrev pub access_in : Lists → AnyAcl
+access_in (lists.Posix access default) = Posix access
 access_in (lists.Nfs4 acl) = Nfs4 acl
 
 abbrev pub default_in : Lists → Option (List EntryValue)

@@ -5,9 +5,9 @@ mod asked;
 mod command;
 mod lines;
 mod listed;
-mod node;
+mod push;
 mod reach;
 mod way;
 
 pub use command::{WHO_ANSWERS, WhoOfListing};
-pub use node::push_who;
+pub use push::push_who;

@@ -25,6 +25,7 @@ pub mod ShapeLemmas
 pub mod PieceFaultLemmas
 pub mod EvaluationMode
 pub mod EvaluationLemmas
+pub mod MaskLemmas
 pub mod FrontLemmas
 pub mod PrintedLengths
 pub mod NamedLemmas

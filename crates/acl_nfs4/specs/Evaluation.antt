@@ -1,11 +1,13 @@
 -- What a list grants (RFC 8881, section 6.2.1), and the mode that it shows (section 6.3.2).
 use Rattle.std.specs.Prelude.{ℕ, ◌^◌, Bool, false, ◌&&◌, ◌||◌, if◌then◌else◌, IsTrue, List, Option}
 use Rattle.std.specs.Prelude.{find, option_map, unwrap_or}
+use Rattle.std.specs.List.{filter, list_all, range_with_len}
 use Rattle.acl_names.specs.Bits.{has, ◌∪◌}
+use Rattle.acl_names.specs.Requester.{Identity}
 use Rattle.acl_nfs4.specs.Ace.{Nfsace4, decides, is_allow}
 use Rattle.acl_nfs4.specs.Mask.{read_data, write_data, append_data, execute, read_permission}
 use Rattle.acl_nfs4.specs.Mask.{write_permission, execute_permission}
-use Rattle.acl_nfs4.specs.Who.{same_who}
+use Rattle.acl_nfs4.specs.Who.{matches, same_who}
 use Rattle.acl_posix.specs.Mode.{Classes}
 use Rattle.acl_nfs4.specs.declared.who.Who.{Who}
 use Rattle.acl_nfs4.specs.declared.who.Who.TheVariants.{Owner, Group, Everyone}
@@ -25,6 +27,15 @@ allows applies bit aces = unwrap_or (verdict applies bit aces) false
 -- a mask is granted if each of its bits is
 abbrev pub Grants : (Who → Bool) → List Nfsace4 → ℕ → Type 0
 Grants applies aces mask = (bit : ℕ) → IsTrue (has mask bit) → IsTrue (allows applies bit aces)
+
+-- the places of the bits of a mask, which has 32
+unfoldable pub places_of : ℕ → List ℕ
+places_of mask = filter (has mask) (range_with_len 0 32)
+
+-- whether the list of a file of this owner and this group grants the requester each bit of the mask
+abbrev pub grants4 : List Nfsace4 → ℕ → ℕ → Identity → ℕ → Bool
+grants4 acl owner group requester mask = list_all
+    (λ bit. allows (matches owner group requester) bit acl) (places_of mask)
 
 -- the permissions that a list shows for those to whom these entries apply
 abbrev pub shown_to : (Who → Bool) → List Nfsace4 → ℕ

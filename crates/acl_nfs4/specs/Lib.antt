@@ -4,6 +4,7 @@ pub mod Who
 pub mod Ace
 pub mod Acl
 pub mod Evaluation
+pub mod MaskLaws
 pub mod Comparison
 pub mod Inheritance
 pub mod ModeChange

@@ -3,7 +3,7 @@ ghost use Rattle.std.specs.Prelude.{◌≡◌, ◌↔◌, ◌&&◌, IsTrue};
 ghost use Rattle.acl_nfs4.specs.Ace.{decides};
 ghost use Rattle.acl_nfs4.specs.Who.{matches};
 ghost use Rattle.acl_nfs4.specs.Mask.{mask_bits};
-ghost use Rattle.acl_nfs4.specs.Evaluation.{Grants};
+ghost use Rattle.acl_nfs4.specs.Evaluation.{Grants, grants4};
 
 use crate::{Ace, Acl4, Mask};
 use acl_names::{Gid, Requester, Subject, Uid};
@@ -48,9 +48,12 @@ impl Acl4 {
     /// group: of each bit the first entry that speaks of it to the requester decides, and a bit of
     /// which none speaks is denied (RFC 8881, section 6.2.1). The empty request is granted.
     pub fn grants4(&self, owner: Uid, group: Gid, requester: &Requester, requested: Mask) -> bool
-        ensures { IsTrue result ↔ Grants (matches owner group requester.now) self.now
+        ensures grants { IsTrue result ↔ Grants (matches owner group requester.now) self.now
             (mask_bits requested) }
+        ensures test { result ≡ grants4 self.now owner group requester.now (mask_bits requested) }
     {
+        // That a mask has 32 bits is known to the proof only after its number is read.
+        let _bits = requested.bits();
         grants(self.aces(), owner, group, requester, requested)
     }
 }

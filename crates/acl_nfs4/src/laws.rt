@@ -9,6 +9,7 @@ ghost use Rattle.acl_nfs4.specs.AceText.{piece_value};
 ghost use Rattle.acl_nfs4.specs.Comparison.{PairsSuffice, TwoGroupsSuffice};
 ghost use Rattle.acl_nfs4.specs.Faults.{HasNoEffect, HasNoShape, HasUnknownName};
 ghost use Rattle.acl_nfs4.specs.Letters.{flag_table, mask_table};
+ghost use Rattle.acl_nfs4.specs.MaskLaws.{MasksAreDecided};
 
 use crate::PieceFault;
 
@@ -36,6 +37,12 @@ pub fn faults_of_pieces()
 pub fn letters_are_distinct()
     ensures flags { IsTable flag_table }
     ensures mask { IsTable mask_table }
+{}
+
+/// By the test of its bits, an answer to a question about a mask is whether the list grants that
+/// mask. There is nothing to run here: a proof cites the contract.
+pub fn mask_laws()
+    ensures { MasksAreDecided }
 {}
 
 /// Two lists, each for a file with its own owners, decide alike for everyone if they decide alike

@@ -34,7 +34,9 @@ pub use acl::{AceFault, Acl4};
 pub use comparison::Difference;
 pub use flags::Flags;
 pub use inheritance::Kind;
-pub use laws::{comparison_laws, faults_of_pieces, letters_are_distinct, pieces_have_shapes};
+pub use laws::{
+    comparison_laws, faults_of_pieces, letters_are_distinct, mask_laws, pieces_have_shapes,
+};
 pub use letters::{push_mask, read_letters};
 pub use limits::{INLINE_ACES, MAX_ACES, limits_in_numbers};
 pub use mask::{Mask, mask_of, rest_of};

@@ -8,13 +8,11 @@ use Rattle.acl_names.proofs.AnyLemmas.{not_one_alone}
 use Rattle.acl_nfs4.specs.Comparison.{DecideAlike, Decider, IsDifference}
 use Rattle.acl_nfs4.specs.Mask.{mask_bits}
 use Rattle.acl_nfs4.specs.declared.comparison.Difference.{Difference}
-use Rattle.acl_nfs4.specs.declared.owners.Owners.{Owners}
-use Rattle.acl_bridge.specs.Comparison.{GrantAlikeToAll, Granter, IsFirstDifference, grants_at, whole_requests}
-use Rattle.acl_bridge.specs.Lists.{RequestsAlike, RequestsDiffer, bits_between, decider_at}
+use Rattle.acl_bridge.specs.Comparison.{GrantAlikeToAll, Granter, IsFirstDifference}
+use Rattle.acl_bridge.specs.Files.{decider_of, may}
+use Rattle.acl_bridge.specs.Lists.{bits_between, requests_between}
 use Rattle.acl_queries.specs.Compared.{Compared}
-use Rattle.acl_queries.specs.Differences.{AreAlike, Differ, owners_of}
-use Rattle.acl_bridge.specs.declared.any_acl.AnyAcl.{AnyAcl}
-use Rattle.acl_bridge.specs.declared.any_acl.AnyAcl.TheVariants.{Posix, Nfs4}
+use Rattle.acl_queries.specs.Differences.{AreAlike, Differ, first_file, second_file}
 
 module _ (before after : Decider) (bits : ℕ) (alike : DecideAlike before after bits) where
   -- the asker of a difference loses and gains nothing
@@ -33,17 +31,9 @@ no_first_difference before after [] difference alike never = never
 no_first_difference before after (request ∷ more) difference (here, later) (inl differs) = differs.apart (here (identity_of difference.asker))
 no_first_difference before after (request ∷ more) difference (here, later) (inr (same, differs)) = no_first_difference before after more difference later differs
 
-no_request_differs : (owners : Owners) (first second : AnyAcl) (difference : Difference) → RequestsAlike first owners second owners → ¬ RequestsDiffer first owners second owners difference
-no_request_differs owners (Posix first) (Posix second) difference alike differs =
-    no_first_difference (grants_at first owners) (grants_at second owners) whole_requests difference alike differs
-no_request_differs owners (Posix first) (Nfs4 second) difference alike never = never
-no_request_differs owners (Nfs4 first) (Posix second) difference alike never = never
-no_request_differs owners (Nfs4 first) (Nfs4 second) difference alike never = never
-
 -- lists that decide alike for every requester differ for nobody
 pub differ_for_nobody : (compared : Compared) (difference : Difference) → AreAlike compared → ¬ Differ compared difference
 differ_for_nobody compared difference (bits, requests) (inl is) =
-    is.some (nothing_told (decider_at compared.first (owners_of compared)) (decider_at compared.second (owners_of compared))
-    (bits_between compared.first compared.second) bits difference is)
+    is.some (nothing_told (decider_of (first_file compared)) (decider_of (second_file compared)) (bits_between compared.first compared.second) bits difference is)
 differ_for_nobody compared difference (bits, requests) (inr (_, differs)) =
-    no_request_differs (owners_of compared) compared.first compared.second difference requests differs
+    no_first_difference (may (first_file compared)) (may (second_file compared)) (requests_between compared.first compared.second) difference requests differs

@@ -8,6 +8,7 @@ use Rattle.acl_nfs4.specs.Letters.{mask_table}
 use Rattle.acl_nfs4.specs.Mask.{mask_bits}
 use Rattle.acl_nfs4.specs.declared.comparison.Difference.{Difference}
 use Rattle.acl_nfs4.specs.declared.owners.Owners.{Owners}
+use Rattle.acl_bridge.specs.Files.{File, file_with}
 use Rattle.acl_bridge.specs.Lists as lists
 use Rattle.acl_cli.specs.Commands.{Meaning}
 use Rattle.acl_queries.specs.Compared.{Compared, compared_in}
@@ -17,15 +18,20 @@ use Rattle.acl_queries.specs.Queries.{query_meaning}
 abbrev pub owners_of : Compared → Owners
 owners_of compared = record { owner = compared.owner; group = compared.group }
 
--- both lists decide alike for every requester, of whatever uid and groups
+-- that file with the one list, and with the other
+abbrev pub first_file : Compared → File
+first_file compared = file_with (owners_of compared) compared.first
+
+abbrev pub second_file : Compared → File
+second_file compared = file_with (owners_of compared) compared.second
+
+-- both decide alike for every requester, of whatever uid and groups
 abbrev pub AreAlike : Compared → Type 0
-AreAlike compared = lists.AreAlike compared.first (owners_of compared) compared.second
-    (owners_of compared)
+AreAlike compared = lists.AreAlike (first_file compared) (second_file compared)
 
 -- someone loses or gains this
 abbrev pub Differ : Compared → Difference → Type 0
-Differ compared = lists.Differ compared.first (owners_of compared) compared.second
-    (owners_of compared)
+Differ compared = lists.Differ (first_file compared) (second_file compared)
 
 -- the groups of who asks, between commas (44), each once; - if there is none
 abbrev pub gids_text : Option ℕ → Option ℕ → List ℕ

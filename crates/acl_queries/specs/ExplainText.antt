@@ -1,7 +1,6 @@
 -- What `explain` says: the answer, and why it is so.
 use Rattle.std.specs.Prelude.{◌≡◌, ◌↔◌, Bool, IsTrue, List, ℕ, ◌++◌}
 use Rattle.clap.specs.Words.{Row}
-use Rattle.acl_names.specs.Directory.{Known}
 use Rattle.acl_posix.specs.Access.{grants}
 use Rattle.acl_nfs4.specs.Evaluation.{Grants}
 use Rattle.acl_nfs4.specs.Mask.{mask_of}
@@ -11,7 +10,7 @@ use Rattle.acl_queries.specs.AclText.{nobody}
 use Rattle.acl_queries.specs.DecideAnswer.{answer_line}
 use Rattle.acl_queries.specs.Explained.{Explained, explained_in}
 use Rattle.acl_queries.specs.Queries.{query_meaning}
-use Rattle.acl_queries.specs.Reasons.{FileRequestValue, nfs4_reasons, posix_reasons}
+use Rattle.acl_queries.specs.Reasons.{FileRequestValue, reasons}
 use Rattle.acl_bridge.specs.declared.any_acl.AnyAcl.TheVariants.{Posix, Nfs4}
 use Rattle.acl_bridge.specs.declared.any_acl.AnyAcl.{AnyAcl}
 
@@ -21,10 +20,6 @@ Decides asked (Posix acl) granted =
     granted ≡ grants acl asked.owner asked.group asked.requester asked.request
 Decides asked (Nfs4 acl) granted = IsTrue granted
     ↔ Grants (matches asked.owner asked.group asked.requester) acl (mask_of asked.request)
-
-abbrev pub reasons : Known → FileRequestValue → AnyAcl → List ℕ
-reasons known asked (Posix acl) = posix_reasons known asked acl
-reasons known asked (Nfs4 acl) = nfs4_reasons known asked acl
 
 -- the text says whether what is asked is granted, and why
 pub record IsExplanation (explained : Explained) (text : List ℕ) : Type 0 where

@@ -17,6 +17,8 @@ use Rattle.acl_nfs4.specs.Mask.{append_data, execute, mask_of, read_data, write_
 use Rattle.acl_nfs4.specs.PrintedText.{ace_text}
 use Rattle.acl_nfs4.specs.Who.{matches}
 use Rattle.acl_nfs4.specs.declared.who.Who.{Who}
+use Rattle.acl_bridge.specs.declared.any_acl.AnyAcl.{AnyAcl}
+use Rattle.acl_bridge.specs.declared.any_acl.AnyAcl.TheVariants.{Posix, Nfs4}
 use Rattle.acl_queries.specs.Explanation.{class_of, first_speaker, is_limited, is_of_class, lacks}
 use Rattle.acl_queries.specs.declared.explanation.Class.TheVariants as class
 use Rattle.acl_queries.specs.declared.explanation.Class.{Class}
@@ -105,3 +107,9 @@ bit_lines known applies mask aces =
 abbrev pub nfs4_reasons : Known → FileRequestValue → List Nfsace4 → List ℕ
 nfs4_reasons known asked aces = bit_lines known
     (matches asked.owner asked.group asked.requester) (mask_of asked.request) aces
+
+-- ---- lists of either style
+
+abbrev pub reasons : Known → FileRequestValue → AnyAcl → List ℕ
+reasons known asked (Posix acl) = posix_reasons known asked acl
+reasons known asked (Nfs4 acl) = nfs4_reasons known asked acl

@@ -20,4 +20,4 @@ pub use laws::{
     alike_lists_differ_for_nobody, explanation_laws, statuses_are_those_of_the_words,
     words_ask_what_they_give,
 };
-pub use reasons::{FileRequest, push_nfs4_reasons, push_posix_reasons};
+pub use reasons::{FileRequest, push_reasons};

@@ -1,12 +1,17 @@
 //! Why a list decides as it does about a request.
+ghost use Rattle.std.specs.Prelude.{◌≡◌, ◌++◌, OnOk};
+ghost use Rattle.acl_bridge.specs.Files.{view_list};
+ghost use Rattle.acl_queries.specs.Reasons.{reasons};
 
 mod nfs4;
 mod posix;
 
-use acl_names::{Gid, Requester, Uid};
+use acl_bridge::AnyAclRef;
+use acl_names::{Directory, Gid, Requester, Uid};
 use acl_posix::Perms;
-pub use nfs4::push_nfs4_reasons;
-pub use posix::push_posix_reasons;
+use nfs4::push_nfs4_reasons;
+use posix::push_posix_reasons;
+use std::alloc::AllocError;
 use std::marker::Model;
 
 /// Who asks for which permissions, of a file of this owner and this group.
@@ -30,4 +35,21 @@ impl<'t> Model for FileRequest<'t> {
       requester = asked.requester.now;
       request = bits_of asked.request;
     } };
+}
+
+/// Appends why the list decides about the request as it does, by the entries that decide, with ids
+/// as the directory names them. It fails only if memory runs out.
+pub fn push_reasons(
+    asked: &FileRequest<'_>,
+    list: AnyAclRef<'_>,
+    directory: &Directory,
+    out: &mut Vec<u8>,
+) -> Result<(), AllocError>
+    ensures { OnOk result (out.new.items
+        ≡ out.old.items ++ reasons directory.now asked.now (view_list list.entry)) }
+{
+    match list {
+        AnyAclRef::Posix(acl) => push_posix_reasons(asked, acl, directory, out),
+        AnyAclRef::Nfs4(acl) => push_nfs4_reasons(asked, acl, directory, out),
+    }
 }

@@ -1,6 +1,6 @@
 -- Where lists of users and groups are wrong, so that they are no directory.
 use Rattle.std.specs.Prelude.{ℕ, ◌+◌, ◌==◌, Bool, not, nat_lt, List, [], ◌∷◌, ◌++◌, Option, Some}
-use Rattle.std.specs.Prelude.{None, bytes_eq, codes, length, option_map, position}
+use Rattle.std.specs.Prelude.{None, bytes_eq, length, option_map, position}
 use Rattle.std.specs.Prelude.{if◌then◌else◌}
 use Rattle.std.specs.List.{list_any, position_from}
 use Rattle.acl_names.specs.Directory.{KnownGroup, KnownUser}

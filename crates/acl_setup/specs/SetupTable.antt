@@ -1,7 +1,7 @@
 -- The values of a table, by their types.
 use Rattle.std.specs.Prelude.{◌≡◌, ℕ, ℤ, pos, negsuc, List, [], ◌∷◌, Option, Some, None, IsUtf8}
 use Rattle.std.specs.Prelude.{if◌then◌else◌, nat_le, option_and_then}
-use Rattle.toml.specs.Data.{Data, Items, Members, as_array, as_integer, as_str, as_table}
+use Rattle.toml.specs.Data.{Items, Members, as_array, as_integer, as_str, as_table}
 use Rattle.toml.specs.Data.{get_member, item, no_items}
 use Rattle.toml.specs.Parse.{parse_document}
 use Rattle.acl_bridge.specs.Style.{style_of}

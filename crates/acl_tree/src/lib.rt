@@ -17,7 +17,7 @@ mod tree;
 pub use acl_bridge::Style;
 pub use boxed::Boxed;
 pub use faults::{LineFault, TreeFault};
-pub use laws::{command_laws, mask_laws, tree_laws};
+pub use laws::{command_laws, tree_laws};
 pub use limits::{INLINE_PATH_LEN, MAX_COMPONENT_LEN, MAX_NODES, MAX_PATH_LEN, limits_in_numbers};
 pub use node::Node;
 pub use node_acl::NodeAcl;

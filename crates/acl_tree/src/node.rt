@@ -1,15 +1,16 @@
 //! The nodes of a tree.
 ghost use Rattle.std.specs.Prelude.{◌≡◌, IfOk};
 ghost use Rattle.acl_posix.specs.Perms.{bits_of};
-ghost use Rattle.acl_tree.specs.Nodes.{is_dir, may, view_of, with_access, with_default, with_mode};
-ghost use Rattle.acl_tree.specs.Nodes.{with_nfs4};
+ghost use Rattle.acl_tree.specs.Nodes.{is_dir, may, owners_of, view_of, with_access, with_default};
+ghost use Rattle.acl_tree.specs.Nodes.{with_mode, with_nfs4};
 ghost use Rattle.acl_tree.specs.Refusals.{ChangesTo};
 
 use crate::node_acl::try_clone_boxed;
 use crate::refusal::Refusal;
 use crate::{Boxed, NodeAcl, Path, TreeFault, View};
+use acl_bridge::FileAcl;
 use acl_names::{Gid, Requester, Uid};
-use acl_nfs4::{Acl4, Kind};
+use acl_nfs4::{Acl4, Kind, Owners};
 use acl_posix::{Acl, Mode, Perms};
 use std::alloc::{AllocError, Global};
 
@@ -61,11 +62,22 @@ impl Node {
         })
     }
 
+    /// Its owner and its group.
+    pub fn owners(&self) -> Owners
+        ensures { result ≡ owners_of self.now }
+    {
+        Owners {
+            owner: self.owner,
+            group: self.group,
+        }
+    }
+
     /// Whether its list grants the requester each of the permissions.
     pub fn may(&self, requester: &Requester, perms: Perms) -> bool
         ensures { result ≡ may self.now requester.now (bits_of perms) }
     {
-        self.acl.grants(self.owner, self.group, requester, perms)
+        let (owners, list) = (self.owners(), self.acl.deciding_list());
+        FileAcl { owners, list }.may(requester, perms)
     }
 
     /// Sets the access list. A default list stays; an NFSv4 list goes.

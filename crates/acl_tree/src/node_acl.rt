@@ -1,20 +1,15 @@
 //! The access control lists of a node, of either style.
 ghost use Rattle.std.specs.Prelude.{◌≡◌, IfOk};
-ghost use Rattle.acl_posix.specs.Perms.{bits_of};
-ghost use Rattle.acl_nfs4.specs.Mask.{mask_bits};
-ghost use Rattle.acl_bridge.specs.Lists.{view_list};
+ghost use Rattle.acl_bridge.specs.Files.{view_list};
 ghost use Rattle.acl_tree.specs.NodeAcls.{acl_at_creation, acl_with_mode, beyond_umask};
-ghost use Rattle.acl_tree.specs.NodeAcls.{deciding_list, default_below, grants4, list_grants};
-ghost use Rattle.acl_tree.specs.NodeAcls.{mode_shown, root_acl};
+ghost use Rattle.acl_tree.specs.NodeAcls.{deciding_list, default_below, mode_shown, root_acl};
 ghost use Rattle.acl_tree.specs.Refusals.{ComesTo, ChangesTo};
 
 use crate::Boxed;
 use crate::refusal::Refusal;
 use acl_bridge::{AnyAclRef, Style};
-use acl_names::{Gid, Requester, Uid};
-use acl_nfs4::{Acl4, Fault4, Kind, Mask, mask_of};
-use acl_posix::{Acl, Mode, Perms, without};
-use bitflags::Flags;
+use acl_nfs4::{Acl4, Fault4, Kind};
+use acl_posix::{Acl, Mode, without};
 use std::alloc::{AllocError, Global};
 
 /// The access control lists of a node.
@@ -72,15 +67,6 @@ fn beyond_umask(mode: Mode, umask: Mode) -> Mode
     }
 }
 
-/// Whether the list grants the requester each bit of the mask.
-pub(crate) fn grants4(acl: &Acl4, owner: Uid, group: Gid, requester: &Requester, mask: Mask) -> bool
-    ensures { result ≡ grants4 acl.now owner group requester.now (mask_bits mask) }
-{
-    // That a mask has 32 bits is known to the proof only after its number is read.
-    let _bits = mask.bits();
-    acl.grants4(owner, group, requester, mask)
-}
-
 impl NodeAcl {
     /// A copy of them. It fails only if memory runs out.
     pub fn try_clone(&self, alloc: Global) -> Result<NodeAcl, AllocError>
@@ -115,17 +101,6 @@ impl NodeAcl {
         match self {
             NodeAcl::Posix { access, .. } => access.mode(),
             NodeAcl::Nfs4 { acl } => acl.mode4(),
-        }
-    }
-
-    /// Whether the list, on a node of this owner and this group, grants the requester each of the
-    /// permissions.
-    pub(crate) fn grants(&self, owner: Uid, group: Gid, requester: &Requester, perms: Perms) -> bool
-        ensures { result ≡ list_grants self.now owner group requester.now (bits_of perms) }
-    {
-        match self {
-            NodeAcl::Posix { access, .. } => access.grants(owner, group, requester, perms),
-            NodeAcl::Nfs4 { acl } => grants4(acl, owner, group, requester, mask_of(perms)),
         }
     }
 

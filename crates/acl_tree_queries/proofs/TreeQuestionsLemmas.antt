@@ -1,5 +1,5 @@
 -- What came of a question of trees.
-use Rattle.std.proofs.Common.{◌≡◌, ◌≢◌, ◌≤◌, ◌∙◌, [], ℕ, List, Option, Result, Ok, Err, ap, arith, inl, inr, refl, subst, sym}
+use Rattle.std.proofs.Common.{◌≡◌, ◌≢◌, ◌≤◌, [], ℕ, List, Option, Result, Ok, Err, ap, arith, inl, inr, refl, subst, sym}
 use Rattle.std.specs.Io.KnownBytes.{Appends, Keeps}
 use Rattle.clap.specs.Words.{Row, Text}
 use Rattle.acl_cli.specs.Commands.{Answer, Comes}

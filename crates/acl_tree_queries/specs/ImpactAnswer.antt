@@ -3,6 +3,7 @@ use Rattle.std.specs.Prelude.{◌≡◌, ◌||◌, ℕ, false, not, List, Option
 use Rattle.std.specs.FinMap as map
 use Rattle.clap.specs.Words.{Row, Text}
 use Rattle.acl_tree.specs.Entries.{Entry}
+use Rattle.acl_tree.specs.Nodes.{file_of}
 use Rattle.acl_tree.specs.Tree.{NodesUnderUmask}
 use Rattle.acl_tree.specs.declared.node.Node.{Node}
 use Rattle.acl_cli.specs.Commands.{Meaning}
@@ -19,8 +20,9 @@ use Rattle.acl_tree_queries.specs.declared.trees.Trees.{Trees}
 -- what is reported of a node that is there after, as of a file of a listing: it is new, or what it
 -- means for access that the one before became it
 abbrev pub TellsFrom : Concern → Option Node → Entry → List ℕ → Type 0
-TellsFrom concern None entry text = text ≡ told_at false concern entry.0 entry.1
-TellsFrom concern (Some before) entry text = TellsImpact concern before entry.1 entry.0 text
+TellsFrom concern None entry text = text ≡ told_at false concern entry.0 (file_of entry.1)
+TellsFrom concern (Some before) entry text =
+    TellsImpact concern (file_of before) (file_of entry.1) entry.0 text
 
 -- by the tree before
 abbrev pub TellsImpactOn : Concern → NodesUnderUmask → Entry → List ℕ → Type 0

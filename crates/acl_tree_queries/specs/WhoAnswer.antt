@@ -1,10 +1,11 @@
 -- What `who` asks of a tree, and what it answers.
-use Rattle.std.specs.Prelude.{◌≡◌, ℕ, Bool, true, false, List, [], Option}
+use Rattle.std.specs.Prelude.{◌≡◌, ℕ, Bool, true, false, List, [], Option, map as each}
 use Rattle.std.specs.FinMap as map
 use Rattle.clap.specs.Words.{Row, Text}
+use Rattle.acl_bridge.specs.Files.{File}
 use Rattle.acl_tree.specs.Entries.{Entry}
+use Rattle.acl_tree.specs.Nodes.{file_of}
 use Rattle.acl_tree.specs.Tree.{NodesUnderUmask}
-use Rattle.acl_tree.specs.declared.node.Node.{Node}
 use Rattle.acl_audit.specs.Reach.{way_in}
 use Rattle.acl_cli.specs.Commands.{Meaning}
 use Rattle.acl_listing_queries.specs.Asked.{persons_in}
@@ -17,8 +18,9 @@ use Rattle.acl_tree_queries.specs.declared.trees.Trees.{Trees}
 
 -- what is reported of a node, as of a file of a listing: of those who reach what lies behind this
 -- way
-abbrev pub who_text_on : List Person → Option ℕ → List Node → Entry → List ℕ
-who_text_on persons perms way entry = who_text persons (asked_by perms) way entry.0 entry.1
+abbrev pub who_text_on : List Person → Option ℕ → List File → Entry → List ℕ
+who_text_on persons perms way entry =
+    who_text persons (asked_by perms) way entry.0 (file_of entry.1)
 
 -- of whomever, wherever the node is
 abbrev pub TellsWho : List Person → Option ℕ → Entry → List ℕ → Type 0
@@ -27,7 +29,7 @@ TellsWho persons perms entry text = text ≡ who_text_on persons perms [] entry
 -- of those who reach it in the tree
 abbrev pub TellsWhoReaches : List Person → Option ℕ → NodesUnderUmask → Entry → List ℕ → Type 0
 TellsWhoReaches persons perms tree entry text =
-    text ≡ who_text_on persons perms (way_in tree entry.0) entry
+    text ≡ who_text_on persons perms (each file_of (way_in tree entry.0)) entry
 
 -- by whether that is asked
 abbrev pub TellsNode : List Person → WhoAsked → NodesUnderUmask → Bool → Entry → List ℕ → Type 0

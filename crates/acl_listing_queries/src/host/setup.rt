@@ -1,6 +1,6 @@
 //! Setups, as they say who there is.
 ghost use Rattle.std.specs.Prelude.{IfErr, IfOk};
-ghost use Rattle.acl_listing_queries.specs.Host.{OpensDirectory};
+ghost use Rattle.acl_listing_queries.specs.Host.{ReadsAsSetup};
 ghost use Rattle.acl_listing_queries.specs.HostFailures.{IsSetupFailure};
 
 use acl_cli::{Failure, OpenFiles, read_file};
@@ -17,7 +17,7 @@ pub(super) fn read_directory<'a, F: OpenFiles>(
     files: &F,
     name: &'a str,
 ) -> Result<Directory, Failure<'a>>
-    ensures opened { IfOk result (OpensDirectory (F.bytes_of files.now name.entry.now)) }
+    ensures opened { IfOk result (ReadsAsSetup (F.bytes_of files.now name.entry.now)) }
     ensures refused { IfErr result
         (IsSetupFailure (F.bytes_of files.now name.entry.now) name.entry.now) }
 {

@@ -1,6 +1,7 @@
 //! Whom a change concerns, of those who are asked about.
 ghost use Rattle.std.specs.Prelude.{◌≡◌, ◌++◌, IfOk, OnOk, map, option_map, slice_get};
 ghost use Rattle.std.specs.List.{flat_map};
+ghost use Rattle.acl_bridge.specs.Files.{view_acl};
 ghost use Rattle.acl_listing_queries.specs.Asked.{persons_in};
 ghost use Rattle.acl_listing_queries.specs.ImpactSteps.{TellsAt, TellsBy, line_at, view_one};
 ghost use Rattle.acl_listing_queries.specs.Impacting.{Tells, TellsAnybody, TellsFirst};
@@ -9,11 +10,11 @@ ghost use Rattle.acl_listing_queries.specs.Impacting.{may_line};
 
 use crate::impact_lines::{push_person, push_somebody};
 use crate::people::People;
-use acl_audit::{change_for, change_for_anybody, effective};
+use acl_access::{change_for, change_for_anybody, effective};
+use acl_bridge::FileAcl;
 use acl_bridge::bits::mask_for;
 use acl_names::Requester;
 use acl_nfs4::Mask;
-use acl_tree::Node;
 use bitflags::Flags;
 use std::alloc::{AllocError, Global};
 
@@ -58,14 +59,14 @@ fn one_at(people: &People, place: usize) -> Option<One<'_>>
 /// Appends the line of somebody whom it concerns that a file became another, and returns whether it
 /// does.
 fn push_changed(
-    before: &Node,
-    after: &Node,
+    before: &FileAcl<'_>,
+    after: &FileAcl<'_>,
     one: &One<'_>,
     path: &[u8],
     out: &mut Vec<u8>,
 ) -> Result<bool, AllocError>
-    ensures { IfOk result (λ some. Tells (TellsBy some before.now after.now path.now
-        (view_one one.now)) out.old.items out.new.items) }
+    ensures { IfOk result (λ some. Tells (TellsBy some (view_acl before.now) (view_acl after.now)
+        path.now (view_one one.now)) out.old.items out.new.items) }
 {
     match change_for(before, after, one.requester) {
         Some(change) => {
@@ -86,15 +87,15 @@ fn push_changed(
 /// Appends the line of who is at the place, if a change concerns somebody there, and returns
 /// whether it does.
 fn push_changed_at(
-    before: &Node,
-    after: &Node,
+    before: &FileAcl<'_>,
+    after: &FileAcl<'_>,
     people: &People,
     place: usize,
     path: &[u8],
     out: &mut Vec<u8>,
 ) -> Result<bool, AllocError>
-    ensures { IfOk result (λ some. Tells (TellsAt some before.now after.now path.now
-        (slice_get (persons_in people.now) place)) out.old.items out.new.items) }
+    ensures { IfOk result (λ some. Tells (TellsAt some (view_acl before.now) (view_acl after.now)
+        path.now (slice_get (persons_in people.now) place)) out.old.items out.new.items) }
 {
     match one_at(people, place) {
         Some(one) => push_changed(before, after, &one, path, out),
@@ -104,13 +105,13 @@ fn push_changed_at(
 
 /// Appends the line of each whom it concerns that a file became another.
 fn push_each(
-    before: &Node,
-    after: &Node,
+    before: &FileAcl<'_>,
+    after: &FileAcl<'_>,
     people: &People,
     path: &[u8],
     out: &mut Vec<u8>,
 ) -> Result<(), AllocError>
-    ensures { OnOk result (Tells (TellsPersons before.now after.now path.now
+    ensures { OnOk result (Tells (TellsPersons (view_acl before.now) (view_acl after.now) path.now
         (persons_in people.now)) out.old.items out.new.items) }
 {
     for place in 0..people.requesters.len() {
@@ -121,13 +122,13 @@ fn push_each(
 
 /// Appends the line of the first whom it concerns that a file became another.
 fn push_first(
-    before: &Node,
-    after: &Node,
+    before: &FileAcl<'_>,
+    after: &FileAcl<'_>,
     people: &People,
     path: &[u8],
     out: &mut Vec<u8>,
 ) -> Result<(), AllocError>
-    ensures { OnOk result (Tells (TellsFirst before.now after.now path.now
+    ensures { OnOk result (Tells (TellsFirst (view_acl before.now) (view_acl after.now) path.now
         (persons_in people.now)) out.old.items out.new.items) }
 {
     for place in 0..people.requesters.len() {
@@ -141,14 +142,14 @@ fn push_first(
 /// Appends the line of each whom it concerns that a file became another, or of the first of them.
 pub(super) fn push_those(
     each: bool,
-    before: &Node,
-    after: &Node,
+    before: &FileAcl<'_>,
+    after: &FileAcl<'_>,
     people: &People,
     path: &[u8],
     out: &mut Vec<u8>,
 ) -> Result<(), AllocError>
-    ensures { OnOk result (Tells (TellsThose each before.now after.now path.now
-        (persons_in people.now)) out.old.items out.new.items) }
+    ensures { OnOk result (Tells (TellsThose each (view_acl before.now) (view_acl after.now)
+        path.now (persons_in people.now)) out.old.items out.new.items) }
 {
     if each {
         push_each(before, after, people, path, out)
@@ -162,13 +163,13 @@ pub(super) fn push_those(
 pub(super) fn push_anybody(
     alloc: Global,
     asked: bool,
-    before: &Node,
-    after: &Node,
+    before: &FileAcl<'_>,
+    after: &FileAcl<'_>,
     path: &[u8],
     out: &mut Vec<u8>,
 ) -> Result<(), AllocError>
-    ensures { OnOk result (Tells (TellsAnybody asked before.now after.now path.now) out.old.items
-        out.new.items) }
+    ensures { OnOk result (Tells (TellsAnybody asked (view_acl before.now) (view_acl after.now)
+        path.now) out.old.items out.new.items) }
 {
     if !asked {
         return Ok(());
@@ -183,15 +184,15 @@ pub(super) fn push_anybody(
 /// Appends the line of somebody who may do something with a new file, or might with a gone one.
 fn push_may(
     gone: bool,
-    node: &Node,
+    file: &FileAcl<'_>,
     one: &One<'_>,
     path: &[u8],
     out: &mut Vec<u8>,
 ) -> Result<(), AllocError>
     ensures { OnOk result (out.new.items
-        ≡ out.old.items ++ may_line gone path.now node.now (view_one one.now)) }
+        ≡ out.old.items ++ may_line gone path.now (view_acl file.now) (view_one one.now)) }
 {
-    let perms = effective(node, one.requester);
+    let perms = effective(file, one.requester);
     if perms.is_empty() {
         return Ok(());
     }
@@ -207,17 +208,18 @@ fn push_may(
 /// gone one.
 fn push_may_at(
     gone: bool,
-    node: &Node,
+    file: &FileAcl<'_>,
     people: &People,
     place: usize,
     path: &[u8],
     out: &mut Vec<u8>,
 ) -> Result<(), AllocError>
     ensures { OnOk result (out.new.items ≡ out.old.items
-        ++ line_at (may_line gone path.now node.now) (slice_get (persons_in people.now) place)) }
+        ++ line_at (may_line gone path.now (view_acl file.now))
+        (slice_get (persons_in people.now) place)) }
 {
     match one_at(people, place) {
-        Some(one) => push_may(gone, node, &one, path, out),
+        Some(one) => push_may(gone, file, &one, path, out),
         None => Ok(()),
     }
 }
@@ -225,16 +227,16 @@ fn push_may_at(
 /// Appends the line of each who may do something with a new file, or might with a gone one.
 fn push_each_who_may(
     gone: bool,
-    node: &Node,
+    file: &FileAcl<'_>,
     people: &People,
     path: &[u8],
     out: &mut Vec<u8>,
 ) -> Result<(), AllocError>
     ensures { OnOk result (out.new.items ≡ out.old.items
-        ++ flat_map (may_line gone path.now node.now) (persons_in people.now)) }
+        ++ flat_map (may_line gone path.now (view_acl file.now)) (persons_in people.now)) }
 {
     for place in 0..people.requesters.len() {
-        push_may_at(gone, node, people, place, path, out)?;
+        push_may_at(gone, file, people, place, path, out)?;
     }
     Ok(())
 }
@@ -244,16 +246,16 @@ fn push_each_who_may(
 pub(super) fn push_all_who_may(
     each: bool,
     gone: bool,
-    node: &Node,
+    file: &FileAcl<'_>,
     people: &People,
     path: &[u8],
     out: &mut Vec<u8>,
 ) -> Result<(), AllocError>
     ensures { OnOk result (out.new.items ≡ out.old.items
-        ++ lines_if each (may_line gone path.now node.now) (persons_in people.now)) }
+        ++ lines_if each (may_line gone path.now (view_acl file.now)) (persons_in people.now)) }
 {
     if !each {
         return Ok(());
     }
-    push_each_who_may(gone, node, people, path, out)
+    push_each_who_may(gone, file, people, path, out)
 }

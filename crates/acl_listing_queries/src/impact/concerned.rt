@@ -1,13 +1,14 @@
 //! Whom changes concern, of those who are asked about and of anybody.
 ghost use Rattle.std.specs.Prelude.{◌≡◌, ◌++◌, ◌&&◌, OnOk, nat_eq};
+ghost use Rattle.acl_bridge.specs.Files.{view_acl};
 ghost use Rattle.acl_listing_queries.specs.Concerns.{concern_of};
 ghost use Rattle.acl_listing_queries.specs.Impacting.{Tells, TellsImpact, told_at};
 
 use super::asked::{push_all_who_may, push_anybody, push_those};
 use crate::impact_lines::push_path;
 use crate::people::People;
-use acl_audit::is_same_file;
-use acl_tree::Node;
+use acl_access::is_same_file;
+use acl_bridge::FileAcl;
 use std::alloc::{AllocError, Global};
 
 /// Whom changes concern.
@@ -34,13 +35,13 @@ impl<'t> Concerned<'t> {
     pub fn push_impact(
         &self,
         alloc: Global,
-        before: &Node,
-        after: &Node,
+        before: &FileAcl<'_>,
+        after: &FileAcl<'_>,
         path: &[u8],
         out: &mut Vec<u8>,
     ) -> Result<(), AllocError>
-        ensures { OnOk result (Tells (TellsImpact (concern_of self.now) before.now after.now
-            path.now) out.old.items out.new.items) }
+        ensures { OnOk result (Tells (TellsImpact (concern_of self.now) (view_acl before.now)
+            (view_acl after.now) path.now) out.old.items out.new.items) }
     {
         // Nobody is asked about where owner, group and list are the same, however many there are.
         if is_same_file(before, after) {
@@ -58,14 +59,14 @@ impl<'t> Concerned<'t> {
     pub fn push_path(
         &self,
         gone: bool,
-        node: &Node,
+        file: &FileAcl<'_>,
         path: &[u8],
         out: &mut Vec<u8>,
     ) -> Result<(), AllocError>
         ensures { OnOk result (out.new.items
-            ≡ out.old.items ++ told_at gone (concern_of self.now) path.now node.now) }
+            ≡ out.old.items ++ told_at gone (concern_of self.now) path.now (view_acl file.now)) }
     {
         push_path(gone, path, out)?;
-        push_all_who_may(self.each, gone, node, self.people, path, out)
+        push_all_who_may(self.each, gone, file, self.people, path, out)
     }
 }

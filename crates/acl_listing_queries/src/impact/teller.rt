@@ -9,10 +9,11 @@ ghost use Rattle.acl_listing_queries.specs.Impacting.{Tells, TellsChange, told_o
 use super::changed::{changed_between, push_changed};
 use super::concerned::Concerned;
 use crate::between::ChangeTeller;
-use crate::files::node_of;
+use crate::files::owners_and_list;
 use crate::host::Host;
 use crate::impact_lines::push_apart;
 use crate::people::People;
+use acl_bridge::FileAcl;
 use acl_listings::{BlockFault, File, FileFault, faulty_line, read_file};
 use std::alloc::{AllocError, Global};
 
@@ -56,8 +57,12 @@ impl<'t> ImpactTeller<'t> {
             ≡ out.old.items ++ told_of gone (asking_by self.now) (view_file file.entry)) }
     {
         let path = file.path;
-        let node = node_of(alloc, file)?;
-        self.concerned().push_path(gone, &node, path, out)
+        let (owners, list) = owners_and_list(alloc, file)?;
+        let acl = FileAcl {
+            owners,
+            list: list.as_ref(),
+        };
+        self.concerned().push_path(gone, &acl, path, out)
     }
 
     /// Appends what is reported of a file that became another.
@@ -73,8 +78,16 @@ impl<'t> ImpactTeller<'t> {
     {
         let path = after.path;
         let changed = changed_between(&before, &after);
-        let old = node_of(alloc, before)?;
-        let new = node_of(alloc, after)?;
+        let (old_owners, old_list) = owners_and_list(alloc, before)?;
+        let (new_owners, new_list) = owners_and_list(alloc, after)?;
+        let old = FileAcl {
+            owners: old_owners,
+            list: old_list.as_ref(),
+        };
+        let new = FileAcl {
+            owners: new_owners,
+            list: new_list.as_ref(),
+        };
         self.concerned().push_impact(alloc, &old, &new, path, out)?;
         push_changed(self.written, changed, path, out)
     }

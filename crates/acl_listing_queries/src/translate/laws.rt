@@ -6,10 +6,10 @@ ghost use Rattle.acl_posix.specs.Entry.{EntryValue};
 ghost use Rattle.acl_posix.specs.Linux.{linux_list};
 ghost use Rattle.acl_posix.specs.Validity.{IsValid};
 ghost use Rattle.acl_bridge.specs.TranslationLaws.{DecideAlike};
-ghost use Rattle.acl_audit.specs.Changes.{IsAlikeToAll, file_of};
+ghost use Rattle.acl_access.specs.Changes.{IsAlikeToAll};
 ghost use Rattle.acl_listings.specs.Block.{FileValue, file_by};
 ghost use Rattle.acl_listings.specs.declared.lists.Lists.TheVariants.{Posix};
-ghost use Rattle.acl_listing_queries.specs.Files.{node_of};
+ghost use Rattle.acl_listing_queries.specs.Files.{file_of};
 ghost use Rattle.acl_listing_queries.specs.Host.{names_of_host};
 ghost use Rattle.acl_listing_queries.specs.TranslateLaws.{IsTold, TellsNothing, TellsNothingOf};
 ghost use Rattle.acl_listing_queries.specs.TranslateLaws.{with_told};
@@ -43,10 +43,10 @@ pub fn translations_decide_alike()
 pub fn translations_change_nothing()
     ensures alike { (names : Names) (attributes : Bool) (text : List ℕ) (file : FileValue)
         → file_by names text ≡ Ok file
-        → IsAlikeToAll (file_of (node_of file)) (file_of (node_of (with_told attributes file))) }
+        → IsAlikeToAll (file_of file) (file_of (with_told attributes file)) }
     ensures files { (names : Names) (attributes : Bool) (text : List ℕ) (file : FileValue)
         → file_by names text ≡ Ok file
-        → TellsNothing (node_of file) (node_of (with_told attributes file)) }
+        → TellsNothing (file_of file) (file_of (with_told attributes file)) }
     ensures blocks { (host : HostValue) (form : FormValue) (attributes : Bool)
         (text told : List ℕ) (file : FileValue) → IsTold host form attributes text file told
         → (block : List ℕ) × (told ≡ block ++ newline ∷ newline ∷ [])

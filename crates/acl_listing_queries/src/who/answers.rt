@@ -2,12 +2,12 @@
 ghost use Rattle.std.specs.Prelude.{◌≡◌, ◌++◌, ◌<◌, IfErr, IfOk, List, OnOk, bytes_eq, false, map};
 ghost use Rattle.std.specs.Prelude.{Ok, option_map};
 ghost use Rattle.std.specs.Option.{option_map_or};
-ghost use Rattle.acl_audit.specs.Reach.{reaches};
+ghost use Rattle.acl_access.specs.Reach.{reaches};
+ghost use Rattle.acl_bridge.specs.Files.{File, view_acl};
 ghost use Rattle.acl_listings.specs.Block.{FileValue, file_by};
 ghost use Rattle.acl_listings.specs.Faults.{IsFaultOf};
 ghost use Rattle.acl_listings.specs.Lines.{after_line};
-ghost use Rattle.acl_tree.specs.declared.node.Node.{Node};
-ghost use Rattle.acl_listing_queries.specs.Files.{node_of};
+ghost use Rattle.acl_listing_queries.specs.Files.{file_of};
 ghost use Rattle.acl_listing_queries.specs.WhoSteps.{AreAnswersOf, AreRight, IsAnsweredAt};
 ghost use Rattle.acl_listing_queries.specs.WhoSteps.{IsGranted, IsSearch, asked_of, asking_of};
 ghost use Rattle.acl_listing_queries.specs.WhoSteps.{kept_at, names_by, whos_of};
@@ -15,14 +15,14 @@ ghost use Rattle.acl_listing_queries.specs.WhoText.{who_text};
 
 use super::asked::Asked;
 use super::lines::{push_letters_lines, push_may_lines};
-use crate::files::node_of;
+use crate::files::owners_and_list;
 use crate::host::Host;
 use crate::people::People;
-use acl_audit::{letters_of_each, places_of_those_who_may, which_may};
+use acl_access::{letters_of_each, places_of_those_who_may, which_may};
+use acl_bridge::FileAcl;
 use acl_listings::{FileFault, MAX_BLOCK, lines_behind, path_of, read_file};
 use acl_nfs4::Mask;
 use acl_posix::Perms;
-use acl_tree::Node;
 use std::alloc::{AllocError, Global};
 
 /// Of how many files with different lines the answers are kept at once.
@@ -89,32 +89,33 @@ pub(super) struct Users<'t> {
 }
 
 impl<'t> Users<'t> {
-    /// What the node grants the users. It fails only if memory runs out.
-    fn granted(&self, alloc: Global, node: &Node) -> Result<Granted, AllocError>
-        ensures { IfOk result (IsGranted (whos_of self.now) (asked_of self.now.asked) node.now) }
+    /// What the file grants the users. It fails only if memory runs out.
+    fn granted(&self, alloc: Global, file: &FileAcl<'_>) -> Result<Granted, AllocError>
+        ensures { IfOk result (IsGranted (whos_of self.now) (asked_of self.now.asked)
+            (view_acl file.now)) }
     {
         let requesters = self.people.requesters.as_slice();
         match self.asked {
-            Asked::Letters => Ok(Granted::Letters(letters_of_each(alloc, requesters, node)?)),
-            Asked::AllLetters => Ok(Granted::Masks(letters_of_each(alloc, requesters, node)?)),
+            Asked::Letters => Ok(Granted::Letters(letters_of_each(alloc, requesters, file)?)),
+            Asked::AllLetters => Ok(Granted::Masks(letters_of_each(alloc, requesters, file)?)),
             Asked::Perms(perms) => {
-                let places = places_of_those_who_may(alloc, requesters, node, perms)?;
+                let places = places_of_those_who_may(alloc, requesters, file, perms)?;
                 Ok(Granted::Those(places))
             }
         }
     }
 
-    /// Of each user whether to search the node is granted, if that is asked. It fails only if
+    /// Of each user whether to search the file is granted, if that is asked. It fails only if
     /// memory runs out.
-    fn search(&self, alloc: Global, node: &Node) -> Result<Vec<bool>, AllocError>
-        ensures { IfOk result (λ marks. IsSearch (whos_of self.now) self.now.reach node.now
-            marks.items) }
+    fn search(&self, alloc: Global, file: &FileAcl<'_>) -> Result<Vec<bool>, AllocError>
+        ensures { IfOk result (λ marks. IsSearch (whos_of self.now) self.now.reach
+            (view_acl file.now) marks.items) }
     {
         if self.reach {
             which_may(
                 alloc,
                 self.people.requesters.as_slice(),
-                node,
+                file,
                 Perms::EXECUTE,
             )
         } else {
@@ -130,9 +131,13 @@ impl<'t> Users<'t> {
         ensures refused { IfErr result (IsFaultOf (file_by (names_by self.now) text.now)) }
     {
         let file = read_file(alloc, text, self.host)?;
-        let node = node_of(alloc, file)?;
-        let granted = self.granted(alloc, &node)?;
-        let search = self.search(alloc, &node)?;
+        let (owners, list) = owners_and_list(alloc, file)?;
+        let acl = FileAcl {
+            owners,
+            list: list.as_ref(),
+        };
+        let granted = self.granted(alloc, &acl)?;
+        let search = self.search(alloc, &acl)?;
         let lines = Vec::from_slice(alloc, lines_behind(text))?;
         Ok(Kept {
             lines,
@@ -149,10 +154,10 @@ impl<'t> Users<'t> {
         path: &[u8],
         out: &mut Vec<u8>,
     ) -> Result<(), AllocError>
-        ensures { (file : FileValue) (way : List Node) → AreAnswersOf self.now file kept.now
+        ensures { (file : FileValue) (way : List File) → AreAnswersOf self.now file kept.now
             → reach.now ≡ map (reaches way) (whos_of self.now)
             → OnOk result (out.new.items ≡ out.old.items ++ who_text (asking_of self.now).persons
-            (asking_of self.now).asked way path.now (node_of file)) }
+            (asking_of self.now).asked way path.now (file_of file)) }
     {
         let names = self.people.names.as_slice();
         match &kept.granted {
@@ -238,13 +243,13 @@ impl<'t> Answers<'t> {
         text: &[u8],
         out: &mut Vec<u8>,
     ) -> Result<(), AllocError>
-        ensures { (file : FileValue) (way : List Node)
+        ensures { (file : FileValue) (way : List File)
             → file_by (names_by self.now.users) text.now ≡ Ok file
             → IsAnsweredAt self.now place file
             → reach.now ≡ map (reaches way) (whos_of self.now.users)
             → OnOk result (out.new.items ≡ out.old.items
             ++ who_text (asking_of self.now.users).persons (asking_of self.now.users).asked way
-            file.path (node_of file)) }
+            file.path (file_of file)) }
     {
         match (self.at(place), path_of(text)) {
             (Some(kept), Some(path)) => self.users.push(kept, reach, path, out),

@@ -3,7 +3,7 @@ ghost use Rattle.std.specs.Prelude.{◌≡◌, ◌++◌, OnOk, map};
 ghost use Rattle.acl_listing_queries.specs.WhoSteps.{letters_lines, may_line_at, may_lines};
 ghost use Rattle.acl_listing_queries.specs.WhoText.{letters_line_if};
 
-use acl_audit::{LetterSet, is_set, letters_at, push_letters_line, push_may_line};
+use acl_access::{LetterSet, is_set, letters_at, push_letters_line, push_may_line};
 use std::alloc::AllocError;
 
 /// Appends the line of somebody who has a letter.

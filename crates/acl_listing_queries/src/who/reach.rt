@@ -4,7 +4,7 @@ ghost use Rattle.std.specs.Prelude.{None, Some, option_map};
 ghost use Rattle.std.specs.List.{fold, list_any};
 ghost use Rattle.acl_listings.specs.Block.{file_by, path_of};
 ghost use Rattle.acl_names.specs.Requester.{Identity};
-ghost use Rattle.acl_tree.specs.declared.node.Node.{Node};
+ghost use Rattle.acl_bridge.specs.Files.{File};
 ghost use Rattle.acl_listing_queries.specs.Readings.{Reading, reading_of};
 ghost use Rattle.acl_listing_queries.specs.Telling.{IsPart, UnlessMemory};
 ghost use Rattle.acl_listing_queries.specs.Ways.{known_way, way_of, way_on};
@@ -19,7 +19,7 @@ use super::answers::Answers;
 use super::way::{Folder, leave, reach_of};
 use crate::above::is_above;
 use crate::blocks::BlockTeller;
-use acl_audit::both;
+use acl_access::both;
 use acl_listings::{BlockFault, FileFault, path_of};
 use std::alloc::{AllocError, Global};
 
@@ -56,11 +56,11 @@ fn push_block<'t>(
 ) -> Result<usize, FileFault>
     ensures users { answers.new.users ≡ answers.old.users }
     ensures right { AreRight answers.old → AreRight answers.new }
-    ensures told { (way : Option (List Node)) → AreRight answers.old
+    ensures told { (way : Option (List File)) → AreRight answers.old
         → option_map (λ marks. marks.now) reach.entry ≡ marks_of (whos_of answers.old.users) way
         → IsPart (part_by (asking_of answers.old.users)
         (file_by (names_by answers.old.users) text.now) way) result out.old.items out.new.items }
-    ensures placed { (way : Option (List Node)) → AreRight answers.old
+    ensures placed { (way : Option (List File)) → AreRight answers.old
         → answers.old.users.reach ≡ true
         → option_map (λ marks. marks.now) reach.entry ≡ marks_of (whos_of answers.old.users) way
         → IsPlacedBy (whos_of answers.old.users) answers.new result

@@ -1,7 +1,7 @@
 //! The folders on the way to a file of a listing.
 ghost use Rattle.std.specs.Prelude.{◌≡◌, List, [], Some, false, map, option_map};
 ghost use Rattle.std.specs.List.{list_any};
-ghost use Rattle.acl_audit.specs.Reach.{reaches};
+ghost use Rattle.acl_access.specs.Reach.{reaches};
 ghost use Rattle.acl_names.specs.Requester.{Identity};
 ghost use Rattle.acl_listing_queries.specs.Readings.{Reading};
 ghost use Rattle.acl_listing_queries.specs.Ways.{known_way, those_above};

@@ -13,7 +13,8 @@ use super::question::Question;
 use super::text::push_decision;
 use super::way::Way;
 use crate::blocks::push_fault;
-use crate::files::node_of;
+use crate::files::owners_and_list;
+use acl_bridge::FileAcl;
 use acl_cli::{Ending, Failure, RunFault};
 use acl_listings::{FileFault, read_file};
 use acl_queries::answer_line;
@@ -58,14 +59,18 @@ fn tell_block(
 {
     let file = read_file(alloc, text, question.host)?;
     let path = file.path;
-    let node = node_of(alloc, file)?;
+    let (owners, list) = owners_and_list(alloc, file)?;
+    let acl = FileAcl {
+        owners,
+        list: list.as_ref(),
+    };
     let folders = way.tell(alloc, question, path)?;
     let (requester, perms) = (question.requester, question.perms);
-    let granted = node.may(requester, perms) && folders.reach;
+    let granted = acl.may(requester, perms) && folders.reach;
     let mut told = Vec::new(alloc);
     told.extend_from_slice(answer_line(granted).as_bytes())?;
     told.extend_from_slice(folders.text.as_slice())?;
-    push_decision(alloc, "file", path, &node, requester, perms, &mut told)?;
+    push_decision(alloc, "file", path, &acl, requester, perms, &mut told)?;
     Ok(told)
 }
 

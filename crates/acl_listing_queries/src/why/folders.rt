@@ -11,7 +11,8 @@ ghost use Rattle.acl_listing_queries.specs.WhyText.{WhyAsking};
 use super::question::Question;
 use super::text::push_decision;
 use crate::above::holds;
-use crate::files::node_of;
+use crate::files::owners_and_list;
+use acl_bridge::FileAcl;
 use acl_listings::{BlockFault, FileFault, path_of, read_file};
 use acl_posix::Perms;
 use std::alloc::Global;
@@ -73,11 +74,15 @@ impl<'t> Folders<'t> {
             Err(FileFault::Memory) => return Err(FileFault::Memory),
         };
         let path = file.path;
-        let node = node_of(alloc, file)?;
+        let (owners, list) = owners_and_list(alloc, file)?;
+        let acl = FileAcl {
+            owners,
+            list: list.as_ref(),
+        };
         let requester = question.requester;
         let perms = Perms::EXECUTE;
         let out = &mut self.text;
-        let granted = push_decision(alloc, "folder", path, &node, requester, perms, out)?;
+        let granted = push_decision(alloc, "folder", path, &acl, requester, perms, out)?;
         self.reach = granted && self.reach;
         self.last = Some(text);
         Ok(())

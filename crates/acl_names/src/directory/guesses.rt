@@ -82,7 +82,7 @@ fn find_at_guess<'a, T: Named>(
 /// What stands before the first separator, its hash for `uid_by_hash` and `gid_by_hash`, and what
 /// stands after the separator. `None` if there is no separator within the first `MAX_NAME_LEN` + 1
 /// bytes.
-pub fn split_name(separator: u8, text: &[u8]) -> Option<(&[u8], u64, &[u8])>
+pub(crate) fn split_name(separator: u8, text: &[u8]) -> Option<(&[u8], u64, &[u8])>
     ensures parts { IfSome result (λ found. text.now ≡ found.0.now ++ separator ∷ found.2.now) }
     ensures first { IfSome result (λ found. list_any (λ x. x == separator) found.0.now ≡ false) }
 {

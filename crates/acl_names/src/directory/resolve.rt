@@ -5,7 +5,8 @@ ghost use Rattle.acl_names.specs.Directory.{gid_of, uid_of};
 ghost use Rattle.acl_names.specs.Ids.{written_id};
 ghost use Rattle.acl_names.specs.Names.{BeginsWithId, Names, names_of, resolved};
 
-use super::{Directory, Gid, Uid, WrittenId, split_name};
+use super::guesses::split_name;
+use super::{Directory, Gid, Uid, WrittenId};
 use crate::read_decimal_until;
 
 /// Why a text means no user, or no group.

@@ -1,11 +1,11 @@
 //! What the words of `compare` ask, and the answer.
-ghost use Rattle.std.specs.Prelude.{IfOk, MatchOption, Ok};
-ghost use Rattle.acl_queries.specs.Differences.{AreAlike, Differ};
+ghost use Rattle.std.specs.Prelude.{◌≡◌, IfOk, MatchOption, Ok};
+ghost use Rattle.acl_queries.specs.Differences.{AreAlike, Differ, owners_of};
 
 use super::text::answer_text;
 use crate::command::list::list_field;
 use crate::command::query::Query;
-use acl_bridge::{AnyAcl, list_difference};
+use acl_bridge::{AnyAcl, FileAcl, list_difference};
 use acl_cli::Failure;
 use acl_cli::ids::{gid_field, uid_field};
 use acl_names::{Gid, Uid};
@@ -34,17 +34,30 @@ impl Model for Comparison {
 }
 
 impl Comparison {
+    /// The owner and the group.
+    fn owners(&self) -> Owners
+        ensures { result ≡ owners_of self.now }
+    {
+        Owners {
+            owner: self.owner,
+            group: self.group,
+        }
+    }
+
     /// What the lists decide differently, for whom; none if they decide alike for everyone.
     fn difference(&self, alloc: Global) -> Result<Option<Difference>, AllocError>
         ensures { IfOk result (λ found. MatchOption found (AreAlike self.now)
             (Differ self.now)) }
     {
-        let owners = Owners {
-            owner: self.owner,
-            group: self.group,
+        let first = FileAcl {
+            owners: self.owners(),
+            list: self.first.as_ref(),
         };
-        let (first, second) = (self.first.as_ref(), self.second.as_ref());
-        list_difference(alloc, first, &owners, second, &owners)
+        let second = FileAcl {
+            owners: self.owners(),
+            list: self.second.as_ref(),
+        };
+        list_difference(alloc, &first, &second)
     }
 }
 

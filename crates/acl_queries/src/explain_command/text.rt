@@ -4,13 +4,13 @@ ghost use Rattle.acl_nfs4.specs.Evaluation.{Grants};
 ghost use Rattle.acl_nfs4.specs.Mask.{mask_of};
 ghost use Rattle.acl_nfs4.specs.Who.{matches};
 ghost use Rattle.acl_posix.specs.Perms.{bits_of};
-ghost use Rattle.acl_queries.specs.ExplainText.{Decides, IsExplanation, reasons};
-ghost use Rattle.acl_queries.specs.DecideAnswer.{answer_line};
+ghost use Rattle.acl_queries.specs.ExplainText.{Decides, IsExplanation};
+ghost use Rattle.acl_queries.specs.Reasons.{reasons};
 
 use super::question::Question;
 use crate::command::acl::empty_directory;
 use crate::command::answer::answer_line;
-use crate::reasons::{FileRequest, push_nfs4_reasons, push_posix_reasons};
+use crate::reasons::{FileRequest, push_reasons};
 use acl_bridge::AnyAcl;
 use acl_names::{Directory, Gid, Requester, Uid};
 use acl_nfs4::{Acl4, mask_of};
@@ -54,11 +54,7 @@ impl Question {
         ensures { OnOk result (out.new.items ≡ out.old.items
             ++ reasons directory.now self.now.asked self.now.acl) }
     {
-        let asked = self.asked();
-        match &self.acl {
-            AnyAcl::Posix(acl) => push_posix_reasons(&asked, acl, directory, out),
-            AnyAcl::Nfs4(acl) => push_nfs4_reasons(&asked, acl, directory, out),
-        }
+        push_reasons(&self.asked(), self.acl.as_ref(), directory, out)
     }
 }
 

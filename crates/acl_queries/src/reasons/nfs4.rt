@@ -91,7 +91,7 @@ fn push_bit_if(
 
 /// Appends a line for each bit that is asked for: its letter, and the entry that speaks first of
 /// it, as [`Explain`](crate::Explain) tells it. It fails only if memory runs out.
-pub fn push_nfs4_reasons(
+pub(super) fn push_nfs4_reasons(
     asked: &FileRequest<'_>,
     acl: &Acl4,
     directory: &Directory,

@@ -127,7 +127,7 @@ fn push_class_reasons(
 
 /// Appends the class of entries that decides, its entries, and the mask if it limits them, one a
 /// line, as [`Explain`](crate::Explain) tells it. It fails only if memory runs out.
-pub fn push_posix_reasons(
+pub(super) fn push_posix_reasons(
     asked: &FileRequest<'_>,
     acl: &Acl,
     directory: &Directory,

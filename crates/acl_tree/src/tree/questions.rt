@@ -7,7 +7,6 @@ ghost use Rattle.acl_tree.specs.Commands.{get, check, check4, translate, granted
 ghost use Rattle.acl_tree.specs.Refusals.{ComesTo};
 
 use super::Tree;
-use crate::node_acl::grants4;
 use crate::refusal::Refusal;
 use crate::{Boxed, NodeAcl, Path, Reply, TreeFault};
 use acl_names::{Directory, Requester, Uid};
@@ -80,7 +79,7 @@ impl Tree {
         };
         let stranger = Requester::new(uid, Vec::new(alloc));
         let requester = requester_or_stranger(directory, &stranger);
-        Ok(granted_or_denied(grants4(acl, node.owner, node.group, requester, mask)))
+        Ok(granted_or_denied(acl.grants4(node.owner, node.group, requester, mask)))
     }
 
     /// The POSIX lists of the node at the path as NFSv4 lists.

@@ -1,6 +1,7 @@
 //! What `impact` tells of a node.
 
 use crate::nodes::NodeText;
+use acl_bridge::FileAcl;
 use acl_listing_queries::Concerned;
 use acl_tree::{Node, Tree};
 use std::alloc::{AllocError, Global};
@@ -25,9 +26,20 @@ impl<'t> NodeText for ImpactText<'t> {
         node: &Node,
         out: &mut Vec<u8>,
     ) -> Result<(), AllocError> {
+        let after = FileAcl {
+            owners: node.owners(),
+            list: node.acl.deciding_list(),
+        };
         match self.before.find(path) {
-            Some(before) => self.concerned.push_impact(alloc, before, node, path, out),
-            None => self.concerned.push_path(false, node, path, out),
+            Some(before) => {
+                let before = FileAcl {
+                    owners: before.owners(),
+                    list: before.acl.deciding_list(),
+                };
+                self.concerned
+                    .push_impact(alloc, &before, &after, path, out)
+            }
+            None => self.concerned.push_path(false, &after, path, out),
         }
     }
 }

@@ -2,10 +2,12 @@
 ghost use Rattle.std.specs.Prelude.{◌≡◌, ◌++◌, OnOk, map, option_map};
 ghost use Rattle.acl_listing_queries.specs.Asked.{persons_in};
 ghost use Rattle.acl_posix.specs.Perms.{bits_of};
+ghost use Rattle.acl_tree.specs.Nodes.{file_of};
 ghost use Rattle.acl_tree_queries.specs.WhoAnswer.{who_text_on};
 
 use crate::nodes::NodeText;
-use acl_audit::way_in;
+use acl_audit::{way_in, which_reach};
+use acl_bridge::FileAcl;
 use acl_listing_queries::{People, push_who};
 use acl_posix::Perms;
 use acl_tree::{Node, Tree};
@@ -30,9 +32,15 @@ impl<'t> WhoText<'t> {
     ) -> Result<(), AllocError>
         ensures { OnOk result (out.new.items ≡ out.old.items
             ++ who_text_on (persons_in self.now.people.now) (option_map bits_of self.now.perms)
-            (map (λ folder. folder.now) way.now) (path.now, node.now)) }
+            (map (λ folder. file_of folder.now) way.now) (path.now, node.now)) }
     {
-        push_who(alloc, self.people, self.perms, way, path, node, out)
+        let reach = which_reach(alloc, self.people.requesters.as_slice(), way)?;
+        let reach = reach.as_slice();
+        let file = FileAcl {
+            owners: node.owners(),
+            list: node.acl.deciding_list(),
+        };
+        push_who(alloc, self.people, self.perms, reach, path, &file, out)
     }
 }
 

@@ -1,7 +1,6 @@
 //! Tests of directories.
-use acl_names::{Directory, Gid, Group, Requester, SetupFault, Uid, User, split_name};
+use acl_names::{Directory, Gid, Group, Requester, SetupFault, Uid, User};
 use std::alloc::Global;
-use std::test::Fail;
 use tests_common::{directory, group, user};
 
 /// Why these users and groups are refused, in this domain.
@@ -162,45 +161,4 @@ fn directories_of_few_of_many_and_of_too_many(rt: HostRuntime) {
         let refused = faults_of_many(rt.alloc(), count);
         assert_eq!(rt; refused, Some([wanted; 2]), "{count}");
     }
-}
-
-/// Whether the uid is that of this number; where there is none, whether none is wanted.
-fn is_uid(uid: Option<Uid>, wanted: Option<u32>) -> bool {
-    match uid {
-        Some(uid) => Some(uid.value()) == wanted,
-        None => wanted.is_none(),
-    }
-}
-
-/// Whether the user and the group of this name are found, where this is taken for its hash.
-fn are_hashed(
-    alloc: Global,
-    hash: u64,
-    name: &[u8],
-    (uid, gid): (Option<u32>, Option<u32>),
-) -> Option<[bool; 2]> {
-    let directory = directory(alloc)?;
-    Some([
-        is_uid(directory.uid_by_hash(hash, name), uid),
-        is_gid(directory.gid_by_hash(hash, name), gid),
-    ])
-}
-
-#[test]
-fn names_are_found_whatever_their_hash(rt: HostRuntime) -> Result<(), Fail> {
-    let (name, hash, _) = split_name(b':', b"alice:rw-").ok_or("a name")?;
-    let found = are_hashed(rt.alloc(), hash, name, (Some(1000), None));
-    assert_eq!(rt; found, Some([true; 2]));
-    const ROWS: [(&[u8], (Option<u32>, Option<u32>)); 3] = [
-        (b"bob", (Some(1001), None)),
-        (b"ops", (None, Some(60))),
-        (b"b\xff", (None, None)),
-    ];
-    for hash in [0, 1, u64::MAX] {
-        for (name, ids) in ROWS {
-            let found = are_hashed(rt.alloc(), hash, name, ids);
-            assert_eq!(rt; found, Some([true; 2]), "{hash} {name:?}");
-        }
-    }
-    Ok(())
 }

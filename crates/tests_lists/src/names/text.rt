@@ -2,7 +2,7 @@
 use crate::texts::is_text;
 use acl_names::{
     Letter, WrittenId, is_domain, is_name, push_decimal, push_id, push_letters, put_decimal,
-    read_decimal, read_decimal_until, read_letters, split_name, split_word, trim_blanks,
+    read_decimal, read_decimal_until, read_letters, split_word, trim_blanks,
 };
 use std::alloc::Global;
 use std::test::Fail;
@@ -26,9 +26,6 @@ fn plain_texts_are_read_fast(rt: HostRuntime) -> Result<(), Fail> {
     let (id, rest) = read_decimal_until(b':', b"4294967294:rwx").ok_or("a decimal")?;
     assert_eq!(rt; id, 4294967294);
     assert!(rt; rest == b"rwx".as_slice());
-    let (name, _, rest) = split_name(b':', b"alice:rw-").ok_or("a name")?;
-    assert!(rt; name == b"alice".as_slice());
-    assert!(rt; rest == b"rw-".as_slice());
     Ok(())
 }
 

@@ -6,7 +6,7 @@ use Rattle.std.specs.Borrow.{Bor}
 use Rattle.std.specs.declared.alloc.Global.{Global}
 use Rattle.acl_tree.specs.Path.{is_slash, or_root}
 use Rattle.acl_tree.specs.declared.node.Node.{Node}
-use Rattle.acl_audit.proofs.ReachLemmas.{Made, next_found, none_found}
+use Rattle.acl_access.proofs.ReachLemmas.{Made, next_found, none_found}
 use Rattle.acl_audit.proofs.reach.way_in.Goals as goal
 use Rattle.acl_audit.proofs.reach.way_in.Goals.{then-path-place-eq47+in_ok-push_folder, else-path-place-eq47}
 

@@ -2,7 +2,7 @@ use Rattle.std.proofs.Common.{◌≡◌, map as each, take}
 use Rattle.std.specs.FinMap as map
 use Rattle.std.specs.List.{filter_map}
 use Rattle.acl_tree.specs.Path.{is_slash, or_root}
-use Rattle.acl_audit.specs.Reach.{places_from}
+use Rattle.acl_access.specs.Marks.{places_from}
 use Rattle.acl_audit.proofs.reach.way_in.Given as goal
 
 -- the folders in front of the slashes so far

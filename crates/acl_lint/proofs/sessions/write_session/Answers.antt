@@ -1,13 +1,15 @@
 use Rattle.std.proofs.Common.{rules, ◌≡◌, ◌≤◌, ◌∙◌, ◌++◌, [], ap, arith, length, subst}
 use Rattle.std.proofs.KnownBytes.{Appends-trans}
 use Rattle.std.specs.Io.KnownBytes.{Keeps}
+use Rattle.acl_names.proofs.Cutting.{parts-few}
+use Rattle.acl_names.specs.Bytes.{newline}
 use Rattle.acl_lang.specs.declared.limits.TheConstants.{MAX_TEXT_LEN}
 use Rattle.acl_cli.specs.Output.{AppendsFront}
 use Rattle.acl_cli.proofs.OutputLemmas.{Appends-nothing}
 use Rattle.acl_cli.proofs.OutputLemmas.{front_among, front_so_far}
 use Rattle.acl_lint.specs.LintText.{session_text}
 use Rattle.acl_lint.proofs.AnswerLemmas.{on_err}
-use Rattle.acl_lint.proofs.SessionLemmas.{parts-few, session-next, session-sent, told_from, told_of_parts}
+use Rattle.acl_lint.proofs.SessionLemmas.{session-next, session-sent, told_from, told_of_parts}
 use Rattle.acl_lint.proofs.sessions.write_session.Goals as goal
 
 pub loop-line-init : goal.loop-line-init
@@ -19,7 +21,7 @@ loop-line-init g c =
     let kept : Keeps out out = search rules in
     let empty : c.new-kept.result.items ≡ [] = search rules in
     let few : length text ≤ MAX_TEXT_LEN = c.requires in
-    let many = parts-few text in
+    let many = parts-few newline text in
     let as_many = ap length c.new-lines.ensures in
     record {
       sent = [];

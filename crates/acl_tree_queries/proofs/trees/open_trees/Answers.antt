@@ -1,4 +1,4 @@
-use Rattle.std.proofs.Common.{rules, ◌≡◌, ◌∙◌, ℕ, List, Ok, ap, inr, subst, sym}
+use Rattle.std.proofs.Common.{rules, ◌≡◌, ◌∙◌, ℕ, Err, IfErr, List, Ok, Result, ap, inr, subst, sym}
 use Rattle.std.specs.Cmp.Lexicographic.{slice_cmp}
 use Rattle.std.specs.Ordering.{nat_cmp}
 use Rattle.acl_names.specs.Ascending.{IsAscending}
@@ -8,9 +8,11 @@ use Rattle.acl_listing_queries.specs.Asked.{persons_in}
 use Rattle.acl_listing_queries.specs.People.{setup_people_in}
 use Rattle.acl_listing_queries.specs.Person.{Person}
 use Rattle.acl_listing_queries.proofs.AskedLemmas.{persons_again}
+use Rattle.acl_cli.specs.declared.failure.Failure.{Failure}
 use Rattle.acl_setup.specs.Opened.{Opens}
 use Rattle.acl_tree_queries.specs.TreeQuestions.{IsTreesFailure}
 use Rattle.acl_tree_queries.specs.Trees.{tree_left}
+use Rattle.acl_tree_queries.specs.declared.trees.Trees.{Trees}
 use Rattle.acl_tree_queries.proofs.trees.open_trees.Goals as goal
 
 pub returns-in_err-people-clause-refused : goal.returns-in_err-people-clause-refused
@@ -19,7 +21,8 @@ returns-in_err-people-clause-refused g c =
     let texts = c.in_ok-texts.texts in
     let directory = c.in_ok-directory.directory in
     let tree = c.in_ok-directory.tree in
-    let is : IsTreesFailure (g.F.OpenFiles.bytes_of c.args.files.now) rows c.in_err-people.field-0.0 =
+    let failure : Failure = c.in_err-people.field-0.0 in
+    let is : IsTreesFailure (g.F.OpenFiles.bytes_of c.args.files.now) rows failure =
     inr (inr (record {
       setup = texts.setup.items;
       setup_is = c.in_ok-texts.ensures.setup;
@@ -28,7 +31,8 @@ returns-in_err-people-clause-refused g c =
       opened = subst (λ (bytes : List ℕ). Opens bytes directory tree) c.as_slice.ensures.value c.in_ok-directory.ensures.opened;
       explains = c.in_err-people.ensures.refused;
     })) in
-    search (rules, is)
+    let same : c.from_residual-in_err-people.result ≡ Err failure = search rules in
+    subst (λ (result : Result Trees Failure). IfErr result (IsTreesFailure (g.F.OpenFiles.bytes_of c.args.files.now) rows)) (sym same) is
 
 pub returns-clause-opened : goal.returns-clause-opened
 returns-clause-opened g c =

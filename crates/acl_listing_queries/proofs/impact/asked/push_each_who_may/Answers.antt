@@ -1,6 +1,7 @@
 use Rattle.std.proofs.Common.{◌≡◌, ◌∙◌, ◌+◌, ◌++◌, ◌≤◌, suc, ap, append_assoc, arith, length, sym, take}
 use Rattle.std.specs.List.{flat_map}
 use Rattle.std.specs.Prelude.{slice_get}
+use Rattle.acl_bridge.specs.Files.{view_acl}
 use Rattle.acl_listing_queries.specs.ImpactSteps.{line_at}
 use Rattle.acl_listing_queries.specs.Impacting.{may_line}
 use Rattle.acl_listing_queries.specs.Asked.{names_of_people, persons_in}
@@ -10,7 +11,7 @@ use Rattle.acl_listing_queries.proofs.impact.asked.push_each_who_may.Goals as go
 pub loop-place-preserved : goal.loop-place-preserved
 loop-place-preserved c =
     let persons = persons_in c.args.people.now in
-    let line = may_line c.args.gone c.args.path.now c.args.node.now in
+    let line = may_line c.args.gone c.args.path.now (view_acl c.args.file.now) in
     let at = c.loop-place.place in
     let out = c.args.out.now.items in
     let one : at + 1 ≡ suc at = omega arith in
@@ -25,4 +26,4 @@ returns c =
     let past : length people.requesters.items ≤ c.loop-place.place = search arith in
     c.loop-place.invariant
     ∙ ap (λ lines. c.args.out.now.items ++ lines)
-    (lines_all (may_line c.args.gone c.args.path.now c.args.node.now) (names_of_people people) people.requesters.items c.loop-place.place past)
+    (lines_all (may_line c.args.gone c.args.path.now (view_acl c.args.file.now)) (names_of_people people) people.requesters.items c.loop-place.place past)

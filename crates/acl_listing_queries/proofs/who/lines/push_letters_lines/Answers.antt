@@ -1,7 +1,7 @@
 use Rattle.std.proofs.Common.{rules, ◌≡◌, ◌∙◌, ◌<◌, ◌≤◌, ◌++◌, List, ℕ, ap, arith, get_or, length, map}
 use Rattle.std.specs.List.{enumerate_from, flat_map}
 use Rattle.std.proofs.lemmas.List.{length-map, take_all}
-use Rattle.acl_audit.proofs.ReachLemmas.{next_told}
+use Rattle.acl_access.proofs.ReachLemmas.{next_told}
 use Rattle.acl_listing_queries.specs.WhoSteps.{letters_line_at}
 use Rattle.acl_listing_queries.proofs.LinesLemmas.{name_at}
 use Rattle.acl_listing_queries.proofs.who.lines.push_letters_lines.Goals as goal

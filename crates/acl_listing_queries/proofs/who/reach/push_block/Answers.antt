@@ -1,7 +1,7 @@
 use Rattle.std.proofs.Common.{rules, ◌≡◌, ◌∙◌, ◌++◌, Ok, Some, ap, map, sym}
-use Rattle.acl_audit.specs.Reach.{reaches}
+use Rattle.acl_access.specs.Reach.{reaches}
 use Rattle.acl_listings.specs.Block.{file_by}
-use Rattle.acl_listing_queries.specs.Files.{node_of}
+use Rattle.acl_listing_queries.specs.Files.{file_of}
 use Rattle.acl_listing_queries.specs.WhoSteps.{asking_of, marks_of, names_by, whos_of}
 use Rattle.acl_listing_queries.specs.WhoText.{who_text}
 use Rattle.acl_listing_queries.specs.declared.who.answers.Users.{Users}
@@ -19,10 +19,10 @@ returns-in_ok-push_at-in-Some-clause-told c = λ way right same.
     let told = told_on_way (asking_of users) (whos_of users) text way c.in-Some.reach.now file found.1 shown in
     let reads : file_by (names_by c.find.new.self.users) text ≡ Ok file = ap (λ (users : Users). file_by (names_by users) text) now ∙ found.1 in
     let marks : c.in-Some.reach.now ≡ map (reaches told.0) (whos_of c.find.new.self.users) = told.1 ∙ ap (λ (users : Users). map (reaches told.0) (whos_of users)) (sym now) in (
-      who_text (asking_of users).persons (asking_of users).asked told.0 file.path (node_of file),
+      who_text (asking_of users).persons (asking_of users).asked told.0 file.path (file_of file),
       told.2,
       c.in_ok-push_at-in-Some.ensures file told.0 reads found.2 marks
-          ∙ ap (λ (users : Users). c.args.out.now.items ++ who_text (asking_of users).persons (asking_of users).asked told.0 file.path (node_of file)) now,
+          ∙ ap (λ (users : Users). c.args.out.now.items ++ who_text (asking_of users).persons (asking_of users).asked told.0 file.path (file_of file)) now,
     )
 
 pub returns-in_ok-push_at-in-Some-clause-placed : goal.returns-in_ok-push_at-in-Some-clause-placed

@@ -1,15 +1,14 @@
 use Rattle.std.proofs.Common.{rules, ◌≡◌, ◌∙◌, ◌++◌, ◌&&◌, ℕ, Err, IfErr, List, Ok, Result, Vec, ap, codes, subst, sym}
 use Rattle.std.specs.declared.alloc.Global.{Global}
-use Rattle.acl_audit.specs.Reach.{reaches}
+use Rattle.acl_access.specs.Reach.{reaches}
 use Rattle.acl_listings.specs.Block.{FileValue, file_by}
 use Rattle.acl_listings.specs.Faults.{IsFaultOf}
 use Rattle.acl_listings.specs.Views.{view_file}
 use Rattle.acl_listings.specs.declared.fault.FileFault.{FileFault}
 use Rattle.acl_listings.proofs.PathLemmas.{path_of-file}
 use Rattle.acl_queries.specs.DecideAnswer.{answer_line}
-use Rattle.acl_tree.specs.Nodes.{may}
-use Rattle.acl_tree.specs.declared.node.Node.{Node}
-use Rattle.acl_listing_queries.specs.Files.{node_of}
+use Rattle.acl_bridge.specs.Files.{File, may}
+use Rattle.acl_listing_queries.specs.Files.{file_of}
 use Rattle.acl_listing_queries.specs.Readings.{Reading, reading_of}
 use Rattle.acl_listing_queries.specs.Ways.{known_way, way_of}
 use Rattle.acl_listing_queries.specs.WhySteps.{IsUnknown, IsWayTold, asked_by}
@@ -39,20 +38,20 @@ returns-clause-told c = λ path earlier is kept.
     let file : FileValue = view_file c.in_ok-file.file in
     let reads : file_by asking.names text ≡ Ok file = search rules in
     let here : Reading = reading_of asking.names text in
-    let node : Node = node_of file in
+    let acl : File = file_of file in
     let folders : Folders = c.in_ok-folders.folders in
     let at : IsWayTold asking (way_of earlier here) here folders =
     c.in_ok-folders.ensures.told earlier here (way_to_it asking earlier text file reads path c.args.way.now is kept) (path_of-file asking.names text file reads) in
-    let granted : c.may.result ≡ may node asking.who asking.perms = search rules in
+    let granted : c.may.result ≡ may acl asking.who asking.perms = search rules in
     let both : c.if-may.granted ≡ (c.may.result && folders.reach) =
     elim c.if-may.branch [
       | then-may w ↦ w.granted-is ∙ ap (λ b. b && folders.reach) (sym w.if-may.true)
       | else-may w ↦ w.granted-is ∙ w.if-may.false ∙ ap (λ b. b && folders.reach) (sym w.if-may.false)
     ] in
-    let file_text : List ℕ = decision_text (codes "file") file.path node asking.who asking.perms in
+    let file_text : List ℕ = decision_text (codes "file") file.path acl asking.who asking.perms in
     let told : c.push_decision.new.out.items ≡ answer_line c.if-may.granted ++ folders.text.items ++ file_text = search rules in
-    let all : c.if-may.granted ≡ (may node asking.who asking.perms && reaches at.nodes asking.who) =
-    both ∙ ap (λ b. b && folders.reach) granted ∙ ap (λ b. may node asking.who asking.perms && b) at.reach in
-    part_known asking earlier text file reads at.nodes at.known
+    let all : c.if-may.granted ≡ (may acl asking.who asking.perms && reaches at.files asking.who) =
+    both ∙ ap (λ b. b && folders.reach) granted ∙ ap (λ b. may acl asking.who asking.perms && b) at.reach in
+    part_known asking earlier text file reads at.files at.known
     ∙ ap Ok (sym (told ∙ ap (λ b. answer_line b ++ folders.text.items ++ file_text) all
-    ∙ ap (λ (folders_text : List ℕ). answer_line (may node asking.who asking.perms && reaches at.nodes asking.who) ++ folders_text ++ file_text) at.text))
+    ∙ ap (λ (folders_text : List ℕ). answer_line (may acl asking.who asking.perms && reaches at.files asking.who) ++ folders_text ++ file_text) at.text))

@@ -7,4 +7,4 @@ use Rattle.acl_queries.proofs.explain_command.text.grants_perms.Goals as goal
 pub returns : goal.returns
 returns c =
     subst (λ (mask : ℕ). IsTrue c.grants4.result ↔ Grants (matches c.args.owner c.args.group c.args.requester.now) c.args.acl.now mask)
-    c.mask_of-mask.ensures c.grants4.ensures
+    c.mask_of-mask.ensures c.grants4.ensures.grants

@@ -1,6 +1,6 @@
 use Rattle.std.proofs.Common.{rules, ◌≡◌, ◌∙◌, ◌++◌, List, ℕ, OnOk, Some, subst, sym}
 use Rattle.acl_listings.proofs.PathLemmas.{path_of-file}
-use Rattle.acl_listing_queries.specs.Files.{node_of}
+use Rattle.acl_listing_queries.specs.Files.{file_of}
 use Rattle.acl_listing_queries.specs.WhoText.{who_text}
 use Rattle.acl_listing_queries.specs.WhoSteps.{AreAnswersOf, asking_of, kept_at, names_by}
 use Rattle.acl_listing_queries.proofs.who.answers.Answers.push_at.Goals as goal
@@ -14,5 +14,5 @@ returns-in-Some-Some c = λ file way reads at reach.
     let shown : Some c.in-Some-Some.path.now ≡ Some file.path = search (rules, path_of-file (names_by users) c.args.text.now file reads) in
     let path : c.in-Some-Some.path.now ≡ file.path = cc in
     let are : AreAnswersOf users file c.in-Some-Some.kept.now = subst (AreAnswersOf users file) (sym kept) at.are in
-    subst (λ (path : List ℕ). OnOk c.push.result (c.push.new.out.items ≡ c.args.out.now.items ++ who_text (asking_of users).persons (asking_of users).asked way path (node_of file))) path
+    subst (λ (path : List ℕ). OnOk c.push.result (c.push.new.out.items ≡ c.args.out.now.items ++ who_text (asking_of users).persons (asking_of users).asked way path (file_of file))) path
     (c.push.ensures file way are reach)

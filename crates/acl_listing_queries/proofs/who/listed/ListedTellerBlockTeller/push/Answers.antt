@@ -1,7 +1,7 @@
 use Rattle.std.proofs.Common.{◌≡◌, ◌∙◌, ◌++◌, [], Ok, Some, ap, map, sym}
-use Rattle.acl_audit.specs.Reach.{reaches}
+use Rattle.acl_access.specs.Reach.{reaches}
 use Rattle.acl_listings.specs.Block.{file_by}
-use Rattle.acl_listing_queries.specs.Files.{node_of}
+use Rattle.acl_listing_queries.specs.Files.{file_of}
 use Rattle.acl_listing_queries.specs.Readings.{reading_of}
 use Rattle.acl_listing_queries.specs.WhoPart.{part_by, way_for}
 use Rattle.acl_listing_queries.specs.WhoSteps.{asking_of, names_by, whos_of}
@@ -21,8 +21,8 @@ returns-clause-part c = λ earlier stands.
     let marks : c.as_slice.result.now ≡ map (reaches []) (whos_of c.find.new.self.users) =
     c.as_slice.ensures.value ∙ stands.everyone ∙ ap (λ (users : Users). map (reaches []) (whos_of users)) (sym now) in
     let readings = map (reading_of asking.names) earlier in (
-      who_text asking.persons asking.asked [] file.path (node_of file),
+      who_text asking.persons asking.asked [] file.path (file_of file),
       ap (λ b. part_by asking (file_by asking.names text) (way_for b readings (reading_of asking.names text))) stands.reach ∙ ap (λ said. part_by asking said (Some [])) found.1,
       c.in_ok-push_at.ensures file [] reads found.2 marks
-          ∙ ap (λ (users : Users). c.args.out.now.items ++ who_text (asking_of users).persons (asking_of users).asked [] file.path (node_of file)) now,
+          ∙ ap (λ (users : Users). c.args.out.now.items ++ who_text (asking_of users).persons (asking_of users).asked [] file.path (file_of file)) now,
     )

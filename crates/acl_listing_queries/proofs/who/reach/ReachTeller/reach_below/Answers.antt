@@ -1,5 +1,5 @@
 use Rattle.std.proofs.Common.{rules, ◌≡◌, ◌∙◌, List, Some, None, ap, option_map, subst, sym}
-use Rattle.acl_audit.specs.Answers.{both}
+use Rattle.acl_access.specs.Marks.{both}
 use Rattle.acl_listing_queries.specs.Ways.{known_way}
 use Rattle.acl_listing_queries.specs.WhoSteps.{AreFolders, IsFolderAt, IsPlacedAt, kept_at, marks_of}
 use Rattle.acl_listing_queries.specs.declared.who.way.Folder.{Folder}

@@ -2,9 +2,8 @@ use Rattle.std.proofs.Common.{rules, ◌≡◌, ◌∙◌, ◌++◌, ◌&&◌, �
 use Rattle.std.specs.List.{flat_map}
 use Rattle.acl_listings.specs.Block.{FileValue, file_by, path_of}
 use Rattle.acl_listings.specs.Views.{view_file}
-use Rattle.acl_tree.specs.Nodes.{may}
-use Rattle.acl_tree.specs.declared.node.Node.{Node}
-use Rattle.acl_listing_queries.specs.Files.{node_of}
+use Rattle.acl_bridge.specs.Files.{File, may}
+use Rattle.acl_listing_queries.specs.Files.{file_of}
 use Rattle.acl_listing_queries.specs.Readings.{Reading, reading_of}
 use Rattle.acl_listing_queries.specs.Ways.{folder_of}
 use Rattle.acl_listing_queries.specs.WhySteps.{asked_by, is_held}
@@ -20,21 +19,21 @@ returns-clause-told c = λ way was.
     let next : Reading = reading_of asking.names text in
     let file : FileValue = view_file c.in-Ok.file in
     let reads : file_by asking.names text ≡ Ok file = search rules in
-    let node : Node = node_of file in
-    let folder_is : folder_of next ≡ Some node = ap (λ said. folder_of (record { path = path_of text; file = said })) reads in
+    let acl : File = file_of file in
+    let folder_is : folder_of next ≡ Some acl = ap (λ said. folder_of (record { path = path_of text; file = said })) reads in
     let held : is_held way next.path ≡ true = ap (is_held way) (sym c.path_of.ensures) ∙ sym (c.are_above.ensures way was.last) ∙ search rules in
-    let granted : c.in_ok-granted.granted ≡ may node asking.who 1 = search rules in
+    let granted : c.in_ok-granted.granted ≡ may acl asking.who 1 = search rules in
     let both : c.if-granted.self ≡ (c.in_ok-granted.granted && c.args.self.now.reach) =
     elim c.if-granted.branch [
       | then-granted w ↦ w.self-is ∙ ap (λ b. b && c.args.self.now.reach) (sym w.if-granted.true)
       | else-granted w ↦ w.self-is ∙ w.if-granted.false ∙ ap (λ b. b && c.args.self.now.reach) (sym w.if-granted.false)
     ] in
-    let told : c.push_decision.new.out.items ≡ c.args.self.now.text.items ++ decision_text (codes "folder") file.path node asking.who 1 = search rules in
+    let told : c.push_decision.new.out.items ≡ c.args.self.now.text.items ++ decision_text (codes "folder") file.path acl asking.who 1 = search rules in
     record {
-      nodes = node ∷ was.nodes;
-      known = known-more way next node was.nodes was.known held folder_is;
-      reach = both ∙ ap (λ b. b && c.args.self.now.reach) granted ∙ ap (λ b. may node asking.who 1 && b) was.reach;
-      text = told ∙ ap (λ (front : List ℕ). front ++ decision_text (codes "folder") file.path node asking.who 1) was.text
+      files = acl ∷ was.files;
+      known = known-more way next acl was.files was.known held folder_is;
+      reach = both ∙ ap (λ b. b && c.args.self.now.reach) granted ∙ ap (λ b. may acl asking.who 1 && b) was.reach;
+      text = told ∙ ap (λ (front : List ℕ). front ++ decision_text (codes "folder") file.path acl asking.who 1) was.text
           ∙ sym (folders-more asking.who way next ∙ ap (λ said. flat_map (folder_text asking.who) (reverse way) ++ folder_text asking.who (record { path = path_of text; file = said })) reads);
       last = refl;
     }

@@ -1,0 +1,103 @@
+-- What the lists of two files decide otherwise, for somebody or for anybody.
+use Rattle.std.specs.Prelude.{◌≡◌, ◌≢◌, ◌≤◌, ◌⊎◌, ⊤, ℕ, not, ◌&&◌, IsTrue, List, [], ◌∷◌, length}
+use Rattle.std.specs.Prelude.{Option, MatchOption, if◌then◌else◌}
+use Rattle.std.specs.List.{AllByRecursion}
+use Rattle.acl_names.specs.Asker.{identity_of}
+use Rattle.acl_names.specs.Bits.{has, ◌∪◌}
+use Rattle.acl_names.specs.Requester.{Identity}
+use Rattle.acl_posix.specs.Validity.{IsValid}
+use Rattle.acl_nfs4.specs.Comparison.{Decider}
+use Rattle.acl_nfs4.specs.Mask.{mask_bits}
+use Rattle.acl_nfs4.specs.declared.comparison.Difference.{Difference}
+use Rattle.acl_bridge.specs.Comparison.{Granter, mask_for}
+use Rattle.acl_bridge.specs.Files.{File, decider_of, may}
+use Rattle.acl_bridge.specs.Lists.{bits_between, requests_between}
+use Rattle.acl_bridge.specs.declared.any_acl.AnyAcl.{AnyAcl}
+use Rattle.acl_bridge.specs.declared.any_acl.AnyAcl.TheVariants.{Posix, Nfs4}
+use Rattle.acl_access.specs.declared.changes.Change.{Change}
+
+-- lists that are ones
+abbrev pub AreValid : AnyAcl → Type 0
+AreValid (Posix acl) = IsValid acl
+AreValid (Nfs4 acl) = ⊤
+
+-- both decide each of these bits alike for the requester
+abbrev pub BitsAlikeTo : Decider → Decider → ℕ → Identity → Type 0
+BitsAlikeTo before after bits requester = (bit : ℕ) → IsTrue (has bits bit)
+    → before requester bit ≡ after requester bit
+
+-- both grant each of these requests alike to the requester
+abbrev pub RequestsAlikeTo : Granter → Granter → List ℕ → Identity → Type 0
+RequestsAlikeTo before after requests requester =
+    AllByRecursion (λ request. before requester request ≡ after requester request) requests
+
+-- the requester is decided about alike, before and after
+pub record IsAlikeTo (before after : File) (requester : Identity) : Type 0 where
+  pub bits : BitsAlikeTo (decider_of before) (decider_of after)
+      (bits_between before.list after.list) requester
+  pub requests : RequestsAlikeTo (may before) (may after)
+      (requests_between before.list after.list) requester
+
+-- and so is everyone, of whatever uid and groups
+abbrev pub IsAlikeToAll : File → File → Type 0
+IsAlikeToAll before after = (requester : Identity) → IsAlikeTo before after requester
+
+-- of these bits, the requester loses what is granted only before and gains what is granted only
+-- after, and there is one
+pub record ChangesBits (before after : Decider) (bits : ℕ) (requester : Identity) (change : Change)
+    : Type 0 where
+  pub lost : (bit : ℕ) → has (mask_bits change.lost) bit
+      ≡ (has bits bit && (before requester bit && not (after requester bit)))
+  pub gained : (bit : ℕ) → has (mask_bits change.gained) bit
+      ≡ (has bits bit && (after requester bit && not (before requester bit)))
+  pub some : mask_bits change.lost ∪ mask_bits change.gained ≢ 0
+
+-- the requester loses the request as a whole, or gains it
+pub record ChangesRequest (before after : Granter) (request : ℕ) (requester : Identity)
+    (change : Change) : Type 0 where
+  pub apart : before requester request ≢ after requester request
+  pub lost : mask_bits change.lost ≡ (if before requester request then mask_for request else 0)
+  pub gained : mask_bits change.gained ≡ (if after requester request then mask_for request else 0)
+
+-- it is the first of the requests that isn't granted alike
+abbrev pub ChangesFirst : Granter → Granter → List ℕ → Identity → Change → Type 0
+ChangesFirst before after [] requester change = ⊥
+ChangesFirst before after (request ∷ more) requester change =
+    ChangesRequest before after request requester change
+    ⊎ ((before requester request ≡ after requester request)
+    × ChangesFirst before after more requester change)
+
+-- what the requester loses and gains: bits, or if these are decided alike a whole request
+abbrev pub IsChangeFor : File → File → Identity → Change → Type 0
+IsChangeFor before after requester change =
+    ChangesBits (decider_of before) (decider_of after) (bits_between before.list after.list)
+    requester change
+    ⊎ (BitsAlikeTo (decider_of before) (decider_of after) (bits_between before.list after.list)
+    requester
+    × ChangesFirst (may before) (may after) (requests_between before.list after.list) requester
+    change)
+
+-- what the asker of a difference loses and gains
+abbrev pub change_of : Difference → Change
+change_of difference = record { lost = difference.lost; gained = difference.gained }
+
+-- what a search among everyone found: nobody, and everyone is decided about alike; or somebody who
+-- isn't
+abbrev pub FindsAnybody : File → File → Option Difference → Type 0
+FindsAnybody before after found =
+    MatchOption found (IsAlikeToAll before after)
+    (λ difference. IsChangeFor before after (identity_of difference.asker) (change_of difference))
+
+-- Files that decide alike about everyone who is in at most two groups decide alike about everyone.
+abbrev pub TwoGroupsSuffice : Type 0
+TwoGroupsSuffice =
+    (before after : File) → AreValid before.list → AreValid after.list
+    → ((requester : Identity) → length requester.gids ≤ 2 → IsAlikeTo before after requester)
+    → IsAlikeToAll before after
+
+-- What somebody loses or gains contradicts that everyone is decided about alike: of the two
+-- findings at most one is right.
+abbrev pub ChangesAreNotAlike : Type 0
+ChangesAreNotAlike =
+    (before after : File) (requester : Identity) (change : Change)
+    → IsAlikeTo before after requester → IsChangeFor before after requester change → ⊥

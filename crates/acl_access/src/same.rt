@@ -1,0 +1,28 @@
+//! Files whose lists are the same, which need no comparison.
+ghost use Rattle.std.specs.Prelude.{◌≡◌, ◌↔◌, IsTrue};
+ghost use Rattle.acl_bridge.specs.Files.{view_acl, view_list};
+ghost use Rattle.acl_access.specs.Changes.{IsAlikeToAll};
+
+use acl_bridge::{AnyAclRef, FileAcl};
+
+/// Whether the lists have the same entries, in one order.
+fn has_same_entries(before: AnyAclRef<'_>, after: AnyAclRef<'_>) -> bool
+    ensures { IsTrue result ↔ (view_list before.entry ≡ view_list after.entry) }
+{
+    match (before, after) {
+        (AnyAclRef::Posix(first), AnyAclRef::Posix(second)) => first.has_same_entries(second),
+        (AnyAclRef::Nfs4(first), AnyAclRef::Nfs4(second)) => first.has_same_entries(second),
+        _ => false,
+    }
+}
+
+/// Whether two files have one owner, one group, and the same entries in their lists, in one order.
+/// Then everyone is decided about alike. It takes no memory.
+pub fn is_same_file(before: &FileAcl<'_>, after: &FileAcl<'_>) -> bool
+    ensures same { IsTrue result ↔ (view_acl before.now ≡ view_acl after.now) }
+    ensures alike { IsTrue result → IsAlikeToAll (view_acl before.now) (view_acl after.now) }
+{
+    before.owners.owner == after.owners.owner
+        && before.owners.group == after.owners.group
+        && has_same_entries(before.list, after.list)
+}

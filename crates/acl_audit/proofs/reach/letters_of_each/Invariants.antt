@@ -1,6 +1,0 @@
-use Rattle.std.proofs.Common.{◌≡◌, map, take}
-use Rattle.acl_audit.proofs.reach.letters_of_each.Given as goal
-
--- those of the requesters so far
-abbrev pub invariant-loop-requester : goal.invariant-loop-requester
-invariant-loop-requester g l = map g.L.LetterSet.number l.letters.items ≡ map (g.L.LetterSet.granted l.node) (take l.requester-index l.requesters)

@@ -1,9 +1,0 @@
-use Rattle.std.proofs.Common.{◌≡◌, take}
-use Rattle.acl_posix.specs.Perms.{bits_of}
-use Rattle.acl_tree.specs.Nodes.{may}
-use Rattle.acl_audit.specs.Reach.{places_from}
-use Rattle.acl_audit.proofs.reach.places_of_those_who_may.Given as goal
-
--- the places among the requesters so far
-abbrev pub invariant-loop-place : goal.invariant-loop-place
-invariant-loop-place l = l.places.items ≡ places_from (λ who. may l.node who (bits_of l.perms)) 0 (take l.place l.requesters)

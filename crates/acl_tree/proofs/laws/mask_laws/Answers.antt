@@ -1,5 +1,0 @@
-use Rattle.acl_tree.proofs.MaskLemmas.{masks_are_decided}
-use Rattle.acl_tree.proofs.laws.mask_laws.Goals as goal
-
-pub returns : goal.returns
-returns c = masks_are_decided
