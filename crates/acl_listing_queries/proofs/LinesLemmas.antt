@@ -16,7 +16,7 @@ use Rattle.acl_posix.specs.PermsText.{perms_text}
 use Rattle.acl_posix.specs.declared.perms.Perms.{Perms}
 use Rattle.acl_bridge.specs.Files.{File, may}
 use Rattle.acl_access.proofs.ReachLemmas.{at_place}
-use Rattle.acl_listing_queries.specs.Asked.{persons_of}
+use Rattle.acl_listing_answers.specs.Asked.{persons_of}
 use Rattle.acl_listing_queries.specs.WhoSteps.{IsGranted, letters_line_at, letters_lines, may_line_at, may_line_of, may_lines}
 use Rattle.acl_listing_queries.specs.WhoText.{AllLetters, Asked, Request, ThreeLetters, letters_line_if, person_line, person_line_if, who_text}
 use Rattle.acl_listing_queries.specs.declared.who.answers.Granted.TheVariants.{Letters, Masks, Those}

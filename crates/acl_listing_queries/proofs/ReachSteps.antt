@@ -13,9 +13,9 @@ use Rattle.acl_listings.proofs.PathLemmas.{path_of-file}
 use Rattle.acl_bridge.specs.Files.{File, may}
 use Rattle.acl_listings.specs.declared.fault.FileFault.{FileFault}
 use Rattle.acl_listings.specs.declared.fault.FileFault.TheVariants as file
-use Rattle.acl_listing_queries.specs.Files.{file_of}
-use Rattle.acl_listing_queries.specs.Listed.{Part}
-use Rattle.acl_listing_queries.specs.Telling.{IsPart}
+use Rattle.acl_listing_answers.specs.Files.{file_of}
+use Rattle.acl_listing_answers.specs.Listed.{Part}
+use Rattle.acl_listing_answers.specs.Telling.{IsPart}
 use Rattle.acl_listing_queries.specs.Readings.{Reading, reading_of}
 use Rattle.acl_listing_queries.specs.Ways.{folder_of, holds, known_way, may_be_above, those_above, way_of, way_on, with_folder}
 use Rattle.acl_listing_queries.specs.WhoPart.{Asking, part_by, way_for, who_part}

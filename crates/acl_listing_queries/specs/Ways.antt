@@ -6,7 +6,7 @@ use Rattle.acl_listings.specs.Block.{FileValue}
 use Rattle.acl_listings.specs.Way.{is_above, is_folder_of}
 use Rattle.acl_listings.specs.declared.fault.BlockFault.{BlockFault}
 use Rattle.acl_bridge.specs.Files.{File}
-use Rattle.acl_listing_queries.specs.Files.{file_of}
+use Rattle.acl_listing_answers.specs.Files.{file_of}
 use Rattle.acl_listing_queries.specs.Readings.{Reading}
 
 -- of two paths: the one is above the other; a path that isn't reported may be above any, and below

@@ -6,9 +6,9 @@ use Rattle.acl_listings.specs.Block.{FileValue}
 use Rattle.acl_listings.specs.declared.fault.BlockFault.{BlockFault}
 use Rattle.acl_listings.specs.declared.fault.BlockFault.TheVariants.{UnknownWay}
 use Rattle.acl_bridge.specs.Files.{File}
-use Rattle.acl_listing_queries.specs.Files.{file_of}
-use Rattle.acl_listing_queries.specs.Listed.{Part}
-use Rattle.acl_listing_queries.specs.Person.{Person}
+use Rattle.acl_listing_answers.specs.Files.{file_of}
+use Rattle.acl_listing_answers.specs.Listed.{Part}
+use Rattle.acl_listing_answers.specs.Person.{Person}
 use Rattle.acl_listing_queries.specs.Readings.{Reading, reading_of}
 use Rattle.acl_listing_queries.specs.Ways.{known_way, way_of}
 use Rattle.acl_listing_queries.specs.WhoText.{Asked, who_text}

@@ -17,9 +17,9 @@ use Rattle.acl_listings.specs.declared.fault.FileFault.TheVariants as file
 use Rattle.acl_nfs4.specs.Mask.{mask_bits}
 use Rattle.acl_posix.specs.Perms.{bits_of}
 use Rattle.acl_bridge.specs.Files.{File, may}
-use Rattle.acl_listing_queries.specs.Asked.{names_of_people, persons_of}
-use Rattle.acl_listing_queries.specs.Files.{file_of}
-use Rattle.acl_listing_queries.specs.Host.{names_of_host}
+use Rattle.acl_listing_answers.specs.Asked.{names_of_people, persons_of}
+use Rattle.acl_listing_answers.specs.Files.{file_of}
+use Rattle.acl_listing_answers.specs.Host.{names_of_host}
 use Rattle.acl_listing_queries.specs.Readings.{Reading, reading_of}
 use Rattle.acl_listing_queries.specs.Ways.{folder_of, known_way, may_be_above, way_on}
 use Rattle.acl_listing_queries.specs.Ways.{with_folder}

@@ -7,7 +7,7 @@ use Rattle.acl_access.specs.Reach.{reaches}
 use Rattle.acl_access.specs.Who.{may_line, written_line}
 use Rattle.acl_posix.specs.PermsText.{perms_text}
 use Rattle.acl_bridge.specs.Files.{File, may}
-use Rattle.acl_listing_queries.specs.Person.{Person}
+use Rattle.acl_listing_answers.specs.Person.{Person}
 
 -- what is asked for: the letters r, w and x, all fourteen letters of a mask, or who may do all of
 -- this at once

@@ -13,18 +13,18 @@ use Rattle.acl_cli.specs.declared.field_fault.FieldFault.{FieldFault}
 use Rattle.acl_listings.specs.Cursor.{blocks_to_come}
 use Rattle.acl_listings.specs.Listing.{Block}
 use Rattle.acl_names.specs.Names.{Names}
-use Rattle.acl_listing_queries.specs.Host.{IsHost, names_of_host}
-use Rattle.acl_listing_queries.specs.HostFailures.{IsHostFailure}
-use Rattle.acl_listing_queries.specs.Listed.{IsSaid, Part, told_of}
-use Rattle.acl_listing_queries.specs.Paths.{has_path, is_among}
-use Rattle.acl_listing_queries.specs.People.{person_asked}
-use Rattle.acl_listing_queries.specs.Person.{Person}
-use Rattle.acl_listing_queries.specs.Placed.{Placed}
+use Rattle.acl_listing_answers.specs.Host.{IsHost, names_of_host}
+use Rattle.acl_listing_answers.specs.HostFailures.{IsHostFailure}
+use Rattle.acl_listing_answers.specs.Listed.{IsSaid, Part, told_of}
+use Rattle.acl_listing_answers.specs.Paths.{has_path, is_among}
+use Rattle.acl_listing_answers.specs.People.{person_asked}
+use Rattle.acl_listing_answers.specs.Person.{Person}
+use Rattle.acl_listing_answers.specs.Placed.{Placed}
+use Rattle.acl_listing_answers.specs.ListingMeaning.{FailsForListing, bytes_named, inputs_of}
+use Rattle.acl_listing_answers.specs.ListingMeaning.{listing_in}
+use Rattle.acl_listing_answers.specs.declared.host.Host.{Host}
 use Rattle.acl_listing_queries.specs.Readings.{Reading, reading_of}
-use Rattle.acl_listing_queries.specs.WhoMeaning.{FailsForListing, bytes_named, inputs_of}
-use Rattle.acl_listing_queries.specs.WhoMeaning.{listing_in}
 use Rattle.acl_listing_queries.specs.WhyText.{WhyAsking, why_part}
-use Rattle.acl_listing_queries.specs.declared.host.Host.{Host}
 
 -- the path that is asked about
 abbrev pub path_in : List Row → Text

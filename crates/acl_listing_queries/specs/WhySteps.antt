@@ -13,9 +13,9 @@ use Rattle.acl_listings.specs.declared.fault.FileFault.TheVariants as file
 use Rattle.acl_names.specs.Names.{Names}
 use Rattle.acl_posix.specs.Perms.{bits_of}
 use Rattle.acl_bridge.specs.Files.{File}
-use Rattle.acl_listing_queries.specs.Host.{names_of_host}
-use Rattle.acl_listing_queries.specs.Kept.{Splits}
-use Rattle.acl_listing_queries.specs.Paths.{is_among}
+use Rattle.acl_listing_answers.specs.Host.{names_of_host}
+use Rattle.acl_listing_answers.specs.Paths.{is_among}
+use Rattle.acl_listing_answers.specs.Seen.{Splits}
 use Rattle.acl_listing_queries.specs.Readings.{Reading, reading_of}
 use Rattle.acl_listing_queries.specs.Ways.{folder_of, holds, known_way, way_of, with_folder}
 use Rattle.acl_listing_queries.specs.WhoSteps.{lacks_path}

@@ -12,8 +12,8 @@ use Rattle.acl_queries.specs.AclText.{nobody}
 use Rattle.acl_queries.specs.DecideAnswer.{answer_line}
 use Rattle.acl_queries.specs.Reasons.{reasons}
 use Rattle.acl_bridge.specs.Files.{File, may}
-use Rattle.acl_listing_queries.specs.Files.{file_of}
-use Rattle.acl_listing_queries.specs.Listed.{Part}
+use Rattle.acl_listing_answers.specs.Files.{file_of}
+use Rattle.acl_listing_answers.specs.Listed.{Part}
 use Rattle.acl_listing_queries.specs.Readings.{Reading, reading_of}
 use Rattle.acl_listing_queries.specs.Ways.{known_way, way_of}
 

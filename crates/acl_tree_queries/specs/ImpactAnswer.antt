@@ -9,9 +9,9 @@ use Rattle.acl_tree.specs.declared.node.Node.{Node}
 use Rattle.acl_cli.specs.Commands.{Meaning}
 use Rattle.acl_cli.specs.Fields.{flag_in}
 use Rattle.acl_cli.specs.declared.field_fault.FieldFault.{FieldFault}
-use Rattle.acl_listing_queries.specs.Asked.{persons_in}
-use Rattle.acl_listing_queries.specs.ImpactMeaning.{names_users}
-use Rattle.acl_listing_queries.specs.Impacting.{Concern, TellsImpact, told_at}
+use Rattle.acl_listing_answers.specs.Asked.{persons_in}
+use Rattle.acl_listing_changes.specs.ImpactMeaning.{names_users}
+use Rattle.acl_listing_changes.specs.Impacting.{Concern, TellsImpact, told_at}
 use Rattle.acl_tree_queries.specs.Nodes.{TellsOfEach, TellsOfFirst}
 use Rattle.acl_tree_queries.specs.TreeQuestions.{IsNeverRefused, tree_meaning}
 use Rattle.acl_tree_queries.specs.declared.impact_command.question.ImpactQuestion.{ImpactQuestion}

@@ -2,7 +2,7 @@
 use Rattle.std.specs.Prelude.{ℕ, List, Option}
 use Rattle.clap.specs.Words.{Row, Text}
 use Rattle.acl_cli.specs.Commands.{Meaning}
-use Rattle.acl_listing_queries.specs.ImpactMeaning as listing
+use Rattle.acl_listing_changes.specs.ImpactMeaning as listing
 use Rattle.acl_tree_queries.specs.ImpactAnswer.{impact_of_tree}
 use Rattle.acl_tree_queries.specs.Subjects.{impact_subject, meaning_about}
 

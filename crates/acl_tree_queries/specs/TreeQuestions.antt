@@ -9,7 +9,7 @@ use Rattle.acl_cli.specs.declared.command.Ending.TheVariants.{Answered}
 use Rattle.acl_cli.specs.declared.failure.Failure.{Failure}
 use Rattle.acl_cli.specs.declared.failure.Failure.TheVariants.{InputTwice, LineTooLong}
 use Rattle.acl_cli.specs.declared.field_fault.FieldFault.{FieldFault}
-use Rattle.acl_listing_queries.specs.People.{setup_people_in}
+use Rattle.acl_listing_answers.specs.People.{setup_people_in}
 use Rattle.acl_names.specs.Directory.{Known}
 use Rattle.acl_setup.specs.Opened.{Opens}
 use Rattle.acl_tree.specs.Tree.{NodesUnderUmask}

@@ -11,8 +11,8 @@ use Rattle.acl_lang.specs.Texts.{requests_of}
 use Rattle.acl_setup.specs.Opened.{Opens}
 use Rattle.acl_service.specs.Runs.{tree_after}
 use Rattle.acl_cli.specs.SessionFiles.{HasBytes, HaveBytes, input_count, names_in, setup_in}
-use Rattle.acl_listing_queries.specs.Asked.{persons_in}
-use Rattle.acl_listing_queries.specs.People.{setup_people_in}
+use Rattle.acl_listing_answers.specs.Asked.{persons_in}
+use Rattle.acl_listing_answers.specs.People.{setup_people_in}
 use Rattle.acl_tree_queries.specs.declared.trees.Trees.{Trees}
 
 -- those of the sessions that come before, and of those after

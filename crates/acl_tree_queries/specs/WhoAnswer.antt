@@ -8,8 +8,8 @@ use Rattle.acl_tree.specs.Nodes.{file_of}
 use Rattle.acl_tree.specs.Tree.{NodesUnderUmask}
 use Rattle.acl_audit.specs.Reach.{way_in}
 use Rattle.acl_cli.specs.Commands.{Meaning}
-use Rattle.acl_listing_queries.specs.Asked.{persons_in}
-use Rattle.acl_listing_queries.specs.Person.{Person}
+use Rattle.acl_listing_answers.specs.Asked.{persons_in}
+use Rattle.acl_listing_answers.specs.Person.{Person}
 use Rattle.acl_listing_queries.specs.WhoText.{asked_by, who_text}
 use Rattle.acl_tree_queries.specs.Nodes.{TellsOfEach, TellsOfFirst}
 use Rattle.acl_tree_queries.specs.TreeQuestions.{IsNeverRefused, tree_meaning}

@@ -7,7 +7,7 @@ mod text;
 use crate::question::answer_question;
 use crate::subject::{Subject, impact_subject};
 use acl_cli::{Command, Ending, ErrorOutput, Failure, OpenFiles};
-use acl_listing_queries::ImpactOfListings;
+use acl_listing_changes::impact_of_listings;
 use clap::ArgMatches;
 use question::ImpactQuestion;
 use std::alloc::Global;
@@ -15,8 +15,8 @@ use std::io::{Read, Write};
 
 /// Tells what changed between two listings of files, or what a session changes, for anybody at all.
 /// The words are those of the command, its name first: `impact [--accounts FILE | --setup FILE]
-/// [--all] [--user NAME].. [--text] [--exit-code] BEFORE AFTER`, which is `ImpactOfListings` of
-/// acl_listing_queries; or `impact --setup FILE [--before SESSION] [--all] [--user NAME]..
+/// [--all] [--user NAME].. [--text] [--exit-code] BEFORE AFTER`, which is `impact_of_listings` of
+/// acl_listing_changes; or `impact --setup FILE [--before SESSION] [--all] [--user NAME]..
 /// --session SESSION`, if there is no listing.
 ///
 /// The tree that the setup opens, or what the session of `--before` leaves on it, is compared with
@@ -63,9 +63,7 @@ impl Command for Impact {
         err: &mut ErrorOutput<E>,
     ) -> Result<Ending, Failure<'a>> {
         match impact_subject(matches) {
-            Ok(Subject::Listing) => {
-                ImpactOfListings.answer(alloc, files, matches, input, out, err)
-            }
+            Ok(Subject::Listing) => impact_of_listings(alloc, files, matches, input, out, err),
             Ok(Subject::Tree) => answer_question::<ImpactQuestion, F, I, W, E>(
                 alloc, files, matches, input, out, err,
             ),

@@ -18,7 +18,7 @@ use acl_cli::session_files::{
 };
 use acl_cli::{Failure, OpenFiles};
 use acl_lang::MAX_TEXT_LEN;
-use acl_listing_queries::{People, read_setup_people};
+use acl_listing_answers::{People, read_setup_people};
 use acl_names::Directory;
 use acl_service::apply_text;
 use acl_setup::read_setup;

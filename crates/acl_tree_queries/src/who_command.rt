@@ -7,7 +7,7 @@ mod text;
 use crate::question::answer_question;
 use crate::subject::{Subject, who_subject};
 use acl_cli::{Command, Ending, ErrorOutput, Failure, OpenFiles};
-use acl_listing_queries::WhoOfListing;
+use acl_listing_queries::who_of_listing;
 use clap::ArgMatches;
 use question::WhoQuestion;
 use std::alloc::Global;
@@ -15,7 +15,7 @@ use std::io::{Read, Write};
 
 /// Tells who may do what with each file of a listing, or with each node of a tree. The words are
 /// those of the command, its name first: `who [--accounts FILE | --setup FILE] [--perms P |
-/// --letters] [--reach] [--user NAME].. LISTING`, which is `WhoOfListing` of acl_listing_queries;
+/// --letters] [--reach] [--user NAME].. LISTING`, which is `who_of_listing` of acl_listing_queries;
 /// or `who --setup FILE [--perms P] [--reach] [--user NAME].. [--session SESSION]`, if there is no
 /// LISTING.
 ///
@@ -61,7 +61,7 @@ impl Command for Who {
         err: &mut ErrorOutput<E>,
     ) -> Result<Ending, Failure<'a>> {
         match who_subject(matches) {
-            Ok(Subject::Listing) => WhoOfListing.answer(alloc, files, matches, input, out, err),
+            Ok(Subject::Listing) => who_of_listing(alloc, files, matches, input, out, err),
             Ok(Subject::Tree) => {
                 answer_question::<WhoQuestion, F, I, W, E>(alloc, files, matches, input, out, err)
             }

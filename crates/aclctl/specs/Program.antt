@@ -12,12 +12,12 @@ use Rattle.acl_cli.specs.declared.failure.Failure.{Failure}
 use Rattle.acl_cli.specs.declared.failure.Failure.TheVariants.{NoCommand}
 use Rattle.acl_lint.specs.LintAnswer.{lint_meaning}
 use Rattle.acl_lint.specs.LintLine.{lint_line}
-use Rattle.acl_listing_queries.specs.RestoreLine.{restore_line}
-use Rattle.acl_listing_queries.specs.RestoreMeaning.{restore_meaning}
-use Rattle.acl_listing_queries.specs.TranslateLine.{translate_line}
-use Rattle.acl_listing_queries.specs.TranslateMeaning.{translate_meaning}
 use Rattle.acl_listing_queries.specs.WhyLine.{why_line}
 use Rattle.acl_listing_queries.specs.WhyMeaning.{why_meaning}
+use Rattle.acl_listing_changes.specs.RestoreLine.{restore_line}
+use Rattle.acl_listing_changes.specs.RestoreMeaning.{restore_meaning}
+use Rattle.acl_listing_translation.specs.TranslateLine.{translate_line}
+use Rattle.acl_listing_translation.specs.TranslateMeaning.{translate_meaning}
 use Rattle.acl_queries.specs.CompareLine.{compare_line}
 use Rattle.acl_queries.specs.DecideAnswer.{decide_meaning}
 use Rattle.acl_queries.specs.DecideLine.{decide_line}

@@ -1,6 +1,6 @@
 //! Accounts that never end.
 use acl_cli::{ErrorOutput, OpenFiles, run_command};
-use acl_listing_queries::WhoOfListing;
+use acl_tree_queries::Who;
 use std::io;
 use tests_files::Sheet;
 
@@ -26,7 +26,7 @@ fn accounts_without_end(rt: HostRuntime) {
     let mut out = Vec::new(rt.alloc());
     let mut err = Vec::new(rt.alloc());
     let status = run_command(
-        &WhoOfListing,
+        &Who,
         rt.alloc(),
         &Endless,
         &["who", "--accounts", "endless", "-"],

@@ -1,5 +1,8 @@
 //! Accounts and listings at hand, and how commands are asked about them.
-use acl_listing_queries::{ImpactOfListings, Restore, Translate, WhoOfListing, Why};
+use acl_listing_changes::Restore;
+use acl_listing_queries::Why;
+use acl_listing_translation::Translate;
+use acl_tree_queries::{Impact, Who};
 use tests_files::OnShelf;
 
 /// Three users beside root: two are of staff, and one of these is of ops too.
@@ -106,8 +109,8 @@ pub const FILES: &[(&str, &str)] = &[
 ];
 
 /// `who` of a listing, over the files.
-pub fn who() -> OnShelf<WhoOfListing> {
-    OnShelf::new(WhoOfListing, FILES)
+pub fn who() -> OnShelf<Who> {
+    OnShelf::new(Who, FILES)
 }
 
 /// `why` of a file of a listing, over the files.
@@ -116,8 +119,8 @@ pub fn why() -> OnShelf<Why> {
 }
 
 /// `impact` of two listings, over the files.
-pub fn impact() -> OnShelf<ImpactOfListings> {
-    OnShelf::new(ImpactOfListings, FILES)
+pub fn impact() -> OnShelf<Impact> {
+    OnShelf::new(Impact, FILES)
 }
 
 /// `restore` of two listings, over the files.

@@ -6,7 +6,7 @@
 //! for, and none from then on.
 use crate::fixture::{FILES, impact, restore, translate, who, why};
 use acl_cli::{ErrorOutput, run_command};
-use acl_listing_queries::WhoOfListing;
+use acl_tree_queries::Who;
 use std::alloc::Global;
 use std::io::{self, Read};
 use std::test::Fail;
@@ -146,7 +146,7 @@ fn runs_out_in_part(alloc: Global) -> Option<bool> {
     let told = &mut ErrorOutput::new(&mut err);
     let files = Shelf::new(FILES);
     let input = &mut listing;
-    let status = run_command(&WhoOfListing, alloc, &files, &words, input, &mut out, told);
+    let status = run_command(&Who, alloc, &files, &words, input, &mut out, told);
     let written = ROOM.saturating_sub(out.len());
     let said = ROOM.saturating_sub(err.len());
     ran_out_in_part(status, &room[..written], &lines[..said])

@@ -3,7 +3,7 @@ ghost use Rattle.std.specs.Prelude.{◌≡◌, [], false};
 ghost use Rattle.acl_listing_queries.specs.WhoSteps.{AreRight, IsEveryone, IsListing, whos_of};
 
 use super::answers::Answers;
-use crate::blocks::BlockTeller;
+use acl_listing_answers::BlockTeller;
 use acl_listings::FileFault;
 use std::alloc::Global;
 

@@ -3,13 +3,13 @@ ghost use Rattle.std.specs.Prelude.{◌≡◌, ◌++◌, List, OnOk, map, option
 ghost use Rattle.acl_access.specs.Reach.{reaches};
 ghost use Rattle.acl_bridge.specs.Files.{File, view_acl};
 ghost use Rattle.acl_posix.specs.Perms.{bits_of};
-ghost use Rattle.acl_listing_queries.specs.Asked.{persons_in};
+ghost use Rattle.acl_listing_answers.specs.Asked.{persons_in};
 ghost use Rattle.acl_listing_queries.specs.WhoText.{asked_by, who_text};
 
 use super::lines::{push_letters_lines, push_may_lines};
-use crate::people::People;
 use acl_access::{letters_of_each, places_of_those_who_may};
 use acl_bridge::FileAcl;
+use acl_listing_answers::People;
 use acl_posix::Perms;
 use std::alloc::{AllocError, Global};
 

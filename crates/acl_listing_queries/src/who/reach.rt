@@ -5,8 +5,8 @@ ghost use Rattle.std.specs.List.{fold, list_any};
 ghost use Rattle.acl_listings.specs.Block.{file_by, path_of};
 ghost use Rattle.acl_names.specs.Requester.{Identity};
 ghost use Rattle.acl_bridge.specs.Files.{File};
+ghost use Rattle.acl_listing_answers.specs.Telling.{IsPart, UnlessMemory};
 ghost use Rattle.acl_listing_queries.specs.Readings.{Reading, reading_of};
-ghost use Rattle.acl_listing_queries.specs.Telling.{IsPart, UnlessMemory};
 ghost use Rattle.acl_listing_queries.specs.Ways.{known_way, way_of, way_on};
 ghost use Rattle.acl_listing_queries.specs.WhoPart.{part_by, who_part};
 ghost use Rattle.acl_listing_queries.specs.WhoSteps.{AreFolders, AreRight, IsBehind, IsCome};
@@ -18,8 +18,8 @@ ghost use Rattle.acl_listing_queries.specs.declared.who.reach.Before.{Before as 
 use super::answers::Answers;
 use super::way::{Folder, leave, reach_of};
 use crate::above::is_above;
-use crate::blocks::BlockTeller;
 use acl_access::both;
+use acl_listing_answers::BlockTeller;
 use acl_listings::{BlockFault, FileFault, path_of};
 use std::alloc::{AllocError, Global};
 

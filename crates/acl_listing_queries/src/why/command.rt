@@ -9,17 +9,14 @@ ghost use Rattle.acl_listing_queries.specs.WhySteps.{asked_by};
 use super::answer::Made;
 use super::question::Question;
 use super::search::seek_named;
-use crate::host::{Host, read_host};
-use crate::named::listing_field;
-use crate::options::{accounts_option, listing_word, setup_option};
-use crate::person::Person;
-use crate::written::ReadPerson;
 use acl_cli::fields::text_field;
 use acl_cli::options::{perms_option, required_option, required_word};
 use acl_cli::{
     Command as CliCommand, CommandLine, Ending, ErrorOutput, Failure, OpenFiles, perms_field,
     write_text,
 };
+use acl_listing_answers::options::{accounts_option, listing_word, setup_option};
+use acl_listing_answers::{Host, Person, ReadPerson, listing_field, read_host};
 use clap::{ArgMatches, Command};
 use std::alloc::{AllocError, Global};
 use std::io::{Read, Write};

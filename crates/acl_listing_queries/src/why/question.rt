@@ -1,6 +1,6 @@
 //! What is asked about a file.
 
-use crate::host::Host;
+use acl_listing_answers::Host;
 use acl_names::Requester;
 use acl_posix::Perms;
 

@@ -3,16 +3,15 @@ ghost use Rattle.std.specs.Prelude.{◌≡◌, bytes_eq, false, IfErr, IfOk};
 ghost use Rattle.std.specs.Option.{option_map_or};
 ghost use Rattle.acl_listings.specs.Block.{path_of};
 ghost use Rattle.acl_listings.specs.Cursor.{blocks_to_come};
-ghost use Rattle.acl_listing_queries.specs.WhoMeaning.{inputs_of};
+ghost use Rattle.acl_listing_answers.specs.ListingMeaning.{inputs_of};
 ghost use Rattle.acl_listing_queries.specs.WhyMeaning.{AnswersPath, FailsForPath, blocks_named};
 ghost use Rattle.acl_listing_queries.specs.WhySteps.{asked_by};
 
 use super::answer::{Made, answer_block};
 use super::question::Question;
 use super::way::Way;
-use crate::advance::advance;
-use crate::named::INPUT;
 use acl_cli::{Failure, OpenFiles, Reason};
+use acl_listing_answers::{INPUT, advance};
 use acl_listings::{Blocks, path_of};
 use std::alloc::Global;
 use std::io::Read;

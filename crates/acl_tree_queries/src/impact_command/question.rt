@@ -5,7 +5,7 @@ use crate::nodes::write_nodes;
 use crate::question::Question;
 use crate::trees::Trees;
 use acl_cli::{ErrorOutput, Failure, FieldFault};
-use acl_listing_queries::{Concerned, each_has_a_line, names_users};
+use acl_listing_changes::{Concerned, each_has_a_line, names_users};
 use clap::ArgMatches;
 use std::alloc::Global;
 use std::io::Write;

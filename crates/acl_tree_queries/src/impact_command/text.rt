@@ -2,7 +2,7 @@
 
 use crate::nodes::NodeText;
 use acl_bridge::FileAcl;
-use acl_listing_queries::Concerned;
+use acl_listing_changes::Concerned;
 use acl_tree::{Node, Tree};
 use std::alloc::{AllocError, Global};
 
@@ -14,7 +14,7 @@ pub(super) struct ImpactText<'t> {
 }
 
 impl<'t> NodeText for ImpactText<'t> {
-    ghost use Rattle.acl_listing_queries.specs.Concerns.{concern_of};
+    ghost use Rattle.acl_listing_changes.specs.Concerns.{concern_of};
     ghost use Rattle.acl_tree_queries.specs.ImpactAnswer.{TellsImpactOn};
 
     ghost Tells = { λ teller. TellsImpactOn (concern_of teller.concerned) teller.before.now };

@@ -1,6 +1,6 @@
 //! What `who` tells of a node of a tree.
 ghost use Rattle.std.specs.Prelude.{◌≡◌, ◌++◌, OnOk, map, option_map};
-ghost use Rattle.acl_listing_queries.specs.Asked.{persons_in};
+ghost use Rattle.acl_listing_answers.specs.Asked.{persons_in};
 ghost use Rattle.acl_posix.specs.Perms.{bits_of};
 ghost use Rattle.acl_tree.specs.Nodes.{file_of};
 ghost use Rattle.acl_tree_queries.specs.WhoAnswer.{who_text_on};
@@ -8,7 +8,8 @@ ghost use Rattle.acl_tree_queries.specs.WhoAnswer.{who_text_on};
 use crate::nodes::NodeText;
 use acl_audit::{way_in, which_reach};
 use acl_bridge::FileAcl;
-use acl_listing_queries::{People, push_who};
+use acl_listing_answers::People;
+use acl_listing_queries::push_who;
 use acl_posix::Perms;
 use acl_tree::{Node, Tree};
 use std::alloc::{AllocError, Global};
@@ -46,7 +47,7 @@ impl<'t> WhoText<'t> {
 
 impl<'t> NodeText for WhoText<'t> {
     ghost use Rattle.std.specs.Prelude.{option_map};
-    ghost use Rattle.acl_listing_queries.specs.Asked.{persons_in};
+    ghost use Rattle.acl_listing_answers.specs.Asked.{persons_in};
     ghost use Rattle.acl_posix.specs.Perms.{bits_of};
     ghost use Rattle.acl_tree_queries.specs.WhoAnswer.{TellsWho};
 
@@ -73,7 +74,7 @@ pub(super) struct ReachText<'t> {
 
 impl<'t> NodeText for ReachText<'t> {
     ghost use Rattle.std.specs.Prelude.{option_map};
-    ghost use Rattle.acl_listing_queries.specs.Asked.{persons_in};
+    ghost use Rattle.acl_listing_answers.specs.Asked.{persons_in};
     ghost use Rattle.acl_posix.specs.Perms.{bits_of};
     ghost use Rattle.acl_tree_queries.specs.WhoAnswer.{TellsWhoReaches};
 

@@ -4,10 +4,10 @@ use Rattle.std.specs.Ordering.{nat_cmp}
 use Rattle.acl_names.specs.Ascending.{IsAscending}
 use Rattle.acl_names.specs.Directory.{Known}
 use Rattle.clap.specs.Words.{found_of, rows_of}
-use Rattle.acl_listing_queries.specs.Asked.{persons_in}
-use Rattle.acl_listing_queries.specs.People.{setup_people_in}
-use Rattle.acl_listing_queries.specs.Person.{Person}
-use Rattle.acl_listing_queries.proofs.AskedLemmas.{persons_again}
+use Rattle.acl_listing_answers.specs.Asked.{persons_in}
+use Rattle.acl_listing_answers.specs.People.{setup_people_in}
+use Rattle.acl_listing_answers.specs.Person.{Person}
+use Rattle.acl_listing_answers.proofs.AskedLemmas.{persons_again}
 use Rattle.acl_cli.specs.declared.failure.Failure.{Failure}
 use Rattle.acl_setup.specs.Opened.{Opens}
 use Rattle.acl_tree_queries.specs.TreeQuestions.{IsTreesFailure}

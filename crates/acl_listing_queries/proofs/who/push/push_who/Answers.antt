@@ -6,7 +6,7 @@ use Rattle.acl_posix.specs.Perms.{bits_of}
 use Rattle.acl_posix.specs.PermsText.{perms_text}
 use Rattle.acl_posix.specs.declared.perms.Perms.{Perms}
 use Rattle.acl_bridge.specs.Files.{may, view_acl}
-use Rattle.acl_listing_queries.specs.Asked.{names_of_people, persons_in}
+use Rattle.acl_listing_answers.specs.Asked.{names_of_people, persons_in}
 use Rattle.acl_listing_queries.specs.WhoSteps.{IsGranted, letters_lines, may_lines}
 use Rattle.acl_listing_queries.specs.WhoText.{Request, ThreeLetters, asked_by, who_text}
 use Rattle.acl_listing_queries.specs.declared.who.answers.Granted.TheVariants.{Letters, Those}

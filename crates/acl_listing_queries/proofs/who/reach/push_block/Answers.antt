@@ -1,7 +1,7 @@
 use Rattle.std.proofs.Common.{rules, ◌≡◌, ◌∙◌, ◌++◌, Ok, Some, ap, map, sym}
 use Rattle.acl_access.specs.Reach.{reaches}
 use Rattle.acl_listings.specs.Block.{file_by}
-use Rattle.acl_listing_queries.specs.Files.{file_of}
+use Rattle.acl_listing_answers.specs.Files.{file_of}
 use Rattle.acl_listing_queries.specs.WhoSteps.{asking_of, marks_of, names_by, whos_of}
 use Rattle.acl_listing_queries.specs.WhoText.{who_text}
 use Rattle.acl_listing_queries.specs.declared.who.answers.Users.{Users}

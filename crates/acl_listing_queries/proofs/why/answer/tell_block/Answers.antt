@@ -8,7 +8,7 @@ use Rattle.acl_listings.specs.declared.fault.FileFault.{FileFault}
 use Rattle.acl_listings.proofs.PathLemmas.{path_of-file}
 use Rattle.acl_queries.specs.DecideAnswer.{answer_line}
 use Rattle.acl_bridge.specs.Files.{File, may}
-use Rattle.acl_listing_queries.specs.Files.{file_of}
+use Rattle.acl_listing_answers.specs.Files.{file_of}
 use Rattle.acl_listing_queries.specs.Readings.{Reading, reading_of}
 use Rattle.acl_listing_queries.specs.Ways.{known_way, way_of}
 use Rattle.acl_listing_queries.specs.WhySteps.{IsUnknown, IsWayTold, asked_by}

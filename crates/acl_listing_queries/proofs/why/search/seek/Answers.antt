@@ -4,7 +4,7 @@ use Rattle.std.proofs.lemmas.Result.{IfOk-weaker}
 use Rattle.acl_listings.specs.Block.{path_of}
 use Rattle.acl_listings.specs.Cursor.{HandsOut}
 use Rattle.acl_listings.specs.Listing.{Block}
-use Rattle.acl_listing_queries.specs.Paths.{has_path}
+use Rattle.acl_listing_answers.specs.Paths.{has_path}
 use Rattle.acl_listing_queries.specs.Readings.{reading_of}
 use Rattle.acl_listing_queries.specs.WhyMeaning.{IsWhyAnswer}
 use Rattle.acl_listing_queries.specs.WhySteps.{IsSought, IsWayTo, asked_by}

@@ -1,6 +1,6 @@
 use Rattle.std.proofs.Common.{rules, ◌≡◌, ◌∙◌, ◌++◌, List, ℕ, OnOk, Some, subst, sym}
 use Rattle.acl_listings.proofs.PathLemmas.{path_of-file}
-use Rattle.acl_listing_queries.specs.Files.{file_of}
+use Rattle.acl_listing_answers.specs.Files.{file_of}
 use Rattle.acl_listing_queries.specs.WhoText.{who_text}
 use Rattle.acl_listing_queries.specs.WhoSteps.{AreAnswersOf, asking_of, kept_at, names_by}
 use Rattle.acl_listing_queries.proofs.who.answers.Answers.push_at.Goals as goal

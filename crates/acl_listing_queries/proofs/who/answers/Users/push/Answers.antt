@@ -4,8 +4,8 @@ use Rattle.acl_access.specs.Letters.{mask_text}
 use Rattle.acl_nfs4.specs.Mask.{mask_bits}
 use Rattle.acl_posix.specs.Perms.{bits_of}
 use Rattle.acl_posix.specs.PermsText.{perms_text}
-use Rattle.acl_listing_queries.specs.Files.{file_of}
-use Rattle.acl_listing_queries.specs.Asked.{names_of_people}
+use Rattle.acl_listing_answers.specs.Files.{file_of}
+use Rattle.acl_listing_answers.specs.Asked.{names_of_people}
 use Rattle.acl_listing_queries.specs.WhoSteps.{IsGranted, asked_of, letters_lines, may_lines, whos_of}
 use Rattle.acl_listing_queries.specs.declared.who.answers.Granted.TheVariants.{Letters, Masks, Those}
 use Rattle.acl_listing_queries.proofs.LinesLemmas.{letters_text, masks_text, those_text}

@@ -1,7 +1,7 @@
 use Rattle.std.proofs.Common.{◌≡◌, ◌∙◌, ◌++◌, [], Ok, Some, ap, map, sym}
 use Rattle.acl_access.specs.Reach.{reaches}
 use Rattle.acl_listings.specs.Block.{file_by}
-use Rattle.acl_listing_queries.specs.Files.{file_of}
+use Rattle.acl_listing_answers.specs.Files.{file_of}
 use Rattle.acl_listing_queries.specs.Readings.{reading_of}
 use Rattle.acl_listing_queries.specs.WhoPart.{part_by, way_for}
 use Rattle.acl_listing_queries.specs.WhoSteps.{asking_of, names_by, whos_of}

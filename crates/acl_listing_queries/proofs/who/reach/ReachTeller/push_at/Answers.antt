@@ -1,10 +1,10 @@
 use Rattle.std.proofs.Common.{rules, ◌≡◌, ℕ, Result, Ok, Err, subst}
 use Rattle.acl_listings.specs.declared.fault.FileFault.{FileFault}
 use Rattle.acl_listings.specs.declared.fault.FileFault.TheVariants.{Block}
+use Rattle.acl_listing_answers.specs.Telling.{IsPart}
 use Rattle.acl_listing_queries.specs.Readings.{reading_of}
 use Rattle.acl_listing_queries.specs.Ways.{way_of}
 use Rattle.acl_listing_queries.specs.WhoSteps.{IsCome, asking_of, names_by, readings_of}
-use Rattle.acl_listing_queries.specs.Telling.{IsPart}
 use Rattle.acl_listing_queries.specs.WhoPart.{who_part}
 use Rattle.acl_listing_queries.proofs.ReachSteps.{come_here, next_part}
 use Rattle.acl_listing_queries.proofs.who.reach.ReachTeller.push_at.Goals as goal

@@ -1,7 +1,7 @@
 use Rattle.std.proofs.Common.{refl, ℕ, None, Result, map, subst}
 use Rattle.acl_listings.specs.declared.fault.FileFault.{FileFault}
+use Rattle.acl_listing_answers.specs.Telling.{IsPart}
 use Rattle.acl_listing_queries.specs.Readings.{reading_of}
-use Rattle.acl_listing_queries.specs.Telling.{IsPart}
 use Rattle.acl_listing_queries.specs.WhoPart.{way_for, who_part}
 use Rattle.acl_listing_queries.specs.WhoSteps.{asking_of}
 use Rattle.acl_listing_queries.proofs.ReachSteps.{pathless, refused}

@@ -2,9 +2,9 @@ use Rattle.std.proofs.Common.{◌≡◌, ◌∙◌, List, ℕ, ap, inr, subst}
 use Rattle.clap.specs.Words.{Row, found_of, rows_of}
 use Rattle.acl_cli.proofs.CommandsLemmas.{Comes-as}
 use Rattle.acl_posix.specs.Perms.{bits_of}
-use Rattle.acl_listing_queries.specs.Host.{names_of_host}
-use Rattle.acl_listing_queries.specs.Person.{Person}
-use Rattle.acl_listing_queries.specs.WhoMeaning.{inputs_of}
+use Rattle.acl_listing_answers.specs.Host.{names_of_host}
+use Rattle.acl_listing_answers.specs.Person.{Person}
+use Rattle.acl_listing_answers.specs.ListingMeaning.{inputs_of}
 use Rattle.acl_listing_queries.specs.WhyMeaning.{AnswersPath, FailsForPath, blocks_named, path_in, path_meaning, why_meaning}
 use Rattle.acl_listing_queries.specs.WhyText.{WhyAsking}
 use Rattle.acl_listing_queries.proofs.why.command.WhyCliCommand.answer.Goals as goal

@@ -5,8 +5,8 @@ use Rattle.std.proofs.lemmas.Result.{on_ok_weaker}
 use Rattle.acl_bridge.specs.Files.{File, file_with, view_list}
 use Rattle.acl_tree.specs.Nodes.{file_of}
 use Rattle.acl_tree.specs.declared.node.Node.{Node}
-use Rattle.acl_listing_queries.specs.Concerns.{concern_of}
-use Rattle.acl_listing_queries.specs.Impacting.{TellsImpact}
+use Rattle.acl_listing_changes.specs.Concerns.{concern_of}
+use Rattle.acl_listing_changes.specs.Impacting.{TellsImpact}
 use Rattle.acl_tree_queries.specs.ImpactAnswer.{TellsFrom}
 use Rattle.acl_tree_queries.proofs.impact_command.text.ImpactTextNodeText.push.Goals as goal
 

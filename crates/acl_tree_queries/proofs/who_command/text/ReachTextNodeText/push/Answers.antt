@@ -8,7 +8,7 @@ use Rattle.acl_tree.specs.Entries.{Entry}
 use Rattle.acl_tree.specs.Nodes.{file_of}
 use Rattle.acl_tree.specs.declared.node.Node.{Node}
 use Rattle.acl_audit.specs.Reach.{way_in}
-use Rattle.acl_listing_queries.specs.Asked.{persons_in}
+use Rattle.acl_listing_answers.specs.Asked.{persons_in}
 use Rattle.acl_tree_queries.specs.WhoAnswer.{who_text_on}
 use Rattle.acl_tree_queries.proofs.who_command.text.ReachTextNodeText.push.Goals as goal
 

@@ -4,7 +4,7 @@ use Rattle.acl_access.specs.Reach.{reaches}
 use Rattle.acl_bridge.specs.Files.{File, file_with, view_list}
 use Rattle.acl_posix.specs.Perms.{bits_of}
 use Rattle.acl_tree.specs.Nodes.{file_of}
-use Rattle.acl_listing_queries.specs.Asked.{persons_in}
+use Rattle.acl_listing_answers.specs.Asked.{persons_in}
 use Rattle.acl_listing_queries.specs.WhoText.{asked_by, who_text}
 use Rattle.acl_tree_queries.proofs.who_command.text.WhoText.push_on.Goals as goal
 

@@ -1,0 +1,10 @@
+use Rattle.std.proofs.Common.{List, map, take}
+use Rattle.acl_names.specs.ListText.{PiecesSay}
+use Rattle.acl_listing_answers.specs.Asked.{ArePeople}
+use Rattle.acl_listing_answers.specs.Person.{Person}
+use Rattle.acl_listing_answers.proofs.people.people_in.Given as goal
+
+-- the people so far are those whom the first texts ask about
+abbrev pub invariant-loop-text : goal.invariant-loop-text
+invariant-loop-text g l =
+    (persons : List Person) × ArePeople persons l.people × PiecesSay (g.P.ReadPerson.asked l.reader) (map (λ text. text.now) (take l.text-index l.texts)) persons

@@ -1,0 +1,15 @@
+pub mod SetupNames
+pub mod Host
+pub mod HostFailures
+pub mod Person
+pub mod People
+pub mod PeopleLaws
+pub mod NameLaws
+pub mod Asked
+pub mod Files
+pub mod Listed
+pub mod Telling
+pub mod Seen
+pub mod ListingMeaning
+pub mod Paths
+pub mod Placed

@@ -1,0 +1,260 @@
+-- Whom a change concerns, person by person.
+use Rattle.std.proofs.Common.{◌≡◌, ◌∙◌, ◌+◌, ◌≤◌, ◌++◌, ◌&&◌, IfOk, Result, Ok, Err, ℕ, zero, suc, Bool, true, false, List, [], ◌∷◌, Option, Some, None, ap, append_assoc, append-nil, arith, drop, inl, is_none, inr, length, length-append, map as each, refl, subst, sym, take}
+use Rattle.std.specs.Prelude.{nat_eq, slice_get}
+use Rattle.std.specs.List.{flat_map}
+use Rattle.std.proofs.lemmas.Bool.{true≢false}
+use Rattle.std.proofs.lemmas.Bool.Decides.{Decides-eqb}
+use Rattle.acl_names.specs.Requester.{Identity}
+use Rattle.acl_bridge.specs.Files.{File}
+use Rattle.acl_listings.specs.Block.{FileValue, file_by}
+use Rattle.acl_listings.specs.declared.fault.BlockFault.{BlockFault}
+use Rattle.acl_cli.specs.Telling.{is_empty}
+use Rattle.acl_listing_answers.specs.Files.{file_of}
+use Rattle.acl_listing_answers.specs.Person.{Person}
+use Rattle.acl_listing_answers.specs.Asked.{persons_of}
+use Rattle.acl_listing_changes.specs.ChangeSteps.{Appended}
+use Rattle.acl_listing_changes.specs.Changes.{TellsIf, TellsOld}
+use Rattle.acl_listing_changes.specs.ImpactSteps.{TellsAt, TellsBy, TellsRead, line_at}
+use Rattle.acl_listing_changes.specs.Impacting.{Concern, ImpactAsking, Tells, TellsAnybody, TellsChange, TellsFirst, TellsImpact, TellsPerson, TellsPersons, TellsThose, fault_of, impacting, told_gone, told_new}
+use Rattle.acl_listing_changes.specs.WrittenChanges.{IsChanged, changed_text}
+use Rattle.acl_listing_changes.specs.declared.impact.changed.Changed.{Changed}
+use Rattle.acl_listing_changes.proofs.TellerLemmas.{nothing_if, told_if}
+
+-- ---- who is at a place
+
+abbrev pub both_of : Option (List ℕ) → Option Identity → Option Person
+both_of (Some name) (Some who) = Some (record { name = name; who = who })
+both_of _ _ = None
+
+pub none_right : (name : Option (List ℕ)) → both_of name None ≡ None
+none_right None = refl
+none_right (Some name) = refl
+
+pub person_at : (names : List (List ℕ)) (whos : List Identity) (place : ℕ) → slice_get (persons_of names whos) place ≡ both_of (slice_get names place) (slice_get whos place)
+person_at [] whos place = refl
+person_at (name ∷ names) [] place = sym (none_right (slice_get (name ∷ names) place))
+person_at (name ∷ names) (who ∷ whos) zero = refl
+person_at (name ∷ names) (who ∷ whos) (suc place) = person_at names whos place
+
+persons_within : (names : List (List ℕ)) (whos : List Identity) → length (persons_of names whos) ≤ length whos
+persons_within [] whos = omega arith
+persons_within (name ∷ names) [] = omega arith
+persons_within (name ∷ names) (who ∷ whos) = omega (arith, persons_within names whos)
+
+drop_past : {X : Type 0} (items : List X) (place : ℕ) → length items ≤ place → drop place items ≡ []
+drop_past [] zero past = refl
+drop_past [] (suc place) past = refl
+drop_past (item ∷ items) zero past = absurd (omega (arith, past))
+drop_past (item ∷ items) (suc place) past = drop_past items place (omega (arith, past))
+
+pub none_left : (names : List (List ℕ)) (whos : List Identity) (place : ℕ) → length whos ≤ place → drop place (persons_of names whos) ≡ []
+none_left names whos place past = drop_past (persons_of names whos) place (omega (arith, past, persons_within names whos))
+
+-- ---- their lines
+
+module _ (before after : File) (path : List ℕ) where
+  either : (some : Bool) (person : Person) (text : List ℕ) → TellsBy some before after path person text → TellsPerson before after path person text
+  either true person text tells = inr tells
+  either false person text tells = inl tells
+
+  nothing_more : (more rest : List ℕ) → more ≡ [] → rest ≡ [] → more ++ rest ≡ []
+  nothing_more more rest none empty = ap (λ text. text ++ rest) none ∙ empty
+
+  pub each_on : (place : ℕ) (persons : List Person) (some : Bool) (more : List ℕ) → TellsAt some before after path (slice_get persons place) more
+      → (rest : List ℕ) → TellsPersons before after path (drop (suc place) persons) rest → TellsPersons before after path (drop place persons) (more ++ rest)
+  each_on zero [] some more (none, empty) rest tells = nothing_more more rest empty tells
+  each_on zero (person ∷ persons) some more told rest tells = (more, rest, either some person more told, tells, refl)
+  each_on (suc place) [] some more (none, empty) rest tells = nothing_more more rest empty tells
+  each_on (suc place) (person ∷ persons) some more told rest tells = each_on place persons some more told rest tells
+
+  pub first_on : (place : ℕ) (persons : List Person) (more : List ℕ) → TellsAt false before after path (slice_get persons place) more
+      → (more ≡ []) × ((text : List ℕ) → TellsFirst before after path (drop (suc place) persons) text → TellsFirst before after path (drop place persons) text)
+  first_on zero [] more told = (told.1, λ text tells. tells)
+  first_on zero (person ∷ persons) more told = (told.1, λ text tells. inl (told.0, tells))
+  first_on (suc place) [] more told = (told.1, λ text tells. tells)
+  first_on (suc place) (person ∷ persons) more told = first_on place persons more told
+
+  pub first_here : (place : ℕ) (persons : List Person) (more : List ℕ) → TellsAt true before after path (slice_get persons place) more → TellsFirst before after path (drop place persons) more
+  first_here zero [] more told = absurd (true≢false told.0)
+  first_here zero (person ∷ persons) more told = inr told
+  first_here (suc place) [] more told = absurd (true≢false told.0)
+  first_here (suc place) (person ∷ persons) more told = first_here place persons more told
+
+  -- what was told of those before a place leads on to what is told of those from there on
+  pub record IsEachTo (persons : List Person) (place : ℕ) (out out' : List ℕ) : Type 0 where
+    pub told : List ℕ
+    pub out_is : out' ≡ out ++ told
+    pub leads : (rest : List ℕ) → TellsPersons before after path (drop place persons) rest → TellsPersons before after path persons (told ++ rest)
+
+  pub each_more : (persons : List Person) (place : ℕ) (out mid out' : List ℕ) → IsEachTo persons place out mid → (some : Bool) (more : List ℕ)
+      → TellsAt some before after path (slice_get persons place) more → out' ≡ mid ++ more → IsEachTo persons (place + 1) out out'
+  each_more persons place out mid out' was some more tells is =
+      let one : place + 1 ≡ suc place = omega arith in
+      record {
+        told = was.told ++ more;
+        out_is = is ∙ ap (λ text. text ++ more) was.out_is ∙ append_assoc out was.told more;
+        leads = λ rest last.
+            subst (TellsPersons before after path persons) (sym (append_assoc was.told more rest))
+            (was.leads (more ++ rest) (each_on place persons some more tells rest (subst (λ n. TellsPersons before after path (drop n persons) rest) one last)));
+      }
+
+  pub record IsFirstTo (persons : List Person) (place : ℕ) (out out' : List ℕ) : Type 0 where
+    pub same : out' ≡ out
+    pub leads : (text : List ℕ) → TellsFirst before after path (drop place persons) text → TellsFirst before after path persons text
+
+  pub first_more : (persons : List Person) (place : ℕ) (out mid out' : List ℕ) → IsFirstTo persons place out mid → (more : List ℕ)
+      → TellsAt false before after path (slice_get persons place) more → out' ≡ mid ++ more → IsFirstTo persons (place + 1) out out'
+  first_more persons place out mid out' was more tells is =
+      let one : place + 1 ≡ suc place = omega arith in
+      let on = first_on place persons more tells in
+      record {
+        same = is ∙ ap (λ text. mid ++ text) on.0 ∙ append-nil mid ∙ was.same;
+        leads = λ text last. was.leads text (on.1 text (subst (λ n. TellsFirst before after path (drop n persons) text) one last));
+      }
+
+  -- before the first of them, and behind the last
+
+  pub each_none : (persons : List Person) (out : List ℕ) → IsEachTo persons 0 out out
+  each_none persons out = record { told = []; out_is = sym (append-nil out); leads = λ rest tells. tells }
+
+  pub first_none : (persons : List Person) (out : List ℕ) → IsFirstTo persons 0 out out
+  first_none persons out = record { same = refl; leads = λ text tells. tells }
+
+  module _ (names : List (List ℕ)) (whos : List Identity) (place : ℕ) (past : length whos ≤ place) (out out' : List ℕ) where
+    pub each_all : IsEachTo (persons_of names whos) place out out' → Tells (TellsPersons before after path (persons_of names whos)) out out'
+    each_all is =
+        let none = none_left names whos place past in
+        let last : TellsPersons before after path (drop place (persons_of names whos)) [] = subst (λ persons. TellsPersons before after path persons []) (sym none) refl in
+        record { text = is.told ++ []; is = is.leads [] last; out_is = is.out_is ∙ ap (λ text. out ++ text) (sym (append-nil is.told)) }
+
+    pub first_all : IsFirstTo (persons_of names whos) place out out' → Tells (TellsFirst before after path (persons_of names whos)) out out'
+    first_all is =
+        let none = none_left names whos place past in
+        let last : TellsFirst before after path (drop place (persons_of names whos)) [] = subst (λ persons. TellsFirst before after path persons []) (sym none) refl in
+        record { text = []; is = is.leads [] last; out_is = is.same ∙ sym (append-nil out) }
+
+  pub first_found : (persons : List Person) (place : ℕ) (out mid out' : List ℕ) → IsFirstTo persons place out mid → (more : List ℕ)
+      → TellsAt true before after path (slice_get persons place) more → out' ≡ mid ++ more → Tells (TellsFirst before after path persons) out out'
+  first_found persons place out mid out' was more tells is = record {
+    text = more;
+    is = was.leads more (first_here place persons more tells);
+    out_is = is ∙ ap (λ text. text ++ more) was.same;
+  }
+
+-- ---- somebody else
+
+same_length : (out lines : List ℕ) → nat_eq (length (out ++ lines)) (length out) ≡ is_empty lines
+same_length out [] = ap (λ text. nat_eq (length text) (length out)) (append-nil out) ∙ (Decides-eqb (length out) (length out)).1 refl
+same_length out (byte ∷ lines) = by (nat_eq (length (out ++ byte ∷ lines)) (length out)) refl
+  where
+    by : (b : Bool) → nat_eq (length (out ++ byte ∷ lines)) (length out) ≡ b → b ≡ false
+    by false is = refl
+    by true is =
+        let same : length (out ++ byte ∷ lines) ≡ length out = (Decides-eqb (length (out ++ byte ∷ lines)) (length out)).0 is in
+        absurd (omega (arith, same, length-append out (byte ∷ lines)))
+
+pub impact_told : (concern : Concern) (before after : File) (path out mid out' : List ℕ) → Tells (TellsThose concern.each before after path concern.persons) out mid
+    → (asked : Bool) → asked ≡ (concern.somebody && nat_eq (length mid) (length out)) → Tells (TellsAnybody asked before after path) mid out' → Tells (TellsImpact concern before after path) out out'
+impact_told concern before after path out mid out' those asked asked_is other =
+    let empty : nat_eq (length mid) (length out) ≡ is_empty those.text = ap (λ text. nat_eq (length text) (length out)) those.out_is ∙ same_length out those.text in
+    let is : asked ≡ (concern.somebody && is_empty those.text) = asked_is ∙ ap (λ b. concern.somebody && b) empty in
+    record {
+      text = those.text ++ other.text;
+      is = record {
+        lines = those.text;
+        lines_are = those.is;
+        other = other.text;
+        other_is = subst (λ b. TellsAnybody b before after path other.text) is other.is;
+        text_is = refl;
+      };
+      out_is = other.out_is ∙ ap (λ text. text ++ other.text) those.out_is ∙ append_assoc out those.text other.text;
+    }
+
+-- and behind it what is written otherwise
+pub change_told : (asking : ImpactAsking) (before after : FileValue) (old new : File) → old ≡ file_of before → new ≡ file_of after → (out mid out' : List ℕ)
+    → Tells (TellsImpact asking.concern old new after.path) out mid → (changed : Changed) → IsChanged before after changed → out' ≡ mid ++ changed_text asking.written changed after.path
+    → Tells (TellsChange asking before after) out out'
+change_told asking before after old new old_is new_is out mid out' told changed changed_is is =
+    let written : List ℕ = changed_text asking.written changed after.path in
+    record {
+      text = told.text ++ written;
+      is = record {
+        impact = told.text;
+        impact_is = subst (λ (old : File). TellsImpact asking.concern old (file_of after) after.path told.text) old_is (subst (λ (new : File). TellsImpact asking.concern old new after.path told.text) new_is told.is);
+        written = written;
+        written_is = (changed, changed_is, refl);
+        text_is = refl;
+      };
+      out_is = is ∙ ap (λ text. text ++ written) told.out_is ∙ append_assoc out told.text written;
+    }
+
+-- what holds of a reading that gave this
+pub of_reading : {T E : Type 0} (P : T → Type 0) (reading : Result T E) (value : T) → reading ≡ Ok value → P value → IfOk reading P
+of_reading P reading value is holds = subst (λ reading. IfOk reading P) (sym is) holds
+
+-- ---- blocks that read as files
+
+abbrev nothing : List ℕ
+nothing = []
+
+module _ (asking : ImpactAsking) (text : List ℕ) (file : FileValue) (reads : file_by asking.names text ≡ Ok file) (out out' beside : List ℕ) where
+  reads_well : is_none ((impacting asking).fault text) ≡ true
+  reads_well = ap (λ (reading : Result FileValue BlockFault). is_none (fault_of reading)) reads
+
+  pub new_told : out' ≡ out ++ told_new asking file → Appended ((impacting asking).IsNew text) out out' beside beside
+  new_told is = record {
+    told = told_new asking file;
+    said = [];
+    tells = of_reading (λ other. (told_new asking file ≡ told_new asking other) × (nothing ≡ nothing)) (file_by asking.names text) file reads (refl, refl);
+    out_is = is;
+    beside_is = sym (append-nil beside);
+  }
+
+  pub gone_told : out' ≡ out ++ told_gone asking file → Appended (TellsIf (is_none ((impacting asking).fault text)) ((impacting asking).IsGone text)) out out' beside beside
+  gone_told is = told_if (is_none ((impacting asking).fault text)) ((impacting asking).IsGone text) reads_well out out' beside beside (record {
+    told = told_gone asking file;
+    said = [];
+    tells = of_reading (λ other. (told_gone asking file ≡ told_gone asking other) × (nothing ≡ nothing)) (file_by asking.names text) file reads (refl, refl);
+    out_is = is;
+    beside_is = sym (append-nil beside);
+  })
+
+  pub changed_told : (old : List ℕ) → Tells (TellsRead asking (file_by asking.names old) file) out out' → Appended (TellsOld (impacting asking) old text) out out' beside beside
+  changed_told old told = record {
+    told = told.text;
+    said = [];
+    tells = by (file_by asking.names old) refl told.is;
+    out_is = told.out_is;
+    beside_is = sym (append-nil beside);
+  }
+    where
+      by : (reading : Result FileValue BlockFault) → file_by asking.names old ≡ reading → TellsRead asking reading file told.text
+          → TellsIf (is_none (fault_of (file_by asking.names old))) ((impacting asking).IsChanged old text) told.text []
+      by (Err fault) is none = subst (λ reading. TellsIf (is_none (fault_of reading)) ((impacting asking).IsChanged old text) told.text []) (sym is) (none, refl)
+      by (Ok before) is tells =
+          subst (λ reading. TellsIf (is_none (fault_of reading)) ((impacting asking).IsChanged old text) told.text []) (sym is)
+          (of_reading (λ before. IfOk (file_by asking.names text) (λ after. TellsChange asking before after told.text × (nothing ≡ nothing))) (file_by asking.names old) before is
+          (of_reading (λ after. TellsChange asking before after told.text × (nothing ≡ nothing)) (file_by asking.names text) file reads (tells, refl)))
+
+pub unread_gone : (asking : ImpactAsking) (text : List ℕ) (fault : BlockFault) → file_by asking.names text ≡ Err fault → (out beside : List ℕ)
+    → Appended (TellsIf (is_none ((impacting asking).fault text)) ((impacting asking).IsGone text)) out out beside beside
+unread_gone asking text fault is out beside =
+    nothing_if (is_none ((impacting asking).fault text)) ((impacting asking).IsGone text) (ap (λ (reading : Result FileValue BlockFault). is_none (fault_of reading)) is) out beside
+
+-- the lines so far, and one more
+module _ (line : Person → List ℕ) where
+  pub lines_more : (persons : List Person) (place : ℕ) → flat_map line (take (suc place) persons) ≡ flat_map line (take place persons) ++ line_at line (slice_get persons place)
+  lines_more [] zero = refl
+  lines_more [] (suc place) = refl
+  lines_more (person ∷ persons) zero = append-nil (line person)
+  lines_more (person ∷ persons) (suc place) =
+      ap (λ lines. line person ++ lines) (lines_more persons place) ∙ sym (append_assoc (line person) (flat_map line (take place persons)) (line_at line (slice_get persons place)))
+
+  take_past : (persons : List Person) (place : ℕ) → length persons ≤ place → take place persons ≡ persons
+  take_past [] zero past = refl
+  take_past [] (suc place) past = refl
+  take_past (person ∷ persons) zero past = absurd (omega (arith, past))
+  take_past (person ∷ persons) (suc place) past = ap (λ persons. person ∷ persons) (take_past persons place (omega (arith, past)))
+
+  pub lines_all : (names : List (List ℕ)) (whos : List Identity) (place : ℕ) → length whos ≤ place → flat_map line (take place (persons_of names whos)) ≡ flat_map line (persons_of names whos)
+  lines_all names whos place past = ap (flat_map line) (take_past (persons_of names whos) place (omega (arith, past, persons_within names whos)))

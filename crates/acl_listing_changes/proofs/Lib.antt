@@ -1,0 +1,14 @@
+pub mod PlacedLemmas
+pub mod PlacesLemmas
+pub mod StepsLemmas
+pub mod ChangeLemmas
+pub mod RestoreLemmas
+pub mod OpeningLemmas
+pub mod SidesLemmas
+pub mod ResultLemmas
+pub mod TellerLemmas
+pub mod ComesLemmas
+pub mod FirstPathLemmas
+pub mod AlikeLemmas
+pub mod ImpactLemmas
+pub mod CompareLemmas

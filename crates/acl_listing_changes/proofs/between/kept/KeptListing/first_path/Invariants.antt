@@ -1,0 +1,7 @@
+use Rattle.std.proofs.Common.{◌≡◌, None, take}
+use Rattle.acl_listing_answers.specs.Paths.{first_path}
+use Rattle.acl_listing_changes.proofs.between.kept.KeptListing.first_path.Given as goal
+
+-- the first blocks have no path
+abbrev pub invariant-loop-place : goal.invariant-loop-place
+invariant-loop-place l = first_path (take l.place l.self) ≡ None

@@ -1,0 +1,220 @@
+-- How it is reported of two listings block by block. Private steps, which no public clause cites.
+use Rattle.std.specs.Prelude.{◌≡◌, ◌<◌, ◌+◌, ◌-◌, ℕ, zero, suc, Bool, true, false, not, ◌&&◌, ◌||◌}
+use Rattle.std.specs.Prelude.{List, [], ◌∷◌, ◌++◌, Option, Some, None, IfSome, get_or, is_none}
+use Rattle.std.specs.Prelude.{is_some, length, nat_eq, option_map, replicate, set, slice_get}
+use Rattle.std.specs.Prelude.{take}
+use Rattle.std.specs.List.{fold, list_any}
+use Rattle.std.specs.Option.{option_map_or}
+use Rattle.acl_cli.specs.declared.command.Ending.{Ending}
+use Rattle.acl_listings.specs.Block.{path_of}
+use Rattle.acl_listings.specs.Listing.{Block}
+use Rattle.acl_listings.specs.declared.fault.BlockFault.{BlockFault}
+use Rattle.acl_listing_answers.specs.Listed.{AreSaid, closing, ending_of, first_guess}
+use Rattle.acl_listing_answers.specs.Listed.{is_fault, is_unread, no_blocks}
+use Rattle.acl_listing_answers.specs.Paths.{block_for, first_path, or_first}
+use Rattle.acl_listing_answers.specs.declared.tally.Tally.{Tally}
+use Rattle.acl_listing_changes.specs.Changes.{Named, TellsEach, TellsIf, TellsNextBy, Wording}
+use Rattle.acl_listing_changes.specs.Changes.{apart_by, fault_before, items_before, items_of}
+use Rattle.acl_listing_changes.specs.Changes.{tally_of, unless_repeated}
+use Rattle.acl_listing_changes.specs.Kept.{place_of}
+use Rattle.acl_listing_changes.specs.declared.between.progress.Stage.{Stage}
+use Rattle.acl_listing_changes.specs.declared.between.progress.Stage.TheVariants as stage
+
+-- what was appended to an answer, and beside it, is this
+pub record Appended (Tells : List ℕ → List ℕ → Type 0) (out out' beside beside' : List ℕ)
+    : Type 0 where
+  pub told : List ℕ
+  pub said : List ℕ
+  pub tells : Tells told said
+  pub out_is : out' ≡ out ++ told
+  pub beside_is : beside' ≡ beside ++ said
+
+-- ---- the listing before
+
+-- the text is what is said of it, and so much was counted
+pub record IsOpening (wording : Wording) (before : Named) (said : List ℕ) (tally : Tally) : Type 0
+  where
+    pub faults : List ℕ
+    pub faults_are : AreSaid before.name wording.names (items_before wording before) faults
+    pub tally_is : tally ≡ tally_of (items_before wording before)
+    pub said_is : said ≡ faults ++ closing before.name tally
+
+-- of its first blocks
+pub record IsOpenedTo (wording : Wording) (name : List ℕ) (blocks : List Block) (place : ℕ)
+    (said : List ℕ) (tally : Tally) : Type 0 where
+  pub said_are : AreSaid name wording.names
+      (items_of (fault_before wording) (take place blocks)) said
+  pub tally_is : tally ≡ tally_of (items_of (fault_before wording) (take place blocks))
+
+-- ---- which blocks before were met
+
+-- a place that was found is this one
+abbrev pub is_place : ℕ → Option ℕ → Bool
+is_place place found = option_map_or (nat_eq place) found false
+
+-- a block after has the path that the block before at this place has first
+abbrev pub is_met : List Block → List Block → ℕ → Bool
+is_met before after place = list_any (λ block. is_place place (place_of before block.text)) after
+
+-- the marks say of each place whether it was met
+pub record AreMet (before after : List Block) (met : List Bool) : Type 0 where
+  pub count : length met ≡ length before
+  pub each : (place : ℕ) → place < length before
+      → get_or met place false ≡ is_met before after place
+
+-- the mark of a place that was found, and the marks once it is set
+abbrev pub is_marked : List Bool → Option ℕ → Bool
+is_marked met None = false
+is_marked met (Some place) = get_or met place false
+
+abbrev pub with_mark : List Bool → Option ℕ → List Bool
+with_mark met None = met
+with_mark met (Some place) = set met place true
+
+-- ---- what was seen of the listing after
+
+pub record SeenValue : Type 0 where
+  -- which blocks before were met
+  pub met : List Bool
+  pub tally : Tally
+  -- the first path
+  pub first : Option (List ℕ)
+  -- whether the listing before has a path of it
+  pub known : Bool
+
+abbrev pub nothing_seen : ℕ → SeenValue
+nothing_seen count = record {
+  met = replicate count false;
+  tally = no_blocks;
+  first = None;
+  known = false;
+}
+
+-- one block more
+abbrev pub counted : Tally → List ℕ → Option BlockFault → Tally
+counted tally text fault = record {
+  blocks = tally.blocks + 1;
+  faults = tally.faults + is_fault fault;
+  unread = tally.unread + is_unread fault;
+  guess = first_guess tally.guess text;
+}
+
+abbrev pub with_seen : SeenValue → Option ℕ → List ℕ → Option BlockFault → SeenValue
+with_seen seen place text fault = record {
+  met = with_mark seen.met place;
+  tally = counted seen.tally text fault;
+  first = or_first seen.first (path_of text);
+  known = seen.known || is_some place;
+}
+
+-- what is wrong with a block after, by the marks
+abbrev pub fault_here : Wording → List Block → List Bool → List ℕ → Option BlockFault
+fault_here wording before met text =
+    unless_repeated (is_marked met (place_of before text)) (wording.fault text)
+
+abbrev pub seen_on : Wording → List Block → SeenValue → Block → SeenValue
+seen_on wording before seen block = with_seen seen (place_of before block.text) block.text
+    (fault_here wording before seen.met block.text)
+
+-- ---- what is left to tell
+
+pub data Told : Type 0 where
+  Opening : List ℕ → Told
+  Here : SeenValue → Block → Told
+  Closing : SeenValue → Told
+  Missing : List Bool → ℕ → Told
+
+-- of so many blocks before, from a place on
+abbrev pub missing_from : List Bool → ℕ → ℕ → List Told
+missing_from met place zero = []
+missing_from met place (suc count) = Missing met place ∷ missing_from met (place + 1) count
+
+-- of these blocks after, and then of those before
+abbrev pub told_from : Wording → List Block → SeenValue → List Block → List Told
+told_from wording before seen [] =
+    Closing seen ∷ missing_from seen.met 0 (length before)
+told_from wording before seen (block ∷ blocks) =
+    Here seen block ∷ told_from wording before (seen_on wording before seen block) blocks
+
+-- how far it was reported
+pub record Left : Type 0 where
+  pub stage : Stage
+  -- what is said of the listing before
+  pub opening : List ℕ
+  pub seen : SeenValue
+  -- the block at hand, and those to come, if they are known
+  pub block : Block
+  pub coming : Option (List Block)
+
+abbrev pub left_by : Wording → List Block → Left → Stage → Option (List Told)
+left_by wording before left stage.Opening = option_map (λ blocks.
+    Opening left.opening ∷ told_from wording before left.seen blocks) left.coming
+left_by wording before left stage.After =
+    option_map (told_from wording before left.seen) left.coming
+left_by wording before left (stage.Gone place) =
+    Some (missing_from left.seen.met place (length before - place))
+
+abbrev pub left_to_tell : Wording → List Block → Left → Option (List Told)
+left_to_tell wording before left = left_by wording before left left.stage
+
+-- what is reported of a block before whose place wasn't met
+abbrev pub TellsMissing : Wording → List Block → List Bool → ℕ → List ℕ → List ℕ → Type 0
+TellsMissing wording before met place told said = IfSome (slice_get before place) (λ block.
+    TellsIf (is_none (fault_before wording (record { earlier = take place before; here = block }))
+    && not (get_or met place false)) (wording.IsGone block.text) told said)
+
+abbrev pub TellsTold : Wording → List ℕ → List Block → Told → List ℕ → List ℕ → Type 0
+TellsTold wording name before (Opening text) told said = (told ≡ []) × (said ≡ text)
+TellsTold wording name before (Here seen block) told said = TellsNextBy wording name
+    (block_for before block.text) block (fault_here wording before seen.met block.text) told said
+TellsTold wording name before (Closing seen) told said = (told ≡ [])
+    × (said ≡ apart_by wording seen.known (first_path before) seen.first
+    ++ closing name seen.tally)
+TellsTold wording name before (Missing met place) told said =
+    TellsMissing wording before met place told said
+
+-- what was counted in the end, if it is known
+abbrev pub final_by : Wording → List Block → Left → Stage → Option Tally
+final_by wording before left (stage.Gone place) = Some left.seen.tally
+final_by wording before left stage = option_map (λ blocks.
+    (fold (seen_on wording before) left.seen blocks).tally) left.coming
+
+abbrev pub final_tally : Wording → List Block → Left → Option Tally
+final_tally wording before left = final_by wording before left left.stage
+
+-- ---- one more thing is reported
+
+-- this was the first of known things
+abbrev pub HandsOn : {A : Type 0} → Option (List A) → A → Option (List A) → Type 0
+HandsOn None item new = Unit {0}
+HandsOn (Some items) item None = ⊥
+HandsOn (Some items) item (Some more) = items ≡ item ∷ more
+
+pub record IsStep (wording : Wording) (name : List ℕ) (before : List Block) (old new : Left)
+    (out out' beside beside' : List ℕ) : Type 0 where
+  pub step : Told
+  pub hands : HandsOn (left_to_tell wording before old) step (left_to_tell wording before new)
+  pub appended : Appended (TellsTold wording name before step) out out' beside beside'
+  pub final : IfSome (final_tally wording before old) (λ tally.
+      final_tally wording before new ≡ Some tally)
+
+-- from here on
+abbrev pub TellsLeft : Wording → List ℕ → List Block → Left → List ℕ → List ℕ → Type 0
+TellsLeft wording name before left told said = IfSome (left_to_tell wording before left) (λ steps.
+    TellsEach (TellsTold wording name before) steps told said)
+
+abbrev pub BeginsLeft : Wording → List ℕ → List Block → Left → List ℕ → List ℕ → Type 0
+BeginsLeft wording name before left told said = IfSome (left_to_tell wording before left) (λ steps.
+    (count : ℕ) × TellsEach (TellsTold wording name before) (take count steps) told said)
+
+abbrev pub EndsLeft : Wording → List Block → Left → Ending → Type 0
+EndsLeft wording before left ending = IfSome (final_tally wording before left) (λ tally.
+    ending ≡ ending_of tally)
+
+-- nothing more is reported
+pub record IsLast (wording : Wording) (name : List ℕ) (before : List Block) (old new : Left)
+    (out out' beside beside' : List ℕ) : Type 0 where
+  pub stays : new ≡ old
+  pub out_is : out' ≡ out
+  pub beside_is : beside' ≡ beside
+  pub none : TellsLeft wording name before old [] []

@@ -1,0 +1,65 @@
+-- What the fields of `impact` mean, of two listings.
+use Rattle.std.specs.Prelude.{◌≡◌, ◌⊎◌, ◌||◌, ◌+◌, ℕ, Bool, not, List, Option, Ok, codes}
+use Rattle.std.specs.Prelude.{is_some}
+use Rattle.clap.specs.Words.{Row, Text, all_of}
+use Rattle.acl_cli.specs.Commands.{Answer, Meaning}
+use Rattle.acl_cli.specs.Failures.{Explains}
+use Rattle.acl_cli.specs.Fields.{flag_in}
+use Rattle.acl_cli.specs.declared.failure.Failure.{Failure}
+use Rattle.acl_listing_answers.specs.Host.{IsHost, names_of_host}
+use Rattle.acl_listing_answers.specs.HostFailures.{IsHostFailure}
+use Rattle.acl_listing_answers.specs.People.{asked_in}
+use Rattle.acl_listing_answers.specs.Person.{Person}
+use Rattle.acl_listing_answers.specs.ListingMeaning.{bytes_named, inputs_of}
+use Rattle.acl_listing_answers.specs.declared.host.Host.{Host}
+use Rattle.acl_listing_changes.specs.ChangeMeaning.{FailsForListings, after_in, before_in}
+use Rattle.acl_listing_changes.specs.Changes.{IsChangeAnswer, IsChangeBegun, Named, OfListings}
+use Rattle.acl_listing_changes.specs.Changes.{Wording}
+use Rattle.acl_listing_changes.specs.Impacting.{Concern, ImpactAsking, impacting}
+
+-- the words name users to ask about
+abbrev pub names_users : List Row → Bool
+names_users rows = is_some (all_of (codes "user") rows)
+
+-- Each who is asked about has a line if the words say so, or name these; somebody else has one only
+-- if they name none.
+abbrev pub concern_in : List Person → List Row → Concern
+concern_in persons rows = record {
+  persons = persons;
+  each = flag_in (codes "all") rows || names_users rows;
+  somebody = not (names_users rows);
+}
+
+abbrev pub impact_asked : Host → List Person → List Row → ImpactAsking
+impact_asked host persons rows = record {
+  names = names_of_host host;
+  concern = concern_in persons rows;
+  written = flag_in (codes "text") rows;
+  asks = flag_in (codes "exit-code") rows;
+}
+
+-- the files say who there is, the words whom they ask about, and the answer is what follows from it
+pub record ImpactAnswers (Is : Wording → Named → Named → Answer → Type 0)
+    (bytes_of : Text → Option (List ℕ)) (input : Option (List ℕ)) (rows : List Row)
+    (answer : Answer) : Type 0 where
+  pub host : Host
+  pub host_is : IsHost bytes_of rows host
+  pub persons : List Person
+  pub persons_are : asked_in host rows ≡ Ok persons
+  pub is : OfListings (Is (impacting (impact_asked host persons rows))) (before_in rows)
+      (bytes_named bytes_of input (before_in rows)) (after_in rows)
+      (bytes_named bytes_of input (after_in rows)) answer
+
+-- the files don't say who there is, nobody is asked about, or the listings fail
+abbrev pub FailsForImpact : (Text → Option (List ℕ)) → List Row → Failure → Type 0
+FailsForImpact bytes_of rows failure = IsHostFailure bytes_of rows failure
+    ⊎ (((host : Host) × IsHost bytes_of rows host × Explains (asked_in host rows) failure)
+    ⊎ FailsForListings (before_in rows) (after_in rows) failure)
+
+abbrev pub impact_meaning : (Text → Option (List ℕ)) → Option (List ℕ) → List Row → Meaning
+impact_meaning bytes_of input rows = record {
+  Answers = ImpactAnswers IsChangeAnswer bytes_of input rows;
+  Begins = ImpactAnswers IsChangeBegun bytes_of input rows;
+  Fails = FailsForImpact bytes_of rows;
+  inputs = inputs_of (before_in rows) + inputs_of (after_in rows);
+}

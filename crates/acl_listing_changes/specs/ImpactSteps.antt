@@ -1,0 +1,50 @@
+-- How it is reported what changed for those who are asked about. Private steps, which no public
+-- clause cites.
+use Rattle.std.specs.Prelude.{◌≡◌, ℕ, Bool, true, false, List, [], Option, Some, None}
+use Rattle.std.specs.Prelude.{Result, Ok, Err}
+use Rattle.acl_nfs4.specs.Mask.{mask_bits}
+use Rattle.acl_bridge.specs.Files.{File}
+use Rattle.acl_access.specs.Changes.{IsAlikeTo, IsChangeFor}
+use Rattle.acl_access.specs.declared.changes.Change.{Change}
+use Rattle.acl_listings.specs.Block.{FileValue}
+use Rattle.acl_listings.specs.declared.fault.BlockFault.{BlockFault}
+use Rattle.acl_listing_answers.specs.Host.{names_of_host}
+use Rattle.acl_listing_answers.specs.Person.{Person}
+use Rattle.acl_listing_changes.specs.ImpactText.{person_text}
+use Rattle.acl_listing_changes.specs.Concerns.{concern_by}
+use Rattle.acl_listing_changes.specs.Impacting.{ImpactAsking, TellsChange}
+use Rattle.acl_listing_changes.specs.declared.impact.asked.One.{One}
+use Rattle.acl_listing_changes.specs.declared.impact.teller.ImpactTeller.{ImpactTeller}
+
+abbrev pub view_one : One → Person
+view_one one = record { name = one.name.now; who = one.requester.now }
+
+abbrev pub asking_by : ImpactTeller → ImpactAsking
+asking_by teller = record {
+  names = names_of_host teller.host.now;
+  concern = concern_by teller.people.now teller.each teller.somebody;
+  written = teller.written;
+  asks = teller.asks;
+}
+
+-- what is reported of a file, where this is what its block before says
+abbrev pub TellsRead : ImpactAsking → Result FileValue BlockFault → FileValue → List ℕ → Type 0
+TellsRead asking (Ok before) after text = TellsChange asking before after text
+TellsRead asking (Err fault) after text = text ≡ []
+
+-- the line of somebody whom a change concerns, and of somebody whom it doesn't
+abbrev pub TellsBy : Bool → File → File → List ℕ → Person → List ℕ → Type 0
+TellsBy true before after path person text = (change : Change)
+    × IsChangeFor before after person.who change
+    × (text ≡ person_text person (mask_bits change.lost) (mask_bits change.gained) path)
+TellsBy false before after path person text =
+    IsAlikeTo before after person.who × (text ≡ [])
+
+-- of who is at a place, if somebody is
+abbrev pub TellsAt : Bool → File → File → List ℕ → Option Person → List ℕ → Type 0
+TellsAt some before after path None text = (some ≡ false) × (text ≡ [])
+TellsAt some before after path (Some person) text = TellsBy some before after path person text
+
+abbrev pub line_at : (Person → List ℕ) → Option Person → List ℕ
+line_at line None = []
+line_at line (Some person) = line person

@@ -1,0 +1,15 @@
+pub mod Kept
+pub mod Changes
+pub mod ChangeSteps
+pub mod ChangeMeaning
+pub mod Restoring
+pub mod RestoreLine
+pub mod RestoreMeaning
+pub mod RestoreLaws
+pub mod ImpactText
+pub mod WrittenChanges
+pub mod Impacting
+pub mod Concerns
+pub mod ImpactSteps
+pub mod ImpactMeaning
+pub mod AlikeLaws

@@ -1,0 +1,78 @@
+//! The two listings that words name.
+ghost use Rattle.std.specs.Prelude.{◌≡◌, IfErr, IfOk};
+ghost use Rattle.clap.specs.Words.{found_of, rows_of};
+ghost use Rattle.acl_cli.specs.Commands.{Comes};
+ghost use Rattle.acl_listing_changes.specs.ChangeMeaning.{IsUnopened, after_in, before_in};
+ghost use Rattle.acl_listing_changes.specs.ChangeMeaning.{change_meaning};
+
+use super::changes::tell_both;
+use super::teller::ChangeTeller;
+use acl_cli::fields::text_field;
+use acl_cli::{Ending, ErrorOutput, Failure, OpenFiles, Reason};
+use acl_listing_answers::INPUT;
+use clap::ArgMatches;
+use std::alloc::Global;
+use std::io::{Read, Write};
+
+/// The name of the listing before.
+pub(crate) fn before_field<'a>(matches: &ArgMatches<'a>) -> &'a str
+    ensures { result.now ≡ before_in (rows_of (found_of matches.now)) }
+{
+    text_field(matches, "listing").unwrap_or("")
+}
+
+/// The name of the listing after.
+pub(crate) fn after_field<'a>(matches: &ArgMatches<'a>) -> &'a str
+    ensures { result.now ≡ after_in (rows_of (found_of matches.now)) }
+{
+    text_field(matches, "after").unwrap_or("")
+}
+
+/// The file of this name.
+fn open<'n, F: OpenFiles>(files: &F, name: &'n str) -> Result<F::File, Failure<'n>>
+    ensures opened { IfOk result (λ file. F.File.remaining file
+        ≡ F.bytes_of files.now name.entry.now) }
+    ensures refused { IfErr result (IsUnopened name.entry.now) }
+{
+    match files.open(name) {
+        Ok(file) => Ok(file),
+        Err(error) => Err(Failure::CannotRead(name, Reason::of(error.kind()))),
+    }
+}
+
+/// Writes what is reported of the listings of these names, of which one may be `-`, which is
+/// `input`.
+pub(crate) fn tell_between<'n, C, F, I, W, E>(
+    alloc: Global,
+    teller: &C,
+    files: &F,
+    before: &'n str,
+    after: &'n str,
+    input: &mut I,
+    out: &mut W,
+    err: &mut ErrorOutput<E>,
+) -> Result<Ending, Failure<'n>>
+where
+    C: ChangeTeller,
+    F: OpenFiles,
+    I: Read,
+    W: Write,
+    E: Write + Drop,
+    ensures { Comes (change_meaning (C.wording teller.now) (F.bytes_of files.now)
+        (I.remaining input.old) before.entry.now after.entry.now) result (W.contents out.old)
+        (W.contents out.new) err.old err.new input.old input.new }
+{
+    if before == INPUT {
+        if after == INPUT {
+            return Err(Failure::InputTwice);
+        }
+        let later = open(files, after)?;
+        return tell_both(alloc, teller, (before, input), (after, later), out, err);
+    }
+    let earlier = open(files, before)?;
+    if after == INPUT {
+        return tell_both(alloc, teller, (before, earlier), (after, input), out, err);
+    }
+    let later = open(files, after)?;
+    tell_both(alloc, teller, (before, earlier), (after, later), out, err)
+}

@@ -1,0 +1,261 @@
+//! Whom a change concerns, of those who are asked about.
+ghost use Rattle.std.specs.Prelude.{◌≡◌, ◌++◌, IfOk, OnOk, map, option_map, slice_get};
+ghost use Rattle.std.specs.List.{flat_map};
+ghost use Rattle.acl_bridge.specs.Files.{view_acl};
+ghost use Rattle.acl_listing_answers.specs.Asked.{persons_in};
+ghost use Rattle.acl_listing_changes.specs.ImpactSteps.{TellsAt, TellsBy, line_at, view_one};
+ghost use Rattle.acl_listing_changes.specs.Impacting.{Tells, TellsAnybody, TellsFirst};
+ghost use Rattle.acl_listing_changes.specs.Impacting.{TellsPersons, TellsThose, lines_if};
+ghost use Rattle.acl_listing_changes.specs.Impacting.{may_line};
+
+use crate::impact_lines::{push_person, push_somebody};
+use acl_access::{change_for, change_for_anybody, effective};
+use acl_bridge::FileAcl;
+use acl_bridge::bits::mask_for;
+use acl_listing_answers::People;
+use acl_names::Requester;
+use acl_nfs4::Mask;
+use bitflags::Flags;
+use std::alloc::{AllocError, Global};
+
+/// One who is asked about: the name as getfacl prints it, and who it is.
+#[derive(Clone, Copy)]
+pub(super) struct One<'t> {
+    name: &'t [u8],
+    requester: &'t Requester,
+}
+
+/// The name at the place.
+fn name_at(names: &[Vec<u8>], place: usize) -> Option<&[u8]>
+    ensures { option_map (λ name. name.now) result
+        ≡ slice_get (map (λ name. name.items) names.now) place }
+{
+    match names.get(place) {
+        Some(name) => Some(name.as_slice()),
+        None => None,
+    }
+}
+
+/// Who asks at the place.
+fn requester_at(requesters: &[Requester], place: usize) -> Option<&Requester>
+    ensures { option_map (λ requester. requester.now) result ≡ slice_get requesters.now place }
+{
+    requesters.get(place)
+}
+
+/// Who is at the place.
+fn one_at(people: &People, place: usize) -> Option<One<'_>>
+    ensures { option_map view_one result ≡ slice_get (persons_in people.now) place }
+{
+    let Some(name) = name_at(people.names.as_slice(), place) else {
+        return None;
+    };
+    let Some(requester) = requester_at(people.requesters.as_slice(), place) else {
+        return None;
+    };
+    Some(One { name, requester })
+}
+
+/// Appends the line of somebody whom it concerns that a file became another, and returns whether it
+/// does.
+fn push_changed(
+    before: &FileAcl<'_>,
+    after: &FileAcl<'_>,
+    one: &One<'_>,
+    path: &[u8],
+    out: &mut Vec<u8>,
+) -> Result<bool, AllocError>
+    ensures { IfOk result (λ some. Tells (TellsBy some (view_acl before.now) (view_acl after.now)
+        path.now (view_one one.now)) out.old.items out.new.items) }
+{
+    match change_for(before, after, one.requester) {
+        Some(change) => {
+            push_person(
+                one.name,
+                one.requester,
+                change.lost,
+                change.gained,
+                path,
+                out,
+            )?;
+            Ok(true)
+        }
+        None => Ok(false),
+    }
+}
+
+/// Appends the line of who is at the place, if a change concerns somebody there, and returns
+/// whether it does.
+fn push_changed_at(
+    before: &FileAcl<'_>,
+    after: &FileAcl<'_>,
+    people: &People,
+    place: usize,
+    path: &[u8],
+    out: &mut Vec<u8>,
+) -> Result<bool, AllocError>
+    ensures { IfOk result (λ some. Tells (TellsAt some (view_acl before.now) (view_acl after.now)
+        path.now (slice_get (persons_in people.now) place)) out.old.items out.new.items) }
+{
+    match one_at(people, place) {
+        Some(one) => push_changed(before, after, &one, path, out),
+        None => Ok(false),
+    }
+}
+
+/// Appends the line of each whom it concerns that a file became another.
+fn push_each(
+    before: &FileAcl<'_>,
+    after: &FileAcl<'_>,
+    people: &People,
+    path: &[u8],
+    out: &mut Vec<u8>,
+) -> Result<(), AllocError>
+    ensures { OnOk result (Tells (TellsPersons (view_acl before.now) (view_acl after.now) path.now
+        (persons_in people.now)) out.old.items out.new.items) }
+{
+    for place in 0..people.requesters.len() {
+        push_changed_at(before, after, people, place, path, out)?;
+    }
+    Ok(())
+}
+
+/// Appends the line of the first whom it concerns that a file became another.
+fn push_first(
+    before: &FileAcl<'_>,
+    after: &FileAcl<'_>,
+    people: &People,
+    path: &[u8],
+    out: &mut Vec<u8>,
+) -> Result<(), AllocError>
+    ensures { OnOk result (Tells (TellsFirst (view_acl before.now) (view_acl after.now) path.now
+        (persons_in people.now)) out.old.items out.new.items) }
+{
+    for place in 0..people.requesters.len() {
+        if push_changed_at(before, after, people, place, path, out)? {
+            return Ok(());
+        }
+    }
+    Ok(())
+}
+
+/// Appends the line of each whom it concerns that a file became another, or of the first of them.
+pub(super) fn push_those(
+    each: bool,
+    before: &FileAcl<'_>,
+    after: &FileAcl<'_>,
+    people: &People,
+    path: &[u8],
+    out: &mut Vec<u8>,
+) -> Result<(), AllocError>
+    ensures { OnOk result (Tells (TellsThose each (view_acl before.now) (view_acl after.now)
+        path.now (persons_in people.now)) out.old.items out.new.items) }
+{
+    if each {
+        push_each(before, after, people, path, out)
+    } else {
+        push_first(before, after, people, path, out)
+    }
+}
+
+/// Appends the line of somebody whom it concerns that a file became another, if anybody is asked
+/// about.
+pub(super) fn push_anybody(
+    alloc: Global,
+    asked: bool,
+    before: &FileAcl<'_>,
+    after: &FileAcl<'_>,
+    path: &[u8],
+    out: &mut Vec<u8>,
+) -> Result<(), AllocError>
+    ensures { OnOk result (Tells (TellsAnybody asked (view_acl before.now) (view_acl after.now)
+        path.now) out.old.items out.new.items) }
+{
+    if !asked {
+        return Ok(());
+    }
+    match change_for_anybody(alloc, before, after) {
+        Ok(Some(found)) => push_somebody(found.asker, found.lost, found.gained, path, out),
+        Ok(None) => Ok(()),
+        Err(refused) => Err(refused),
+    }
+}
+
+/// Appends the line of somebody who may do something with a new file, or might with a gone one.
+fn push_may(
+    gone: bool,
+    file: &FileAcl<'_>,
+    one: &One<'_>,
+    path: &[u8],
+    out: &mut Vec<u8>,
+) -> Result<(), AllocError>
+    ensures { OnOk result (out.new.items
+        ≡ out.old.items ++ may_line gone path.now (view_acl file.now) (view_one one.now)) }
+{
+    let perms = effective(file, one.requester);
+    if perms.is_empty() {
+        return Ok(());
+    }
+    let bits = mask_for(perms);
+    if gone {
+        push_person(one.name, one.requester, bits, Mask::empty(), path, out)
+    } else {
+        push_person(one.name, one.requester, Mask::empty(), bits, path, out)
+    }
+}
+
+/// Appends the line of who is at the place, if it may do something with a new file, or might with a
+/// gone one.
+fn push_may_at(
+    gone: bool,
+    file: &FileAcl<'_>,
+    people: &People,
+    place: usize,
+    path: &[u8],
+    out: &mut Vec<u8>,
+) -> Result<(), AllocError>
+    ensures { OnOk result (out.new.items ≡ out.old.items
+        ++ line_at (may_line gone path.now (view_acl file.now))
+        (slice_get (persons_in people.now) place)) }
+{
+    match one_at(people, place) {
+        Some(one) => push_may(gone, file, &one, path, out),
+        None => Ok(()),
+    }
+}
+
+/// Appends the line of each who may do something with a new file, or might with a gone one.
+fn push_each_who_may(
+    gone: bool,
+    file: &FileAcl<'_>,
+    people: &People,
+    path: &[u8],
+    out: &mut Vec<u8>,
+) -> Result<(), AllocError>
+    ensures { OnOk result (out.new.items ≡ out.old.items
+        ++ flat_map (may_line gone path.now (view_acl file.now)) (persons_in people.now)) }
+{
+    for place in 0..people.requesters.len() {
+        push_may_at(gone, file, people, place, path, out)?;
+    }
+    Ok(())
+}
+
+/// Appends the line of each who may do something with a new file, or might with a gone one, if each
+/// has a line.
+pub(super) fn push_all_who_may(
+    each: bool,
+    gone: bool,
+    file: &FileAcl<'_>,
+    people: &People,
+    path: &[u8],
+    out: &mut Vec<u8>,
+) -> Result<(), AllocError>
+    ensures { OnOk result (out.new.items ≡ out.old.items
+        ++ lines_if each (may_line gone path.now (view_acl file.now)) (persons_in people.now)) }
+{
+    if !each {
+        return Ok(());
+    }
+    push_each_who_may(gone, file, people, path, out)
+}

@@ -1,0 +1,199 @@
+//! What `impact` tells of blocks.
+ghost use Rattle.std.specs.Prelude.{◌≡◌, ◌++◌, OnOk};
+ghost use Rattle.acl_listings.specs.Block.{file_by};
+ghost use Rattle.acl_listings.specs.Views.{view_file};
+ghost use Rattle.acl_listing_changes.specs.Concerns.{concern_of};
+ghost use Rattle.acl_listing_changes.specs.ImpactSteps.{TellsRead, asking_by};
+ghost use Rattle.acl_listing_changes.specs.Impacting.{Tells, TellsChange, told_of};
+
+use super::changed::{changed_between, push_changed};
+use super::concerned::Concerned;
+use crate::between::ChangeTeller;
+use crate::impact_lines::push_apart;
+use acl_bridge::FileAcl;
+use acl_listing_answers::{Host, People, owners_and_list};
+use acl_listings::{BlockFault, File, FileFault, faulty_line, read_file};
+use std::alloc::{AllocError, Global};
+
+/// Tells whom changes concern.
+#[derive(Clone, Copy)]
+pub(super) struct ImpactTeller<'t> {
+    /// By whose names blocks are read.
+    pub host: &'t Host,
+    pub people: &'t People,
+    /// Whether each of these people has a line, and not only the first.
+    pub each: bool,
+    /// Whether somebody else has one, if none of them has.
+    pub somebody: bool,
+    /// Whether a path has a line of which something is written otherwise.
+    pub written: bool,
+    /// Whether the exit status tells that there is a line.
+    pub asks: bool,
+}
+
+impl<'t> ImpactTeller<'t> {
+    /// Whom they concern.
+    fn concerned(&self) -> Concerned<'t>
+        ensures { concern_of result ≡ (asking_by self.now).concern }
+    {
+        Concerned {
+            people: self.people,
+            each: self.each,
+            somebody: self.somebody,
+        }
+    }
+
+    /// Appends what is reported of a file that is gone, or else new.
+    fn push_file(
+        &self,
+        alloc: Global,
+        gone: bool,
+        file: File<'_>,
+        out: &mut Vec<u8>,
+    ) -> Result<(), AllocError>
+        ensures { OnOk result (out.new.items
+            ≡ out.old.items ++ told_of gone (asking_by self.now) (view_file file.entry)) }
+    {
+        let path = file.path;
+        let (owners, list) = owners_and_list(alloc, file)?;
+        let acl = FileAcl {
+            owners,
+            list: list.as_ref(),
+        };
+        self.concerned().push_path(gone, &acl, path, out)
+    }
+
+    /// Appends what is reported of a file that became another.
+    fn push_files(
+        &self,
+        alloc: Global,
+        before: File<'_>,
+        after: File<'_>,
+        out: &mut Vec<u8>,
+    ) -> Result<(), AllocError>
+        ensures { OnOk result (Tells (TellsChange (asking_by self.now) (view_file before.entry)
+            (view_file after.entry)) out.old.items out.new.items) }
+    {
+        let path = after.path;
+        let changed = changed_between(&before, &after);
+        let (old_owners, old_list) = owners_and_list(alloc, before)?;
+        let (new_owners, new_list) = owners_and_list(alloc, after)?;
+        let old = FileAcl {
+            owners: old_owners,
+            list: old_list.as_ref(),
+        };
+        let new = FileAcl {
+            owners: new_owners,
+            list: new_list.as_ref(),
+        };
+        self.concerned().push_impact(alloc, &old, &new, path, out)?;
+        push_changed(self.written, changed, path, out)
+    }
+}
+
+impl<'t> ImpactTeller<'t> {
+    /// Appends what is reported of a file of which the block before has this text, if that one
+    /// reads.
+    fn push_old(
+        &self,
+        alloc: Global,
+        old: &[u8],
+        after: File<'_>,
+        out: &mut Vec<u8>,
+    ) -> Result<(), AllocError>
+        ensures { OnOk result (Tells (TellsRead (asking_by self.now)
+            (file_by (asking_by self.now).names old.now) (view_file after.entry)) out.old.items
+            out.new.items) }
+    {
+        match read_file(alloc, old, self.host) {
+            Ok(before) => self.push_files(alloc, before, after, out),
+            Err(FileFault::Block(_)) => Ok(()),
+            Err(FileFault::Memory) => Err(AllocError),
+        }
+    }
+}
+
+impl<'t> ChangeTeller for ImpactTeller<'t> {
+    ghost use Rattle.acl_listing_changes.specs.ImpactSteps.{asking_by};
+    ghost use Rattle.acl_listing_changes.specs.Impacting.{impacting};
+
+    ghost wording = { λ teller. impacting (asking_by teller) };
+
+    fn asks(&self) -> bool {
+        self.asks
+    }
+
+    fn fault(&self, alloc: Global, text: &[u8]) -> Result<Option<BlockFault>, AllocError> {
+        match read_file(alloc, text, self.host) {
+            Ok(_file) => Ok(None),
+            Err(FileFault::Block(fault)) => Ok(Some(fault)),
+            Err(FileFault::Memory) => Err(AllocError),
+        }
+    }
+
+    fn faulty_line<'a>(&self, text: &'a [u8], fault: BlockFault) -> (usize, &'a [u8]) {
+        faulty_line(text, fault, self.host)
+    }
+
+    fn push_new(
+        &self,
+        alloc: Global,
+        text: &[u8],
+        out: &mut Vec<u8>,
+        _beside: &mut Vec<u8>,
+    ) -> Result<Option<BlockFault>, AllocError> {
+        match read_file(alloc, text, self.host) {
+            Ok(file) => {
+                self.push_file(alloc, false, file, out)?;
+                Ok(None)
+            }
+            Err(FileFault::Block(fault)) => Ok(Some(fault)),
+            Err(FileFault::Memory) => Err(AllocError),
+        }
+    }
+
+    fn push_changed(
+        &self,
+        alloc: Global,
+        old: &[u8],
+        text: &[u8],
+        out: &mut Vec<u8>,
+        _beside: &mut Vec<u8>,
+    ) -> Result<Option<BlockFault>, AllocError> {
+        match read_file(alloc, text, self.host) {
+            Ok(after) => {
+                // The one before isn't read where the block stays as it is.
+                if old == text {
+                    return Ok(None);
+                }
+                self.push_old(alloc, old, after, out)?;
+                Ok(None)
+            }
+            Err(FileFault::Block(fault)) => Ok(Some(fault)),
+            Err(FileFault::Memory) => Err(AllocError),
+        }
+    }
+
+    fn push_gone(
+        &self,
+        alloc: Global,
+        old: &[u8],
+        out: &mut Vec<u8>,
+        _beside: &mut Vec<u8>,
+    ) -> Result<(), AllocError> {
+        match read_file(alloc, old, self.host) {
+            Ok(file) => self.push_file(alloc, true, file, out),
+            Err(FileFault::Block(_)) => Ok(()),
+            Err(FileFault::Memory) => Err(AllocError),
+        }
+    }
+
+    fn push_apart(
+        &self,
+        first: &[u8],
+        second: &[u8],
+        beside: &mut Vec<u8>,
+    ) -> Result<(), AllocError> {
+        push_apart(first, second, beside)
+    }
+}

@@ -1,0 +1,13 @@
+//! What two listings of real files differ in: for whom a change of lists matters, and what brings
+//! the files back.
+#![tactic(auto)]
+
+mod between;
+mod impact;
+mod impact_lines;
+mod laws;
+mod restore;
+
+pub use impact::{Concerned, each_has_a_line, impact_of_listings, names_users};
+pub use laws::alike_laws;
+pub use restore::{Restore, restore_brings_back};

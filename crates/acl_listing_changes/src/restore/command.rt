@@ -1,0 +1,75 @@
+//! The command `restore`.
+use super::teller::RestoreTeller;
+use crate::between::{after_field, before_field, tell_between};
+use acl_cli::{Command as CliCommand, CommandLine, Ending, ErrorOutput, Failure, OpenFiles};
+use acl_listing_answers::options::{after_word, before_word};
+use clap::{ArgMatches, Command};
+use std::alloc::{AllocError, Global};
+use std::io::{Read, Write};
+
+/// What is reported, and what the exit statuses are.
+const ANSWERS: &str = "For example:
+  getfacl -Rn /srv/share > before
+  getfacl -Rn /srv/share | aclctl restore before - | setfacl --restore=-
+
+The blocks of BEFORE whose path AFTER has with another text, byte for byte:
+what setfacl takes to bring back owner, group, flags, access and default list
+of every file that is still there. Paths that are new or gone are told on
+standard error: aclctl: PATH: new. So is what can't be compared:
+aclctl: LISTING:LINE: WORD: TEXT.
+
+Exit status: 0 if every block was compared; 1 if a listing can't be opened;
+2 if the words are wrong; 3 if memory runs out, a listing fails while it is
+read, or the answer can't be written; 4 if there are blocks that can't be
+compared, or a listing has none at all.";
+
+/// `restore` of two listings: what brings back the lists that there were before.
+#[derive(Clone, Copy)]
+pub struct Restore;
+
+impl CommandLine for Restore {
+    ghost use Rattle.acl_listing_changes.specs.RestoreLine.{restore_line, restore_line-free};
+    ghost use Rattle.acl_listing_changes.specs.RestoreLine.{restore_line-simple};
+
+    ghost line = { restore_line };
+
+    ghost line_simple = { restore_line-simple };
+
+    ghost line_free = { restore_line-free };
+
+    fn command<'a>(alloc: Global) -> Result<Command<'a>, AllocError> {
+        Command::new(alloc, "restore")
+            .bin_name("aclctl restore")?
+            .about("Prints what brings back the lists of files as a listing had them.")
+            .after_help(ANSWERS)
+            .arg(before_word(alloc))?
+            .arg(after_word(alloc))
+    }
+}
+
+impl CliCommand for Restore {
+    ghost use Rattle.std.specs.Prelude.{true};
+    ghost use Rattle.acl_listing_changes.specs.RestoreMeaning.{restore_meaning};
+
+    ghost meaning = { restore_meaning };
+
+    ghost helps = { true };
+
+    fn answers_help() -> bool {
+        true
+    }
+
+    fn answer<'a, F: OpenFiles, I: Read, W: Write, E: Write + Drop>(
+        &self,
+        alloc: Global,
+        files: &F,
+        matches: &ArgMatches<'a>,
+        input: &mut I,
+        out: &mut W,
+        err: &mut ErrorOutput<E>,
+    ) -> Result<Ending, Failure<'a>> {
+        let before = before_field(matches);
+        let after = after_field(matches);
+        tell_between(alloc, &RestoreTeller, files, before, after, input, out, err)
+    }
+}

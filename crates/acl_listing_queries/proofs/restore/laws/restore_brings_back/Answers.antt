@@ -1,5 +1,0 @@
-use Rattle.acl_listing_queries.proofs.RestoreLemmas.{brings_back, prints_blocks}
-use Rattle.acl_listing_queries.proofs.restore.laws.restore_brings_back.Goals as goal
-
-pub returns : goal.returns
-returns c = record { prints = prints_blocks; back = brings_back }

@@ -1,0 +1,4 @@
+pub mod NumbersLemmas
+pub mod TranslatedLemmas
+pub mod SameLemmas
+pub mod UnchangedLemmas

@@ -1,0 +1,44 @@
+use Rattle.std.proofs.Common.{◌≡◌, ◌∙◌, List, ℕ, ap, ap₂, codes, inr, subst}
+use Rattle.clap.specs.Words.{Row, found_of, rows_of}
+use Rattle.acl_cli.specs.Fields.{flag_in}
+use Rattle.acl_cli.proofs.CommandsLemmas.{Comes-as}
+use Rattle.acl_listing_answers.specs.Host.{names_of_host}
+use Rattle.acl_listing_answers.specs.Listed.{AnswersListing, BeginsListing}
+use Rattle.acl_listing_answers.specs.ListingMeaning.{FailsForListing, bytes_named, inputs_of, listing_meaning}
+use Rattle.acl_listing_translation.specs.Translated.{Translating, translate_part}
+use Rattle.acl_listing_translation.specs.TranslateMeaning.{translate_meaning}
+use Rattle.acl_listing_translation.proofs.command.TranslateCliCommand.answer.Goals as goal
+
+pub returns : goal.returns
+returns g c =
+    let files = g.F.OpenFiles.bytes_of c.args.files.now in
+    let input = g.I.Read.remaining c.args.input.now in
+    let rows : List Row = rows_of (found_of c.args.matches.now) in
+    let host = c.in_ok-host.host in
+    let form = c.in_ok-form.form in
+    let name_is = c.listing_field.ensures in
+    let told : Translating = record { names = names_of_host host; form = form; attributes = c.flag_field.result; pairs = c.flag_field-2.result } in
+    let asked : Translating = record { names = names_of_host host; form = form; attributes = flag_in (codes "attributes") rows; pairs = flag_in (codes "print0") rows } in
+    let same : told ≡ asked =
+    ap₂ (λ attributes pairs. record { names = names_of_host host; form = form; attributes = attributes; pairs = pairs }) c.flag_field.ensures c.flag_field-2.ensures in
+    let part = listing_meaning files input c.listing_field.result.now (names_of_host host) (translate_part told) in
+    Comes-as part (translate_meaning files input rows) c.tell_named.result _ _ _ _ _ _
+    (λ answer is. record {
+      host = host;
+      host_is = c.in_ok-host.ensures.opened;
+      form = form;
+      form_is = c.in_ok-form.ensures.read;
+      is = subst (λ (name : List ℕ). AnswersListing name (names_of_host host) (translate_part asked) (bytes_named files input name) answer) name_is
+          (subst (λ (asking : Translating). AnswersListing c.listing_field.result.now (names_of_host host) (translate_part asking) (bytes_named files input c.listing_field.result.now) answer) same is);
+    })
+    (λ answer is. record {
+      host = host;
+      host_is = c.in_ok-host.ensures.opened;
+      form = form;
+      form_is = c.in_ok-form.ensures.read;
+      is = subst (λ (name : List ℕ). BeginsListing name (names_of_host host) (translate_part asked) (bytes_named files input name) answer) name_is
+          (subst (λ (asking : Translating). BeginsListing c.listing_field.result.now (names_of_host host) (translate_part asking) (bytes_named files input c.listing_field.result.now) answer) same is);
+    })
+    (λ failure fails. inr (inr (subst (λ (name : List ℕ). FailsForListing name failure) name_is fails)))
+    (λ none. ap inputs_of name_is ∙ none)
+    c.tell_named.ensures

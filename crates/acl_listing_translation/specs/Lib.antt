@@ -1,0 +1,5 @@
+pub mod Translated
+pub mod TranslateLine
+pub mod TranslateSteps
+pub mod TranslateMeaning
+pub mod TranslateLaws

@@ -1,0 +1,15 @@
+//! `translate`: the files of a listing of real files as NFSv4 ones.
+#![tactic(auto)]
+
+mod command;
+mod escapes;
+mod form;
+mod laws;
+mod lists;
+mod printing;
+mod teller;
+
+pub use command::Translate;
+pub use laws::{
+    translations_are_read_again, translations_change_nothing, translations_decide_alike,
+};
