@@ -1,5 +1,5 @@
 -- A file and the same with what is told of it are decided about alike, and `impact` tells nothing.
-use Rattle.std.proofs.Common.{◌≡◌, ◌∙◌, ◌↔◌, IfOk, ℕ, Bool, true, false, cond, List, [], ◌∷◌, ◌++◌, Some, None, Result, Ok, ap, ap₂, is_some, refl, subst, sym}
+use Rattle.std.proofs.Common.{◌≡◌, ◌∙◌, ◌↔◌, IfOk, ℕ, Bool, true, false, cond, List, [], ◌∷◌, ◌++◌, Some, None, Result, Ok, ap, ap₂, refl, subst, sym}
 use Rattle.acl_names.specs.Bytes.{newline}
 use Rattle.acl_names.specs.Names.{Names}
 use Rattle.acl_posix.specs.Entry.{EntryValue}
@@ -19,8 +19,7 @@ use Rattle.acl_listing_answers.specs.Files.{deciding_list, file_of}
 use Rattle.acl_listing_answers.specs.Host.{names_of_host}
 use Rattle.acl_listing_answers.specs.declared.host.Host.{Host}
 use Rattle.acl_listing_changes.specs.Impacting.{ImpactAsking, TellsChange}
-use Rattle.acl_listing_changes.specs.WrittenChanges.{IsChanged, changed_text}
-use Rattle.acl_listing_changes.specs.declared.impact.changed.Changed.{Changed}
+use Rattle.acl_listing_changes.specs.WrittenChanges.{TellsWritten, changed_text}
 use Rattle.acl_listing_changes.proofs.AlikeLemmas.{alike_itself, is_unchanged, nobody, tells_nothing, unchanged}
 use Rattle.acl_listing_translation.specs.TranslateLaws.{IsTold, TellsNothing, TellsNothingOf, with_told}
 use Rattle.acl_listing_translation.specs.Translated.{aces_of}
@@ -63,47 +62,51 @@ module _ (names : Names) (attributes : Bool) (text : List ℕ) (file : FileValue
 
 -- ---- what is written otherwise
 
-abbrev told_changed : Bool → Lists → Changed
-told_changed attributes (Posix access default) = record { owner = false; group = false; flags = false; access = true; default = is_some default }
-told_changed attributes (Nfs4 acl) = unchanged
+-- of a file that has these lists
+module _ (attributes : Bool) (path : List ℕ) (owner group : ℕ) (flags : FileFlags) where
+  abbrev with_lists : Lists → FileValue
+  with_lists lists = record { path = path; owner = owner; group = group; flags = flags; lists = lists }
 
-is_told_changed : (attributes : Bool) (path : List ℕ) (owner group : ℕ) (flags : FileFlags) (lists : Lists)
-    → IsChanged (record { path = path; owner = owner; group = group; flags = flags; lists = lists })
-    (record { path = path; owner = owner; group = group; flags = flags; lists = Nfs4 (aces_of attributes lists) }) (told_changed attributes lists)
-is_told_changed attributes path owner group flags (Posix access None) = record {
-  owner = (λ is same. cc, λ differs. absurd (differs refl));
-  group = (λ is same. cc, λ differs. absurd (differs refl));
-  flags = (λ is same. cc, λ differs. absurd (differs refl));
-  access = (λ is same. cc, λ differs. refl);
-  default = (λ is same. cc, λ differs. absurd (differs refl));
-}
-is_told_changed attributes path owner group flags (Posix access (Some default)) = record {
-  owner = (λ is same. cc, λ differs. absurd (differs refl));
-  group = (λ is same. cc, λ differs. absurd (differs refl));
-  flags = (λ is same. cc, λ differs. absurd (differs refl));
-  access = (λ is same. cc, λ differs. refl);
-  default = (λ is same. cc, λ differs. refl);
-}
-is_told_changed attributes path owner group flags (Nfs4 acl) = is_unchanged (record { path = path; owner = owner; group = group; flags = flags; lists = Nfs4 acl })
+  unwritten : (lists : Lists) → TellsWritten false (with_lists lists) (with_lists (Nfs4 (aces_of attributes lists))) []
+  unwritten (Posix access None) = (
+    record { owner = false; group = false; flags = false; access = true; default = false },
+    record {
+      owner = (λ is same. cc, λ differs. absurd (differs refl));
+      group = (λ is same. cc, λ differs. absurd (differs refl));
+      flags = (λ is same. cc, λ differs. absurd (differs refl));
+      access = (λ is same. cc, λ differs. refl);
+      default = (λ is same. cc, λ differs. absurd (differs refl));
+    },
+    refl,
+  )
+  unwritten (Posix access (Some default)) = (
+    record { owner = false; group = false; flags = false; access = true; default = true },
+    record {
+      owner = (λ is same. cc, λ differs. absurd (differs refl));
+      group = (λ is same. cc, λ differs. absurd (differs refl));
+      flags = (λ is same. cc, λ differs. absurd (differs refl));
+      access = (λ is same. cc, λ differs. refl);
+      default = (λ is same. cc, λ differs. refl);
+    },
+    refl,
+  )
+  unwritten (Nfs4 acl) = (unchanged, is_unchanged (with_lists (Nfs4 acl)), refl)
 
 -- ---- blocks
 
--- what is told of two files that are decided about alike, unless that is asked
+-- what is told of two files that are decided about alike, unless what is written otherwise is asked
 module _ (asking : ImpactAsking) (unasked : asking.written ≡ false) (before after : FileValue) (alike : IsAlikeToAll (file_of before) (file_of after))
-    (differs : Changed) (is_differs : IsChanged before after differs) where
-  unwritten : (changed : Changed) → changed_text asking.written changed after.path ≡ []
-  unwritten changed = ap (λ asked. changed_text asked changed after.path) unasked
-
+    (nothing : TellsWritten false before after []) where
   change_nothing : (told : List ℕ) → TellsChange asking before after told ↔ (told ≡ [])
   change_nothing told = (
     λ tells. tells.text_is
         ∙ ap₂ (λ (a b : List ℕ). a ++ b) ((tells_nothing (file_of before) (file_of after) after.path alike asking.concern tells.impact).0 tells.impact_is)
-        (tells.written_is.2 ∙ unwritten tells.written_is.0),
+        (tells.written_is.2 ∙ ap (λ asked. changed_text asked tells.written_is.0 after.path) unasked),
     λ none. subst (TellsChange asking before after) (sym none) (record {
       impact = [];
       impact_is = nobody (file_of before) (file_of after) after.path alike asking.concern;
       written = [];
-      written_is = (differs, is_differs, sym (unwritten differs));
+      written_is = subst (λ (asked : Bool). TellsWritten asked before after []) (sym unasked) nothing;
       text_is = refl;
     }),
   )
@@ -126,8 +129,8 @@ blocks_nothing names attributes old text file reads again asking same unasked to
     let first : file_by asking.names old ≡ Ok file = ap (λ names. file_by names old) same ∙ reads in
     let second : file_by asking.names text ≡ Ok after = ap (λ names. file_by names text) same ∙ again in
     let both = of_both (λ before after. TellsChange asking before after told × (said ≡ [])) file after (file_by asking.names old) (file_by asking.names text) first second in
-    let nothing = change_nothing asking unasked file after (told_alike names attributes old file reads) (told_changed attributes file.lists)
-    (is_told_changed attributes file.path file.owner file.group file.flags file.lists) told in (
+    let nothing = change_nothing asking unasked file after (told_alike names attributes old file reads)
+    (unwritten attributes file.path file.owner file.group file.flags file.lists) told in (
       λ tells. let here = both.0 tells in (nothing.0 here.0, here.1),
       λ none. both.1 (nothing.1 none.0, none.1),
     )
