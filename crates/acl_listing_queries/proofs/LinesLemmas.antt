@@ -4,9 +4,8 @@ use Rattle.std.specs.Prelude.{Vec, slice_get}
 use Rattle.std.specs.List.{enumerate_from, flat_map}
 use Rattle.std.specs.declared.alloc.Global.{Global}
 use Rattle.acl_names.specs.Requester.{Identity}
-use Rattle.acl_access.specs.Marks.{is_set}
+use Rattle.acl_access.specs.Marks.{is_set, places_from}
 use Rattle.acl_access.specs.Letters.{effective, granted_mask, mask_text}
-use Rattle.acl_access.specs.Marks.{places_from}
 use Rattle.acl_access.specs.Reach.{reaches}
 use Rattle.acl_access.specs.Who.{may_line}
 use Rattle.acl_nfs4.specs.Mask.{mask_bits}

@@ -1,6 +1,6 @@
 -- How the way to a file goes on from block to block.
 use Rattle.std.proofs.Common.{◌≡◌, ◌∙◌, ◌&&◌, ◌||◌, ℕ, Bool, true, false, cond, List, [], ◌∷◌, Option, Some, None, Ok, Err, Result, ap, map, refl, subst, sym}
-use Rattle.std.specs.Prelude.{is_none}
+use Rattle.std.specs.Prelude.{is_none, Vec}
 use Rattle.std.specs.List.{filter, fold, list_all, list_any}
 use Rattle.std.proofs.lemmas.Bool.{or_parts}
 use Rattle.acl_names.specs.Requester.{Identity}
@@ -21,7 +21,6 @@ use Rattle.acl_listing_queries.specs.Ways.{folder_of, holds, known_way, may_be_a
 use Rattle.acl_listing_queries.specs.WhoPart.{Asking, part_by, way_for, who_part}
 use Rattle.acl_listing_queries.specs.WhoText.{who_text}
 use Rattle.acl_listing_queries.specs.declared.who.reach.ReachTeller.{ReachTeller}
-use Rattle.std.specs.Prelude.{Vec}
 use Rattle.std.specs.declared.alloc.Global.{Global}
 use Rattle.std.proofs.lemmas.Option.{none-some}
 use Rattle.acl_listing_queries.specs.WhoSteps.{AreAnswersOf, AreFolders, AreRight, IsAnsweredAt, IsBehind, IsChain, IsCome, IsEveryone, IsFolderAt, IsOnWay, IsPlacedAt, IsSearch, asking_of, folders_to, readings_of, kept_at, lacks_path, marks_of, names_by, whos_of}

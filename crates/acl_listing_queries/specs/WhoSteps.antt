@@ -5,9 +5,8 @@ use Rattle.std.specs.Prelude.{⊤, reverse, slice_get, if◌then◌else◌}
 use Rattle.std.specs.List.{enumerate_from, flat_map, fold, list_all, list_any}
 use Rattle.acl_names.specs.Names.{Names}
 use Rattle.acl_names.specs.Requester.{Identity}
-use Rattle.acl_access.specs.Marks.{is_set, letters_at}
 use Rattle.acl_access.specs.Letters.{effective, granted_mask}
-use Rattle.acl_access.specs.Marks.{places_from}
+use Rattle.acl_access.specs.Marks.{is_set, letters_at, places_from}
 use Rattle.acl_access.specs.Reach.{reaches}
 use Rattle.acl_access.specs.Who.{may_line}
 use Rattle.acl_listings.specs.Block.{FileValue, file_by}
