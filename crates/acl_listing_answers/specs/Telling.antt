@@ -1,4 +1,4 @@
--- How a listing is reported, block by block. Private steps, which no public clause cites.
+-- How a listing is reported, block by block.
 use Rattle.std.specs.Prelude.{◌≡◌, ⊤, ℕ, Bool, true, false, List, [], ◌++◌, Option, IfSome}
 use Rattle.std.specs.Prelude.{Result, Ok, Err}
 use Rattle.acl_names.specs.Names.{Names}
