@@ -1,10 +1,10 @@
 //! Options of questions of listings, as the parser of command lines gets them.
 ghost use Rattle.std.specs.Prelude.{◌≡◌, codes, false};
 ghost use Rattle.clap.specs.Words.{rule_of};
-ghost use Rattle.acl_cli.specs.CommandLine.{flag, optional_option, optional_word};
-ghost use Rattle.acl_cli.specs.CommandLine.{repeated_option, required_word};
+ghost use Rattle.acl_cli.specs.CommandLine.{optional_option, optional_word, repeated_option};
+ghost use Rattle.acl_cli.specs.CommandLine.{required_word};
 
-use acl_cli::options::{flag, optional_option, optional_word, repeated_option};
+use acl_cli::options::{optional_option, optional_word, repeated_option};
 use clap::Arg;
 use std::alloc::Global;
 
@@ -34,42 +34,6 @@ pub fn user_option<'a>(alloc: Global) -> Arg<'a>
 {
     let help = "A user to ask about, by name or uid; it may be given again. Else all users";
     repeated_option(alloc, "user", "NAME", help)
-}
-
-/// The option `--letters`: whether all letters are reported.
-pub fn letters_option<'a>(alloc: Global) -> Arg<'a>
-    ensures rule { rule_of result ≡ flag (codes "letters") }
-    ensures local { result.global ≡ false }
-{
-    let help = "All fourteen letters of an NFSv4 list, rwxpdDaARWcCos, in place of r, w and x";
-    flag(alloc, "letters", help)
-}
-
-/// The option `--all`: whether each has a line.
-pub fn all_option<'a>(alloc: Global) -> Arg<'a>
-    ensures rule { rule_of result ≡ flag (codes "all") }
-    ensures local { result.global ≡ false }
-{
-    let help = "A line for each user whom it concerns, and not only for the first";
-    flag(alloc, "all", help)
-}
-
-/// The option `--text`: whether what is written otherwise has a line.
-pub fn text_option<'a>(alloc: Global) -> Arg<'a>
-    ensures rule { rule_of result ≡ flag (codes "text") }
-    ensures local { result.global ≡ false }
-{
-    let help = "A line for each path of which something is written otherwise, whoever gains by it";
-    flag(alloc, "text", help)
-}
-
-/// The option `--exit-code`: whether the exit status tells that there is a line.
-pub fn exit_code_option<'a>(alloc: Global) -> Arg<'a>
-    ensures rule { rule_of result ≡ flag (codes "exit-code") }
-    ensures local { result.global ≡ false }
-{
-    let help = "Exit status 5 if there is a line";
-    flag(alloc, "exit-code", help)
 }
 
 /// The word LISTING, which may be left out: the listing that is asked about.

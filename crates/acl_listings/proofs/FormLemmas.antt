@@ -57,14 +57,14 @@ neither : (a b : Bool) → a ≡ false → b ≡ false → cond a Nfs4 (cond b F
 neither a b first last = ap₂ (λ x y. cond x Nfs4 (cond y Freebsd Posix)) first last
 
 -- what is read of fields
-record Read (names : Names) (each : List (List ℕ)) : Type 0 where
+pub record Read (names : Names) (each : List (List ℕ)) : Type 0 where
   pub fields : Fields
   pub perms : ℕ
   pub cut : as_fields (map trim each) ≡ Some fields
   pub word_is : is_some (tag_word fields.tag) ≡ true
   pub perms_are : perms_of_text fields.perms ≡ Some perms
 
-read_of : (names : Names) (piece : List ℕ) (entry : EntryValue) → entry_by names piece ≡ Ok entry → Read names (parts colon piece)
+pub read_of : (names : Names) (piece : List ℕ) (entry : EntryValue) → entry_by names piece ≡ Ok entry → Read names (parts colon piece)
 unfolding entry_by
 read_of names piece entry is =
     let cut = bind_ok (or_fault Syntax (fields_of piece)) _ entry is in

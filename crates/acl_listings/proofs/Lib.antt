@@ -14,6 +14,7 @@ pub mod FaultyLemmas
 pub mod RefusedLemmas
 pub mod ListsLemmas
 pub mod FormLemmas
+pub mod DefaultLemmas
 pub mod AceForms
 pub mod Nfs4Lemmas
 pub mod ValidLemmas

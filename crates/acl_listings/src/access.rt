@@ -1,8 +1,9 @@
 //! The POSIX lists of a block.
 
-ghost use Rattle.std.specs.Prelude.{◌≡◌};
+ghost use Rattle.std.specs.Prelude.{◌≡◌, IfSome, None, Ok};
 ghost use Rattle.acl_names.specs.Pieces.{pieces};
 ghost use Rattle.acl_listings.specs.Access.{acl_by, posix_by};
+ghost use Rattle.acl_listings.specs.BlockLists.{lists_by};
 ghost use Rattle.acl_listings.specs.Faults.{ReadsAs, fault_of_entries};
 ghost use Rattle.acl_listings.specs.ListLines.{pieces_of};
 
@@ -36,6 +37,40 @@ pub(crate) fn read_posix<N: ResolveNames>(
         access,
         default: Some(default),
     })
+}
+
+/// How long the line of others is in a default list, as `getfacl` prints it.
+const DEFAULT_OTHER_LEN: usize = 18;
+
+/// Whether the last line is that of others in a default list, as `getfacl` prints it. It only says
+/// which way of reading is shorter.
+fn ends_in_default(list: &[u8]) -> bool {
+    match list.len().checked_sub(DEFAULT_OTHER_LEN) {
+        Some(at) => list[at..].starts_with(b"default:other::"),
+        None => false,
+    }
+}
+
+/// The access control list of a block that has no default list, if its lines stand as `getfacl`
+/// prints them, the owner's entry first. A fast path: `None` says nothing of the lines.
+pub(crate) fn read_access_alone<N: ResolveNames>(
+    alloc: Global,
+    list: &[u8],
+    names: &N,
+) -> Option<Acl>
+    ensures { IfSome result (λ access. lists_by (N.names names.now) list.now
+        ≡ Ok (Lists.Posix access None)) }
+{
+    if !list.starts_with(b"user::") || ends_in_default(list) {
+        return None;
+    }
+    let Ok(entries) = read_entries(alloc, list, names) else {
+        return None;
+    };
+    match Acl::new(entries) {
+        Ok(access) => Some(access),
+        Err(_) => None,
+    }
 }
 
 /// The access control list that its lines spell.

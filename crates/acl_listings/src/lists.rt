@@ -6,7 +6,7 @@ ghost use Rattle.acl_forms.specs.FormText.{entry_by};
 ghost use Rattle.acl_listings.specs.BlockLists.{lists_by, nfs4_by};
 ghost use Rattle.acl_listings.specs.Faults.{ReadsAs};
 
-use crate::access::read_posix;
+use crate::access::{read_access_alone, read_posix};
 use crate::fault::FileFault;
 use acl_forms::{Form, form_of, read_entries};
 use acl_names::ResolveNames;
@@ -32,6 +32,12 @@ pub(crate) fn read_lists<N: ResolveNames>(
 ) -> Result<Lists, FileFault>
     ensures { ReadsAs (lists_by (N.names names.now) list.now) result }
 {
+    if let Some(access) = read_access_alone(alloc, list, names) {
+        return Ok(Lists::Posix {
+            access,
+            default: None,
+        });
+    }
     match form_of(list) {
         Form::Posix => read_posix(alloc, list, names),
         Form::Nfs4 => read_nfs4(alloc, list, names),

@@ -2,10 +2,9 @@
 
 use super::Impact;
 use acl_cli::CommandLine;
-use acl_cli::options::optional_option;
+use acl_cli::options::{flag, optional_option};
 use acl_listing_answers::options::{
-    accounts_option, all_option, exit_code_option, optional_after_word, optional_before_word,
-    setup_option, text_option, user_option,
+    accounts_option, optional_after_word, optional_before_word, setup_option, user_option,
 };
 use clap::Command;
 use std::alloc::{AllocError, Global};
@@ -50,10 +49,18 @@ impl CommandLine for Impact {
             .after_help(ANSWERS)
             .arg(accounts_option(alloc))?
             .arg(setup_option(alloc))?
-            .arg(all_option(alloc))?
+            .arg(flag(
+                alloc,
+                "all",
+                "A line for each user whom it concerns, and not only for the first",
+            ))?
             .arg(user_option(alloc))?
-            .arg(text_option(alloc))?
-            .arg(exit_code_option(alloc))?
+            .arg(flag(
+                alloc,
+                "text",
+                "A line for each path of which something is written otherwise, whoever gains by it",
+            ))?
+            .arg(flag(alloc, "exit-code", "Exit status 5 if there is a line"))?
             .arg(optional_option(
                 alloc,
                 "before",

@@ -4,7 +4,7 @@ use super::Who;
 use acl_cli::CommandLine;
 use acl_cli::options::{flag, optional_option, optional_perms_option};
 use acl_listing_answers::options::{
-    accounts_option, letters_option, optional_listing_word, setup_option, user_option,
+    accounts_option, optional_listing_word, setup_option, user_option,
 };
 use clap::Command;
 use std::alloc::{AllocError, Global};
@@ -45,7 +45,11 @@ impl CommandLine for Who {
             .arg(accounts_option(alloc))?
             .arg(setup_option(alloc))?
             .arg(optional_perms_option(alloc))?
-            .arg(letters_option(alloc))?
+            .arg(flag(
+                alloc,
+                "letters",
+                "All fourteen letters of an NFSv4 list, rwxpdDaARWcCos, in place of r, w and x",
+            ))?
             .arg(flag(
                 alloc,
                 "reach",

@@ -14,10 +14,10 @@ returns c =
     ∙ ap app_of_fields c.in_ok-bin_name.ensures.0 ∙ c.new.ensures.app in
     let accounts = app_of-arg _ c.in_ok-arg.field-0 _ c.in_ok-arg.ensures c.accounts_option.ensures.local described c.accounts_option.ensures.rule in
     let setup = app_of-arg _ c.in_ok-arg-2.field-0 _ c.in_ok-arg-2.ensures c.setup_option.ensures.local accounts c.setup_option.ensures.rule in
-    let all = app_of-arg _ c.in_ok-arg-3.field-0 _ c.in_ok-arg-3.ensures c.all_option.ensures.local setup c.all_option.ensures.rule in
+    let all = app_of-arg _ c.in_ok-arg-3.field-0 _ c.in_ok-arg-3.ensures c.flag.ensures.local setup c.flag.ensures.rule in
     let user = app_of-arg _ c.in_ok-arg-4.field-0 _ c.in_ok-arg-4.ensures c.user_option.ensures.local all c.user_option.ensures.rule in
-    let written = app_of-arg _ c.in_ok-arg-5.field-0 _ c.in_ok-arg-5.ensures c.text_option.ensures.local user c.text_option.ensures.rule in
-    let code = app_of-arg _ c.in_ok-arg-6.field-0 _ c.in_ok-arg-6.ensures c.exit_code_option.ensures.local written c.exit_code_option.ensures.rule in
+    let written = app_of-arg _ c.in_ok-arg-5.field-0 _ c.in_ok-arg-5.ensures c.flag-2.ensures.local user c.flag-2.ensures.rule in
+    let code = app_of-arg _ c.in_ok-arg-6.field-0 _ c.in_ok-arg-6.ensures c.flag-3.ensures.local written c.flag-3.ensures.rule in
     let before = app_of-arg _ c.in_ok-arg-7.field-0 _ c.in_ok-arg-7.ensures c.optional_option.ensures.local code c.optional_option.ensures.rule in
     let session = app_of-arg _ c.in_ok-arg-8.field-0 _ c.in_ok-arg-8.ensures c.optional_option-2.ensures.local before c.optional_option-2.ensures.rule in
     let listing = app_of-arg _ c.in_ok-arg-9.field-0 _ c.in_ok-arg-9.ensures c.optional_before_word.ensures.local session c.optional_before_word.ensures.rule in
