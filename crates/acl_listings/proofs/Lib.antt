@@ -1,5 +1,6 @@
 pub mod AccessLemmas
 pub mod ExtentLemmas
+pub mod NewlineLemmas
 pub mod ListingLemmas
 pub mod WindowLemmas
 pub mod StepsLemmas

@@ -1,7 +1,8 @@
 -- How far a block reaches in a text. Private steps, which no public clause cites.
 use Rattle.std.specs.Prelude.{◌≡◌, ◌≢◌, ℕ, ◌==◌, ◌&&◌, Bool, true, false, List, [], ◌∷◌, ◌++◌}
-use Rattle.std.specs.Prelude.{length, if◌then◌else◌}
+use Rattle.std.specs.Prelude.{length, map, if◌then◌else◌}
 use Rattle.std.specs.List.{count_by}
+use Rattle.std.specs.Simd.Lanes.{mask_l}
 use Rattle.acl_names.specs.Bytes.{newline}
 
 -- every line of the text has a byte; begun: one of the first line went before
@@ -15,6 +16,10 @@ HasFullLines text = has_full_lines false text ≡ true
 
 abbrev pub newlines_in : List ℕ → ℕ
 newlines_in text = count_by (λ byte. byte == newline) text
+
+-- a number with a bit for each byte, the lowest for the first: it is set for a newline
+abbrev pub newline_marks : List ℕ → ℕ
+newline_marks bytes = mask_l (map (λ byte. byte == newline) bytes)
 
 -- the text begins with a byte of a line
 abbrev pub BeginsLine : List ℕ → Type 0

@@ -1,8 +1,9 @@
 //! How far the first block of a text reaches.
 
-ghost use Rattle.std.specs.Prelude.{◌<◌};
+ghost use Rattle.std.specs.Prelude.{◌<◌, IfSome};
 ghost use Rattle.acl_listings.specs.Extent.{BeginsLine, GoesOnBy, IsExtent};
 
+use crate::newlines::{count_below, newlines_at};
 use acl_names::before_byte;
 
 /// How far a block reaches.
@@ -14,8 +15,47 @@ pub(crate) struct Extent {
     pub newlines: usize,
 }
 
+/// Of how many bytes it is seen at once whether a newline follows a newline: of 64 all but the
+/// last.
+const STEP: usize = 63;
+
+/// How far the block at the front of a text reaches, if an empty line ends it that isn't among the
+/// last bytes. A fast path: `None` says nothing of the text.
+fn extent_at_once(text: &[u8]) -> Option<Extent>
+    requires { BeginsLine text.now }
+    ensures { IfSome result (λ extent. IsExtent text.now extent.len extent.newlines) }
+{
+    let mut at = 0;
+    let mut newlines = 0;
+    while text.len() - at > STEP {
+        let marks = newlines_at(text, at);
+        let empty = marks & (marks >> 1);
+        if empty != 0 {
+            let len = empty.trailing_zeros() as usize;
+            return Some(Extent {
+                len: at + len,
+                newlines: newlines + count_below(marks, len),
+            });
+        }
+        newlines += count_below(marks, STEP);
+        at += STEP;
+    }
+    None
+}
+
 /// How far the block at the front of a text reaches: up to an empty line, or to the end.
 pub(crate) fn extent_of(text: &[u8]) -> Extent
+    requires { BeginsLine text.now }
+    ensures { IsExtent text.now result.len result.newlines }
+{
+    match extent_at_once(text) {
+        Some(extent) => extent,
+        None => extent_by_lines(text),
+    }
+}
+
+/// The same of any text, line by line.
+fn extent_by_lines(text: &[u8]) -> Extent
     requires { BeginsLine text.now }
     ensures { IsExtent text.now result.len result.newlines }
 {

@@ -15,6 +15,7 @@ mod laws;
 mod limits;
 mod list_lines;
 mod lists;
+mod newlines;
 mod rule;
 mod shown;
 mod source;

@@ -1,6 +1,6 @@
 use Rattle.std.proofs.Common.{◌-◌, length}
 use Rattle.acl_listings.proofs.ExtentLemmas.{AreLines}
-use Rattle.acl_listings.proofs.extent.extent_of.Given as goal
+use Rattle.acl_listings.proofs.extent.extent_by_lines.Given as goal
 
 -- the lines so far
 abbrev pub invariant-loop-len : goal.invariant-loop-len

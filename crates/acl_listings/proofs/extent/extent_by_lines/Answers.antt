@@ -2,7 +2,7 @@ use Rattle.std.proofs.Common.{◌+◌, ◌∙◌, ap}
 use Rattle.std.specs.List.{before_first}
 use Rattle.std.proofs.lemmas.List.{take_rest}
 use Rattle.acl_listings.proofs.ExtentLemmas.{extent_ends, first_line_are, is_newline, next_line}
-use Rattle.acl_listings.proofs.extent.extent_of.Goals as goal
+use Rattle.acl_listings.proofs.extent.extent_by_lines.Goals as goal
 
 pub loop-len-init : goal.loop-len-init
 loop-len-init c = record { lines = first_line_are c.args.text.now c.before_byte-len.result.now c.before_byte-len.ensures c.requires }
