@@ -29,11 +29,11 @@ low_marks bytes len = same_from_bits (bit_and (newline_marks bytes) (2 ^ len - 1
     by_place : (i : ℕ) → (i < len) ⊎ (len ≤ i) → bit_at (bit_and (newline_marks bytes) (2 ^ len - 1)) i ≡ bit_at (newline_marks (take len bytes)) i
     by_place i (inl below) =
         let kept : bit_at (bit_and (newline_marks bytes) (2 ^ len - 1)) i ≡ bit_at (newline_marks bytes) i =
-            omega (arith, bit_at_and (newline_marks bytes) (2 ^ len - 1) i, bit_at_ones len i below, bit_at-lt (newline_marks bytes) i) in
+        omega (arith, bit_at_and (newline_marks bytes) (2 ^ len - 1) i, bit_at_ones len i below, bit_at-lt (newline_marks bytes) i) in
         kept ∙ mark_is bytes i ∙ ap (λ byte. bit_of (is_newline byte)) (sym (get_or-take len bytes i 0 below)) ∙ sym (mark_is (take len bytes) i)
     by_place i (inr above) =
         let none : bit_at (bit_and (newline_marks bytes) (2 ^ len - 1)) i ≡ 0 =
-            omega (arith, bit_at_and (newline_marks bytes) (2 ^ len - 1) i, bit_at_ones_above len i above) in
+        omega (arith, bit_at_and (newline_marks bytes) (2 ^ len - 1) i, bit_at_ones_above len i above) in
         none ∙ sym (mark_is (take len bytes) i ∙ ap (λ byte. bit_of (is_newline byte)) (get_or_past (take len bytes) i 0 (omega (arith, length-take len bytes, above))))
 
 -- one, shifted by fewer than 64 bits
@@ -82,7 +82,7 @@ module _ (text : List ℕ) (at : ℕ) (room : at + 64 ≤ length text) where
       by_place (inl early) next = early
       by_place (inr late) next =
           let none : bit_at marks (1 + k) ≡ 0 = mark_is (take 64 (drop at text)) (1 + k)
-              ∙ ap (λ byte. bit_of (is_newline byte)) (get_or_past (take 64 (drop at text)) (1 + k) 0 (omega (arith, length-take 64 (drop at text), late))) in
+          ∙ ap (λ byte. bit_of (is_newline byte)) (get_or_past (take 64 (drop at text)) (1 + k) 0 (omega (arith, length-take 64 (drop at text), late))) in
           absurd (omega (arith, none, next))
 
   -- no bit is set: so it goes on
