@@ -68,16 +68,25 @@ pub fn read_file<'t, N: ResolveNames>(
     })
 }
 
+/// What `path_of` and `lines_behind` say of a block, by one search for the end of its first line.
+pub fn path_and_lines(text: &[u8]) -> (Option<&[u8]>, &[u8])
+    ensures path { option_map (λ path. path.now) result.0 ≡ path_of text.now }
+    ensures lines { result.1.now ≡ after_line text.now }
+{
+    let (line, behind) = split_line(text);
+    if line.len() > MAX_BLOCK {
+        return (None, behind);
+    }
+    (read_path(line), behind)
+}
+
 /// The path in a block's first line, by which a fault of the block is reported. `None` if that line
 /// is no file's, or is longer than a block may be.
 pub fn path_of(text: &[u8]) -> Option<&[u8]>
     ensures { option_map (λ path. path.now) result ≡ path_of text.now }
 {
-    let (line, _) = split_line(text);
-    if line.len() > MAX_BLOCK {
-        return None;
-    }
-    read_path(line)
+    let (path, _) = path_and_lines(text);
+    path
 }
 
 /// The lines of a block behind its first. Of two blocks that are no longer than a block may be, and

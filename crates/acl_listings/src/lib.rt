@@ -26,7 +26,7 @@ mod window;
 pub use blocks::Blocks;
 pub use fault::{BlockFault, FileFault};
 pub use faulty::faulty_line;
-pub use file::{File, lines_behind, path_of, read_file};
+pub use file::{File, lines_behind, path_and_lines, path_of, read_file};
 pub use file_flags::FileFlags;
 pub use guess::Guess;
 pub use laws::{

@@ -6,14 +6,19 @@ ghost use Rattle.acl_names.specs.Names.{BeginsWithId, resolved};
 ghost use Rattle.acl_names.specs.Views.{view_written};
 ghost use Rattle.acl_listing_answers.specs.SetupNames.{written_in};
 
-use acl_names::{Directory, Gid, NameFault, ResolveNames, Uid, WrittenId};
+use acl_names::{Directory, Gid, NameFault, ResolveNames, Uid, WrittenId, read_decimal};
 use acl_nfs4::WrittenWho;
 
 /// The id or the name that a text writes: a name stands alone, or in the setup's domain. A name in
 /// another domain is read as the empty name, which nobody has.
+#[inline(always)]
 pub(crate) fn read_id<'t>(directory: &Directory, text: &'t [u8]) -> Option<WrittenId<'t>>
     ensures { option_map view_written result ≡ written_in directory.now.domain text.now }
 {
+    // Most are decimals, as `getfacl -n` prints them.
+    if let Some(number) = read_decimal(text) {
+        return Some(WrittenId::Number(number));
+    }
     match WrittenWho::read(text) {
         Some(WrittenWho::Id(written)) => Some(written),
         Some(WrittenWho::At(name, domain)) => {

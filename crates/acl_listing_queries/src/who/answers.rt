@@ -18,7 +18,7 @@ use super::lines::{push_letters_lines, push_may_lines};
 use acl_access::{letters_of_each, places_of_those_who_may, which_may};
 use acl_bridge::FileAcl;
 use acl_listing_answers::{Host, People, owners_and_list};
-use acl_listings::{FileFault, MAX_BLOCK, lines_behind, path_of, read_file};
+use acl_listings::{FileFault, MAX_BLOCK, path_and_lines, path_of, read_file};
 use acl_nfs4::Mask;
 use acl_posix::Perms;
 use std::alloc::{AllocError, Global};
@@ -121,8 +121,10 @@ impl<'t> Users<'t> {
         }
     }
 
-    /// What is answered of the file of the block with this text.
-    fn answer(&self, alloc: Global, text: &[u8]) -> Result<Kept, FileFault>
+    /// What is answered of the file of the block with this text, of which these are the lines
+    /// behind the first.
+    fn answer(&self, alloc: Global, text: &[u8], lines: &[u8]) -> Result<Kept, FileFault>
+        requires { lines.now ≡ after_line text.now }
         ensures lines { IfOk result (λ kept. kept.lines.items ≡ after_line text.now) }
         ensures answers { IfOk result (λ kept. (file : FileValue)
             × (file_by (names_by self.now) text.now ≡ Ok file) × AreAnswersOf self.now file kept) }
@@ -136,7 +138,7 @@ impl<'t> Users<'t> {
         };
         let granted = self.granted(alloc, &acl)?;
         let search = self.search(alloc, &acl)?;
-        let lines = Vec::from_slice(alloc, lines_behind(text))?;
+        let lines = Vec::from_slice(alloc, lines)?;
         Ok(Kept {
             lines,
             granted,
@@ -221,12 +223,12 @@ impl<'t> Answers<'t> {
         ensures refused { IfErr result
             (IsFaultOf (file_by (names_by self.old.users) text.now)) }
     {
-        let lines = lines_behind(text);
+        let (path, lines) = path_and_lines(text);
         let place = place_for(lines);
-        if text.len() <= MAX_BLOCK && path_of(text).is_some() && self.is_of(place, lines) {
+        if text.len() <= MAX_BLOCK && path.is_some() && self.is_of(place, lines) {
             return Ok(place);
         }
-        let kept = self.users.answer(alloc, text)?;
+        let kept = self.users.answer(alloc, text, lines)?;
         if place < self.kept.len() {
             self.kept[place] = Some(kept);
         }
