@@ -1,5 +1,5 @@
 -- Of files that are decided about alike nothing is told, nor of one that stays as it is.
-use Rattle.std.proofs.Common.{◌≡◌, ◌∙◌, ◌↔◌, ◌&&◌, ℕ, Bool, true, false, List, [], ◌∷◌, ◌++◌, None, Some, Ok, Result, ap, ap₂, append-nil, inl, inr, refl, subst, sym}
+use Rattle.std.proofs.Common.{◌≡◌, ◌∙◌, ◌↔◌, ◌&&◌, ℕ, Bool, true, false, List, [], ◌∷◌, ◌++◌, Err, None, Some, Ok, Result, ap, ap₂, append-nil, inl, inr, refl, subst, sym}
 use Rattle.std.specs.List.{AllByRecursion}
 use Rattle.acl_names.specs.Asker.{identity_of}
 use Rattle.acl_names.specs.Requester.{Identity}
@@ -15,7 +15,7 @@ use Rattle.acl_listings.specs.declared.fault.BlockFault.{BlockFault}
 use Rattle.acl_listing_answers.specs.Files.{file_of}
 use Rattle.acl_listing_answers.specs.Person.{Person}
 use Rattle.acl_listing_changes.specs.ImpactSteps.{TellsRead}
-use Rattle.acl_listing_changes.specs.Impacting.{Concern, ImpactAsking, Tells, TellsAnybody, TellsChange, TellsFirst, TellsImpact, TellsPerson, TellsPersons, TellsThose}
+use Rattle.acl_listing_changes.specs.Impacting.{Concern, ImpactAsking, Tells, TellsAnybody, TellsChange, TellsFirst, TellsImpact, TellsPerson, TellsPersons, TellsThose, fault_of}
 use Rattle.acl_listing_changes.specs.WrittenChanges.{IsChanged, changed_text}
 use Rattle.acl_listing_changes.specs.declared.impact.changed.Changed.{Changed}
 
@@ -123,6 +123,11 @@ stays asking file = record {
   written_is = (unchanged, is_unchanged file, nothing_written asking.written file.path);
   text_is = refl;
 }
+
+-- a block with which nothing is wrong says a file
+pub file_read : (reading : Result FileValue BlockFault) → fault_of reading ≡ None → (file : FileValue) × (reading ≡ Ok file)
+file_read (Ok file) none = (file, refl)
+file_read (Err fault) none = cc
 
 -- of a block that has the text of the one before
 pub nothing_changed : (asking : ImpactAsking) (old text : List ℕ) (file : FileValue) → old ≡ text → file_by asking.names text ≡ Ok file

@@ -1,17 +1,20 @@
 -- What is said of the listing before, one block more at a time.
-use Rattle.std.proofs.Common.{◌≡◌, ◌∙◌, ◌+◌, ◌++◌, ℕ, suc, zero, List, [], ◌∷◌, Option, Some, ap, append_assoc, append-nil, arith, refl, subst, sym, take}
+use Rattle.std.proofs.Common.{◌≡◌, ◌∙◌, ◌+◌, ◌++◌, ◌<◌, ◌≤◌, ◌⊎◌, ℕ, suc, zero, Bool, true, false, List, [], ◌∷◌, Option, None, Some, ap, append_assoc, append-nil, arith, get_or, inl, inr, is_none, is_some, length, length-append, not, refl, subst, sym, take}
 use Rattle.std.specs.Prelude.{slice_get}
+use Rattle.std.proofs.lemmas.Bool.{cases_lt, true≢false}
+use Rattle.std.proofs.lemmas.List.{get_or-append-add, get_or_append_left, get_or_past}
 use Rattle.acl_names.specs.Names.{Names}
 use Rattle.acl_listings.specs.Listing.{Block}
 use Rattle.acl_listings.specs.declared.fault.BlockFault.{BlockFault}
 use Rattle.acl_listing_answers.specs.Listed.{AreSaid, IsSaid, Item, first_guess, is_fault, is_unread}
 use Rattle.acl_listing_answers.specs.declared.tally.Tally.{Tally}
-use Rattle.acl_listing_changes.specs.ChangeSteps.{IsOpenedTo, counted}
+use Rattle.acl_listing_changes.specs.ChangeSteps.{AreRead, IsOpenedTo, counted}
 use Rattle.acl_listing_changes.specs.Changes.{Wording, fault_before, item_of, items_of, part_of, tally_of, unless_repeated}
 use Rattle.acl_listing_changes.specs.Kept.{is_earlier, place_of}
 use Rattle.acl_listing_changes.proofs.ChangeLemmas.{items_more, tally_more}
 use Rattle.acl_listing_changes.proofs.PlacedLemmas.{put}
 use Rattle.acl_listing_changes.proofs.PlacesLemmas.{earlier_repeats}
+use Rattle.acl_listing_changes.proofs.SidesLemmas.{some_repeated}
 
 said_more : (name : List ℕ) (names : Names) (items : List Item) (said : List ℕ) → AreSaid name names items said → (item : Item) (more : List ℕ) → IsSaid name names item.block item.part more
     → AreSaid name names (items ++ item ∷ []) (said ++ more)
@@ -58,3 +61,38 @@ module _ (wording : Wording) (name : List ℕ) (blocks : List Block) where
             ∙ sym (tally_more (fault_before wording) earlier here)
             ∙ ap (λ blocks. tally_of (items_of (fault_before wording) blocks)) (sym grown);
       }
+
+pub none_mark : {A : Type 0} (found : Option A) (none : Bool) → is_some found ≡ not none → none ≡ is_none found
+none_mark None true is = refl
+none_mark None false is = cc
+none_mark (Some value) true is = cc
+none_mark (Some value) false is = refl
+
+-- the mark of one block more
+module _ (wording : Wording) (blocks : List Block) where
+  none_wrong : (repeated : Bool) (fault here : Option BlockFault) → fault ≡ unless_repeated repeated here → is_none fault ≡ true → here ≡ None
+  none_wrong false None here is none = sym is
+  none_wrong false (Some fault) here is none = cc
+  none_wrong true fault here is none = absurd (true≢false (sym none ∙ ap is_none is ∙ some_repeated here))
+
+  pub read_more : (place : ℕ) (here : Block) (reads : List Bool) → length reads ≡ place → slice_get blocks place ≡ Some here → AreRead wording blocks reads
+      → (repeated : Bool) (fault : Option BlockFault) → fault ≡ unless_repeated repeated (wording.fault here.text) → AreRead wording blocks (reads ++ is_none fault ∷ [])
+  read_more place here reads count at was repeated fault is None block there marked = cc
+  read_more place here reads count at was repeated fault is (Some k) block there marked = by_place (cases_lt k place) (cases_lt place k)
+    where
+      by_place : (k < place) ⊎ (place ≤ k) → (place < k) ⊎ (k ≤ place) → wording.fault block.text ≡ None
+      by_place (inl earlier) other = was (Some k) block there (sym (get_or_append_left reads (is_none fault ∷ []) false k (omega (arith, count, earlier))) ∙ marked)
+      by_place (inr late) (inl later) =
+          let past : get_or (reads ++ is_none fault ∷ []) k false ≡ false = get_or_past (reads ++ is_none fault ∷ []) k false (omega (arith, length-append reads (is_none fault ∷ []), count, later)) in
+          absurd (true≢false (sym marked ∙ past))
+      by_place (inr late) (inr early) =
+          let same : k ≡ place = omega (arith, late, early) in
+          let block_is : Some block ≡ Some here = sym there ∙ ap (slice_get blocks) same ∙ at in
+          let text : block.text ≡ here.text = cc in
+          let last : get_or (reads ++ is_none fault ∷ []) k false ≡ is_none fault =
+          ap (λ n. get_or (reads ++ is_none fault ∷ []) n false) (omega (arith, same, count)) ∙ get_or-append-add reads (is_none fault ∷ []) 0 false in
+          ap wording.fault text ∙ none_wrong repeated fault (wording.fault here.text) is (sym last ∙ marked)
+
+pub nothing_read : (wording : Wording) (blocks : List Block) → AreRead wording blocks []
+nothing_read wording blocks None block there marked = cc
+nothing_read wording blocks (Some k) block there marked = absurd (true≢false (sym marked ∙ get_or_past [] k false (omega arith)))

@@ -4,7 +4,7 @@ use Rattle.std.specs.Prelude.{List, [], ◌∷◌, ◌++◌, Option, Some, None,
 use Rattle.std.specs.Prelude.{is_some, length, nat_eq, option_map, replicate, set, slice_get}
 use Rattle.std.specs.Prelude.{take}
 use Rattle.std.specs.List.{fold, list_any}
-use Rattle.std.specs.Option.{option_map_or}
+use Rattle.std.specs.Option.{option_and_then, option_map_or}
 use Rattle.acl_cli.specs.declared.command.Ending.{Ending}
 use Rattle.acl_listings.specs.Block.{path_of}
 use Rattle.acl_listings.specs.Listing.{Block}
@@ -46,6 +46,17 @@ pub record IsOpenedTo (wording : Wording) (name : List ℕ) (blocks : List Block
       (items_of (fault_before wording) (take place blocks)) said
   pub tally_is : tally ≡ tally_of (items_of (fault_before wording) (take place blocks))
 
+-- the mark of a place that was found
+abbrev pub is_marked : List Bool → Option ℕ → Bool
+is_marked marks None = false
+is_marked marks (Some place) = get_or marks place false
+
+-- at the places that are marked nothing is wrong with the block before by itself
+abbrev pub AreRead : Wording → List Block → List Bool → Type 0
+AreRead wording before reads = (place : Option ℕ) (block : Block)
+    → option_and_then (slice_get before) place ≡ Some block → is_marked reads place ≡ true
+    → wording.fault block.text ≡ None
+
 -- ---- which blocks before were met
 
 -- a place that was found is this one
@@ -62,11 +73,7 @@ pub record AreMet (before after : List Block) (met : List Bool) : Type 0 where
   pub each : (place : ℕ) → place < length before
       → get_or met place false ≡ is_met before after place
 
--- the mark of a place that was found, and the marks once it is set
-abbrev pub is_marked : List Bool → Option ℕ → Bool
-is_marked met None = false
-is_marked met (Some place) = get_or met place false
-
+-- the marks once that of a place that was found is set
 abbrev pub with_mark : List Bool → Option ℕ → List Bool
 with_mark met None = met
 with_mark met (Some place) = set met place true

@@ -127,6 +127,7 @@ where
         name: other,
         teller,
         before,
+        reads: opening.reads.as_slice(),
     };
     let mut changes = Changes { sides, progress };
     let some = tell_each(alloc, &mut changes, out, err)?;

@@ -3,13 +3,14 @@ ghost use Rattle.std.specs.Prelude.{◌≡◌, ◌++◌, IfErr, IfOk, OnOk, is_n
 ghost use Rattle.acl_listing_answers.specs.Listed.{closing};
 ghost use Rattle.acl_listing_answers.specs.Paths.{block_for, first_path};
 ghost use Rattle.acl_listing_answers.specs.Telling.{IsListingFailure};
-ghost use Rattle.acl_listing_changes.specs.ChangeSteps.{Appended, TellsMissing, TellsTold};
+ghost use Rattle.acl_listing_changes.specs.ChangeSteps.{Appended, AreRead, TellsMissing, TellsTold};
 ghost use Rattle.acl_listing_changes.specs.ChangeSteps.{Here, fault_here};
 ghost use Rattle.acl_listing_changes.specs.Changes.{TellsIf, TellsNextBy, TellsSince, apart_by};
 ghost use Rattle.acl_listing_changes.specs.Kept.{place_of};
 
 use super::faults::{push_fault, say_block};
 use super::kept::KeptListing;
+use super::marks::is_marked;
 use super::seen::Seen;
 use super::teller::ChangeTeller;
 use acl_cli::Failure;
@@ -23,6 +24,9 @@ pub(super) struct Sides<'n, 't, C: ChangeTeller> {
     pub name: &'n str,
     pub teller: &'t C,
     pub before: &'t KeptListing<'t>,
+    /// The places of blocks before of which it is known that nothing is wrong with them.
+    pub reads: &'t [bool],
+    ghost known: { AreRead (C.wording teller.now) before.now reads.now },
 }
 
 impl<'n, 't, C: ChangeTeller> Sides<'n, 't, C> {
@@ -47,7 +51,9 @@ impl<'n, 't, C: ChangeTeller> Sides<'n, 't, C> {
             None => self.teller.push_new(alloc, text, out, beside),
             Some(old) => {
                 let old = old.text.as_slice();
-                self.teller.push_changed(alloc, old, text, out, beside)
+                let reads = is_marked(self.reads, place);
+                self.teller
+                    .push_changed(alloc, old, reads, text, out, beside)
             }
         }
     }

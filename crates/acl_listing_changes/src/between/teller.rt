@@ -1,5 +1,5 @@
 //! How changes are reported.
-ghost use Rattle.std.specs.Prelude.{◌≡◌, ◌++◌, IfOk, OnOk, is_none};
+ghost use Rattle.std.specs.Prelude.{◌≡◌, ◌++◌, IfOk, IsTrue, None, OnOk, is_none};
 ghost use Rattle.acl_listings.specs.FaultyLine.{IsFaultyAt, line_at};
 ghost use Rattle.acl_listing_changes.specs.ChangeSteps.{Appended};
 ghost use Rattle.acl_listing_changes.specs.Changes.{TellsIf, TellsOld, Wording};
@@ -39,15 +39,17 @@ pub(crate) trait ChangeTeller {
             out.new.items beside.old.items beside.new.items) };
 
     /// Appends what is reported of a block whose path has this one before, unless something is
-    /// wrong with one of them.
+    /// wrong with one of them. It may be known that nothing is with the one before.
     fn push_changed(
         &self,
         alloc: Global,
         old: &[u8],
+        reads: bool,
         text: &[u8],
         out: &mut Vec<u8>,
         beside: &mut Vec<u8>,
     ) -> Result<Option<BlockFault>, AllocError>
+        requires { IsTrue reads → (wording self.now).fault old.now ≡ None }
         ensures fault { IfOk result (λ fault. fault ≡ (wording self.now).fault text.now) }
         ensures told { IfOk result (λ fault. Appended
             (TellsIf (is_none fault) (TellsOld (wording self.now) old.now text.now)) out.old.items

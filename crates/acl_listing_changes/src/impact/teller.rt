@@ -156,16 +156,17 @@ impl<'t> ChangeTeller for ImpactTeller<'t> {
         &self,
         alloc: Global,
         old: &[u8],
+        reads: bool,
         text: &[u8],
         out: &mut Vec<u8>,
         _beside: &mut Vec<u8>,
     ) -> Result<Option<BlockFault>, AllocError> {
+        // A block that stays as it is isn't read again.
+        if reads && old == text {
+            return Ok(None);
+        }
         match read_file(alloc, text, self.host) {
             Ok(after) => {
-                // The one before isn't read where the block stays as it is.
-                if old == text {
-                    return Ok(None);
-                }
                 self.push_old(alloc, old, after, out)?;
                 Ok(None)
             }

@@ -84,6 +84,7 @@ impl ChangeTeller for RestoreTeller {
         &self,
         _alloc: Global,
         old: &[u8],
+        _reads: bool,
         text: &[u8],
         out: &mut Vec<u8>,
         _beside: &mut Vec<u8>,

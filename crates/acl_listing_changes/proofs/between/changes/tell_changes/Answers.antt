@@ -5,7 +5,7 @@ use Rattle.acl_cli.specs.Commands.{FrontWentOut}
 use Rattle.acl_cli.specs.declared.command.Ending.{Ending}
 use Rattle.acl_listing_answers.specs.Listed.{ending_of}
 use Rattle.acl_listing_answers.proofs.BlocksLemmas.{front_out}
-use Rattle.acl_listing_changes.specs.ChangeSteps.{Left, nothing_seen}
+use Rattle.acl_listing_changes.specs.ChangeSteps.{AreRead, Left, nothing_seen}
 use Rattle.acl_listing_changes.specs.Changes.{IsChangeBegun, Named, OfAfter, ending_of_both, with_difference}
 use Rattle.acl_listing_changes.specs.declared.between.progress.Stage.TheVariants as stage
 use Rattle.acl_listing_changes.proofs.ChangeLemmas.{answers_changes, begins_changes, begins_told, ended_gone}
@@ -71,3 +71,6 @@ returns-clause-cut g c =
     c.in_ok-blocks.ensures.blocks text said begun)
     (length text, subst (Appends (g.W.Write.contents c.args.out.now) (g.W.Write.contents c.tell_each.new.out)) (sym (take-length text)) went) tells in
     search (rules, out)
+
+pub invariant_of-sides : goal.invariant_of-sides
+invariant_of-sides g c = record { known = subst (AreRead (g.C.ChangeTeller.wording c.args.teller.now) c.args.before.now) (sym c.as_slice.ensures.value) c.in_ok-opening.ensures.read }

@@ -1,6 +1,11 @@
-use Rattle.acl_listing_changes.specs.ChangeSteps.{IsOpenedTo}
+use Rattle.std.proofs.Common.{◌≡◌, length}
+use Rattle.acl_listing_changes.specs.ChangeSteps.{AreRead, IsOpenedTo}
 use Rattle.acl_listing_changes.proofs.between.opening.opening_of.Given as goal
 
 -- so much was said of the first blocks, and counted
 abbrev pub invariant-loop-place : goal.invariant-loop-place
-invariant-loop-place g l = IsOpenedTo (g.C.ChangeTeller.wording l.teller) l.name l.kept l.place l.said.items l.tally
+invariant-loop-place g l = record {
+  opened : IsOpenedTo (g.C.ChangeTeller.wording l.teller) l.name l.kept l.place l.said.items l.tally;
+  count : length l.reads.items ≡ l.place;
+  read : AreRead (g.C.ChangeTeller.wording l.teller) l.kept l.reads.items;
+}

@@ -32,3 +32,10 @@ returns-in-Some-clause-told g c = λ at.
     c.args.beside.now.items c.push_changed.new.beside.items)) c.as_slice-old.ensures.value c.push_changed.ensures.told in
     subst (λ (was : Option Block). IfOk c.push_changed.result (λ fault. Appended (TellsIf (is_none fault) (TellsSince wording was text)) c.args.out.now.items c.push_changed.new.out.items
     c.args.beside.now.items c.push_changed.new.beside.items)) (sym is) told
+
+pub push_changed-requires : goal.push_changed-requires
+push_changed-requires g c = λ marked.
+    let wording = g.C.ChangeTeller.wording c.args.self.now.teller.now in
+    let some : c.block_at.result ≡ Some c.in-Some.old = search rules in
+    let there = sym c.block_at.ensures ∙ ap (option_map (λ block. block_of block.now)) some in
+    ap wording.fault c.as_slice-old.ensures.value ∙ c.args.self.now.known c.args.place (block_of c.in-Some.old.now) there (sym c.is_marked-reads.ensures ∙ marked)

@@ -10,12 +10,12 @@ use Rattle.acl_listing_queries.proofs.who.answers.Answers.find.Goals as goal
 pub returns-then-is_of-clause-found : goal.returns-then-is_of-clause-found
 returns-then-is_of-clause-found c = λ right.
     let text = c.args.text.now in
-    let lines = c.lines_behind-lines.result.now in
-    let some : is_some c.path_of.result ≡ true = search rules in
-    let path = path_there (λ path. path.now) c.path_of.result (path_of text) c.path_of.ensures some in
+    let lines = c.path_and_lines.result.1.now in
+    let some : is_some c.path_and_lines.result.0 ≡ true = search rules in
+    let path = path_there (λ path. path.now) c.path_and_lines.result.0 (path_of text) c.path_and_lines.ensures.path some in
     let short : length text ≤ MAX_BLOCK = search rules in
     let holds : option_map_or (λ kept. bytes_eq kept.lines.items lines) (kept_at c.args.self.now.kept.items c.place_for-place.result) false ≡ true = search rules in
-    same_lines c.args.self.now c.place_for-place.result text lines path.0 right c.lines_behind-lines.ensures short path.1 holds
+    same_lines c.args.self.now c.place_for-place.result text lines path.0 right c.path_and_lines.ensures.lines short path.1 holds
 
 pub returns-then-place-len-clause-right : goal.returns-then-place-len-clause-right
 returns-then-place-len-clause-right c = λ right.
