@@ -60,7 +60,8 @@ impl Kept {
 }
 
 /// A place for lines, by a product over their words of 8 bytes. What is left behind the words is
-/// in the last 8 bytes, with which it begins.
+/// in the last 8 bytes, with which it begins. Each bit bears on those above it alone, so the
+/// highest are the place.
 fn place_for(lines: &[u8]) -> usize
     ensures { result < PLACES }
 {
@@ -72,7 +73,7 @@ fn place_for(lines: &[u8]) -> usize
     for word in words {
         hash = (hash ^ u64::from_le_bytes(*word)).wrapping_mul(FACTOR);
     }
-    ((hash >> 32) % PLACES as u64) as usize
+    ((hash >> 56) % PLACES as u64) as usize
 }
 
 /// Who is asked about, and what is asked.
