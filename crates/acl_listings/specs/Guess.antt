@@ -1,6 +1,6 @@
 -- What a text may be that is no listing, by its first block.
-use Rattle.std.specs.Prelude.{ℕ, Bool, ◌&&◌, ◌||◌, not, List, [], ◌∷◌, codes, length, take}
-use Rattle.std.specs.Prelude.{bytes_eq, if◌then◌else◌, is_some}
+use Rattle.std.specs.Prelude.{ℕ, Bool, ◌&&◌, ◌||◌, not, List, [], ◌∷◌, codes, drop, length}
+use Rattle.std.specs.Prelude.{bytes_eq, if◌then◌else◌, is_some, take}
 use Rattle.std.specs.Io.BufRead.{ends_with_byte}
 use Rattle.acl_accounts.specs.Names.{carriage_return}
 use Rattle.acl_listings.specs.Header.{path_in}
@@ -13,13 +13,22 @@ use Rattle.acl_listings.specs.declared.guess.Guess.TheVariants.{Tabular, NoOwner
 abbrev pub begins : List ℕ → List ℕ → Bool
 begins word text = bytes_eq (take (length word) text) word
 
+-- a type of an NFSv4 entry, and a colon
+abbrev pub begins_ace : List ℕ → Bool
+begins_ace line = begins (codes "A:") line || begins (codes "D:") line || begins (codes "U:") line
+    || begins (codes "L:") line
+
+-- of a letter in two bytes one is 0
+abbrev pub begins_wide : List ℕ → Bool
+begins_wide text = begins (0 ∷ []) text || begins (0 ∷ []) (drop 1 text)
+
 -- by the block's first line and its second
 abbrev pub guess_of_lines : List ℕ → List ℕ → Guess
 guess_of_lines first second =
     if ends_with_byte carriage_return first then CarriageReturns
     else if begins (codes "# file: ") first && begins (codes "USER") second then Tabular
     else if is_some (path_in first) && not (begins (codes "# owner: ") second) then NoOwners
-    else if begins (codes "user::") first then NoOwners
+    else if begins (codes "user::") first || begins_ace first then NoOwners
     else NoListing
 
 -- by the numbers that such files begin with, and else by the block's lines
@@ -27,6 +36,7 @@ abbrev pub guess_of : List ℕ → Guess
 guess_of block =
     if begins (31 ∷ 139 ∷ []) block then Gzip
     else if begins (255 ∷ 254 ∷ []) block || begins (254 ∷ 255 ∷ []) block then Utf16
+    else if begins_wide block then Utf16
     else guess_of_lines (first_line block) (first_line (after_line block))
 
 abbrev pub guess_words : Guess → List ℕ

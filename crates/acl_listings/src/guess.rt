@@ -3,7 +3,7 @@
 ghost use Rattle.std.specs.Prelude.{◌≡◌};
 ghost use Rattle.std.specs.Io.BufRead.{ends_with_byte};
 ghost use Rattle.acl_accounts.specs.Names.{carriage_return};
-ghost use Rattle.acl_listings.specs.Guess.{begins, guess_of_lines};
+ghost use Rattle.acl_listings.specs.Guess.{begins, begins_ace, begins_wide, guess_of_lines};
 
 use crate::header::{read_path, split_line};
 
@@ -35,6 +35,9 @@ impl Guess {
             return Guess::Gzip;
         }
         if begins(b"\xff\xfe", block) || begins(b"\xfe\xff", block) {
+            return Guess::Utf16;
+        }
+        if begins_wide(block) {
             return Guess::Utf16;
         }
         let (first, behind) = split_line(block);
@@ -70,8 +73,8 @@ fn guess_of_lines(first: &[u8], second: &[u8]) -> Guess
     if read_path(first).is_some() && !begins(b"# owner: ", second) {
         return Guess::NoOwners;
     }
-    // `getfacl -c` leaves out the whole header.
-    if begins(b"user::", first) {
+    // `getfacl -c` leaves out the whole header, and so does `nfs4_getfacl` of one file.
+    if begins(b"user::", first) || begins_ace(first) {
         return Guess::NoOwners;
     }
     Guess::NoListing
@@ -81,6 +84,20 @@ fn begins(word: &[u8], text: &[u8]) -> bool
     ensures { result ≡ begins word.now text.now }
 {
     text.starts_with(word)
+}
+
+/// Whether it begins with the type of an NFSv4 entry and a colon.
+fn begins_ace(line: &[u8]) -> bool
+    ensures { result ≡ begins_ace line.now }
+{
+    begins(b"A:", line) || begins(b"D:", line) || begins(b"U:", line) || begins(b"L:", line)
+}
+
+/// Whether one of its first two bytes is 0, as of a letter in two bytes.
+fn begins_wide(text: &[u8]) -> bool
+    ensures { result ≡ begins_wide text.now }
+{
+    begins(b"\0", text) || !text.is_empty() && begins(b"\0", &text[1..])
 }
 
 fn ends_with_return(line: &[u8]) -> bool

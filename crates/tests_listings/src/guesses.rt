@@ -3,10 +3,12 @@ use acl_listings::Guess;
 
 #[test]
 fn guesses(rt: HostRuntime) {
-    const ROWS: [(&[u8], Guess); 15] = [
+    const ROWS: [(&[u8], Guess); 20] = [
         (b"\x1f\x8b\x08\x00\x00", Guess::Gzip),
         (b"\xff\xfe#\x00 \x00", Guess::Utf16),
         (b"\xfe\xff\x00#\x00 ", Guess::Utf16),
+        (b"#\x00 \x00f\x00", Guess::Utf16),
+        (b"\x00#\x00 \x00f", Guess::Utf16),
         (
             b"# file: x\r\n# owner: 0\r\n# group: 0\r",
             Guess::CarriageReturns,
@@ -24,7 +26,10 @@ fn guesses(rt: HostRuntime) {
         (b"# File: x", Guess::NoOwners),
         (b"# File: x\nUSER   root      rwx     ", Guess::NoOwners),
         (b"user::rw-\ngroup::r--\nother::r--", Guess::NoOwners),
+        (b"A::OWNER@:rwatTnNcCoy\nA::GROUP@:rtncy", Guess::NoOwners),
+        (b"D:g:GROUP@:w\nA::OWNER@:rwatTnNcCoy", Guess::NoOwners),
         (b"# file: x\n# owner: 0", Guess::NoListing),
+        (b"An: it is", Guess::NoListing),
         (b"USER   root      rwx     ", Guess::NoListing),
         (b"total 12", Guess::NoListing),
         (b"", Guess::NoListing),
