@@ -62,6 +62,7 @@ module _ (wording : Wording) (name : List ℕ) (blocks : List Block) where
             ∙ ap (λ blocks. tally_of (items_of (fault_before wording) blocks)) (sym grown);
       }
 
+-- a mark that a call made of what it found
 pub none_mark : {A : Type 0} (found : Option A) (none : Bool) → is_some found ≡ not none → none ≡ is_none found
 none_mark None true is = refl
 none_mark None false is = cc
@@ -92,7 +93,3 @@ module _ (wording : Wording) (blocks : List Block) where
           let last : get_or (reads ++ is_none fault ∷ []) k false ≡ is_none fault =
           ap (λ n. get_or (reads ++ is_none fault ∷ []) n false) (omega (arith, same, count)) ∙ get_or-append-add reads (is_none fault ∷ []) 0 false in
           ap wording.fault text ∙ none_wrong repeated fault (wording.fault here.text) is (sym last ∙ marked)
-
-pub nothing_read : (wording : Wording) (blocks : List Block) → AreRead wording blocks []
-nothing_read wording blocks None block there marked = cc
-nothing_read wording blocks (Some k) block there marked = absurd (true≢false (sym marked ∙ get_or_past [] k false (omega arith)))

@@ -1,8 +1,8 @@
 -- A text whose pieces are all entries has no line of a default list.
-use Rattle.std.proofs.Common.{◌≡◌, ◌∙◌, ℕ, ◌+◌, ◌==◌, ◌||◌, Bool, true, false, cond, not, List, [], ◌∷◌, ◌++◌, None, Some, Ok, ap, refl, sym, subst}
-use Rattle.std.proofs.Common.{codes, drop, flat_map, is_some, map, one-add, reverse, take}
-use Rattle.std.specs.List.{All, before_first, list_any, onto_first, position_or_len}
-use Rattle.std.proofs.lemmas.Bool.{false≢true}
+use Rattle.std.proofs.Common.{◌≡◌, ◌∙◌, ℕ, ◌==◌, ◌||◌, Bool, true, false, cond, not, List, [], ◌∷◌, ◌++◌, None, Some, Ok, ap, refl, sym, subst}
+use Rattle.std.proofs.Common.{codes, drop, flat_map, is_some, map, reverse, take}
+use Rattle.std.specs.List.{All, before_first, list_all, list_any, onto_first}
+use Rattle.std.proofs.lemmas.Bool.{and_parts, false≢true, not-true}
 use Rattle.std.proofs.lemmas.List.{reverse-append, take-append-drop}
 use Rattle.std.proofs.lemmas.List.Elements.{All-cons, All-head, All-nil, All-tail}
 use Rattle.std.proofs.lemmas.Slice.Eq.{bytes_eq-Decides}
@@ -19,6 +19,7 @@ use Rattle.acl_listings.specs.BlockLists.{lists_by, lists_in}
 use Rattle.acl_listings.specs.ListLines.{is_default}
 use Rattle.acl_listings.specs.declared.lists.Lists.TheVariants.{Posix}
 use Rattle.acl_listings.proofs.AccessLemmas.{line_pieces, listed, posix_alone}
+use Rattle.acl_listings.proofs.ExtentLemmas.{before-later}
 use Rattle.acl_listings.proofs.FormLemmas.{Read, form_said, read_of}
 
 -- the word that a line of a default list begins with
@@ -52,32 +53,11 @@ trimmed more =
       is = ap (λ text. reverse (trim_start text)) (reverse-append word more) ∙ ap reverse found.is ∙ reverse-append found.kept (colon ∷ codes "tluafed");
     }
 
--- what stands before a byte that isn't the first
-before_later : (p : ℕ → Bool) (byte : ℕ) (bytes : List ℕ) → p byte ≡ false → before_first p (byte ∷ bytes) ≡ byte ∷ before_first p bytes
-before_later p byte bytes is =
-    ap (λ b. take (cond (not b) (1 + position_or_len p bytes) 0) (byte ∷ bytes)) is
-    ∙ ap (λ n. take n (byte ∷ bytes)) (one-add (position_or_len p bytes))
-
-before_behind : (p : ℕ → Bool) (front back : List ℕ) → All (λ byte. p byte ≡ false) front → before_first p (front ++ back) ≡ front ++ before_first p back
+before_behind : (p : ℕ → Bool) (front back : List ℕ) → list_all (λ byte. not (p byte)) front ≡ true → before_first p (front ++ back) ≡ front ++ before_first p back
 before_behind p [] back lacks = refl
 before_behind p (byte ∷ front) back lacks =
-    before_later p byte (front ++ back) (All-head (λ x. p x ≡ false) byte front lacks)
-    ∙ ap (λ rest. byte ∷ rest) (before_behind p front back (All-tail (λ x. p x ≡ false) byte front lacks))
-
-abbrev pub IsOther : ℕ → ℕ → Type 0
-IsOther separator byte = (byte == separator) ≡ false
-
-word_lacks_hash : All (IsOther hash) word
-word_lacks_hash =
-    let none = All-nil (IsOther hash) in
-    let c = All-cons (IsOther hash) 58 [] refl none in
-    let t = All-cons (IsOther hash) 116 (codes ":") refl c in
-    let l = All-cons (IsOther hash) 108 (codes "t:") refl t in
-    let u = All-cons (IsOther hash) 117 (codes "lt:") refl l in
-    let a = All-cons (IsOther hash) 97 (codes "ult:") refl u in
-    let f = All-cons (IsOther hash) 102 (codes "ault:") refl a in
-    let e = All-cons (IsOther hash) 101 (codes "fault:") refl f in
-    All-cons (IsOther hash) 100 (codes "efault:") refl e
+    let parts = and_parts (not (p byte)) (list_all (λ byte. not (p byte)) front) lacks in
+    before-later p byte (front ++ back) (not-true (p byte) parts.0) ∙ ap (λ rest. byte ∷ rest) (before_behind p front back parts.1)
 
 -- the parts of a text that begins so, round a separator that the word lacks
 record FirstPart (texts : List (List ℕ)) : Type 0 where
@@ -118,7 +98,7 @@ line_begun line is = record { rest = drop 8 line; is = sym (take-append-drop 8 l
 content_begun : (line : List ℕ) → BeginsSo line → BeginsSo (content line)
 content_begun line begun =
     let found = trimmed (before_first (λ byte. byte == hash) begun.rest) in
-    record { rest = found.rest; is = ap content begun.is ∙ ap trim (before_behind (λ byte. byte == hash) word begun.rest word_lacks_hash) ∙ found.is }
+    record { rest = found.rest; is = ap content begun.is ∙ ap trim (before_behind (λ byte. byte == hash) word begun.rest refl) ∙ found.is }
 
 first_piece : (line : List ℕ) → is_default line ≡ true → FirstPart (line_pieces line)
 first_piece line is =

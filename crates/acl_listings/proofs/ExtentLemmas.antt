@@ -58,6 +58,12 @@ newlines-lacking (byte ∷ line) lacks =
 pub newlines-append : (front back : List ℕ) → newlines_in (front ++ back) ≡ newlines_in front + newlines_in back
 newlines-append front back = sum_by-append (λ byte. cond (is_newline byte) 1 0) front back
 
+-- what stands before a byte that isn't the first
+pub before-later : (p : ℕ → Bool) (byte : ℕ) (bytes : List ℕ) → p byte ≡ false → before_first p (byte ∷ bytes) ≡ byte ∷ before_first p bytes
+before-later p byte bytes is =
+    ap (λ b. take (cond (not b) (1 + position_or_len p bytes) 0) (byte ∷ bytes)) is
+    ∙ ap (λ n. take n (byte ∷ bytes)) (one-add (position_or_len p bytes))
+
 -- a text as its first line and what stands behind that
 pub record FrontLine (text : List ℕ) : Type 0 where
   pub line : List ℕ
@@ -83,8 +89,7 @@ front_line (byte ∷ bytes) = by_first (eqb_tells byte newline) (front_line byte
     by_first (inr other) more = record {
       line = byte ∷ more.line;
       rest = more.rest;
-      is = ap (λ b. take (cond (not b) (1 + position_or_len is_newline bytes) 0) (byte ∷ bytes)) other.0
-          ∙ ap (λ n. take n (byte ∷ bytes)) (one-add (position_or_len is_newline bytes)) ∙ ap (λ line. byte ∷ line) more.is;
+      is = before-later is_newline byte bytes other.0 ∙ ap (λ line. byte ∷ line) more.is;
       cut = ap (λ rest. byte ∷ rest) more.cut;
       lacks = All-cons (λ x. is_newline x ≡ false) byte more.line other.0 more.lacks;
       ends = more.ends;

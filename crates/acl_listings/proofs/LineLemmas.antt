@@ -1,15 +1,14 @@
 -- The first line of a text, byte by byte.
-use Rattle.std.proofs.Common.{◌≡◌, ℕ, ◌+◌, Bool, true, false, cond, not, List, [], ◌∷◌, ◌++◌, drop, take, suc, zero, ap, refl, sym, ◌∙◌, arith, one-add}
+use Rattle.std.proofs.Common.{◌≡◌, ℕ, ◌+◌, Bool, true, false, cond, not, List, [], ◌∷◌, ◌++◌, drop, take, suc, zero, ap, refl, sym, ◌∙◌, arith}
 use Rattle.std.specs.List.{position_or_len}
 use Rattle.std.proofs.lemmas.List.Elements.{All-head, All-tail}
 use Rattle.acl_names.specs.Bytes.{newline}
 use Rattle.acl_listings.specs.Lines.{after_line, first_line}
-use Rattle.acl_listings.proofs.ExtentLemmas.{LacksNewline, is_newline}
+use Rattle.acl_listings.proofs.ExtentLemmas.{LacksNewline, before-later, is_newline}
 
 pub first_line-cons : (byte : ℕ) (bytes : List ℕ) (b : Bool) → is_newline byte ≡ b → first_line (byte ∷ bytes) ≡ cond b [] (byte ∷ first_line bytes)
 first_line-cons byte bytes true is = ap (λ b. take (cond (not b) (1 + position_or_len is_newline bytes) 0) (byte ∷ bytes)) is
-first_line-cons byte bytes false is =
-    ap (λ b. take (cond (not b) (1 + position_or_len is_newline bytes) 0) (byte ∷ bytes)) is ∙ ap (λ n. take n (byte ∷ bytes)) (one-add (position_or_len is_newline bytes))
+first_line-cons byte bytes false is = before-later is_newline byte bytes is
 
 pub after_line-cons : (byte : ℕ) (bytes : List ℕ) (b : Bool) → is_newline byte ≡ b → after_line (byte ∷ bytes) ≡ cond b bytes (after_line bytes)
 after_line-cons byte bytes true is = ap (λ b. drop (cond (not b) (1 + position_or_len is_newline bytes) 0 + 1) (byte ∷ bytes)) is

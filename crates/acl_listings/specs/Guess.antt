@@ -1,8 +1,11 @@
 -- What a text may be that is no listing, by its first block.
-use Rattle.std.specs.Prelude.{ℕ, Bool, ◌&&◌, ◌||◌, not, List, [], ◌∷◌, codes, drop, length}
-use Rattle.std.specs.Prelude.{bytes_eq, if◌then◌else◌, is_some, take}
+use Rattle.std.specs.Prelude.{ℕ, Bool, true, false, ◌&&◌, ◌||◌, not, List, [], ◌∷◌, codes, drop}
+use Rattle.std.specs.Prelude.{bytes_eq, if◌then◌else◌, is_some, length, take}
 use Rattle.std.specs.Io.BufRead.{ends_with_byte}
 use Rattle.acl_accounts.specs.Names.{carriage_return}
+use Rattle.acl_forms.specs.Forms.{form_of}
+use Rattle.acl_forms.specs.declared.form.Form.{Form}
+use Rattle.acl_forms.specs.declared.form.Form.TheVariants.{Posix, Nfs4, Freebsd}
 use Rattle.acl_listings.specs.Header.{path_in}
 use Rattle.acl_listings.specs.Lines.{after_line, first_line}
 use Rattle.acl_listings.specs.declared.guess.Guess.{Guess}
@@ -13,10 +16,11 @@ use Rattle.acl_listings.specs.declared.guess.Guess.TheVariants.{Tabular, NoOwner
 abbrev pub begins : List ℕ → List ℕ → Bool
 begins word text = bytes_eq (take (length word) text) word
 
--- a type of an NFSv4 entry, and a colon
-abbrev pub begins_ace : List ℕ → Bool
-begins_ace line = begins (codes "A:") line || begins (codes "D:") line || begins (codes "U:") line
-    || begins (codes "L:") line
+-- the form is one of NFSv4 lists
+abbrev pub is_nfs4 : Form → Bool
+is_nfs4 Posix = false
+is_nfs4 Nfs4 = true
+is_nfs4 Freebsd = true
 
 -- of a letter in two bytes one is 0
 abbrev pub begins_wide : List ℕ → Bool
@@ -28,7 +32,7 @@ guess_of_lines first second =
     if ends_with_byte carriage_return first then CarriageReturns
     else if begins (codes "# file: ") first && begins (codes "USER") second then Tabular
     else if is_some (path_in first) && not (begins (codes "# owner: ") second) then NoOwners
-    else if begins (codes "user::") first || begins_ace first then NoOwners
+    else if begins (codes "user::") first || is_nfs4 (form_of first) then NoOwners
     else NoListing
 
 -- by the numbers that such files begin with, and else by the block's lines

@@ -3,9 +3,10 @@
 ghost use Rattle.std.specs.Prelude.{◌≡◌};
 ghost use Rattle.std.specs.Io.BufRead.{ends_with_byte};
 ghost use Rattle.acl_accounts.specs.Names.{carriage_return};
-ghost use Rattle.acl_listings.specs.Guess.{begins, begins_ace, begins_wide, guess_of_lines};
+ghost use Rattle.acl_listings.specs.Guess.{begins, begins_wide, guess_of_lines, is_nfs4};
 
 use crate::header::{read_path, split_line};
+use acl_forms::{Form, form_of};
 
 /// What a text may be of which no block reads, by its first block.
 #[derive(Clone, Copy, Debug, PartialEq, Eq)]
@@ -73,8 +74,8 @@ fn guess_of_lines(first: &[u8], second: &[u8]) -> Guess
     if read_path(first).is_some() && !begins(b"# owner: ", second) {
         return Guess::NoOwners;
     }
-    // `getfacl -c` leaves out the whole header, and so does `nfs4_getfacl` of one file.
-    if begins(b"user::", first) || begins_ace(first) {
+    // `getfacl -c` leaves out the whole header, and so do tools for NFSv4 lists, of one file.
+    if begins(b"user::", first) || is_nfs4(form_of(first)) {
         return Guess::NoOwners;
     }
     Guess::NoListing
@@ -86,11 +87,14 @@ fn begins(word: &[u8], text: &[u8]) -> bool
     text.starts_with(word)
 }
 
-/// Whether it begins with the type of an NFSv4 entry and a colon.
-fn begins_ace(line: &[u8]) -> bool
-    ensures { result ≡ begins_ace line.now }
+/// Whether the form is one of NFSv4 lists.
+fn is_nfs4(form: Form) -> bool
+    ensures { result ≡ is_nfs4 form }
 {
-    begins(b"A:", line) || begins(b"D:", line) || begins(b"U:", line) || begins(b"L:", line)
+    match form {
+        Form::Posix => false,
+        Form::Nfs4 | Form::Freebsd => true,
+    }
 }
 
 /// Whether one of its first two bytes is 0, as of a letter in two bytes.

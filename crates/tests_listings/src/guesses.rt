@@ -3,7 +3,7 @@ use acl_listings::Guess;
 
 #[test]
 fn guesses(rt: HostRuntime) {
-    const ROWS: [(&[u8], Guess); 20] = [
+    const ROWS: [(&[u8], Guess); 21] = [
         (b"\x1f\x8b\x08\x00\x00", Guess::Gzip),
         (b"\xff\xfe#\x00 \x00", Guess::Utf16),
         (b"\xfe\xff\x00#\x00 ", Guess::Utf16),
@@ -28,6 +28,7 @@ fn guesses(rt: HostRuntime) {
         (b"user::rw-\ngroup::r--\nother::r--", Guess::NoOwners),
         (b"A::OWNER@:rwatTnNcCoy\nA::GROUP@:rtncy", Guess::NoOwners),
         (b"D:g:GROUP@:w\nA::OWNER@:rwatTnNcCoy", Guess::NoOwners),
+        (b"owner@:rwxp--aARWcCos:-------:allow", Guess::NoOwners),
         (b"# file: x\n# owner: 0", Guess::NoListing),
         (b"An: it is", Guess::NoListing),
         (b"USER   root      rwx     ", Guess::NoListing),

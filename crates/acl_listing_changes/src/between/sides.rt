@@ -24,7 +24,7 @@ pub(super) struct Sides<'n, 't, C: ChangeTeller> {
     pub name: &'n str,
     pub teller: &'t C,
     pub before: &'t KeptListing<'t>,
-    /// The places of blocks before of which it is known that nothing is wrong with them.
+    /// Of the block before at each place whether it is known that nothing is wrong with it.
     pub reads: &'t [bool],
     ghost known: { AreRead (C.wording teller.now) before.now reads.now },
 }

@@ -39,7 +39,8 @@ pub(crate) trait ChangeTeller {
             out.new.items beside.old.items beside.new.items) };
 
     /// Appends what is reported of a block whose path has this one before, unless something is
-    /// wrong with one of them. It may be known that nothing is with the one before.
+    /// wrong with one of them. If `reads`, nothing is wrong with the one before; else that isn't
+    /// known.
     fn push_changed(
         &self,
         alloc: Global,
