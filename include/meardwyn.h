@@ -14,7 +14,8 @@
  * gids are all groups of the user, the primary one too, in any order; one may stand twice, and 0xffffffff is none. uid 0 has no
  * special right here. Only the list of the file itself counts: not the folders above it, nor how its file system is mounted.
  *
- * Memory: checks of POSIX lists take none. Any other call takes none as long as no POSIX list has more than 8 entries (68 bytes) and
+ * Memory: checks take none (posix_check, posix_check_linux, nfs4_check, nfs4_allowed, nfs4_decide, nfs4_grants), nor does
+ * meardwyn_nfs4_from_xdr. Any other call takes none as long as no POSIX list has more than 8 entries (68 bytes) and
  * no NFSv4 list, neither one that goes in nor the one that comes out, more than 16; calls on texts always do, and
  * meardwyn_nfs4_to_xdr. Else it calls malloc, frees all of it before it returns, and answers MEARDWYN_NO_MEMORY if it gets none.
  */
@@ -29,17 +30,20 @@
 extern "C" {
 #endif
 
-/* What calls answer: 0 or more is the answer, below 0 is why there is none. An error is true in C: compare an answer with 1.
+/* What calls answer: 0 or more is the answer, below 0 is why there is none. An error is true in C: compare an answer with 1, or take
+   meardwyn_nfs4_grants.
 
    Arguments come before the list. Of the bytes of a POSIX list the version comes before their number, that before how many entries
    there are, the entries come in their order, and then what is wrong with them as a whole: MISSING before REPEATED before NO_MASK.
-   Of NFSv4 entries the first at fault is told. Calls on POSIX bytes may tell -3 to -12; on NFSv4 entries -3, -6, -8 and -13 to -17; on
-   XDR these, -4 and -19; on POSIX texts -6 and -18 to -20; on NFSv4 texts -6 and -17 to -19. Those that put something may also tell -2,
-   those that put an NFSv4 list or a text of one -21, and those that take memory -1. */
+   Of NFSv4 entries the first at fault is told. Calls on POSIX bytes may tell -3 to -12; on NFSv4 entries -3, -6, -8 and -13 to -17, but
+   checks of them never -6 and -17; on XDR that is read -4, -8, -13 to -16 and -19; on POSIX texts -6 and -18 to -20; on NFSv4 texts -6
+   and -17 to -19. Those that put something may also tell -2, meardwyn_nfs4_chmod, meardwyn_nfs4_inherit and a text of an NFSv4 list -21,
+   and those that take memory -1. */
 enum meardwyn_error {
     MEARDWYN_NO_MEMORY = -1,     /* malloc gave no memory; this says nothing of the list */
     MEARDWYN_NO_ROOM = -2,       /* the buffer is too small; what is needed is told, and the buffer is as it was */
-    MEARDWYN_BAD_ARGUMENT = -3,  /* the owner, the group or the uid is 0xffffffff, a mode is above 0777, or a request above 7 */
+    MEARDWYN_BAD_ARGUMENT = -3,  /* the owner, the group or the uid is 0xffffffff, a mode is above 0777, a request of a POSIX list above 7,
+                                    one of an NFSv4 list has a bit of retention (0x200, 0x400), or how is none */
     MEARDWYN_BAD_SIZE = -4,      /* the bytes are no version and a whole number of entries; in XDR they end too early or go on */
     MEARDWYN_BAD_VERSION = -5,   /* the version is not 2 */
     MEARDWYN_TOO_MANY = -6,      /* more than 64 POSIX entries, or 128 NFSv4 entries */
@@ -67,7 +71,7 @@ uint32_t meardwyn_version(void);
    that is no error is "unknown". */
 int32_t meardwyn_error_name(int32_t error, char *out, size_t out_len, size_t *needed);
 
-/* Permissions of a request, and each of the three digits of a mode. */
+/* Permissions of a request of a POSIX list, and each of the three digits of a mode. Those of an NFSv4 list are MEARDWYN_ACE_.. below. */
 enum { MEARDWYN_READ = 4, MEARDWYN_WRITE = 2, MEARDWYN_EXECUTE = 1 };
 
 /*
@@ -135,28 +139,73 @@ int32_t meardwyn_posix_compare(const uint8_t *first, size_t first_len, uint32_t 
 /*
  * NFSv4 lists, RFC 8881, as arrays of entries, of which the first decides first.
  *
- * ACE4_INHERITED_ACE, ACE4_WRITE_RETENTION and ACE4_WRITE_RETENTION_HOLD decide nothing that is asked here. Calls that only decide
- * (check, allowed, valid, mode, compare) ignore them; a call that puts a list or a text can't keep them, and refuses the list.
+ * ACE4_INHERITED_ACE, ACE4_WRITE_RETENTION and ACE4_WRITE_RETENTION_HOLD decide nothing here. Calls that only decide (check, allowed,
+ * decide, grants, valid, mode, compare) ignore them in entries, and XDR keeps them; chmod, inherit and a text can't, and refuse the list.
+ * Nothing is said of the two of retention, 0x200 and 0x400: a request, or the bits of a comparison, that have one are
+ * MEARDWYN_BAD_ARGUMENT.
  */
 enum meardwyn_type { MEARDWYN_ALLOW = 0, MEARDWYN_DENY = 1, MEARDWYN_AUDIT = 2, MEARDWYN_ALARM = 3 };
 enum meardwyn_special { MEARDWYN_BY_ID = 0, MEARDWYN_OWNER = 1, MEARDWYN_GROUP = 2, MEARDWYN_EVERYONE = 3 };
 enum { MEARDWYN_ID_IS_A_GROUP = 0x40 };
 
+/* The bits of a mask, and of a request of an NFSv4 list (RFC 8881, 6.2.1.3). */
+enum meardwyn_mask {
+    MEARDWYN_ACE_READ_DATA = 0x1,
+    MEARDWYN_ACE_WRITE_DATA = 0x2,
+    MEARDWYN_ACE_APPEND_DATA = 0x4,
+    MEARDWYN_ACE_READ_NAMED_ATTRS = 0x8,
+    MEARDWYN_ACE_WRITE_NAMED_ATTRS = 0x10,
+    MEARDWYN_ACE_EXECUTE = 0x20,
+    MEARDWYN_ACE_DELETE_CHILD = 0x40,
+    MEARDWYN_ACE_READ_ATTRIBUTES = 0x80,
+    MEARDWYN_ACE_WRITE_ATTRIBUTES = 0x100,
+    MEARDWYN_ACE_DELETE = 0x10000,
+    MEARDWYN_ACE_READ_ACL = 0x20000,
+    MEARDWYN_ACE_WRITE_ACL = 0x40000,
+    MEARDWYN_ACE_WRITE_OWNER = 0x80000,
+    MEARDWYN_ACE_SYNCHRONIZE = 0x100000
+};
+
 struct meardwyn_ace {
     uint32_t type;        /* of enum meardwyn_type */
     uint32_t flag;        /* the bits of RFC 8881, 6.2.1.4: ACE4_FILE_INHERIT_ACE 1 and on; MEARDWYN_ID_IS_A_GROUP among them */
-    uint32_t access_mask; /* the bits of RFC 8881, 6.2.1.3: ACE4_READ_DATA 1, ACE4_WRITE_DATA 2 and on */
+    uint32_t access_mask; /* of enum meardwyn_mask */
     uint32_t special;     /* of enum meardwyn_special: OWNER@, GROUP@, EVERYONE@, or whom id names */
     uint32_t id;          /* if special is 0; else it is not looked at, and 0 where a call puts it */
 };
+
+/*
+ * Checks. They go down the entries once, however many there are, until nothing of the request is open, and take no memory. Audit and
+ * alarm entries and those with INHERIT_ONLY decide nothing. An entry that is none (of an unknown type, with an unknown flag or bit, for
+ * whom it doesn't say, or for 0xffffffff) is told, since it may decide what is asked; but not if what is in front of it decides all.
+ */
 
 /* 1 if the list grants a user who is in these groups all of the request, a mask, for a file of this owner and this group; 0 if not. */
 int32_t meardwyn_nfs4_check(const struct meardwyn_ace *aces, size_t aces_len, uint32_t owner, uint32_t group, uint32_t uid,
                             const uint32_t *gids, size_t gids_len, uint32_t request);
 
-/* 0, and in *allowed those bits of the request that it grants, each by itself: what an NFSv4 ACCESS answers. */
+/* 0, and in *allowed those bits of the request that it grants, each by itself. They are bits of a mask: those of an NFSv4 ACCESS are
+   others (there 0x2 is ACCESS4_LOOKUP, and here WRITE_DATA). */
 int32_t meardwyn_nfs4_allowed(const struct meardwyn_ace *aces, size_t aces_len, uint32_t owner, uint32_t group, uint32_t uid,
                               const uint32_t *gids, size_t gids_len, uint32_t request, uint32_t *allowed);
+
+/* Of a file, whose it is. */
+struct meardwyn_file {
+    uint32_t owner, group;
+};
+
+/* What a list says of the bits of a request; of a bit that is neither allowed nor denied it says nothing. */
+struct meardwyn_decided {
+    uint32_t allowed, denied;
+};
+
+/* 0, and in *decided what the list says of each bit of the request; with an error all of the request is denied there. */
+int32_t meardwyn_nfs4_decide(const struct meardwyn_ace *aces, size_t aces_len, const struct meardwyn_file *file, uint32_t uid,
+                             const uint32_t *gids, size_t gids_len, uint32_t request, struct meardwyn_decided *decided);
+
+/* Whether the list grants the user all of the request. With an error it is false, and *error tells it; else *error is 0. */
+bool meardwyn_nfs4_grants(const struct meardwyn_ace *aces, size_t aces_len, const struct meardwyn_file *file, uint32_t uid,
+                          const uint32_t *gids, size_t gids_len, uint32_t request, int32_t *error);
 
 /* 0 if the entries are a list. */
 int32_t meardwyn_nfs4_valid(const struct meardwyn_ace *aces, size_t aces_len);
@@ -166,19 +215,25 @@ int32_t meardwyn_nfs4_mode(const struct meardwyn_ace *aces, size_t aces_len);
 
 /* These put a list into an array, and answer 0; *needed tells how many entries it has, as above. */
 
-/* The list with a mode set, without losing what it says beyond the mode. */
-int32_t meardwyn_nfs4_chmod(const struct meardwyn_ace *aces, size_t aces_len, uint32_t mode, struct meardwyn_ace *out, size_t out_len,
-                            size_t *needed);
+/* How a mode is set. Either way the list decides each bit alike for everybody, shows the mode, and keeps what it says beyond the mode.
+   PROFILE denies those whom it names all that the mode's group lacks; a mode that is set later leaves them denied. LEAST denies them no
+   more than it takes, mostly nothing, so that after 0600 a mode of 0644 gives them what it gives anybody: servers want this one. */
+enum meardwyn_how { MEARDWYN_CHMOD_PROFILE = 0, MEARDWYN_CHMOD_LEAST = 1 };
+
+/* The list with a mode set. */
+int32_t meardwyn_nfs4_chmod(const struct meardwyn_ace *aces, size_t aces_len, uint32_t mode, uint32_t how, struct meardwyn_ace *out,
+                            size_t out_len, size_t *needed);
 
 /* What a new file (is_dir 0) or a new directory (1) inherits, before a mode is set. */
 int32_t meardwyn_nfs4_inherit(const struct meardwyn_ace *aces, size_t aces_len, bool is_dir, struct meardwyn_ace *out, size_t out_len,
                               size_t *needed);
 
-/* The list of the bytes of system.nfs4_acl: a count, and type, flag, mask and who of each, where who is OWNER@, GROUP@, EVERYONE@ or an
-   id in decimal. */
+/* The entries of the bytes of system.nfs4_acl: a count, and type, flag, mask and who of each, where who is OWNER@, GROUP@, EVERYONE@ or
+   an id in decimal. All bits that have a meaning stay, ACE4_INHERITED_ACE and those of retention too, however many entries there are. It
+   takes no memory. */
 int32_t meardwyn_nfs4_from_xdr(const uint8_t *xdr, size_t xdr_len, struct meardwyn_ace *out, size_t out_len, size_t *needed);
 
-/* Such bytes of a list: they are read as that list again. It takes memory. */
+/* Such bytes of entries: they are read as these again, with all bits that have a meaning. It takes memory. */
 int32_t meardwyn_nfs4_to_xdr(const struct meardwyn_ace *aces, size_t aces_len, uint8_t *out, size_t out_len, size_t *needed);
 
 /* The list of a text, "A::OWNER@:rwx,A:g:50:r", and such a text of a list: type A, D, U or L, flags of fdnigSF, who, with ids in decimal,

@@ -63,6 +63,27 @@ static void translation(int n)
     printf("| %d | %zu | %.1f |\n", n, needed, ours);
 }
 
+/* A request of a list of n entries and a user in 17 groups: of users, or half of groups, and EVERYONE@ last. */
+static void nfs4_times(int n, int groups)
+{
+    static struct meardwyn_ace aces[1024];
+    struct meardwyn_file file = {1, 2};
+    struct meardwyn_decided said;
+    uint32_t gids[17];
+    for (int i = 0; i < 17; i++) gids[i] = 9000 + i;
+    for (int i = 0; i < n; i++) aces[i] = (struct meardwyn_ace){i % 5 == 4, groups && i % 2 ? 0x40 : 0, 0x1200a9, 0, 5000 + i};
+    aces[n - 1] = (struct meardwyn_ace){0, 0, 0x1200a9, 3, 0};
+    int rounds = 400000 / (n + 10);
+    double check = 1e18, decide = 1e18, hand = 1e18, tested = 1e18;
+    IN_TURNS {
+        LEAST(check, rounds, for (int i = 0; i < rounds; i++) sink += meardwyn_nfs4_check(aces, n, 1, 2, 3, gids, 17, 0x20));
+        LEAST(decide, rounds, for (int i = 0; i < rounds; i++) sink += meardwyn_nfs4_decide(aces, n, &file, 3, gids, 17, 0x1f01ff, &said));
+        LEAST(hand, rounds, for (int i = 0; i < rounds; i++) sink += hand_nfs4(aces, n, 1, 2, 3, gids, 17, 0x20));
+        LEAST(tested, rounds, for (int i = 0; i < rounds; i++) sink += hand_decide(aces, n, 1, 2, 3, gids, 17, 0x1f01ff, &said));
+    }
+    printf("| %d, %s | %.1f | %.1f | %.1f | %.1f |\n", n, groups ? "half groups" : "users", check, decide, hand, tested);
+}
+
 /* Does one work over and over, for callgrind: `ours` and `hand` (checked and decided) of a check, `nfs4` of a translation. */
 static void work(const char *what, int n, int rounds)
 {
@@ -112,6 +133,8 @@ int main(int count, char **words)
     times(3), times(5), times(8), times(9), times(16), times(64);
     printf("\n| entries translated | entries put | ours, from bytes ns |\n|---|---|---|\n");
     translation(3), translation(8), translation(64);
+    printf("\n| NFSv4 entries, 17 groups | check ns | decide ns | by hand, trusted ns | by hand, tested ns |\n|---|---|---|---|---|\n");
+    for (int groups = 0; groups < 2; groups++) nfs4_times(5, groups), nfs4_times(16, groups), nfs4_times(128, groups), nfs4_times(1024, groups);
     if (system("valgrind --version > /dev/null 2>&1")) {
         puts("\nno valgrind: instructions aren't counted");
         return 0;

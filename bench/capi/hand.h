@@ -53,3 +53,39 @@ static int hand_permission(const uint8_t *xattr, size_t length, uint32_t owner, 
     }
     return 0;
 }
+
+static int hand_applies(const struct meardwyn_ace *a, uint32_t owner, uint32_t group, uint32_t uid, const uint32_t *gids, size_t count)
+{
+    switch (a->special) {
+    case 1: return uid == owner;
+    case 2: return in_groups(group, gids, count);
+    case 3: return 1;
+    default: return a->flag & 0x40 ? in_groups(a->id, gids, count) : a->id == uid;
+    }
+}
+
+/* RFC 8881, section 6.2.1, over entries that the caller has valid. 1 granted, 0 denied. */
+__attribute__((noinline)) static int hand_nfs4(const struct meardwyn_ace *aces, size_t n, uint32_t owner, uint32_t group, uint32_t uid,
+                                               const uint32_t *gids, size_t count, uint32_t want)
+{
+    for (const struct meardwyn_ace *a = aces; a < aces + n && want; a++) {
+        if (a->type > 1 || a->flag & 8 || !(a->access_mask & want) || !hand_applies(a, owner, group, uid, gids, count)) continue;
+        if (a->type == 1) return 0;
+        want &= ~a->access_mask;
+    }
+    return want == 0;
+}
+
+/* The same with the tests of each entry, and what is allowed and denied. -1 for an entry that is none. */
+__attribute__((noinline)) static int hand_decide(const struct meardwyn_ace *aces, size_t n, uint32_t owner, uint32_t group, uint32_t uid,
+                                                 const uint32_t *gids, size_t count, uint32_t want, struct meardwyn_decided *said)
+{
+    said->allowed = said->denied = 0;
+    for (const struct meardwyn_ace *a = aces; a < aces + n && want; a++) {
+        if (a->type > 3 || a->flag > 0xff || a->access_mask & ~0x1f07ffu || a->special > 3 || (!a->special && a->id == UINT32_MAX)) return -1;
+        if (a->type > 1 || a->flag & 8 || !(a->access_mask & want) || !hand_applies(a, owner, group, uid, gids, count)) continue;
+        *(a->type ? &said->denied : &said->allowed) |= want & a->access_mask;
+        want &= ~a->access_mask;
+    }
+    return 0;
+}

@@ -97,7 +97,10 @@ static void xdr(const uint8_t *at, size_t length, int is_cut)
     int told = meardwyn_nfs4_from_xdr(bytes, length, out, 128, &needed);
     must(is_cut ? told == MEARDWYN_BAD_SIZE : told <= 0 && told > -30, "from XDR", at, length, told);
     if (told) must(needed == 77 && out[0].type == 0xaaaaaaaa, "put with a fault", at, length, told);
-    else must(meardwyn_nfs4_valid(out, needed) == 0, "from XDR no list", at, length, told);
+    else {
+        int valid = meardwyn_nfs4_valid(out, needed);
+        must(valid == 0 || valid == MEARDWYN_INHERIT_ONLY, "from XDR no list", at, length, valid);
+    }
     free(bytes);
 }
 

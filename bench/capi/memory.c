@@ -61,7 +61,7 @@ static int call(int which)
     case 12: return meardwyn_nfs4_mode(aces, n);
     case 13: return meardwyn_nfs4_inherit(aces, n, 1, out, 128, &needed);
     case 14: return meardwyn_nfs4_compare(aces, n, 1, 2, aces, n, 1, 3, 0x27, &difference);
-    case 15: return meardwyn_nfs4_chmod(aces, n, 0640, out, 128, &needed);
+    case 15: return meardwyn_nfs4_chmod(aces, n, 0640, MEARDWYN_CHMOD_PROFILE, out, 128, &needed);
     case 16: return meardwyn_nfs4_to_text(aces, n, text, sizeof text, &needed);
     case 17: return meardwyn_posix_to_text(b.at, b.length, text, sizeof text, &needed);
     case 19: return meardwyn_nfs4_to_xdr(aces, n, bytes, sizeof bytes, &needed) == MEARDWYN_NO_MEMORY ? MEARDWYN_NO_MEMORY : 0;

@@ -278,20 +278,51 @@ static void nfs4(int lists)
         must(meardwyn_nfs4_valid(aces, n) == 0, "a random list is none");
         for (int j = 0; j < 20; j++, checks++) {
             uint32_t gids[4], owner = below(8), group = below(8), uid = below(8), request = below(0x200), allowed = 0;
+            struct meardwyn_file file = {owner, group};
+            struct meardwyn_decided said;
+            int32_t error = 77;
             int count = below(5);
             for (int k = 0; k < count; k++) gids[k] = below(8);
             must(meardwyn_nfs4_allowed(aces, n, owner, group, uid, gids, count, request, &allowed) == 0, "allowed");
             must(allowed == allowed_by_hand(aces, n, owner, group, uid, gids, count, request), "allowed is another");
             must(meardwyn_nfs4_check(aces, n, owner, group, uid, gids, count, request) == (allowed == request), "the check is another");
+            must(meardwyn_nfs4_grants(aces, n, &file, uid, gids, count, request, &error) == (allowed == request) && error == 0, "grants");
+            must(meardwyn_nfs4_decide(aces, n, &file, uid, gids, count, request, &said) == 0 && said.allowed == allowed, "decided");
+            /* What is denied is what the list allows with each type turned round. */
+            for (size_t k = 0; k < n; k++) other[k] = aces[k], other[k].type ^= aces[k].type < 2;
+            must(said.denied == allowed_by_hand(other, n, owner, group, uid, gids, count, request), "denied");
+            /* An entry that is none is told if something is open in front of it, and then nothing is allowed. */
+            memcpy(other, aces, n * sizeof *aces);
+            if (n) {
+                size_t at = below(n);
+                other[at].type = 4;
+                uint32_t front = allowed_by_hand(aces, at, owner, group, uid, gids, count, request), back;
+                for (size_t k = 0; k < at; k++) other[k].type ^= other[k].type < 2;
+                back = allowed_by_hand(other, at, owner, group, uid, gids, count, request);
+                for (size_t k = 0; k < at; k++) other[k].type ^= other[k].type < 2;
+                int32_t told = meardwyn_nfs4_decide(other, n, &file, uid, gids, count, request, &said);
+                int settled = (front | back) == request;
+                must(told == (settled ? 0 : MEARDWYN_BAD_TYPE), "a fault behind");
+                must(said.allowed == (settled ? front : 0) && said.denied == (settled ? back : request), "said with a fault");
+                must(meardwyn_nfs4_grants(other, n, &file, uid, gids, count, request, &error) == (settled && front == request)
+                     && error == told, "grants with a fault");
+            }
         }
-        /* The mode set is the mode shown; to set it again changes nothing. */
+        /* The mode set is the mode shown; to set it again changes nothing; both ways decide alike for whoever asks. */
         uint32_t mode = below(512);
-        int error = meardwyn_nfs4_chmod(aces, n, mode, other, MOST_ACES, &m);
-        must(error == 0 || (error == MEARDWYN_TOO_MANY && n > 20), "chmod");
-        if (!error) {
+        int errors[2];
+        for (int how = 0; how < 2; how++) {
+            errors[how] = meardwyn_nfs4_chmod(aces, n, mode, how, other, MOST_ACES, &m);
+            must(errors[how] == 0 || (errors[how] == MEARDWYN_TOO_MANY && n > 20), "chmod");
+            if (errors[how]) continue;
             must(meardwyn_nfs4_mode(other, m) == (int)mode, "the mode isn't shown");
-            must(meardwyn_nfs4_chmod(other, m, mode, again, MOST_ACES, &needed) == 0 && needed == m && !memcmp(again, other, m * sizeof *again),
+            must(meardwyn_nfs4_chmod(other, m, mode, how, again, MOST_ACES, &needed) == 0 && needed == m && !memcmp(again, other, m * sizeof *again),
                  "chmod twice");
+        }
+        if (!errors[0]) {
+            struct meardwyn_difference none;
+            must(!errors[1] && meardwyn_nfs4_chmod(aces, n, mode, MEARDWYN_CHMOD_PROFILE, again, MOST_ACES, &needed) == 0 && m <= needed, "the least");
+            must(meardwyn_nfs4_compare(again, needed, 1, 2, other, m, 1, 2, 0x1f01ff, &none) == 0, "the least decides otherwise");
         }
         /* XDR and texts give the same entries. */
         size_t len = xdr_of(aces, n, xdr);
@@ -379,6 +410,12 @@ static void edges(void)
     must(meardwyn_posix_check(b.at, b.length - 1, 1, 1, 1, gids, 1, 4) == MEARDWYN_BAD_SIZE, "a byte less");
     must(meardwyn_posix_check(b.at, 4, 1, 1, 1, gids, 1, 4) == MEARDWYN_MISSING, "no entry");
     must(meardwyn_posix_check(b.at, b.length, 1, 1, 1, gids, 0, 8) == MEARDWYN_BAD_ARGUMENT, "a request above 7");
+    /* Nothing is said of the bits of retention. */
+    struct meardwyn_ace keeps = {MEARDWYN_ALLOW, 0, 0x601, MEARDWYN_EVERYONE, 0};
+    struct meardwyn_difference differs;
+    must(meardwyn_nfs4_check(&keeps, 1, 1, 1, 1, gids, 0, 1) == 1, "a bit of retention in an entry");
+    must(meardwyn_nfs4_check(&keeps, 1, 1, 1, 1, gids, 0, 0x201) == MEARDWYN_BAD_ARGUMENT, "a request of one");
+    must(meardwyn_nfs4_compare(&keeps, 1, 1, 1, &keeps, 0, 1, 1, 0x400, &differs) == MEARDWYN_BAD_ARGUMENT, "bits of one");
     b.at[0] = 1;
     must(meardwyn_posix_check(b.at, b.length, 1, 1, 1, gids, 0, 4) == MEARDWYN_BAD_VERSION, "version 1");
     b.at[0] = 2, b.at[4] = 3;

@@ -2,10 +2,14 @@
 use Rattle.std.specs.Prelude.{◌≡◌, ◌⊎◌, ℕ, ℤ, pos, Bool, true, false, List, length, Result, Ok, Err}
 use Rattle.std.specs.Prelude.{nat_le, if◌then◌else◌}
 use Rattle.acl_nfs4.specs.Ace.{Nfsace4}
+use Rattle.acl_nfs4.specs.Evaluation.{Grants}
+use Rattle.acl_nfs4.specs.Who.{matches}
 use Rattle.acl_names.specs.Requester.{Identity}
 use Rattle.acl_posix.specs.Mode.{Classes, number_of}
-use Rattle.acl_wire.specs.Nfs4.{IsAllowed, asked}
+use Rattle.acl_wire.specs.Decision.{IsDecided}
+use Rattle.acl_wire.specs.Nfs4.{IsAllowed}
 use Rattle.acl_wire.specs.Writing.{PutsInFront}
+use Rattle.acl_wire.specs.declared.decision.Decided.{Decided}
 use Rattle.acl_wire.specs.declared.fault.Nfs4Fault.{Nfs4Fault}
 use Rattle.acl_wire.specs.declared.raw_ace.RawAce.{RawAce}
 use Rattle.acl_c.specs.Status.{nfs4_number, no_room, out_of_memory}
@@ -54,19 +58,41 @@ PutsAnswer {Y} {F} fault_number items_of answer told old new old_count new_count
     × PutsNothing old new old_count new_count)
     ⊎ ((told ≡ out_of_memory) × PutsNothing old new old_count new_count))
 
+-- a call that takes no memory puts these entries, or tells why there are none
+abbrev pub PutsEntries : Result (List RawAce) Nfs4Fault → ℤ → List RawAce → List RawAce → ℕ → ℕ
+    → Type 0
+PutsEntries entries told old new old_count new_count =
+    ((raws : List RawAce) × (entries ≡ Ok raws) × Puts raws told old new new_count)
+    ⊎ ((fault : Nfs4Fault) × (entries ≡ Err fault) × (told ≡ nfs4_number fault)
+    × PutsNothing old new old_count new_count)
+
 -- a call tells 1 if it holds of the value of an answer, and 0 if not
 abbrev pub TellsWhether : {Y F : Type 0} → (F → ℤ) → Result Y F → (Y → Type 0) → ℤ → Type 0
 TellsWhether {Y} {F} fault_number answer Holds told =
     ((value : Y) × (answer ≡ Ok value) × (told ≡ pos 1) × Holds value)
     ⊎ (((value : Y) × (answer ≡ Ok value) × (told ≡ pos 0) × (¬ Holds value))
-    ⊎ (((fault : F) × (answer ≡ Err fault) × (told ≡ fault_number fault))
-    ⊎ (told ≡ out_of_memory)))
+    ⊎ ((fault : F) × (answer ≡ Err fault) × (told ≡ fault_number fault)))
 
--- a call tells 0 and what a list allows of a request, or why not, and then leaves that as it was
-abbrev pub TellsAllowed : List RawAce → ℕ → ℕ → Identity → ℕ → ℤ → ℕ → ℕ → Type 0
-TellsAllowed raws owner group requester request told old new =
-    ((aces : List Nfsace4) × (asked raws owner group requester.uid ≡ Ok aces) × (told ≡ pos 0)
+-- a call tells 0 and what entries allow of a request, or why there are none, and then leaves that
+-- as it was
+abbrev pub TellsAllowed : Result (List Nfsace4) Nfs4Fault → ℕ → ℕ → Identity → ℕ → ℤ → ℕ → ℕ
+    → Type 0
+TellsAllowed entries owner group requester request told old new =
+    ((aces : List Nfsace4) × (entries ≡ Ok aces) × (told ≡ pos 0)
     × IsAllowed aces owner group requester request new)
-    ⊎ (((fault : Nfs4Fault) × (asked raws owner group requester.uid ≡ Err fault)
-    × (told ≡ nfs4_number fault) × (new ≡ old))
-    ⊎ ((told ≡ out_of_memory) × (new ≡ old)))
+    ⊎ ((fault : Nfs4Fault) × (entries ≡ Err fault) × (told ≡ nfs4_number fault) × (new ≡ old))
+
+-- a call tells 0 and what entries say of a request, or why there are none, and then that all of it
+-- is denied
+abbrev pub TellsDecided : Result (List Nfsace4) Nfs4Fault → ℕ → ℕ → Identity → ℕ → ℤ → Decided
+    → Type 0
+TellsDecided entries owner group requester request told new =
+    ((aces : List Nfsace4) × (entries ≡ Ok aces) × (told ≡ pos 0)
+    × IsDecided aces owner group requester request new)
+    ⊎ ((fault : Nfs4Fault) × (entries ≡ Err fault) × (told ≡ nfs4_number fault)
+    × (new ≡ record { allowed = 0; denied = request }))
+
+-- there are entries, and they grant the request
+abbrev pub AreGranting : Result (List Nfsace4) Nfs4Fault → ℕ → ℕ → Identity → ℕ → Type 0
+AreGranting entries owner group requester request = (aces : List Nfsace4) × (entries ≡ Ok aces)
+    × Grants (matches owner group requester) aces request

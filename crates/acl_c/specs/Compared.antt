@@ -33,11 +33,11 @@ abbrev pub TellsDifference : List RawAce → ℕ → ℕ → List RawAce → ℕ
     → RawDifference → Type 0
 TellsDifference first owner group second other_owner other_group bits told old new =
     ((pair : Pair Nfsace4)
-    × (aces_compared first owner group second other_owner other_group ≡ Ok pair)
+    × (aces_compared first owner group second other_owner other_group bits ≡ Ok pair)
     × (((told ≡ pos 0) × (new ≡ old)
     × Differ pair.first pair.owners pair.second pair.others bits None)
     ⊎ ((told ≡ pos 1) × Differ pair.first pair.owners pair.second pair.others bits (Some new))))
     ⊎ (((fault : Nfs4Fault)
-    × (aces_compared first owner group second other_owner other_group ≡ Err fault)
+    × (aces_compared first owner group second other_owner other_group bits ≡ Err fault)
     × (told ≡ nfs4_number fault) × (new ≡ old))
     ⊎ ((told ≡ out_of_memory) × (new ≡ old)))

@@ -1,31 +1,43 @@
 //! Calls on NFSv4 lists, as entries of numbers.
 
-ghost use Rattle.std.specs.Prelude.{◌≢◌, ◌≤◌, IfOk, length};
-ghost use Rattle.acl_c.specs.Answers.{PutsAnswer, Tells, TellsAllowed, TellsWhether};
-ghost use Rattle.acl_c.specs.Answers.{mode_number, zero_number};
+ghost use Rattle.std.specs.Prelude.{◌≡◌, ◌≢◌, ◌≤◌, ◌↔◌, IfOk, IsTrue, length};
+ghost use Rattle.acl_c.specs.Answers.{AreGranting, PutsAnswer, PutsEntries, Tells, TellsAllowed};
+ghost use Rattle.acl_c.specs.Answers.{TellsDecided, TellsWhether, mode_number, number_of_answer};
+ghost use Rattle.acl_c.specs.Answers.{zero_number};
 ghost use Rattle.acl_c.specs.Status.{nfs4_number, out_of_memory};
+ghost use Rattle.acl_names.specs.Requester.{Identity};
 ghost use Rattle.acl_nfs4.specs.Evaluation.{Grants, mode_of};
 ghost use Rattle.acl_nfs4.specs.Who.{matches};
 ghost use Rattle.acl_nfs4.specs.declared.limits.TheConstants.{INLINE_ACES};
-ghost use Rattle.acl_wire.specs.Nfs4.{asked, chmod_of, inherited_of};
+ghost use Rattle.acl_wire.specs.Decision.{decided_by};
+ghost use Rattle.acl_wire.specs.Nfs4.{chmod_of, inherited_of};
 ghost use Rattle.acl_wire.specs.RawAces.{list_of};
 ghost use Rattle.acl_wire.specs.RawAcesWriting.{raws_of};
-ghost use Rattle.acl_wire.specs.Xdr.{AnnouncesFew, xdr_list_of};
+ghost use Rattle.acl_wire.specs.XdrRaws.{xdr_raws_of};
 ghost use Rattle.acl_wire.specs.XdrWriting.{raws_xdr_of};
 ghost use Rattle.acl_c.specs.Texts.{itself};
 
 use crate::buffers::{put_bytes, put_raw_aces};
-use crate::status::nfs4_error_number;
+use crate::status::{nfs4_error_number, nfs4_number as nfs4_fault_number, no_room};
 use acl_wire::{
-    Purpose, RawAce, acl4_of_xdr, raws_allow, raws_grant, raws_inherited, raws_with_mode, raws_xdr,
-    read_raw_aces,
+    Decided, Purpose, RawAce, put_xdr_raws, raws_allow, raws_decide, raws_grant, raws_inherited,
+    raws_with_mode, raws_xdr, read_raw_aces,
 };
 use std::alloc::Global;
+
+/// Of a file, whose it is.
+#[repr(C)]
+#[derive(Clone, Copy, Debug, PartialEq, Eq)]
+pub struct File {
+    /// Its owner.
+    pub owner: u32,
+    /// Its group.
+    pub group: u32,
+}
 
 /// Whether the list grants the request: 1 or 0.
 #[unsafe(no_mangle)]
 pub extern "C" fn meardwyn_nfs4_check(
-    alloc: Global,
     aces: &[RawAce],
     owner: u32,
     group: u32,
@@ -33,21 +45,19 @@ pub extern "C" fn meardwyn_nfs4_check(
     gids: &[u32],
     request: u32,
 ) -> i32
-    ensures value { TellsWhether nfs4_number (asked aces.now owner group uid)
-        (λ list. Grants (matches owner group (record { uid = uid; gids = gids.now })) list request)
-        result }
-    ensures short { length aces.now ≤ INLINE_ACES → result ≢ out_of_memory }
+    ensures { let who : Identity = record { uid = uid; gids = gids.now } in
+        TellsWhether nfs4_number (decided_by aces.now owner group who request)
+        (λ list. Grants (matches owner group who) list request) result }
 {
-    match raws_grant(alloc, aces, owner, group, uid, gids, request) {
+    match raws_grant(aces, owner, group, uid, gids, request) {
         Ok(granted) => { if granted { 1 } else { 0 } }
-        Err(error) => nfs4_error_number(error),
+        Err(fault) => nfs4_fault_number(fault),
     }
 }
 
 /// What the list allows of the request.
 #[unsafe(no_mangle)]
 pub extern "C" fn meardwyn_nfs4_allowed(
-    alloc: Global,
     aces: &[RawAce],
     owner: u32,
     group: u32,
@@ -56,16 +66,75 @@ pub extern "C" fn meardwyn_nfs4_allowed(
     request: u32,
     allowed: &mut u32,
 ) -> i32
-    ensures value { TellsAllowed aces.now owner group (record { uid = uid; gids = gids.now })
-        request result allowed.old allowed.new }
-    ensures short { length aces.now ≤ INLINE_ACES → result ≢ out_of_memory }
+    ensures { let who : Identity = record { uid = uid; gids = gids.now } in
+        TellsAllowed (decided_by aces.now owner group who request) owner group who request result
+        allowed.old allowed.new }
 {
-    match raws_allow(alloc, aces, owner, group, uid, gids, request) {
+    match raws_allow(aces, owner, group, uid, gids, request) {
         Ok(bits) => {
             *allowed = bits;
             0
         }
-        Err(error) => nfs4_error_number(error),
+        Err(fault) => nfs4_fault_number(fault),
+    }
+}
+
+/// What the list allows and denies of the request. If it is no list, all is denied.
+#[unsafe(no_mangle)]
+pub extern "C" fn meardwyn_nfs4_decide(
+    aces: &[RawAce],
+    file: &File,
+    uid: u32,
+    gids: &[u32],
+    request: u32,
+    decided: &mut Decided,
+) -> i32
+    ensures { let who : Identity = record { uid = uid; gids = gids.now } in
+        TellsDecided (decided_by aces.now file.now.owner file.now.group who request) file.now.owner
+        file.now.group who request result decided.new }
+{
+    match raws_decide(aces, file.owner, file.group, uid, gids, request) {
+        Ok(found) => {
+            *decided = found;
+            0
+        }
+        Err(fault) => {
+            *decided = Decided {
+                allowed: 0,
+                denied: request,
+            };
+            nfs4_fault_number(fault)
+        }
+    }
+}
+
+/// Whether there is a list and it grants the request; and 0, or why there is no list.
+#[unsafe(no_mangle)]
+pub extern "C" fn meardwyn_nfs4_grants(
+    aces: &[RawAce],
+    file: &File,
+    uid: u32,
+    gids: &[u32],
+    request: u32,
+    error: &mut i32,
+) -> bool
+    ensures granted { let who : Identity = record { uid = uid; gids = gids.now } in
+        IsTrue result ↔ AreGranting
+        (decided_by aces.now file.now.owner file.now.group who request) file.now.owner
+        file.now.group who request }
+    ensures error { let who : Identity = record { uid = uid; gids = gids.now } in
+        error.new ≡ number_of_answer nfs4_number zero_number
+        (decided_by aces.now file.now.owner file.now.group who request) }
+{
+    match raws_grant(aces, file.owner, file.group, uid, gids, request) {
+        Ok(granted) => {
+            *error = 0;
+            granted
+        }
+        Err(fault) => {
+            *error = nfs4_fault_number(fault);
+            false
+        }
     }
 }
 
@@ -93,22 +162,23 @@ pub extern "C" fn meardwyn_nfs4_mode(alloc: Global, aces: &[RawAce]) -> i32
     }
 }
 
-/// The list with a mode set.
+/// The list with a mode set, by the rule of this number.
 #[unsafe(no_mangle)]
 pub extern "C" fn meardwyn_nfs4_chmod(
     alloc: Global,
     aces: &[RawAce],
     mode: u32,
+    how: u32,
     out: &mut [RawAce],
     needed: &mut usize,
 ) -> i32
-    ensures value { PutsAnswer nfs4_number raws_of (chmod_of aces.now mode) result out.old out.new
-        needed.old needed.new }
+    ensures value { PutsAnswer nfs4_number raws_of (chmod_of aces.now mode how) result out.old
+        out.new needed.old needed.new }
     ensures short { length aces.now ≤ INLINE_ACES
-        → IfOk (chmod_of aces.now mode) (λ list. length list ≤ INLINE_ACES)
+        → IfOk (chmod_of aces.now mode how) (λ list. length list ≤ INLINE_ACES)
         → result ≢ out_of_memory }
 {
-    match raws_with_mode(alloc, aces, mode) {
+    match raws_with_mode(alloc, aces, mode, how) {
         Ok(acl) => put_raw_aces(&acl, out, needed),
         Err(error) => nfs4_error_number(error),
     }
@@ -133,21 +203,17 @@ pub extern "C" fn meardwyn_nfs4_inherit(
     }
 }
 
-/// The list of the bytes of a list in XDR.
+/// The entries of the bytes of a list in XDR.
 #[unsafe(no_mangle)]
-pub extern "C" fn meardwyn_nfs4_from_xdr(
-    alloc: Global,
-    xdr: &[u8],
-    out: &mut [RawAce],
-    needed: &mut usize,
-) -> i32
-    ensures value { PutsAnswer nfs4_number raws_of (xdr_list_of xdr.now) result out.old out.new
-        needed.old needed.new }
-    ensures short { AnnouncesFew xdr.now → result ≢ out_of_memory }
+pub extern "C" fn meardwyn_nfs4_from_xdr(xdr: &[u8], out: &mut [RawAce], needed: &mut usize) -> i32
+    ensures { PutsEntries (xdr_raws_of xdr.now) result out.old out.new needed.old needed.new }
 {
-    match acl4_of_xdr(alloc, xdr) {
-        Ok(acl) => put_raw_aces(&acl, out, needed),
-        Err(error) => nfs4_error_number(error),
+    match put_xdr_raws(xdr, out) {
+        Ok(count) => {
+            *needed = count;
+            if count <= out.len() { 0 } else { no_room() }
+        }
+        Err(fault) => nfs4_fault_number(fault),
     }
 }
 

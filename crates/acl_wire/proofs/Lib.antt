@@ -13,6 +13,11 @@ pub mod XdrAgain
 pub mod StepsBack
 pub mod XattrWritten
 pub mod RawsWritten
+pub mod DecisionLemmas
+pub mod DecisionLoop
 pub mod GrantLemmas
 pub mod NobodyLemmas
 pub mod XdrLoop
+pub mod XdrRawsLoop
+pub mod KeptLoop
+pub mod XdrKeptAgain

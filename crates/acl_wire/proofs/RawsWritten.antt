@@ -105,7 +105,7 @@ ace_written kind who raw flags mask kind_is says = elim (cases_eq raw.special 0)
       all ∙ sym (rw (ne_eqb raw.special 0 other) refl)
 ]
 
-raw_written : (raw : RawAce) (ace : Nfsace4) → ace_of_raw raw ≡ Ok ace → raw_of ace ≡ tidied_raw raw
+pub raw_written : (raw : RawAce) (ace : Nfsace4) → ace_of_raw raw ≡ Ok ace → raw_of ace ≡ tidied_raw raw
 unfolding ace_of_raw
 raw_written raw ace is =
     let kind = bind_ok (kind_of raw.kind) _ ace is in

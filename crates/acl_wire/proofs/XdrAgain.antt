@@ -28,7 +28,7 @@ use Rattle.acl_wire.specs.Xdr.{aces_at, number_at, padded, raw_at, text_at, who_
 use Rattle.acl_wire.specs.XdrWriting.{ace_bytes, filled, text_bytes, who_text}
 use Rattle.acl_wire.proofs.RawAgain.{IsAgain, raw_again}
 
-number_again : (n : ℕ) (rest : List ℕ) → n < 2 ^ 32 → number_at (to_be_bytes w32 n ++ rest) ≡ Ok (n, rest)
+pub number_again : (n : ℕ) (rest : List ℕ) → n < 2 ^ 32 → number_at (to_be_bytes w32 n ++ rest) ≡ Ok (n, rest)
 number_again n rest lt =
     let long : ltb (length (to_be_bytes w32 n ++ rest)) 4 ≡ false = le-ltb _ _ (omega arith) in
     rw (long, from_be_bytes-to_be_bytes_4 n lt) refl
@@ -87,7 +87,7 @@ kind_short Deny = omega arith
 kind_short Audit = omega arith
 kind_short Alarm = omega arith
 
-entry_again : (ace : Nfsace4) (rest : List ℕ) → ace.flags < 2 ^ 32 → ace.mask < 2 ^ 32 → HasId ace.who → raw_at (ace_bytes ace ++ rest) ≡ Ok (raw_of ace, rest)
+pub entry_again : (ace : Nfsace4) (rest : List ℕ) → ace.flags < 2 ^ 32 → ace.mask < 2 ^ 32 → HasId ace.who → raw_at (ace_bytes ace ++ rest) ≡ Ok (raw_of ace, rest)
 unfolding raw_at
 entry_again ace rest flags mask has =
     let who = text_bytes (who_text ace.who) in

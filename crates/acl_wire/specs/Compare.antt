@@ -11,7 +11,7 @@ use Rattle.acl_nfs4.specs.Comparison.{DecideAlike, Decider, decided_at}
 use Rattle.acl_nfs4.specs.declared.owners.Owners.{Owners}
 use Rattle.acl_posix.specs.Entry.{EntryValue}
 use Rattle.acl_wire.specs.Posix.{acl_of}
-use Rattle.acl_wire.specs.RawAces.{list_of}
+use Rattle.acl_wire.specs.RawAces.{is_request, list_of}
 use Rattle.acl_wire.specs.declared.compare.RawAsker.{RawAsker}
 use Rattle.acl_wire.specs.declared.compare.RawDifference.{RawDifference}
 use Rattle.acl_wire.specs.declared.compare.RawUnlike.{RawUnlike}
@@ -80,12 +80,13 @@ UnlikeFor first owner group second other_owner other_group request
     (Err (posix_errors.Fault fault)) =
     lists_compared first owner group second other_owner other_group request ≡ Err fault
 
--- the NFSv4 lists that are compared
-unfoldable pub aces_compared : List RawAce → ℕ → ℕ → List RawAce → ℕ → ℕ
+-- the NFSv4 lists that are compared in these bits
+unfoldable pub aces_compared : List RawAce → ℕ → ℕ → List RawAce → ℕ → ℕ → ℕ
     → Result (Pair Nfsace4) Nfs4Fault
-aces_compared first owner group second other_owner other_group = do
+aces_compared first owner group second other_owner other_group bits = do
   owners ← or_fault nfs4.Argument (owners_in owner group)
   others ← or_fault nfs4.Argument (owners_in other_owner other_group)
+  asked ← if is_request bits then Ok bits else Err nfs4.Argument
   one ← list_of Decide first
   other ← list_of Decide second
   Ok (record { first = one; owners = owners; second = other; others = others })
@@ -114,9 +115,9 @@ abbrev pub DiffersFrom : List RawAce → ℕ → ℕ → List RawAce → ℕ →
     → Result (Option RawDifference) Nfs4Error → Type 0
 DiffersFrom first owner group second other_owner other_group bits (Ok difference) =
     (pair : Pair Nfsace4)
-    × (aces_compared first owner group second other_owner other_group ≡ Ok pair)
+    × (aces_compared first owner group second other_owner other_group bits ≡ Ok pair)
     × Differ pair.first pair.owners pair.second pair.others bits difference
 DiffersFrom first owner group second other_owner other_group bits (Err nfs4_errors.Memory) =
     Unit {0}
 DiffersFrom first owner group second other_owner other_group bits (Err (nfs4_errors.Fault fault)) =
-    aces_compared first owner group second other_owner other_group ≡ Err fault
+    aces_compared first owner group second other_owner other_group bits ≡ Err fault

@@ -8,9 +8,12 @@ pub mod OnePass
 pub mod RawAces
 pub mod RawAcesWriting
 pub mod Nfs4
+pub mod Decision
+pub mod DecisionSteps
 pub mod WireLaws
 pub mod Written
 pub mod Text
 pub mod Compare
 pub mod Xdr
+pub mod XdrRaws
 pub mod XdrWriting

@@ -60,6 +60,10 @@ but_inherited = 0xffffff7f
 abbrev pub but_retention : ℕ
 but_retention = 0xfffff9ff
 
+-- what lists are asked: none of the bits that are passed over in their masks
+abbrev pub is_request : ℕ → Bool
+is_request bits = bits ∩ but_retention == bits
+
 -- why flags, or a mask, with a further bit are refused
 abbrev pub flags_fault : ℕ → Nfs4Fault
 flags_fault flags = if nat_le (flags ∩ but_inherited) all_flags then faults.Unkept

@@ -20,8 +20,13 @@ impl<'a> Subject for Caller<'a> {
         self.uid
     }
 
+    /// It looks at each number, with no way out between, so that several are compared at a time.
     fn is_in_group(&self, gid: Gid) -> bool {
         let gid = gid.value();
-        self.gids.iter().any(|own| *own == gid)
+        let mut found = false;
+        for own in self.gids {
+            found |= *own == gid;
+        }
+        found
     }
 }

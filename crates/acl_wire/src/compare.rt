@@ -10,6 +10,7 @@ ghost use Rattle.acl_nfs4.specs.declared.limits.TheConstants.{INLINE_ACES};
 ghost use Rattle.acl_posix.specs.Perms.{bits_of};
 ghost use Rattle.acl_wire.specs.Posix.{IsShort};
 
+use crate::raw_ace::is_request;
 use crate::{
     Nfs4Error, Nfs4Fault, PosixError, PosixFault, Purpose, RawAce, acl_of_xattr, read_raw_aces,
 };
@@ -158,9 +159,9 @@ pub fn xattr_difference(
 
 /// Somebody for whom two NFSv4 lists decide some of these bits differently, each for a file of its
 /// own owner and group: none exactly if they decide each of them alike for every requester, of
-/// whatever uid and groups. An id that is none is the fault `Argument`, before all others; then the
-/// faults of the first list come, and then those of the second. Memory runs out only if one of them
-/// has more than `INLINE_ACES` entries.
+/// whatever uid and groups. An id that is none, or a bit of retention, is the fault `Argument`,
+/// before all others; then the faults of the first list come, and then those of the second. Memory
+/// runs out only if one of them has more than `INLINE_ACES` entries.
 #[tactic(auto, unfolding(crate::specs::Compare::aces_compared))]
 pub fn raws_difference(
     alloc: Global,
@@ -179,6 +180,9 @@ pub fn raws_difference(
 {
     let owners = owners_of(owner, group).ok_or(Nfs4Fault::Argument)?;
     let others = owners_of(other_owner, other_group).ok_or(Nfs4Fault::Argument)?;
+    if !is_request(bits) {
+        return Err(Nfs4Error::Fault(Nfs4Fault::Argument));
+    }
     let first = read_raw_aces(alloc, Purpose::Decide, first)?;
     let second = read_raw_aces(alloc, Purpose::Decide, second)?;
     Ok(difference(

@@ -5,6 +5,7 @@
 mod caller;
 mod check;
 mod compare;
+mod decision;
 mod fault;
 mod laws;
 mod nfs4;
@@ -17,14 +18,16 @@ mod text;
 mod xattr_reading;
 mod xattr_writing;
 mod xdr;
+mod xdr_raws;
 mod xdr_writing;
 
 pub use caller::Caller;
 pub use check::{Rules, xattr_grants};
 pub use compare::{RawAsker, RawDifference, RawUnlike, raws_difference, xattr_difference};
+pub use decision::{Decided, raws_allow, raws_decide, raws_grant};
 pub use fault::{Nfs4Error, Nfs4Fault, PosixError, PosixFault};
-pub use laws::wire_laws;
-pub use nfs4::{raws_allow, raws_grant, raws_inherited, raws_with_mode};
+pub use laws::{decision_laws, wire_laws};
+pub use nfs4::{ModeRule, raws_inherited, raws_with_mode};
 pub use posix::{
     acl_of_mode, acl_of_xattr, xattr_at_creation, xattr_translated, xattr_translated_default,
     xattr_with_mode,
@@ -35,4 +38,5 @@ pub use text::{acl_of_text, acl4_of_text, raws_text, write_bytes, xattr_text};
 pub use xattr_reading::read_xattr;
 pub use xattr_writing::{XATTR_ENTRY_LEN, XATTR_HEADER_LEN, write_xattr};
 pub use xdr::acl4_of_xdr;
+pub use xdr_raws::put_xdr_raws;
 pub use xdr_writing::raws_xdr;

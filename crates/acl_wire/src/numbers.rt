@@ -1,10 +1,21 @@
-//! Numbers in bytes, lowest byte first.
+//! Numbers in bytes, lowest byte first, and sets of bits.
 
+ghost use Rattle.std.specs.Prelude.{◌≡◌};
 ghost use Rattle.std.specs.Int.{w32};
+ghost use Rattle.acl_names.specs.Bits.{without};
 ghost use Rattle.acl_wire.specs.Numbers.{Reads};
 ghost use Rattle.acl_wire.specs.XattrReading.{number_at};
 
 use crate::PosixFault;
+
+/// The bits that are not among those removed.
+#[inline(always)]
+#[tactic(auto, unfolding(acl_names::specs::Bits::without))]
+pub(crate) fn without_bits(bits: u32, removed: u32) -> u32
+    ensures { result ≡ without bits removed }
+{
+    bits ^ (bits & removed)
+}
 
 /// The number in the first four bytes, and what stands behind them.
 #[inline(always)]

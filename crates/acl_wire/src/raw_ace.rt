@@ -4,9 +4,12 @@ ghost use Rattle.std.specs.Prelude.{◌≡◌, ◌≢◌, ◌≤◌, ◌<◌, �
 ghost use Rattle.acl_names.specs.Bits.{has};
 ghost use Rattle.acl_nfs4.specs.Flags.{identifier_group};
 ghost use Rattle.acl_nfs4.specs.declared.limits.TheConstants.{INLINE_ACES, MAX_ACES};
+ghost use Rattle.acl_wire.specs.Decision.{value_of};
 ghost use Rattle.acl_wire.specs.RawAces.{Answers, ace_of_raw, aces_of, effective, flags_fault};
-ghost use Rattle.acl_wire.specs.RawAces.{kind_of, list_of, mask_fault, seen, who_of};
+ghost use Rattle.acl_wire.specs.Written.{tidied_raw};
+ghost use Rattle.acl_wire.specs.RawAces.{is_request, kind_of, list_of, mask_fault, seen, who_of};
 
+use crate::numbers::without_bits;
 use crate::{Nfs4Error, Nfs4Fault};
 use acl_names::{Gid, Uid};
 use acl_nfs4::{Ace, AceFault, AceType, Acl4, Flags, MAX_ACES, Mask, Who};
@@ -51,6 +54,14 @@ const BUT_INHERITED: u32 = 0xFFFF_FF7F;
 
 /// All bits but those of retention.
 const BUT_RETENTION: u32 = 0xFFFF_F9FF;
+
+/// Whether lists are asked these bits: none of those of retention, which are passed over.
+#[inline(always)]
+pub(crate) fn is_request(bits: u32) -> bool
+    ensures { result ≡ is_request bits }
+{
+    bits & BUT_RETENTION == bits
+}
 
 fn kind_of(number: u32) -> Result<AceType, Nfs4Fault>
     ensures { result ≡ kind_of number }
@@ -150,6 +161,30 @@ pub(crate) fn ace_of_raw(raw: &RawAce) -> Result<Ace, Nfs4Fault>
     let flags = Flags::from_bits_retain(raw.flags as u8);
     let who = who_of(raw.special, is_group(raw.flags), raw.id)?;
     Ok(Ace::new(kind, flags, who, Mask::from_bits_retain(raw.mask)))
+}
+
+/// The entry of these numbers, where it is decided by.
+#[inline(always)]
+pub(crate) fn value_of(raw: &RawAce) -> Result<Ace, Nfs4Fault>
+    ensures { result ≡ value_of raw.now }
+{
+    ace_of_raw(&seen(Purpose::Decide, raw))
+}
+
+/// The numbers of an entry, less what plays no part.
+pub(crate) fn tidied(raw: &RawAce) -> RawAce
+    ensures { result ≡ tidied_raw raw.now }
+{
+    if raw.special == 0 {
+        return *raw;
+    }
+    RawAce {
+        kind: raw.kind,
+        flags: without_bits(raw.flags, 0x40),
+        mask: raw.mask,
+        special: raw.special,
+        id: 0,
+    }
 }
 
 /// Puts the entry after the others, if it has an effect somewhere.

@@ -14,7 +14,7 @@ use acl_nfs4::{Acl4, MAX_ACES};
 use std::alloc::Global;
 
 /// The number in the first four bytes, highest first, and what stands behind them.
-fn number_at(bytes: &[u8]) -> Result<(u32, &[u8]), Nfs4Fault>
+pub(crate) fn number_at(bytes: &[u8]) -> Result<(u32, &[u8]), Nfs4Fault>
     ensures { Reads (λ x. (x.0, x.1.now)) result (number_at bytes.now) }
 {
     if bytes.len() < 4 {
@@ -67,7 +67,7 @@ fn who_in(text: &[u8]) -> Result<(u32, u32), Nfs4Fault>
 
 /// The entry that the bytes begin with, and what stands behind it.
 #[tactic(auto, unfolding(crate::specs::Xdr::raw_at))]
-fn raw_at(bytes: &[u8]) -> Result<(RawAce, &[u8]), Nfs4Fault>
+pub(crate) fn raw_at(bytes: &[u8]) -> Result<(RawAce, &[u8]), Nfs4Fault>
     ensures { Reads (λ x. (x.0, x.1.now)) result (raw_at bytes.now) }
 {
     let (kind, rest) = number_at(bytes)?;

@@ -1,18 +1,19 @@
 //! NFSv4 lists written in XDR (RFC 4506).
 
-ghost use Rattle.std.specs.Prelude.{◌≡◌, ◌≤◌, ◌++◌, ◌-◌, length, replicate, decimal, OnOk, IfOk};
+ghost use Rattle.std.specs.Prelude.{◌≡◌, ◌≤◌, ◌<◌, ◌^◌, ◌++◌, ◌-◌, length, replicate, decimal};
+ghost use Rattle.std.specs.Prelude.{OnOk};
 ghost use Rattle.std.specs.Int.{w32, to_be_bytes};
 ghost use Rattle.acl_wire.specs.RawAces.{Answers};
-ghost use Rattle.acl_wire.specs.XdrWriting.{ace_bytes, filled, raws_xdr_of, text_bytes};
-ghost use Rattle.acl_wire.specs.XdrWriting.{who_text, xdr_of};
+ghost use Rattle.acl_wire.specs.XdrWriting.{ace_bytes, behind, filled, kept_ace, raws_bytes};
+ghost use Rattle.acl_wire.specs.XdrWriting.{raws_xdr_of, text_bytes, who_text};
 ghost use Rattle.acl_wire.specs.Xdr.{padded};
 
+use crate::raw_ace::{tidied, value_of};
 use crate::raw_writing::kind_number;
 use crate::xdr::padded;
-use crate::{Nfs4Error, Purpose, RawAce, read_raw_aces};
+use crate::{Nfs4Error, Nfs4Fault, RawAce};
 use acl_names::push_decimal;
-use acl_nfs4::{Ace, Acl4, Who};
-use bitflags::Flags as FlagSet;
+use acl_nfs4::{Ace, Who};
 use std::alloc::{AllocError, Global};
 
 /// Appends the number in four bytes, highest first.
@@ -84,34 +85,39 @@ fn push_who(who: &Who, out: &mut Vec<u8>) -> Result<(), AllocError>
     }
 }
 
-/// Appends the entry.
-fn push_ace(ace: &Ace, out: &mut Vec<u8>) -> Result<(), AllocError>
-    ensures { OnOk result (out.new.items ≡ out.old.items ++ ace_bytes ace.now) }
+/// Appends the entry of these numbers, with all its bits that have a meaning.
+fn push_kept(raw: &RawAce, ace: &Ace, out: &mut Vec<u8>) -> Result<(), AllocError>
+    ensures { OnOk result (out.new.items ≡ out.old.items ++ ace_bytes (kept_ace raw.now ace.now)) }
 {
     push_number(kind_number(ace.kind()), out)?;
-    push_number(u32::from(ace.flags().bits()), out)?;
-    push_number(ace.mask().bits(), out)?;
+    push_number(tidied(raw).flags, out)?;
+    push_number(raw.mask, out)?;
     push_who(&ace.who(), out)
 }
 
-/// The list in XDR.
-fn written(alloc: Global, acl: &Acl4) -> Result<Vec<u8>, AllocError>
-    ensures { IfOk result (λ xdr. xdr.items ≡ xdr_of acl.now) }
+/// So many entries in XDR.
+fn written(alloc: Global, raws: &[RawAce]) -> Result<Vec<u8>, Nfs4Error>
+    requires { length raws.now < 2 ^ 32 }
+    ensures { Answers (λ xdr. xdr.items) result
+        (behind (to_be_bytes w32 (length raws.now)) (raws_bytes raws.now)) }
 {
     let mut out = Vec::new(alloc);
-    let aces = acl.aces();
-    push_number(aces.len() as u32, &mut out)?;
-    for ace in aces {
-        push_ace(ace, &mut out)?;
+    push_number(raws.len() as u32, &mut out)?;
+    for raw in raws {
+        let ace = value_of(raw)?;
+        push_kept(raw, &ace, &mut out)?;
     }
     Ok(out)
 }
 
-/// The NFSv4 list of the entries in XDR, as `acl4_of_xdr` reads it.
+/// The NFSv4 list of the entries in XDR, as `put_xdr_raws` reads it. All bits stay that have a
+/// meaning; more entries than XDR can count are the fault `TooMany`.
 #[tactic(auto, unfolding(crate::specs::XdrWriting::raws_xdr_of))]
 pub fn raws_xdr(alloc: Global, raws: &[RawAce]) -> Result<Vec<u8>, Nfs4Error>
     ensures { Answers (λ xdr. xdr.items) result (raws_xdr_of raws.now) }
 {
-    let acl = read_raw_aces(alloc, Purpose::Write, raws)?;
-    Ok(written(alloc, &acl)?)
+    if raws.len() > u32::MAX as usize {
+        return Err(Nfs4Error::Fault(Nfs4Fault::TooMany));
+    }
+    written(alloc, raws)
 }

@@ -2,8 +2,8 @@
 //! entry its type, its flags, its mask and its who, numbers of four bytes with the highest first; a
 //! string has its length before it, and zeros up to a whole group of four bytes behind it.
 use acl_wire::{
-    Nfs4Error, Nfs4Fault, Purpose, RawAce, acl4_of_xdr, raws_allow, raws_grant, raws_text,
-    raws_xdr, read_raw_aces, write_raw_aces,
+    Decided, Nfs4Error, Nfs4Fault, Purpose, RawAce, acl4_of_xdr, put_xdr_raws, raws_allow,
+    raws_decide, raws_grant, raws_text, raws_xdr, read_raw_aces, write_raw_aces,
 };
 use std::alloc::Global;
 
@@ -52,6 +52,24 @@ fn is_read(alloc: Global) -> Option<bool> {
     Some(&out[..count] == RAWS.as_slice())
 }
 
+/// The list of `TEXT`, whose second entry has ACE4_INHERITED_ACE and ACE4_WRITE_RETENTION besides.
+#[test]
+fn bits_that_stay(rt: HostRuntime) {
+    let mut bytes = BYTES;
+    bytes[35] = 0xc0;
+    bytes[38] = 2;
+    let mut out = [NOTHING; 4];
+    let wanted = RawAce {
+        flags: 0xc0,
+        mask: 0x220,
+        ..RAWS[1]
+    };
+    assert_eq!(rt; put_xdr_raws(&bytes, &mut out), Ok(2));
+    assert_eq!(rt; out[0], RAWS[0]);
+    assert_eq!(rt; out[1], wanted);
+    assert_eq!(rt; put_xdr_raws(&bytes[..47], &mut out), Err(Nfs4Fault::Size));
+}
+
 /// Whether the entries are written as the bytes.
 fn is_written(alloc: Global) -> Option<bool> {
     let xdr = raws_xdr(alloc, &RAWS).ok()?;
@@ -76,11 +94,52 @@ fn a_list_in_bytes(rt: HostRuntime) {
 fn who_may_do_what(rt: HostRuntime) {
     const ROWS: [(u32, u32, u32); 4] = [(7, 3, 3), (7, 0x23, 3), (8, 3, 0), (8, 0, 0)];
     for (uid, request, wanted) in ROWS {
-        let allowed = raws_allow(rt.alloc(), &RAWS, 7, 1, uid, &[50], request);
-        let granted = raws_grant(rt.alloc(), &RAWS, 7, 1, uid, &[50], request);
+        let allowed = raws_allow(&RAWS, 7, 1, uid, &[50], request);
+        let granted = raws_grant(&RAWS, 7, 1, uid, &[50], request);
         assert_eq!(rt; allowed, Ok(wanted), "{uid} {request}");
         assert_eq!(rt; granted, Ok(wanted == request), "{uid} {request}");
     }
+}
+
+/// Of ACE4_APPEND_DATA nothing is said.
+#[test]
+fn what_is_said_of_bits(rt: HostRuntime) {
+    let said = raws_decide(&RAWS, 7, 1, 7, &[50], 0x27);
+    let wanted = Decided {
+        allowed: 3,
+        denied: 0x20,
+    };
+    assert_eq!(rt; said, Ok(wanted));
+}
+
+/// Everybody may read and write. What stands behind is read only if it takes that.
+#[test]
+fn entries_that_are_not_reached(rt: HostRuntime) {
+    let raws = [
+        RawAce {
+            mask: 3,
+            special: 3,
+            ..NOTHING
+        },
+        RawAce { kind: 4, ..NOTHING },
+    ];
+    assert_eq!(rt; raws_grant(&raws, 7, 1, 8, &[], 3), Ok(true));
+    assert_eq!(rt; raws_grant(&raws, 7, 1, 8, &[], 7), Err(Nfs4Fault::Type));
+}
+
+/// ACE4_INHERIT_ONLY alone takes effect nowhere.
+#[test]
+fn a_long_list(rt: HostRuntime) {
+    let mut raws = [RawAce {
+        kind: 1,
+        flags: 8,
+        mask: 1,
+        special: 3,
+        ..NOTHING
+    }; 200];
+    raws[199].flags = 0;
+    raws[199].kind = 0;
+    assert_eq!(rt; raws_grant(&raws, 7, 1, 8, &[], 1), Ok(true));
 }
 
 /// Why the bytes, with one of them changed, are no list.
@@ -143,8 +202,8 @@ fn numbers_that_are_no_entry(rt: HostRuntime) {
     }
 }
 
-/// ACE4_INHERITED_ACE, ACE4_WRITE_RETENTION and ACE4_WRITE_RETENTION_HOLD decide nothing, and a
-/// list that is written would lose them.
+/// ACE4_INHERITED_ACE, ACE4_WRITE_RETENTION and ACE4_WRITE_RETENTION_HOLD decide nothing, a list
+/// that is written would lose them, and of the two of retention nothing is asked.
 #[test]
 fn bits_that_decide_nothing(rt: HostRuntime) {
     const ROWS: [(u32, u32); 3] = [(0x80, 1), (0, 0x201), (0x80, 0x600)];
@@ -155,7 +214,7 @@ fn bits_that_decide_nothing(rt: HostRuntime) {
             special: 3,
             ..NOTHING
         };
-        let allowed = raws_allow(rt.alloc(), &[raw], 7, 1, 8, &[50], mask);
+        let allowed = raws_allow(&[raw], 7, 1, 8, &[50], 1);
         let fault = fault_of(rt.alloc(), Purpose::Write, raw);
         assert_eq!(rt; allowed, Ok(mask & 1), "{flags} {mask}");
         assert_eq!(rt;

@@ -2,6 +2,7 @@ use Rattle.acl_wire.proofs.RawAgain.{list_again}
 use Rattle.acl_wire.proofs.XattrAgain.{acl_again}
 use Rattle.acl_wire.proofs.RawsWritten.{raws_written}
 use Rattle.acl_wire.proofs.XdrAgain.{xdr_again}
+use Rattle.acl_wire.proofs.XdrKeptAgain.{kept_again}
 use Rattle.acl_wire.proofs.XattrWritten.{xattrs_written}
 use Rattle.acl_wire.proofs.laws.wire_laws.Goals as goal
 
@@ -19,3 +20,6 @@ returns-clause-raws_written c = raws_written
 
 pub returns-clause-xdr : goal.returns-clause-xdr
 returns-clause-xdr c = xdr_again
+
+pub returns-clause-kept : goal.returns-clause-kept
+returns-clause-kept c = kept_again
