@@ -10,12 +10,12 @@ use Rattle.acl_names.proofs.BitSets.{has-above}
 use Rattle.acl_posix.specs.Entry.{EntryValue}
 use Rattle.acl_posix.specs.Validity.{IsValid}
 use Rattle.acl_nfs4.specs.Ace.{Nfsace4}
-use Rattle.acl_nfs4.specs.Comparison.{AlikeFor, OfEach, OfEachAsker, asker_for, needed_uid}
+use Rattle.acl_nfs4.specs.Comparison.{AlikeFor, AsksPairs, IsStranger, OfEach, OfEachAsker, asker_for, needed_uid}
 use Rattle.acl_nfs4.specs.Who.{who_of}
 use Rattle.acl_nfs4.specs.declared.owners.Owners.{Owners}
 use Rattle.acl_nfs4.specs.declared.who.Who.TheVariants.{Everyone}
 use Rattle.acl_nfs4.specs.declared.who.Who.{Who}
-use Rattle.acl_nfs4.proofs.ComparisonLemmas.{pairs_suffice}
+use Rattle.acl_nfs4.proofs.ComparisonLemmas.{OfEither, pairs_suffice_for, pairs_weaker}
 use Rattle.acl_bridge.specs.Comparison.{GrantAlike, GrantAlikeToAll, Granter, IsUnlike, PairsSuffice, grants_at}
 use Rattle.acl_bridge.specs.declared.requests.Unlike.{Unlike}
 use Rattle.acl_bridge.specs.Translation.{translation}
@@ -43,44 +43,49 @@ module _ (first second : List EntryValue) (valid_first : IsValid first) (valid_s
       ∙ sym (read_as second valid_second other_owners.owner other_owners.group request requester)
   at requester same (suc bit) asked = absurd (true≢false (sym asked ∙ has-above 1 1 (suc bit) (omega arith) (omega arith)))
 
-  abbrev pub At : ℕ → Who → Who → Type 0
-  At stranger who other =
-      AlikeFor (translation (as_reading request first)) (translation (as_reading request second)) owners other_owners 1
-      (asker_for owners other_owners stranger who other)
+  abbrev pub Granted : Identity → Type 0
+  Granted = GrantAlike (grants_at first owners) (grants_at second other_owners) request
 
-  across : (stranger : ℕ) (who : Who)
-      → OfEach (λ (entry : EntryValue). who_of entry.tag) second
-      (λ other. GrantAlike (grants_at first owners) (grants_at second other_owners) request (asker_for owners other_owners stranger who other))
-      → OfEach (λ (ace : Nfsace4). ace.who) (translation (as_reading request second)) (At stranger who)
-  across stranger who holds = (
-    of_reading (At stranger who) request second
-        (λ k d inside. at (asker_for owners other_owners stranger who (who_of (get_or second k d).tag)) (holds.0 k d inside)),
-    at (asker_for owners other_owners stranger who Everyone) holds.1,
-  )
+  abbrev pub Decided : Identity → Type 0
+  Decided = AlikeFor (translation (as_reading request first)) (translation (as_reading request second)) owners other_owners 1
 
-  askers : OfEachAsker (λ (entry : EntryValue). who_of entry.tag) first second owners other_owners (GrantAlike (grants_at first owners) (grants_at second other_owners) request)
-      → OfEachAsker (λ (ace : Nfsace4). ace.who) (translation (as_reading request first)) (translation (as_reading request second)) owners other_owners
-      (AlikeFor (translation (as_reading request first)) (translation (as_reading request second)) owners other_owners 1)
-  askers asked =
-      let Across : Who → Type 0 = λ who. OfEach (λ (ace : Nfsace4). ace.who) (translation (as_reading request second)) (At asked.stranger who) in
-      record {
-        stranger = asked.stranger;
-        to_first = of_reading (λ (who : Who). needed_uid owners.owner who ≢ Some asked.stranger) request first asked.to_first;
-        to_second = of_reading (λ (who : Who). needed_uid other_owners.owner who ≢ Some asked.stranger) request second asked.to_second;
-        each = (
-          of_reading Across request first
-              (λ k d inside. across asked.stranger (who_of (get_or first k d).tag) (asked.each.0 k d inside)),
-          across asked.stranger Everyone asked.each.1,
-        );
-      }
+  -- pairs of entries have the askers of pairs of the translations' entries
+  of_pairs : (stranger : ℕ) (P : Identity → Type 0)
+      → AsksPairs (λ (entry : EntryValue). who_of entry.tag) first second owners other_owners stranger P
+      → AsksPairs (λ (ace : Nfsace4). ace.who) (translation (as_reading request first)) (translation (as_reading request second)) owners other_owners stranger P
+  of_pairs stranger P each =
+      let At : Who → Who → Type 0 = λ who other. P (asker_for owners other_owners stranger who other) in
+      let Across : Who → Type 0 = λ who. OfEach (λ (ace : Nfsace4). ace.who) (translation (as_reading request second)) (At who) in
+      let across : (who : Who) → OfEach (λ (entry : EntryValue). who_of entry.tag) second (At who) → Across who =
+      λ who holds. (of_reading (At who) request second holds.0, holds.1) in
+      (of_reading Across request first (λ k d inside. across (who_of (get_or first k d).tag) (each.0 k d inside)), across Everyone each.1)
 
-  all_alike : OfEachAsker (λ (entry : EntryValue). who_of entry.tag) first second owners other_owners (GrantAlike (grants_at first owners) (grants_at second other_owners) request)
-      → GrantAlikeToAll (grants_at first owners) (grants_at second other_owners) request
+  -- those with the uid of a requester, or of a stranger, tell whether that one is granted the request alike
+  pub granted_for : (requester : Identity) (stranger : ℕ)
+      → IsStranger (λ (entry : EntryValue). who_of entry.tag) owners.owner first stranger
+      → IsStranger (λ (entry : EntryValue). who_of entry.tag) other_owners.owner second stranger
+      → AsksPairs (λ (entry : EntryValue). who_of entry.tag) first second owners other_owners stranger (OfEither requester stranger Granted)
+      → Granted requester
   unfolding has
-  all_alike asked requester =
+  granted_for requester stranger to_first to_second each =
+      let both : AsksPairs (λ (ace : Nfsace4). ace.who) (translation (as_reading request first)) (translation (as_reading request second)) owners other_owners stranger
+      (OfEither requester stranger Decided) =
+      pairs_weaker (λ (ace : Nfsace4). ace.who) (translation (as_reading request first)) (translation (as_reading request second)) owners other_owners stranger
+      (OfEither requester stranger Granted) (OfEither requester stranger Decided) (λ asker alike own. at asker (alike own))
+      (of_pairs stranger (OfEither requester stranger Granted) each) in
       sym (read_as first valid_first owners.owner owners.group request requester)
-      ∙ pairs_suffice (translation (as_reading request first)) (translation (as_reading request second)) owners other_owners 1 (askers asked) requester 0 refl
+      ∙ pairs_suffice_for (translation (as_reading request first)) (translation (as_reading request second)) owners other_owners 1 requester stranger
+      (of_reading (λ (who : Who). needed_uid owners.owner who ≢ Some stranger) request first to_first)
+      (of_reading (λ (who : Who). needed_uid other_owners.owner who ≢ Some stranger) request second to_second)
+      both 0 refl
       ∙ read_as second valid_second other_owners.owner other_owners.group request requester
+
+  all_alike : OfEachAsker (λ (entry : EntryValue). who_of entry.tag) first second owners other_owners Granted
+      → GrantAlikeToAll (grants_at first owners) (grants_at second other_owners) request
+  all_alike asked requester =
+      granted_for requester asked.stranger asked.to_first asked.to_second
+      (pairs_weaker (λ (entry : EntryValue). who_of entry.tag) first second owners other_owners asked.stranger Granted (OfEither requester asked.stranger Granted)
+      (λ asker alike own. alike) asked.each)
 
 pub pairs_suffice_posix : PairsSuffice
 pairs_suffice_posix first second valid_first valid_second owners other_owners request asked =

@@ -75,12 +75,16 @@ fn entry_of_fields<N: ResolveNames>(names: &N, fields: FormFields<'_>) -> Result
 pub(crate) fn read_type(text: &[u8]) -> Option<AceType>
     ensures { result ≡ type_of text.now }
 {
-    match text {
-        b"allow" => Some(AceType::Allow),
-        b"deny" => Some(AceType::Deny),
-        b"audit" => Some(AceType::Audit),
-        b"alarm" => Some(AceType::Alarm),
-        _ => None,
+    if text == b"allow".as_slice() {
+        Some(AceType::Allow)
+    } else if text == b"deny".as_slice() {
+        Some(AceType::Deny)
+    } else if text == b"audit".as_slice() {
+        Some(AceType::Audit)
+    } else if text == b"alarm".as_slice() {
+        Some(AceType::Alarm)
+    } else {
+        None
     }
 }
 

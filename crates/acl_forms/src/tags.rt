@@ -39,9 +39,11 @@ fn special_who(tag: &[u8]) -> Option<Who>
 fn read_named<N: ResolveNames>(names: &N, tag: &[u8], name: &[u8]) -> Result<Who, PieceFault>
     ensures { result ≡ who_named (N.names names.now) tag.now name.now }
 {
-    match tag {
-        b"user" => named_who(names, false, name),
-        b"group" => named_who(names, true, name),
-        _ => Err(PieceFault::Syntax),
+    if tag == b"user".as_slice() {
+        named_who(names, false, name)
+    } else if tag == b"group".as_slice() {
+        named_who(names, true, name)
+    } else {
+        Err(PieceFault::Syntax)
     }
 }

@@ -7,6 +7,9 @@ newline = 10
 abbrev pub tab : ℕ
 tab = 9
 
+abbrev pub carriage_return : ℕ
+carriage_return = 13
+
 abbrev pub space : ℕ
 space = 32
 
@@ -32,6 +35,9 @@ colon = 58
 abbrev pub at_sign : ℕ
 at_sign = 64
 
+abbrev pub backslash : ℕ
+backslash = 92
+
 -- `_`
 abbrev pub underscore : ℕ
 underscore = 95
@@ -42,6 +48,10 @@ digit_0 = 48
 
 abbrev pub digit_7 : ℕ
 digit_7 = 55
+
+-- `~`, the last printable byte
+abbrev pub tilde : ℕ
+tilde = 126
 
 -- the letters of permissions
 abbrev pub letter_r : ℕ

@@ -15,4 +15,5 @@ pub mod ReadList
 pub mod Digits
 pub mod Plain
 pub mod Pushing
+pub mod Shown
 pub mod Names

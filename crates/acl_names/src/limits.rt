@@ -1,9 +1,9 @@
-//! How much a directory may hold, and how long its names may be.
+//! How much a directory may hold, how long its names may be, and how much is shown of a line.
 ghost use Rattle.std.specs.Prelude.{◌≡◌};
 ghost use Rattle.acl_names.specs.declared.limits.TheConstants.{MAX_USERS, MAX_GROUPS};
 ghost use Rattle.acl_names.specs.declared.limits.TheConstants.{MAX_GROUPS_OF_USER, MAX_NAME_LEN};
 ghost use Rattle.acl_names.specs.declared.limits.TheConstants.{MAX_DOMAIN_LEN, MAX_ID, MAX_DIGITS};
-ghost use Rattle.acl_names.specs.declared.limits.TheConstants.{NOBODY};
+ghost use Rattle.acl_names.specs.declared.limits.TheConstants.{MAX_SHOWN, NOBODY};
 
 /// The most users of a directory.
 pub const MAX_USERS: usize = 1024;
@@ -30,6 +30,9 @@ pub const MAX_DIGITS: usize = 10;
 /// here.
 pub const NOBODY: u32 = 65534;
 
+/// The most bytes of a line that are shown.
+pub const MAX_SHOWN: usize = 200;
+
 /// The limits as numbers. There is nothing to run here: a proof cites the contract.
 pub fn limits_in_numbers()
     ensures users { MAX_USERS ≡ 1024 }
@@ -40,4 +43,5 @@ pub fn limits_in_numbers()
     ensures ids { MAX_ID ≡ 4294967294 }
     ensures digits { MAX_DIGITS ≡ 10 }
     ensures nobody { NOBODY ≡ 65534 }
+    ensures shown { MAX_SHOWN ≡ 200 }
 {}

@@ -9,6 +9,7 @@ mod letters;
 mod list;
 mod parts;
 mod pieces;
+mod shown;
 
 pub use blanks::{skip_blanks, split_word, trim_blanks};
 pub use bytes::put_bytes;
@@ -19,3 +20,4 @@ pub use letters::{Letter, push_letters, read_letters};
 pub use list::{ListFault, PieceReader, read_list};
 pub use parts::{Parts, before_byte};
 pub use pieces::Pieces;
+pub use shown::{is_printable, octal, push_shown, shown_front};

@@ -10,7 +10,7 @@ use Rattle.std.proofs.Math.Bool.{or-true, or-false}
 use Rattle.acl_names.specs.Bits.{has}
 use Rattle.acl_names.specs.Requester.{Identity, is_in_group}
 use Rattle.acl_nfs4.specs.Ace.{Nfsace4, decides, is_allow}
-use Rattle.acl_nfs4.specs.Comparison.{AlikeFor, decided_at, needed_uid, needed_gid, asker_for, IsStranger, OfEach, PairsSuffice, TwoGroupsSuffice}
+use Rattle.acl_nfs4.specs.Comparison.{AlikeFor, decided_at, needed_uid, needed_gid, asker_for, AsksPairs, IsStranger, OfEach, PairsSuffice, TwoGroupsSuffice}
 use Rattle.acl_nfs4.specs.Evaluation.{speaks, allows}
 use Rattle.acl_nfs4.specs.Who.{matches}
 use Rattle.acl_nfs4.specs.declared.owners.Owners.{Owners}
@@ -255,21 +255,48 @@ module _ (first second : List Nfsace4) (owners other_owners : Owners) (requester
         | inr strange ↦ absurd (unknown k d inside (needed ∙ ap Some strange))
       ]
 
-pub pairs_suffice : PairsSuffice
-pairs_suffice first second owners other_owners bits askers requester bit in_bits =
-    let stranger = askers.stranger in
+-- who has the uid of the requester, or that of the stranger, is decided alike
+abbrev pub OfEither : Identity → ℕ → (Identity → Type 0) → Identity → Type 0
+OfEither requester stranger P asker = (requester.uid ≡ asker.uid) ⊎ (asker.uid ≡ stranger) → P asker
+
+-- of the askers of pairs of entries those with the uid of a requester, or of a stranger, tell whether that one is decided alike
+pub pairs_suffice_for : (first second : List Nfsace4) (owners other_owners : Owners) (bits : ℕ) (requester : Identity) (stranger : ℕ)
+    → IsStranger (λ (ace : Nfsace4). ace.who) owners.owner first stranger → IsStranger (λ (ace : Nfsace4). ace.who) other_owners.owner second stranger
+    → AsksPairs (λ (ace : Nfsace4). ace.who) first second owners other_owners stranger (OfEither requester stranger (AlikeFor first second owners other_owners bits))
+    → AlikeFor first second owners other_owners bits requester
+pairs_suffice_for first second owners other_owners bits requester stranger to_first to_second each bit in_bits =
+    let P : Identity → Type 0 = OfEither requester stranger (AlikeFor first second owners other_owners bits) in
     decided_alike first second owners other_owners requester bit (asked first second owners other_owners requester bit stranger)
     (asked_first first second owners other_owners requester bit stranger)
     (asked_second first second owners other_owners requester bit stranger)
-    (own_among first second owners other_owners requester bit owners.owner stranger first askers.to_first)
-    (own_among first second owners other_owners requester bit other_owners.owner stranger second askers.to_second)
+    (own_among first second owners other_owners requester bit owners.owner stranger first to_first)
+    (own_among first second owners other_owners requester bit other_owners.owner stranger second to_second)
     (speaker-holds
-    (λ (w : Who). AlikeFor first second owners other_owners bits (asker_for owners other_owners stranger (who first second owners other_owners requester bit) w))
+    (λ (w : Who). P (asker_for owners other_owners stranger (who first second owners other_owners requester bit) w))
     (matches other_owners.owner other_owners.group requester) bit second
     (speaker-holds
-    (λ (v : Who). OfEach (λ (ace : Nfsace4). ace.who) second (λ (w : Who). AlikeFor first second owners other_owners bits (asker_for owners other_owners stranger v w)))
-    (matches owners.owner owners.group requester) bit first askers.each)
+    (λ (v : Who). OfEach (λ (ace : Nfsace4). ace.who) second (λ (w : Who). P (asker_for owners other_owners stranger v w)))
+    (matches owners.owner owners.group requester) bit first each)
+    (asked_own first second owners other_owners requester bit stranger)
     bit in_bits)
+
+-- what holds of each asker of a pair
+module _ {E : Type 0} (of : E → Who) (first second : List E) (owners other_owners : Owners) (stranger : ℕ) where
+  pub pairs_weaker : (P Q : Identity → Type 0) → ((asker : Identity) → P asker → Q asker)
+      → AsksPairs of first second owners other_owners stranger P → AsksPairs of first second owners other_owners stranger Q
+  pairs_weaker P Q weaker each =
+      let also : (one other : Who) → P (asker_for owners other_owners stranger one other) → Q (asker_for owners other_owners stranger one other) =
+      λ one other. weaker (asker_for owners other_owners stranger one other) in (
+        λ k d inside. (λ j e within. also _ _ ((each.0 k d inside).0 j e within), also _ Everyone (each.0 k d inside).1),
+        (λ j e within. also Everyone _ (each.1.0 j e within), also Everyone Everyone each.1.1),
+      )
+
+pub pairs_suffice : PairsSuffice
+pairs_suffice first second owners other_owners bits askers requester =
+    let P : Identity → Type 0 = AlikeFor first second owners other_owners bits in
+    let either : (asker : Identity) → P asker → OfEither requester askers.stranger P asker = λ asker alike own. alike in
+    pairs_suffice_for first second owners other_owners bits requester askers.stranger askers.to_first askers.to_second
+    (pairs_weaker (λ (ace : Nfsace4). ace.who) first second owners other_owners askers.stranger P (OfEither requester askers.stranger P) either askers.each)
 
 few_gids : (group other_group : ℕ) (who other : Who) → length (option_to_list (needed_gid group who) ++ option_to_list (needed_gid other_group other)) ≤ 2
 few_gids group other_group who other = go (needed_gid group who) (needed_gid other_group other)

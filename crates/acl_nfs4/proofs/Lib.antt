@@ -18,6 +18,8 @@ pub mod MaskBits
 pub mod ModeChangeParts
 pub mod ReadLemmas
 pub mod ModeChangeLeaves
+pub mod ModeChangeLeast
+pub mod ModeChangeLift
 pub mod RoundTrip
 pub mod WorkedExamples
 pub mod WhoLemmas

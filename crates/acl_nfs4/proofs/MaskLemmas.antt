@@ -12,10 +12,10 @@ use Rattle.acl_nfs4.specs.Who.{matches}
 
 module _ (set : ℕ) (test : ℕ → Bool) where
   -- the places of the bits of the set among n from a on
-  abbrev places : ℕ → ℕ → List ℕ
+  abbrev pub places : ℕ → ℕ → List ℕ
   places a n = filter (has set) (range_with_len a n)
 
-  passes : (a n : ℕ) → ((bit : ℕ) → has set bit ≡ true → test bit ≡ true) → list_all test (places a n) ≡ true
+  pub passes : (a n : ℕ) → ((bit : ℕ) → has set bit ≡ true → test bit ≡ true) → list_all test (places a n) ≡ true
   passes a zero each = refl
   passes a (suc n) each = by (has set a) refl (passes (a + 1) n each)
     where
@@ -24,7 +24,7 @@ module _ (set : ℕ) (test : ℕ → Bool) where
       by true e rest = and_from _ _ (each a e) rest
       by false e rest = rest
 
-  passed : (a n : ℕ) → list_all test (places a n) ≡ true → (bit : ℕ) → a ≤ bit → bit < a + n → has set bit ≡ true → test bit ≡ true
+  pub passed : (a n : ℕ) → list_all test (places a n) ≡ true → (bit : ℕ) → a ≤ bit → bit < a + n → has set bit ≡ true → test bit ≡ true
   passed a zero all bit above below there = absurd (omega arith)
   passed a (suc n) all bit above below there = by (has set a) refl all (λ rest. passed (a + 1) n rest bit)
     where
@@ -41,7 +41,7 @@ module _ (set : ℕ) (test : ℕ → Bool) where
       by false e held later = further later held (λ same. absurd (true≢false (sym there ∙ sym (ap (has set) same) ∙ e)))
 
 -- a bit of a number of 32 bits is one of 32
-within : (mask bit : ℕ) → mask < 2 ^ 32 → has mask bit ≡ true → bit < 32
+pub within : (mask bit : ℕ) → mask < 2 ^ 32 → has mask bit ≡ true → bit < 32
 within mask bit small there = elim (cases_lt bit 32) [ inl below ↦ below | inr above ↦ absurd (true≢false (sym there ∙ has-above 32 mask bit small (omega (arith, above)))) ]
 
 pub masks_are_decided : MasksAreDecided

@@ -182,33 +182,33 @@ pub decides-plain_deny : (who : Who) (mask : ℕ) → decides (record { kind = D
 unfolding decides has
 decides-plain_deny who mask = by_flags_of_who (λ flags. decides (record { kind = Deny; flags = flags; who = who; mask = mask }) ≡ true) refl refl who
 
-denial_of-denies : (group : ℕ) (aces : List Nfsace4) (who : Who) (bit : ℕ)
-    → has (rest_of group) bit ≡ true → has (denied_to who aces) bit ≡ false → list_any (denies who bit) (denial_of group aces who) ≡ true
-denial_of-denies group aces who bit lacks undenied =
+denial_of-denies : (bits : ℕ) (aces : List Nfsace4) (who : Who) (bit : ℕ)
+    → has bits bit ≡ true → has (denied_to who aces) bit ≡ false → list_any (denies who bit) (denial_of bits aces who) ≡ true
+denial_of-denies bits aces who bit lacks undenied =
     unless_empty-denies who bit _
-    (and_from _ _ (and_from _ _ (decides-plain_deny who (without (rest_of group) (denied_to who aces))) (same_who-refl who))
-    (has-without (rest_of group) (denied_to who aces) bit ∙ and_from _ _ lacks (ap not undenied)))
+    (and_from _ _ (and_from _ _ (decides-plain_deny who (without bits (denied_to who aces))) (same_who-refl who))
+    (has-without bits (denied_to who aces) bit ∙ and_from _ _ lacks (ap not undenied)))
 
--- a named user or group is denied each bit of the mode that the group lacks
-pub denied_anyway : (group : ℕ) (aces : List Nfsace4) (who : Who) (bit : ℕ)
-    → list_any (names who) aces ≡ true → has (rest_of group) bit ≡ true
-    → list_any (denies who bit) (kept_of_list group aces ++ denials group aces) ≡ true
-denied_anyway group aces who bit named lacks =
-    list_any-append (denies who bit) (kept_of_list group aces) (denials group aces) ∙ go (list_any (denies who bit) aces) refl
+-- a named user or group is denied each of these bits
+pub denied_anyway : (group bits : ℕ) (aces : List Nfsace4) (who : Who) (bit : ℕ)
+    → list_any (names who) aces ≡ true → has bits bit ≡ true
+    → list_any (denies who bit) (kept_of_list group aces ++ denials bits aces) ≡ true
+denied_anyway group bits aces who bit named lacks =
+    list_any-append (denies who bit) (kept_of_list group aces) (denials bits aces) ∙ go (list_any (denies who bit) aces) refl
   where
     go : (b : Bool) → list_any (denies who bit) aces ≡ b
-        → (list_any (denies who bit) (kept_of_list group aces) || list_any (denies who bit) (denials group aces)) ≡ true
+        → (list_any (denies who bit) (kept_of_list group aces) || list_any (denies who bit) (denials bits aces)) ≡ true
     go true e =
-        ap (λ b. b || list_any (denies who bit) (denials group aces))
+        ap (λ b. b || list_any (denies who bit) (denials bits aces))
         (list_any-kept (denies who bit) group aces
         ∙ list_any-weaken (denies who bit) (λ ace. list_any (denies who bit) (kept_of_entry group ace))
         (kept_of-denies group who bit (named_not_special who aces named)) aces e)
     go false e =
         ap (λ b. list_any (denies who bit) (kept_of_list group aces) || b)
-        (list_any-flat_map (denies who bit) (denial_of group aces) (named_whos aces)
-        ∙ list_any-weaken (λ other. same_who other who) (λ other. list_any (denies who bit) (denial_of group aces other))
+        (list_any-flat_map (denies who bit) (denial_of bits aces) (named_whos aces)
+        ∙ list_any-weaken (λ other. same_who other who) (λ other. list_any (denies who bit) (denial_of bits aces other))
         (λ other same.
-        ap (λ w. list_any (denies who bit) (denial_of group aces w)) (same_who-true other who same)
-        ∙ denial_of-denies group aces who bit lacks (has-denied_to who bit aces ∙ e))
+        ap (λ w. list_any (denies who bit) (denial_of bits aces w)) (same_who-true other who same)
+        ∙ denial_of-denies bits aces who bit lacks (has-denied_to who bit aces ∙ e))
         (named_whos aces) (member-named_in who aces ∙ named))
         ∙ or-true (list_any (denies who bit) (kept_of_list group aces))

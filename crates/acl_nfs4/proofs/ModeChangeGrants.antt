@@ -53,14 +53,14 @@ module _ (applies : Who → Bool) (bit : ℕ) where
       go true some none false e rest = ap (λ x. Some x) e
       go false some none a e rest = rest some none
 
-  speaks-parts : (ace : Nfsace4) → speaks applies bit ace ≡ true → (decides ace ≡ true) × (applies ace.who ≡ true) × (has ace.mask bit ≡ true)
+  pub speaks-parts : (ace : Nfsace4) → speaks applies bit ace ≡ true → (decides ace ≡ true) × (applies ace.who ≡ true) × (has ace.mask bit ≡ true)
   unfolding speaks
   speaks-parts ace e =
       let outer = and_parts (decides ace) (applies ace.who && has ace.mask bit) e in
       let inner = and_parts (applies ace.who) (has ace.mask bit) outer.1 in
       (outer.0, inner.0, inner.1)
 
-  speaks-from : (ace : Nfsace4) → decides ace ≡ true → applies ace.who ≡ true → has ace.mask bit ≡ true → speaks applies bit ace ≡ true
+  pub speaks-from : (ace : Nfsace4) → decides ace ≡ true → applies ace.who ≡ true → has ace.mask bit ≡ true → speaks applies bit ace ≡ true
   unfolding speaks
   speaks-from ace d a h = and_from _ _ d (and_from _ _ a h)
 
@@ -81,7 +81,7 @@ module _ (applies : Who → Bool) (bit : ℕ) where
         settle true false = refl
         settle false h = refl
 
-    kept_mask-special : (group : ℕ) (ace : Nfsace4) → is_special ace.who ≡ true → has (kept_mask group ace) bit ≡ false
+    pub kept_mask-special : (group : ℕ) (ace : Nfsace4) → is_special ace.who ≡ true → has (kept_mask group ace) bit ≡ false
     unfolding kept_mask
     kept_mask-special group ace e =
         ap (λ s. has (cond s (without ace.mask mode_bits) (cond (is_allow ace.kind) (without ace.mask (rest_of group)) ace.mask)) bit) e
@@ -177,21 +177,21 @@ module _ (applies : Who → Bool) (bit : ℕ) where
         ∙ any_distinct _ e
 
     module _ (aces : List Nfsace4) (mode : Classes) where
-      either_part : (test : Nfsace4 → Bool) → list_any test (middle aces mode) ≡ true
-          → (list_any test (kept_of_list mode.group aces) ≡ true) ⊎ (list_any test (denials mode.group aces) ≡ true)
-      either_part test e = or_cases _ _ (sym (list_any-append test (kept_of_list mode.group aces) (denials mode.group aces)) ∙ e)
+      either_part : (test : Nfsace4 → Bool) → list_any test (middle (rest_of mode.group) aces mode) ≡ true
+          → (list_any test (kept_of_list mode.group aces) ≡ true) ⊎ (list_any test (denials (rest_of mode.group) aces) ≡ true)
+      either_part test e = or_cases _ _ (sym (list_any-append test (kept_of_list mode.group aces) (denials (rest_of mode.group) aces)) ∙ e)
 
       -- who is spoken to in the middle was named
-      spoken_to_named : list_any (speaks applies bit) (middle aces mode) ≡ true → names_any applies aces ≡ true
+      spoken_to_named : list_any (speaks applies bit) (middle (rest_of mode.group) aces mode) ≡ true → names_any applies aces ≡ true
       spoken_to_named e = go (either_part (speaks applies bit) e)
         where
-          of_denial : (who : Who) → list_any (speaks applies bit) (denial_of mode.group aces who) ≡ true → applies who ≡ true
+          of_denial : (who : Who) → list_any (speaks applies bit) (denial_of (rest_of mode.group) aces who) ≡ true → applies who ≡ true
           of_denial who =
               unless_empty-cases _ (λ these. list_any (speaks applies bit) these ≡ true → applies who ≡ true)
               (λ _ f. absurd (true≢false (sym f)))
               (λ _ f. (speaks-parts _ (sym (or-false _) ∙ f)).1)
 
-          go : (list_any (speaks applies bit) (kept_of_list mode.group aces) ≡ true) ⊎ (list_any (speaks applies bit) (denials mode.group aces) ≡ true)
+          go : (list_any (speaks applies bit) (kept_of_list mode.group aces) ≡ true) ⊎ (list_any (speaks applies bit) (denials (rest_of mode.group) aces) ≡ true)
               → names_any applies aces ≡ true
           go (inl k) =
               list_any-weaken (λ ace. list_any (speaks applies bit) (kept_of_entry mode.group ace)) (λ ace. (decides ace && not (is_special ace.who)) && applies ace.who)
@@ -199,40 +199,40 @@ module _ (applies : Who → Bool) (bit : ℕ) where
               (sym (list_any-kept (speaks applies bit) mode.group aces) ∙ k)
           go (inr d) =
               any_named_in aces
-              (list_any-weaken (λ who. list_any (speaks applies bit) (denial_of mode.group aces who)) applies of_denial (named_whos aces)
-              (sym (list_any-flat_map (speaks applies bit) (denial_of mode.group aces) (named_whos aces)) ∙ d))
+              (list_any-weaken (λ who. list_any (speaks applies bit) (denial_of (rest_of mode.group) aces who)) applies of_denial (named_whos aces)
+              (sym (list_any-flat_map (speaks applies bit) (denial_of (rest_of mode.group) aces) (named_whos aces)) ∙ d))
 
-      middle_silent : names_any applies aces ≡ false → verdict applies bit (middle aces mode) ≡ None
+      middle_silent : names_any applies aces ≡ false → verdict applies bit (middle (rest_of mode.group) aces mode) ≡ None
       middle_silent none =
-          verdict-silent (middle aces mode)
-          (false_unless (list_any (speaks applies bit) (middle aces mode)) (λ some. sym none ∙ spoken_to_named some))
+          verdict-silent (middle (rest_of mode.group) aces mode)
+          (false_unless (list_any (speaks applies bit) (middle (rest_of mode.group) aces mode)) (λ some. sym none ∙ spoken_to_named some))
 
       -- nothing in the middle allows a bit that the mode's group lacks
-      none_allows : has (rest_of mode.group) bit ≡ true → list_any speaks_for (middle aces mode) ≡ false
-      none_allows lacks = false_unless (list_any speaks_for (middle aces mode)) (λ some. go (either_part speaks_for some))
+      none_allows : has (rest_of mode.group) bit ≡ true → list_any speaks_for (middle (rest_of mode.group) aces mode) ≡ false
+      none_allows lacks = false_unless (list_any speaks_for (middle (rest_of mode.group) aces mode)) (λ some. go (either_part speaks_for some))
         where
-          of_denial : (who : Who) → list_any speaks_for (denial_of mode.group aces who) ≡ true → false ≡ true
+          of_denial : (who : Who) → list_any speaks_for (denial_of (rest_of mode.group) aces who) ≡ true → false ≡ true
           of_denial who =
               unless_empty-cases _ (λ these. list_any speaks_for these ≡ true → false ≡ true)
               (λ _ f. f)
               (λ _ f. (and_parts _ false (sym (or-false _) ∙ f)).1)
 
-          go : (list_any speaks_for (kept_of_list mode.group aces) ≡ true) ⊎ (list_any speaks_for (denials mode.group aces) ≡ true) → false ≡ true
+          go : (list_any speaks_for (kept_of_list mode.group aces) ≡ true) ⊎ (list_any speaks_for (denials (rest_of mode.group) aces) ≡ true) → false ≡ true
           go (inl k) =
               list_any-elim (λ ace. list_any speaks_for (kept_of_entry mode.group ace)) (false ≡ true) (still_denies mode.group lacks) aces
               (sym (list_any-kept speaks_for mode.group aces) ∙ k)
           go (inr d) =
-              list_any-elim (λ who. list_any speaks_for (denial_of mode.group aces who)) (false ≡ true) of_denial (named_whos aces)
-              (sym (list_any-flat_map speaks_for (denial_of mode.group aces) (named_whos aces)) ∙ d)
+              list_any-elim (λ who. list_any speaks_for (denial_of (rest_of mode.group) aces who)) (false ≡ true) of_denial (named_whos aces)
+              (sym (list_any-flat_map speaks_for (denial_of (rest_of mode.group) aces) (named_whos aces)) ∙ d)
 
       -- and whoever is named is denied it there
-      some_speaks : has (rest_of mode.group) bit ≡ true → names_any applies aces ≡ true → list_any (speaks applies bit) (middle aces mode) ≡ true
+      some_speaks : has (rest_of mode.group) bit ≡ true → names_any applies aces ≡ true → list_any (speaks applies bit) (middle (rest_of mode.group) aces mode) ≡ true
       some_speaks lacks =
           list_any-witness (λ ace. (decides ace && not (is_special ace.who)) && applies ace.who) _ aces
           (λ ace e among.
           let parts = and_parts (decides ace && not (is_special ace.who)) (applies ace.who) e in
-          list_any-weaken (denies ace.who bit) (speaks applies bit) (spoken ace.who parts.1) (middle aces mode)
-          (denied_anyway mode.group aces ace.who bit (among (names ace.who) (and_from _ _ parts.0 (same_who-refl ace.who))) lacks))
+          list_any-weaken (denies ace.who bit) (speaks applies bit) (spoken ace.who parts.1) (middle (rest_of mode.group) aces mode)
+          (denied_anyway mode.group (rest_of mode.group) aces ace.who bit (among (names ace.who) (and_from _ _ parts.0 (same_who-refl ace.who))) lacks))
         where
           spoken : (who : Who) → applies who ≡ true → (ace : Nfsace4) → denies who bit ace ≡ true → speaks applies bit ace ≡ true
           spoken who a ace e =
@@ -242,22 +242,22 @@ module _ (applies : Who → Bool) (bit : ℕ) where
               (ap applies (same_who-true ace.who who (and_parts (is_deny ace.kind) (same_who ace.who who) inner.1).1) ∙ a)
               outer.1
 
-      middle_denies : has (rest_of mode.group) bit ≡ true → names_any applies aces ≡ true → verdict applies bit (middle aces mode) ≡ Some false
-      middle_denies lacks named = verdict-denied (middle aces mode) (some_speaks lacks named) (none_allows lacks)
+      middle_denies : has (rest_of mode.group) bit ≡ true → names_any applies aces ≡ true → verdict applies bit (middle (rest_of mode.group) aces mode) ≡ Some false
+      middle_denies lacks named = verdict-denied (middle (rest_of mode.group) aces mode) (some_speaks lacks named) (none_allows lacks)
 
       -- ---- the whole list
 
       verdict-with_mode : verdict applies bit (with_mode aces mode)
           ≡ or_else (cond (applies Owner) (Some (has (mask_of mode.user) bit)) None)
-          (or_else (verdict applies bit (middle aces mode))
+          (or_else (verdict applies bit (middle (rest_of mode.group) aces mode))
           (or_else (cond (applies Group) (Some (has (mask_of mode.group) bit)) None)
           (cond (applies Everyone && has (mask_of mode.other) bit) (Some true) None)))
       verdict-with_mode =
-          ap (verdict applies bit) (regroup aces mode)
-          ∙ verdict-append applies bit (for_owner mode.user) (middle aces mode ++ for_others mode.group mode.other)
+          ap (verdict applies bit) (regroup (rest_of mode.group) aces mode)
+          ∙ verdict-append applies bit (for_owner mode.user) (middle (rest_of mode.group) aces mode ++ for_others mode.group mode.other)
           ∙ ap₂ or_else (verdict-pair Owner mode.user)
-          (verdict-append applies bit (middle aces mode) (for_others mode.group mode.other)
-          ∙ ap (or_else (verdict applies bit (middle aces mode)))
+          (verdict-append applies bit (middle (rest_of mode.group) aces mode) (for_others mode.group mode.other)
+          ∙ ap (or_else (verdict applies bit (middle (rest_of mode.group) aces mode)))
           (verdict-append applies bit (plain_ace Allow Group (mask_of mode.group) ++ plain_ace Deny Group (rest_of mode.group)) (plain_ace Allow Everyone (mask_of mode.other))
           ∙ ap₂ or_else (verdict-pair Group mode.group) (verdict-allow applies bit Everyone (mask_of mode.other))))
 
@@ -266,12 +266,12 @@ module _ (applies : Who → Bool) (bit : ℕ) where
           ap (λ v. unwrap_or v false)
           (verdict-with_mode
           ∙ ap (λ b. or_else (cond b (Some (has (mask_of mode.user) bit)) None)
-          (or_else (verdict applies bit (middle aces mode))
+          (or_else (verdict applies bit (middle (rest_of mode.group) aces mode))
           (or_else (cond (applies Group) (Some (has (mask_of mode.group) bit)) None)
           (cond (applies Everyone && has (mask_of mode.other) bit) (Some true) None)))) owner)
 
       -- to those who are not the owner the middle speaks first
-      allowed-others : (said : Option Bool) → applies Owner ≡ false → verdict applies bit (middle aces mode) ≡ said
+      allowed-others : (said : Option Bool) → applies Owner ≡ false → verdict applies bit (middle (rest_of mode.group) aces mode) ≡ said
           → allows applies bit (with_mode aces mode)
           ≡ unwrap_or (or_else said
           (or_else (cond (applies Group) (Some (has (mask_of mode.group) bit)) None)

@@ -12,7 +12,7 @@ use Rattle.acl_nfs4.specs.Who.{flags_of_who}
 use Rattle.acl_nfs4.specs.Mask.{mask_of, rest_of}
 use Rattle.acl_nfs4.specs.Flags.{inherit_only, inheritance_flags, file_inherit, directory_inherit, no_propagate_inherit}
 use Rattle.acl_nfs4.specs.Inheritance.{flags_below, inherited_entry, inherited_list, with_inheritance_flags}
-use Rattle.acl_nfs4.specs.ModeChange.{kept_of_list, named_whos, denial_of, for_owner, for_others, with_mode, denials, kept_of_entry}
+use Rattle.acl_nfs4.specs.ModeChange.{kept_of_list, named_whos, denial_of, for_owner, for_others, with_denials, denials, kept_of_entry}
 use Rattle.acl_nfs4.specs.ModeChangeLaws.{IsSublist, audits_and_alarms, inherit_only_entries}
 use Rattle.acl_nfs4.specs.ModeChangeLaws.IsSublist.{ends, skips, keeps}
 use Rattle.acl_posix.specs.Mode.{Classes}
@@ -41,20 +41,20 @@ module _ (read : List Nfsace4 → List Nfsace4) (read-nil : read [] ≡ []) (rea
       ∙ ap₂ (λ xs ys. xs ++ ys) (same ace) (read-kept group same aces)
       ∙ sym (read-append (ace ∷ []) aces)
 
-  read-with_mode : (aces : List Nfsace4) (mode : Classes)
+  read-with_mode : (bits : ℕ) (aces : List Nfsace4) (mode : Classes)
       → ((kind : AceType) (who : Who) (mask : ℕ) → (is_allow kind || is_deny kind) ≡ true → read (plain_ace kind who mask) ≡ [])
       → ((ace : Nfsace4) → read (kept_of_entry mode.group ace) ≡ read (ace ∷ []))
-      → read (with_mode aces mode) ≡ read aces
-  read-with_mode aces mode none same =
-      read-append ((for_owner mode.user ++ kept_of_list mode.group aces) ++ denials mode.group aces) (for_others mode.group mode.other)
+      → read (with_denials bits aces mode) ≡ read aces
+  read-with_mode bits aces mode none same =
+      read-append ((for_owner mode.user ++ kept_of_list mode.group aces) ++ denials bits aces) (for_others mode.group mode.other)
       ∙ ap₂ (λ xs ys. xs ++ ys)
-      (read-append (for_owner mode.user ++ kept_of_list mode.group aces) (denials mode.group aces)
+      (read-append (for_owner mode.user ++ kept_of_list mode.group aces) (denials bits aces)
       ∙ ap₂ (λ xs ys. xs ++ ys)
       (read-append (for_owner mode.user) (kept_of_list mode.group aces)
       ∙ ap₂ (λ xs ys. xs ++ ys)
       (two (plain_ace Allow Owner (mask_of mode.user)) (plain_ace Deny Owner (rest_of mode.user)) (none Allow Owner _ refl) (none Deny Owner _ refl))
       (read-kept mode.group same aces))
-      (read-flat_map (denial_of mode.group aces) (λ who. none Deny who _ refl) (named_whos aces)))
+      (read-flat_map (denial_of bits aces) (λ who. none Deny who _ refl) (named_whos aces)))
       (two (plain_ace Allow Group (mask_of mode.group) ++ plain_ace Deny Group (rest_of mode.group)) (plain_ace Allow Everyone (mask_of mode.other))
       (two (plain_ace Allow Group (mask_of mode.group)) (plain_ace Deny Group (rest_of mode.group)) (none Allow Group _ refl) (none Deny Group _ refl))
       (none Allow Everyone _ refl))
@@ -92,9 +92,9 @@ audits-kept_of group ace =
     ∙ sym (audits-one ace (decides-kind ace d)))
     (λ d i. audits-unless_empty (reduced group ace) (decides-kind ace d) ∙ sym (audits-one ace (decides-kind ace d)))
 
-pub audits-with_mode : (aces : List Nfsace4) (mode : Classes) → audits_and_alarms (with_mode aces mode) ≡ audits_and_alarms aces
-audits-with_mode aces mode =
-    read-with_mode audits_and_alarms refl (filter-append (λ (ace : Nfsace4). is_audit_or_alarm ace.kind)) aces mode
+pub audits-with_mode : (bits : ℕ) (aces : List Nfsace4) (mode : Classes) → audits_and_alarms (with_denials bits aces mode) ≡ audits_and_alarms aces
+audits-with_mode bits aces mode =
+    read-with_mode audits_and_alarms refl (filter-append (λ (ace : Nfsace4). is_audit_or_alarm ace.kind)) bits aces mode
     (λ kind who mask decided. audits-unless_empty _ decided)
     (audits-kept_of mode.group)
 
@@ -165,9 +165,9 @@ not_inheritable-plain_ace : (kind : AceType) (who : Who) (mask : ℕ)
 unfolding has
 not_inheritable-plain_ace kind who mask = by_flags_of_who (λ flags. is_inheritable (record { kind = kind; flags = flags; who = who; mask = mask }) ≡ false) refl refl who
 
-pub inherited-with_mode : (kind : Kind) (aces : List Nfsace4) (mode : Classes) → inherited_list kind (with_mode aces mode) ≡ inherited_list kind aces
-inherited-with_mode kind aces mode =
-    read-with_mode (inherited_list kind) refl (filter_map-append (inherited_entry kind)) aces mode
+pub inherited-with_mode : (bits : ℕ) (kind : Kind) (aces : List Nfsace4) (mode : Classes) → inherited_list kind (with_denials bits aces mode) ≡ inherited_list kind aces
+inherited-with_mode bits kind aces mode =
+    read-with_mode (inherited_list kind) refl (filter_map-append (inherited_entry kind)) bits aces mode
     (λ type who mask _. inherited-unless_empty kind _ (not_inheritable-plain_ace type who mask))
     (inherited-kept_of kind mode.group)
 
@@ -207,11 +207,11 @@ inherit_only-kept group (ace ∷ aces) =
     (subst (λ ys. IsSublist (inherit_only_entries (ace ∷ []) ++ inherit_only_entries aces) ys) (sym (kept-cons group ace aces))
     (IsSublist-append (inherit_only-kept_of group ace) (inherit_only-kept group aces)))
 
-pub inherit_only-with_mode : (aces : List Nfsace4) (mode : Classes) → IsSublist (inherit_only_entries aces) (with_mode aces mode)
-inherit_only-with_mode aces mode =
-    subst (λ xs. IsSublist xs (with_mode aces mode)) (append-nil (inherit_only_entries aces ++ []) ∙ append-nil (inherit_only_entries aces))
+pub inherit_only-with_mode : (bits : ℕ) (aces : List Nfsace4) (mode : Classes) → IsSublist (inherit_only_entries aces) (with_denials bits aces mode)
+inherit_only-with_mode bits aces mode =
+    subst (λ xs. IsSublist xs (with_denials bits aces mode)) (append-nil (inherit_only_entries aces ++ []) ∙ append-nil (inherit_only_entries aces))
     (IsSublist-append
     (IsSublist-append
     (IsSublist-append (nothing_first (for_owner mode.user)) (inherit_only-kept mode.group aces))
-    (nothing_first (denials mode.group aces)))
+    (nothing_first (denials bits aces)))
     (nothing_first (for_others mode.group mode.other)))

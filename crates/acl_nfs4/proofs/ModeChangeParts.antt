@@ -58,9 +58,9 @@ rest_of-known perms is =
     (mode_bits-within (rest_of perms) (λ k e. (and_parts (has mode_bits k) _ (sym (has-without mode_bits (mask_of perms) k) ∙ e)).0))
 
 -- so has what is left of it
-pub denial-known : (perms denied : ℕ) {mask : ℕ} → mask ≡ without (rest_of perms) denied → mask ∩ all_masks ≡ mask
-denial-known perms denied is =
-    subst (λ (mask : ℕ). mask ∩ all_masks ≡ mask) (sym is) (within-without (rest_of perms) denied all_masks (rest_of-known perms refl))
+pub denial-known : (bits denied : ℕ) {mask : ℕ} → bits ∩ all_masks ≡ bits → mask ≡ without bits denied → mask ∩ all_masks ≡ mask
+denial-known bits denied known is =
+    subst (λ (mask : ℕ). mask ∩ all_masks ≡ mask) (sym is) (within-without bits denied all_masks known)
 
 pub kept_mask-known : (group : ℕ) (ace : Nfsace4) {mask : ℕ} → mask ≡ kept_mask group ace → IsAce ace → mask ∩ all_masks ≡ mask
 unfolding kept_mask

@@ -8,7 +8,7 @@ use Rattle.acl_names.specs.Bits.{has, without}
 use Rattle.acl_nfs4.specs.Ace.{decides, is_allow, is_deny, plain_ace, unless_empty, Nfsace4}
 use Rattle.acl_nfs4.specs.Who.{is_special, flags_of_who, same_who}
 use Rattle.acl_nfs4.specs.Mask.{mask_of, mode_bits, rest_of}
-use Rattle.acl_nfs4.specs.ModeChange.{kept_of_list, kept_mask, named_whos, denied_to, denial_of, for_owner, for_others, with_mode, denials, kept_of_entry, names}
+use Rattle.acl_nfs4.specs.ModeChange.{kept_of_list, kept_mask, named_whos, denied_to, denial_of, for_owner, for_others, with_denials, denials, kept_of_entry, names}
 use Rattle.acl_posix.specs.Mode.{Classes}
 use Rattle.acl_nfs4.specs.declared.ace.AceType.{AceType}
 use Rattle.acl_nfs4.specs.declared.ace.AceType.TheVariants.{Allow, Deny}
@@ -89,39 +89,39 @@ flat_map-none f (who ∷ whos) each =
     (each who (ap (λ b. b || member who whos) (same_who-refl who)))
     (flat_map-none f whos (λ other is. each other (ap (λ b. same_who who other || b) is ∙ or-true (same_who who other))))
 
-kept-denials : (group : ℕ) (aces : List Nfsace4) → kept_of_list group (denials group aces) ≡ denials group aces
-kept-denials group aces =
-    kept-flat_map group (denial_of group aces) (named_whos aces)
+kept-denials : (group bits : ℕ) (aces : List Nfsace4) → kept_of_list group (denials bits aces) ≡ denials bits aces
+kept-denials group bits aces =
+    kept-flat_map group (denial_of bits aces) (named_whos aces)
     (λ who is. kept-denial group who _ (named_not_special who aces (sym (member-named_in who aces) ∙ is)))
 
 -- ---- the law
 
-module _ (aces : List Nfsace4) (mode : Classes) where
+module _ (bits : ℕ) (aces : List Nfsace4) (mode : Classes) where
   abbrev pub middle : List Nfsace4
-  middle = kept_of_list mode.group aces ++ denials mode.group aces
+  middle = kept_of_list mode.group aces ++ denials bits aces
 
   -- the list again, its middle in one piece
-  pub regroup : with_mode aces mode ≡ for_owner mode.user ++ (middle ++ for_others mode.group mode.other)
+  pub regroup : with_denials bits aces mode ≡ for_owner mode.user ++ (middle ++ for_others mode.group mode.other)
   regroup =
-      append_assoc (for_owner mode.user ++ kept_of_list mode.group aces) (denials mode.group aces) (for_others mode.group mode.other)
-      ∙ append_assoc (for_owner mode.user) (kept_of_list mode.group aces) (denials mode.group aces ++ for_others mode.group mode.other)
-      ∙ ap (λ xs. for_owner mode.user ++ xs) (sym (append_assoc (kept_of_list mode.group aces) (denials mode.group aces) (for_others mode.group mode.other)))
+      append_assoc (for_owner mode.user ++ kept_of_list mode.group aces) (denials bits aces) (for_others mode.group mode.other)
+      ∙ append_assoc (for_owner mode.user) (kept_of_list mode.group aces) (denials bits aces ++ for_others mode.group mode.other)
+      ∙ ap (λ xs. for_owner mode.user ++ xs) (sym (append_assoc (kept_of_list mode.group aces) (denials bits aces) (for_others mode.group mode.other)))
 
-  kept-with_mode : kept_of_list mode.group (with_mode aces mode) ≡ middle
+  kept-with_mode : kept_of_list mode.group (with_denials bits aces mode) ≡ middle
   kept-with_mode =
       ap (kept_of_list mode.group) regroup
       ∙ kept-append mode.group (for_owner mode.user) (middle ++ for_others mode.group mode.other)
       ∙ ap₂ (λ xs ys. xs ++ ys) (kept-for_owner mode.group mode.user)
       (kept-append mode.group middle (for_others mode.group mode.other)
       ∙ ap₂ (λ xs ys. xs ++ ys)
-      (kept-append mode.group (kept_of_list mode.group aces) (denials mode.group aces)
-      ∙ ap₂ (λ xs ys. xs ++ ys) (kept-twice mode.group aces) (kept-denials mode.group aces))
+      (kept-append mode.group (kept_of_list mode.group aces) (denials bits aces)
+      ∙ ap₂ (λ xs ys. xs ++ ys) (kept-twice mode.group aces) (kept-denials mode.group bits aces))
       (kept-for_others mode.group mode.group mode.other)
       ∙ append-nil middle)
 
   -- a test that fails on the entries for the special identifiers passes on the whole if it does on the middle
   any-with_mode : (test : Nfsace4 → Bool)
-      → list_any test (with_mode aces mode)
+      → list_any test (with_denials bits aces mode)
       ≡ (list_any test (for_owner mode.user) || (list_any test middle || list_any test (for_others mode.group mode.other)))
   any-with_mode test =
       ap (list_any test) regroup
@@ -173,52 +173,52 @@ module _ (aces : List Nfsace4) (mode : Classes) where
           (λ _ e. absurd (true≢false (sym e)))
           (λ _ e. same_test (decides ace) d part same (sym (or-false (names who part)) ∙ e))
 
-  names-denials : (who : Who) → list_any (names who) (denials mode.group aces) ≡ true → list_any (names who) aces ≡ true
+  names-denials : (who : Who) → list_any (names who) (denials bits aces) ≡ true → list_any (names who) aces ≡ true
   names-denials who e =
       sym (member-named_in who aces)
-      ∙ list_any-weaken (λ other. list_any (names who) (denial_of mode.group aces other)) (λ other. same_who other who) each (named_whos aces)
-      (sym (list_any-flat_map (names who) (denial_of mode.group aces) (named_whos aces)) ∙ e)
+      ∙ list_any-weaken (λ other. list_any (names who) (denial_of bits aces other)) (λ other. same_who other who) each (named_whos aces)
+      (sym (list_any-flat_map (names who) (denial_of bits aces) (named_whos aces)) ∙ e)
     where
-      each : (other : Who) → list_any (names who) (denial_of mode.group aces other) ≡ true → same_who other who ≡ true
+      each : (other : Who) → list_any (names who) (denial_of bits aces other) ≡ true → same_who other who ≡ true
       each other =
           unless_empty-cases _ (λ these. list_any (names who) these ≡ true → same_who other who ≡ true)
           (λ _ e. absurd (true≢false (sym e)))
           (λ _ e. (and_parts _ (same_who other who) (sym (or-false _) ∙ e)).1)
 
-  names-with_mode : (who : Who) → list_any (names who) (with_mode aces mode) ≡ true → list_any (names who) aces ≡ true
+  names-with_mode : (who : Who) → list_any (names who) (with_denials bits aces mode) ≡ true → list_any (names who) aces ≡ true
   names-with_mode who e =
-      go (or_cases (list_any (names who) (kept_of_list mode.group aces)) (list_any (names who) (denials mode.group aces))
-      (sym (list_any-append (names who) (kept_of_list mode.group aces) (denials mode.group aces))
+      go (or_cases (list_any (names who) (kept_of_list mode.group aces)) (list_any (names who) (denials bits aces))
+      (sym (list_any-append (names who) (kept_of_list mode.group aces) (denials bits aces))
       ∙ sym (or-false (list_any (names who) middle))
       ∙ sym (ap₂ (λ a b. a || (list_any (names who) middle || b)) (names-for_owner who) (names-for_others who))
       ∙ sym (any-with_mode (names who))
       ∙ e))
     where
-      go : (list_any (names who) (kept_of_list mode.group aces) ≡ true) ⊎ (list_any (names who) (denials mode.group aces) ≡ true) → list_any (names who) aces ≡ true
+      go : (list_any (names who) (kept_of_list mode.group aces) ≡ true) ⊎ (list_any (names who) (denials bits aces) ≡ true) → list_any (names who) aces ≡ true
       go (inl k) =
           list_any-weaken (λ ace. list_any (names who) (kept_of_entry mode.group ace)) (names who) (names-kept_of who) aces
           (sym (list_any-kept (names who) mode.group aces) ∙ k)
       go (inr d) = names-denials who d
 
   -- the new list denies already what it would have to deny
-  denial_of-with_mode : (who : Who) → member who (named_whos (with_mode aces mode)) ≡ true → denial_of mode.group (with_mode aces mode) who ≡ []
+  denial_of-with_mode : (who : Who) → member who (named_whos (with_denials bits aces mode)) ≡ true → denial_of bits (with_denials bits aces mode) who ≡ []
   unfolding unless_empty
   denial_of-with_mode who is =
       ap (λ m. plain_ace Deny who m)
-      (without-within (rest_of mode.group) (denied_to who (with_mode aces mode))
+      (without-within bits (denied_to who (with_denials bits aces mode))
       (λ k lacks.
-      has-denied_to who k (with_mode aces mode)
+      has-denied_to who k (with_denials bits aces mode)
       ∙ any-with_mode (denies who k)
       ∙ ap (λ b. list_any (denies who k) (for_owner mode.user) || (b || list_any (denies who k) (for_others mode.group mode.other)))
-      (denied_anyway mode.group aces who k (names-with_mode who (sym (member-named_in who (with_mode aces mode)) ∙ is)) lacks)
+      (denied_anyway mode.group bits aces who k (names-with_mode who (sym (member-named_in who (with_denials bits aces mode)) ∙ is)) lacks)
       ∙ or-true (list_any (denies who k) (for_owner mode.user))))
 
   -- to set the mode again changes nothing
-  pub with_mode-twice : with_mode (with_mode aces mode) mode ≡ with_mode aces mode
+  pub with_mode-twice : with_denials bits (with_denials bits aces mode) mode ≡ with_denials bits aces mode
   with_mode-twice =
       ap₂ (λ xs ys. ((for_owner mode.user ++ xs) ++ ys) ++ for_others mode.group mode.other)
       kept-with_mode
-      (flat_map-none (denial_of mode.group (with_mode aces mode)) (named_whos (with_mode aces mode)) denial_of-with_mode)
+      (flat_map-none (denial_of bits (with_denials bits aces mode)) (named_whos (with_denials bits aces mode)) denial_of-with_mode)
       ∙ ap (λ xs. xs ++ for_others mode.group mode.other) (append-nil (for_owner mode.user ++ middle))
       ∙ append_assoc (for_owner mode.user) middle (for_others mode.group mode.other)
       ∙ sym regroup

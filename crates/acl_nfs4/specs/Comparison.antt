@@ -1,10 +1,12 @@
 -- Whether two lists decide alike for everyone, and whom one has to ask to know it.
-use Rattle.std.specs.Prelude.{◌≡◌, ◌≢◌, ◌≤◌, ◌==◌, ℕ, Bool, false, not, ◌&&◌, IsTrue, Option, Some}
-use Rattle.std.specs.Prelude.{None, option_to_list, unwrap_or, List, ◌++◌, length}
+use Rattle.std.specs.Prelude.{◌≡◌, ◌≢◌, ◌≤◌, ◌==◌, ◌-◌, ℕ, Bool, false, not, ◌&&◌, ◌||◌, IsTrue}
+use Rattle.std.specs.Prelude.{Option, Some, None, option_to_list, unwrap_or, List, ◌++◌, length}
+use Rattle.std.specs.Prelude.{nat_le, if◌then◌else◌}
 use Rattle.std.specs.List.{All, list_any}
 use Rattle.acl_names.specs.Asker.{identity_of}
 use Rattle.acl_names.specs.Bits.{has, ◌∪◌}
 use Rattle.acl_names.specs.Requester.{Identity}
+use Rattle.acl_names.specs.declared.limits.TheConstants.{NOBODY}
 use Rattle.acl_nfs4.specs.Ace.{Nfsace4}
 use Rattle.acl_nfs4.specs.Evaluation.{allows}
 use Rattle.acl_nfs4.specs.Mask.{mask_bits}
@@ -73,9 +75,39 @@ asks_for who owner uid entries = list_any (λ entry. needs_user owner uid (who e
 abbrev pub IsStranger : {E : Type 0} → (E → Who) → ℕ → List E → ℕ → Type 0
 IsStranger who owner entries uid = All (λ entry. needed_uid owner (who entry) ≢ Some uid) entries
 
+-- whether an entry of two lists does, each for a file of its own owner
+abbrev pub is_needed : {E : Type 0} → (E → Who) → List E → ℕ → List E → ℕ → ℕ → Bool
+is_needed who first owner second other_owner uid =
+    asks_for who owner uid first || asks_for who other_owner uid second
+
+-- one of these is this user
+abbrev pub has_user : List Identity → ℕ → Bool
+has_user known uid = list_any (λ one. one.uid == uid) known
+
+-- the user is uid 0 or one of these
+abbrev pub is_known : List Identity → ℕ → Bool
+is_known known uid = uid == 0 || has_user known uid
+
+-- neither list asks for this user, each for a file of its own owner, and it is none who is known
+pub record IsStrangerTo {E : Type 0} (who : E → Who) (first : List E) (owner : ℕ) (second : List E)
+    (other_owner : ℕ) (known : List Identity) (uid : ℕ) : Type 0 where
+  pub to_first : IsStranger who owner first uid
+  pub to_second : IsStranger who other_owner second uid
+  pub unknown : is_known known uid ≡ false
+
+-- the users who are tried as strangers, in turn: from nobody downwards, and then upwards
+abbrev pub tried : ℕ → ℕ
+tried place = if nat_le place NOBODY then NOBODY - place else place
+
 -- it holds of each who that the entries are about, and of everyone
 abbrev pub OfEach : {E : Type 0} → (E → Who) → List E → (Who → Type 0) → Type 0
 OfEach who entries P = All (λ entry. P (who entry)) entries × P Everyone
+
+-- it holds of the asker of each pair of entries, with this stranger for all pairs
+abbrev pub AsksPairs : {E : Type 0} → (E → Who) → List E → List E → Owners → Owners → ℕ
+    → (Identity → Type 0) → Type 0
+AsksPairs who first second owners other_owners stranger P = OfEach who first (λ one.
+    OfEach who second (λ other. P (asker_for owners other_owners stranger one other)))
 
 -- it holds of the asker of each pair of entries, with one stranger for all pairs
 pub record OfEachAsker {E : Type 0} (who : E → Who) (first second : List E) (owners other_owners :
@@ -83,8 +115,7 @@ pub record OfEachAsker {E : Type 0} (who : E → Who) (first second : List E) (o
   pub stranger : ℕ
   pub to_first : IsStranger who owners.owner first stranger
   pub to_second : IsStranger who other_owners.owner second stranger
-  pub each : OfEach who first (λ one. OfEach who second
-      (λ other. P (asker_for owners other_owners stranger one other)))
+  pub each : AsksPairs who first second owners other_owners stranger P
 
 -- Lists that decide alike for the asker of each pair of entries decide alike for everyone, each for
 -- a file of its own owners.

@@ -67,9 +67,9 @@ denies_by_name who ace = decides ace && (is_deny ace.kind && same_who ace.who wh
 abbrev pub denied_to : Who → List Nfsace4 → ℕ
 denied_to who aces = union (map (λ ace. ace.mask) (filter (denies_by_name who) aces))
 
--- the bits that the mode's group lacks, denied to this who as far as the list does not deny them
+-- bits that are denied to this who as far as the list does not deny them
 abbrev pub denial_of : ℕ → List Nfsace4 → Who → List Nfsace4
-denial_of group aces who = plain_ace Deny who (without (rest_of group) (denied_to who aces))
+denial_of bits aces who = plain_ace Deny who (without bits (denied_to who aces))
 
 -- the entries that stand first, for the owner, and last, for the group and everyone
 abbrev pub for_owner : ℕ → List Nfsace4
@@ -82,12 +82,32 @@ for_others group other = plain_ace Allow Group (mask_of group)
 
 -- the denials of all whom the list names
 abbrev pub denials : ℕ → List Nfsace4 → List Nfsace4
-denials group aces = flat_map (denial_of group aces) (named_whos aces)
+denials bits aces = flat_map (denial_of bits aces) (named_whos aces)
 
--- the list with the mode set
-abbrev pub with_mode : List Nfsace4 → Classes → List Nfsace4
-with_mode aces mode =
+-- the list with the mode set, and these bits denied to those whom it names
+abbrev pub with_denials : ℕ → List Nfsace4 → Classes → List Nfsace4
+with_denials bits aces mode =
     for_owner mode.user
     ++ kept_of_list mode.group aces
-    ++ denials mode.group aces
+    ++ denials bits aces
+    ++ for_others mode.group mode.other
+
+-- the list with the mode set: all that the mode's group lacks is denied to those whom it names
+abbrev pub with_mode : List Nfsace4 → Classes → List Nfsace4
+with_mode aces mode = with_denials (rest_of mode.group) aces mode
+
+-- what the mode's others have and its group lacks
+abbrev pub beyond_group : Classes → ℕ
+beyond_group mode = without (mask_of mode.other) (mask_of mode.group)
+
+-- the list with the mode set, with no denial but of what entries behind it would allow: a mode that
+-- is set later can lift the others
+abbrev pub with_mode_least : List Nfsace4 → Classes → List Nfsace4
+with_mode_least aces mode = with_denials (beyond_group mode) aces mode
+
+-- the list with the mode set, and no denials beside the owner's and the group's
+abbrev pub without_denials : List Nfsace4 → Classes → List Nfsace4
+without_denials aces mode =
+    for_owner mode.user
+    ++ kept_of_list mode.group aces
     ++ for_others mode.group mode.other

@@ -1,16 +1,17 @@
 -- What a change of mode keeps, and whom it grants what (RFC 8881, sections 6.3.2 and 6.4.1.1).
-use Rattle.std.specs.Prelude.{◌≡◌, ◌≢◌, ℕ, Bool, true, false, ◌&&◌, IsTrue, List, [], ◌∷◌, filter}
+use Rattle.std.specs.Prelude.{◌≡◌, ◌≢◌, ℕ, Bool, true, false, not, ◌&&◌, IsTrue, List}
+use Rattle.std.specs.Prelude.{[], ◌∷◌, filter}
 use Rattle.std.specs.List.{list_any}
 use Rattle.acl_names.specs.Bits.{has}
 use Rattle.acl_names.specs.Requester.{Identity, is_in_group}
 use Rattle.acl_posix.specs.Mode.{Classes}
-use Rattle.acl_nfs4.specs.Ace.{Nfsace4, is_audit_or_alarm}
-use Rattle.acl_nfs4.specs.Who.{matches}
+use Rattle.acl_nfs4.specs.Ace.{Nfsace4, is_allow, is_audit_or_alarm}
+use Rattle.acl_nfs4.specs.Who.{is_special, matches}
 use Rattle.acl_nfs4.specs.Flags.{inherit_only}
 use Rattle.acl_nfs4.specs.Mask.{mode_bits, mask_of}
-use Rattle.acl_nfs4.specs.Evaluation.{allows}
+use Rattle.acl_nfs4.specs.Evaluation.{allows, speaks}
 use Rattle.acl_nfs4.specs.Inheritance.{inherited_list}
-use Rattle.acl_nfs4.specs.ModeChange.{names_someone}
+use Rattle.acl_nfs4.specs.ModeChange.{beyond_group, names_someone, with_mode_least}
 use Rattle.acl_nfs4.specs.declared.inheritance.Kind.{Kind}
 use Rattle.acl_nfs4.specs.declared.who.Who.{Who}
 
@@ -62,6 +63,11 @@ LimitsNamed old new mode =
     → names_any (matches owner group requester) old ≡ true → has (mask_of mode.group) bit ≡ false
     → allows (matches owner group requester) bit new ≡ false
 
+-- whoever asks, both lists decide each bit alike
+abbrev pub DecideEachAlike : List Nfsace4 → List Nfsace4 → Type 0
+DecideEachAlike first second = (applies : Who → Bool) (bit : ℕ)
+    → allows applies bit first ≡ allows applies bit second
+
 -- the audit and alarm entries are those of before, in order
 abbrev pub KeepsAudits : List Nfsace4 → List Nfsace4 → Type 0
 KeepsAudits old new = audits_and_alarms new ≡ audits_and_alarms old
@@ -73,3 +79,20 @@ KeepsInheritOnly old new = IsSublist (inherit_only_entries old) new
 -- what is made below inherits the same
 abbrev pub InheritsAlike : List Nfsace4 → List Nfsace4 → Type 0
 InheritsAlike old new = (kind : Kind) → inherited_list kind new ≡ inherited_list kind old
+
+-- an entry that decides about a named user or group speaks of the bit, and doesn't allow it
+abbrev pub is_refused_by_name : (Who → Bool) → ℕ → List Nfsace4 → Bool
+is_refused_by_name applies bit aces = list_any
+    (λ ace. not (is_special ace.who) && (speaks applies bit ace && not (is_allow ace.kind))) aces
+
+-- After a mode is set with the least denials another is, and the others of both have no more than
+-- the group. Whoever isn't the owner, and is refused nothing by name in the list before, then has
+-- what the second mode's others have, whatever the first mode was.
+abbrev pub LaterModesLift : Type 0
+LaterModesLift = (aces : List Nfsace4) (first second : Classes) (owner group : ℕ)
+    (requester : Identity) (bit : ℕ)
+    → beyond_group first ≡ 0 → beyond_group second ≡ 0 → requester.uid ≢ owner
+    → is_refused_by_name (matches owner group requester) bit aces ≡ false
+    → has (mask_of second.other) bit ≡ true
+    → allows (matches owner group requester) bit
+    (with_mode_least (with_mode_least aces first) second) ≡ true

@@ -10,6 +10,7 @@ ghost use Rattle.acl_nfs4.specs.Comparison.{PairsSuffice, TwoGroupsSuffice};
 ghost use Rattle.acl_nfs4.specs.Faults.{HasNoEffect, HasNoShape, HasUnknownName};
 ghost use Rattle.acl_nfs4.specs.Letters.{flag_table, mask_table};
 ghost use Rattle.acl_nfs4.specs.MaskLaws.{MasksAreDecided};
+ghost use Rattle.acl_nfs4.specs.ModeChangeLaws.{LaterModesLift};
 
 use crate::PieceFault;
 
@@ -52,4 +53,10 @@ pub fn mask_laws()
 pub fn comparison_laws()
     ensures pairs { PairsSuffice }
     ensures two_groups { TwoGroupsSuffice }
+{}
+
+/// A mode that is set with the least denials (`chmod4_least`) doesn't keep a later one from those
+/// whom entries name. There is nothing to run here: a proof cites the contract.
+pub fn mode_laws()
+    ensures { LaterModesLift }
 {}

@@ -35,7 +35,8 @@ pub use comparison::Difference;
 pub use flags::Flags;
 pub use inheritance::Kind;
 pub use laws::{
-    comparison_laws, faults_of_pieces, letters_are_distinct, mask_laws, pieces_have_shapes,
+    comparison_laws, faults_of_pieces, letters_are_distinct, mask_laws, mode_laws,
+    pieces_have_shapes,
 };
 pub use letters::{push_mask, read_letters};
 pub use limits::{INLINE_ACES, MAX_ACES, limits_in_numbers};
@@ -43,7 +44,7 @@ pub use mask::{Mask, mask_of, rest_of};
 pub use mode_change::Fault4;
 pub use named::{NamedAceReader, named_who, read_aces_by};
 pub use owners::Owners;
-pub use pairs::{AboutWho, Compared, difference_by_pairs};
+pub use pairs::{AboutWho, Compared, difference_by_pairs, difference_with, is_known, stranger};
 pub use printing::push_ace;
 pub use reading::{AceReader, PieceFault, read_aces, refuse_idle};
 pub use short::push_short_ace;

@@ -1,6 +1,7 @@
 //! How many entries a list may have.
 ghost use Rattle.std.specs.Prelude.{◌≡◌};
 ghost use Rattle.acl_nfs4.specs.declared.limits.TheConstants.{INLINE_ACES, MAX_ACES};
+ghost use Rattle.acl_nfs4.specs.declared.marks.TheConstants.{MARKS};
 
 /// The most entries of an access control list.
 pub const MAX_ACES: usize = 128;
@@ -12,4 +13,5 @@ pub const INLINE_ACES: usize = 16;
 pub fn limits_in_numbers()
     ensures aces { MAX_ACES ≡ 128 }
     ensures inline { INLINE_ACES ≡ 16 }
+    ensures marks { MARKS ≡ 64 }
 {}

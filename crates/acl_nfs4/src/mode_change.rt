@@ -2,17 +2,21 @@
 ghost use Rattle.std.specs.Prelude.{◌≡◌, ◌<◌, ◌≤◌, ◌↔◌, ◌++◌, false, length, Err, OnOk, OnErr};
 ghost use Rattle.std.specs.Prelude.{IfOk, IsOk};
 ghost use Rattle.std.specs.List.{list_any};
+ghost use Rattle.acl_names.specs.Bits.{◌∩◌};
+ghost use Rattle.acl_posix.specs.Mode.{AreClasses};
 ghost use Rattle.acl_posix.specs.Perms.{bits_of};
 ghost use Rattle.acl_nfs4.specs.Ace.{is_idle};
 ghost use Rattle.acl_nfs4.specs.Acl.{HaveEffect, IsTooLong};
 ghost use Rattle.acl_nfs4.specs.Marks.{IsMarked};
-ghost use Rattle.acl_nfs4.specs.Mask.{mask_bits};
+ghost use Rattle.acl_nfs4.specs.Mask.{all_masks, mask_bits, rest_of};
 ghost use Rattle.acl_nfs4.specs.Evaluation.{mode_of};
 ghost use Rattle.acl_nfs4.specs.ModeChange.{kept_mask, kept_of_entry, kept_of_list, names};
 ghost use Rattle.acl_nfs4.specs.ModeChange.{names_someone};
 ghost use Rattle.acl_nfs4.specs.ModeChange.{denies_by_name, denied_to, denial_of, denials};
-ghost use Rattle.acl_nfs4.specs.ModeChange.{for_owner, for_others, with_mode};
-ghost use Rattle.acl_nfs4.specs.ModeChangeLaws.{GrantsOwner, GrantsGroup, GrantsOthers};
+ghost use Rattle.acl_nfs4.specs.ModeChange.{beyond_group, for_owner, for_others, with_denials};
+ghost use Rattle.acl_nfs4.specs.ModeChange.{with_mode, with_mode_least, without_denials};
+ghost use Rattle.acl_nfs4.specs.ModeChangeLaws.{DecideEachAlike, GrantsOwner, GrantsGroup};
+ghost use Rattle.acl_nfs4.specs.ModeChangeLaws.{GrantsOthers};
 ghost use Rattle.acl_nfs4.specs.ModeChangeLaws.{LimitsNamed, KeepsAudits, KeepsInheritOnly};
 ghost use Rattle.acl_nfs4.specs.ModeChangeLaws.{InheritsAlike};
 
@@ -208,20 +212,21 @@ fn marked_denied_to(aces: &[Ace], denied: &[bool; MARKS], who: &Who) -> Mask
     }
 }
 
-/// What the mode's group lacks, denied to this who as far as the old entries don't.
+/// These bits, denied to this who as far as the old entries don't.
 fn push_denial<const N: usize>(
     draft: &mut Draft<N>,
     aces: &[Ace],
     denied: &[bool; MARKS],
-    group: Perms,
+    bits: Mask,
     who: Who,
 ) -> Result<(), Full>
-    requires { IsMarked denies_by_name denied.now aces.now }
-    ensures ok { OnOk result (draft.new ≡ draft.old ++ denial_of (bits_of group) aces.now who) }
-    ensures full { OnErr result (IsTooLong N (draft.old ++ denial_of (bits_of group) aces.now who)) }
+    requires marked { IsMarked denies_by_name denied.now aces.now }
+    requires known { mask_bits bits ∩ all_masks ≡ mask_bits bits }
+    ensures ok { OnOk result (draft.new ≡ draft.old ++ denial_of (mask_bits bits) aces.now who) }
+    ensures full { OnErr result (IsTooLong N (draft.old ++ denial_of (mask_bits bits) aces.now who)) }
 {
     let denied = marked_denied_to(aces, denied, &who);
-    draft.push_plain(AceType::Deny, who, without(rest_of(group), denied))
+    draft.push_plain(AceType::Deny, who, without(bits, denied))
 }
 
 /// A denial for each who that the old entries name, in the order of its first entry.
@@ -229,38 +234,41 @@ fn push_denial<const N: usize>(
 /// For an entry that names someone whose mark stands this looks at the entries before it, and for
 /// each who whose mark stands among the denied at all entries. The list has at most 128 of them; to
 /// sort them by who and back would cost a second list.
-fn push_denials<const N: usize>(
-    draft: &mut Draft<N>,
-    aces: &[Ace],
-    group: Perms,
-) -> Result<(), Full>
-    ensures ok { OnOk result (draft.new ≡ draft.old ++ denials (bits_of group) aces.now) }
-    ensures full { OnErr result (IsTooLong N (draft.old ++ denials (bits_of group) aces.now)) }
+fn push_denials<const N: usize>(draft: &mut Draft<N>, aces: &[Ace], bits: Mask) -> Result<(), Full>
+    requires { mask_bits bits ∩ all_masks ≡ mask_bits bits }
+    ensures ok { OnOk result (draft.new ≡ draft.old ++ denials (mask_bits bits) aces.now) }
+    ensures full { OnErr result (IsTooLong N (draft.old ++ denials (mask_bits bits) aces.now)) }
 {
     let denied = marks_of_denied(aces);
     let mut named = [false; MARKS];
     for place in 0..aces.len() {
         let ace = &aces[place];
         if ace.names_someone() && !any_marked_names(&aces[..place], &named, &ace.who()) {
-            push_denial(draft, aces, &denied, group, ace.who())?;
+            push_denial(draft, aces, &denied, bits, ace.who())?;
         }
         named[mark_of(&ace.who())] = true;
     }
     Ok(())
 }
 
-/// The entries with the mode set.
-fn with_mode<const N: usize>(alloc: Global, aces: &[Ace], mode: Mode) -> Result<Draft<N>, Full>
+/// The entries with the mode set, and these bits denied to those whom they name.
+fn with_denials<const N: usize>(
+    alloc: Global,
+    aces: &[Ace],
+    mode: Mode,
+    bits: Mask,
+) -> Result<Draft<N>, Full>
     requires effective { HaveEffect aces.now }
     requires places { N ≤ MAX_ACES }
-    ensures ok { IfOk result (λ draft. draft ≡ with_mode aces.now mode) }
+    requires known { mask_bits bits ∩ all_masks ≡ mask_bits bits }
+    ensures ok { IfOk result (λ draft. draft ≡ with_denials (mask_bits bits) aces.now mode) }
     ensures within { IfOk result (λ draft. length draft ≤ MAX_ACES) }
-    ensures full { OnErr result (IsTooLong N (with_mode aces.now mode)) }
+    ensures full { OnErr result (IsTooLong N (with_denials (mask_bits bits) aces.now mode)) }
 {
     let mut draft = Draft::new(alloc);
     push_owner(&mut draft, mode.user)?;
     push_kept(&mut draft, aces, mode.group)?;
-    push_denials(&mut draft, aces, mode.group)?;
+    push_denials(&mut draft, aces, bits)?;
     push_others(&mut draft, mode.group, mode.other)?;
     draft.length_is_within_limit();
     Ok(draft)
@@ -270,14 +278,34 @@ fn with_mode<const N: usize>(alloc: Global, aces: &[Ace], mode: Mode) -> Result<
 /// made again to know it, if it needs no memory.
 #[cold]
 #[inline(never)]
-fn why_refused(alloc: Global, aces: &[Ace], mode: Mode) -> Fault4
-    requires { HaveEffect aces.now }
-    ensures { (result ≡ Fault4.TooMany) ↔ (MAX_ACES < length (with_mode aces.now mode)) }
+fn why_refused(alloc: Global, aces: &[Ace], mode: Mode, bits: Mask) -> Fault4
+    requires effective { HaveEffect aces.now }
+    requires known { mask_bits bits ∩ all_masks ≡ mask_bits bits }
+    ensures { (result ≡ Fault4.TooMany)
+        ↔ (MAX_ACES < length (with_denials (mask_bits bits) aces.now mode)) }
 {
-    match with_mode::<MAX_ACES>(alloc, aces, mode) {
+    match with_denials::<MAX_ACES>(alloc, aces, mode, bits) {
         Ok(_) => Fault4::Memory,
         Err(_) => Fault4::TooMany,
     }
+}
+
+/// What the mode's group lacks.
+fn lacking(mode: Mode) -> Mask
+    ensures value { mask_bits result ≡ rest_of mode.group }
+    ensures known { mask_bits result ∩ all_masks ≡ mask_bits result }
+    ensures classes { AreClasses mode }
+{
+    rest_of(mode.group)
+}
+
+/// What the mode's others have and its group lacks.
+fn beyond_group(mode: Mode) -> Mask
+    ensures value { mask_bits result ≡ beyond_group mode }
+    ensures known { mask_bits result ∩ all_masks ≡ mask_bits result }
+    ensures classes { AreClasses mode }
+{
+    without(mask_of(mode.other), mask_of(mode.group))
 }
 
 impl Acl4 {
@@ -317,14 +345,69 @@ impl Acl4 {
         // To set the mode again changes nothing.
         ensures again { OnOk result (with_mode self.new mode ≡ self.new) }
     {
-        // For the proof only: reading a field brings the invariant of `mode` into scope.
-        let _user = mode.user;
-        match with_mode::<INLINE_ACES>(alloc, self.aces(), mode) {
+        match self.set_mode(alloc, mode, lacking(mode)) {
+            Ok(()) => Ok(()),
+            Err(fault) => Err(fault),
+        }
+    }
+
+    /// Sets the mode as `chmod4` does, and denies those whom entries name no more than it takes:
+    /// what the mode's others have and its group lacks, mostly nothing. Whoever asks, the list
+    /// decides each bit as the one that `chmod4` makes. But a mode that is set later gives those
+    /// who are named what it gives anybody else, where `chmod4` leaves them denied.
+    ///
+    /// It is refused as `chmod4` refuses.
+    pub fn chmod4_least(&mut self, alloc: Global, mode: Mode) -> Result<(), Fault4>
+        ensures ok { OnOk result (self.new ≡ with_mode_least self.old mode) }
+        ensures too_many { (result ≡ Err Fault4.TooMany)
+            ↔ (MAX_ACES < length (with_mode_least self.old mode)) }
+        ensures err { OnErr result (self.new ≡ self.old) }
+        ensures short { length (with_mode_least self.old mode) ≤ INLINE_ACES → IsOk result }
+
+        // Whoever asks, each bit is decided as `chmod4` would have it.
+        ensures alike { OnOk result (DecideEachAlike self.new (with_mode self.old mode)) }
+
+        // If the mode's others have no more than its group, nobody is denied anything by name.
+        ensures undenied { OnOk result (beyond_group mode ≡ 0
+            → self.new ≡ without_denials self.old mode) }
+
+        // The mode shown is the mode set, and who is granted what is as there.
+        ensures shown { OnOk result (mode_of self.new ≡ mode) }
+        ensures owner_granted { OnOk result (GrantsOwner self.new mode) }
+        ensures group_granted { OnOk result (GrantsGroup self.old self.new mode) }
+        ensures others_granted { OnOk result (GrantsOthers self.old self.new mode) }
+        ensures named_limited { OnOk result (LimitsNamed self.old self.new mode) }
+
+        // What the mode doesn't speak of stays.
+        ensures audits_kept { OnOk result (KeepsAudits self.old self.new) }
+        ensures inherit_only_kept { OnOk result (KeepsInheritOnly self.old self.new) }
+        ensures inherits_alike { OnOk result (InheritsAlike self.old self.new) }
+
+        // To set the mode again changes nothing.
+        ensures again { OnOk result (with_mode_least self.new mode ≡ self.new) }
+    {
+        match self.set_mode(alloc, mode, beyond_group(mode)) {
+            Ok(()) => Ok(()),
+            Err(fault) => Err(fault),
+        }
+    }
+
+    /// Sets the mode, and denies these bits to those whom the list names.
+    fn set_mode(&mut self, alloc: Global, mode: Mode, bits: Mask) -> Result<(), Fault4>
+        requires { mask_bits bits ∩ all_masks ≡ mask_bits bits }
+        ensures ok { OnOk result (self.new ≡ with_denials (mask_bits bits) self.old mode) }
+        ensures too_many { (result ≡ Err Fault4.TooMany)
+            ↔ (MAX_ACES < length (with_denials (mask_bits bits) self.old mode)) }
+        ensures err { OnErr result (self.new ≡ self.old) }
+        ensures short { length (with_denials (mask_bits bits) self.old mode) ≤ INLINE_ACES
+            → IsOk result }
+    {
+        match with_denials::<INLINE_ACES>(alloc, self.aces(), mode, bits) {
             Ok(draft) => {
                 *self = draft.into_acl();
                 Ok(())
             }
-            Err(_) => Err(why_refused(alloc, self.aces(), mode)),
+            Err(_) => Err(why_refused(alloc, self.aces(), mode, bits)),
         }
     }
 }

@@ -1,18 +1,17 @@
 //! Whom to ask to know whether two lists decide alike for everyone: the askers of all pairs of
 //! their entries.
-ghost use Rattle.std.specs.Prelude.{◌≡◌, ◌≤◌, ◌||◌, MatchOption, length};
+ghost use Rattle.std.specs.Prelude.{◌≡◌, ◌≤◌, ◌+◌, ◌||◌, IfNone, IfSome, MatchOption, length};
 ghost use Rattle.acl_names.specs.Asker.{identity_of};
-ghost use Rattle.acl_nfs4.specs.Comparison.{IsStranger, OfEach, OfEachAsker, asker_for, asks_for};
-ghost use Rattle.acl_nfs4.specs.Comparison.{needed_gid, needed_uid, needs_user};
+ghost use Rattle.acl_names.specs.declared.limits.TheConstants.{MAX_ID};
+ghost use Rattle.acl_nfs4.specs.Comparison.{AsksPairs, IsStrangerTo, OfEach, OfEachAsker};
+ghost use Rattle.acl_nfs4.specs.Comparison.{asker_for, asks_for, has_user, is_known, is_needed};
+ghost use Rattle.acl_nfs4.specs.Comparison.{needed_gid, needed_uid, needs_user, tried};
 ghost use Rattle.acl_nfs4.specs.declared.limits.TheConstants.{MAX_ACES};
 
 use crate::limits::MAX_ACES;
 use crate::{Ace, Owners, Who};
-use acl_names::{Asker, Gid, NOBODY, Uid};
+use acl_names::{Asker, Gid, MAX_ID, NOBODY, Requester, Uid};
 use acl_posix::{Entry, Tag};
-
-/// How many users are tried as strangers: one more than two lists have entries.
-const STRANGERS: u32 = 2 * MAX_ACES as u32 + 1;
 
 /// An entry of a list of either style.
 pub trait AboutWho {
@@ -152,23 +151,64 @@ fn asks_for<E: AboutWho>(entries: &[E], owner: Uid, uid: Uid) -> bool
         .any(|entry| entry.who().needs_user(owner, uid))
 }
 
-/// A uid that no entry requires. Each entry requires at most one, so one of `2 * MAX_ACES + 1`
-/// candidates is free. They are tried from nobody's number downwards, since low numbers are those
-/// of people and of root.
-fn stranger<E: AboutWho>(first: &[E], second: &[E], owner: Uid, other_owner: Uid) -> Uid
-    requires first { length first.now ≤ MAX_ACES }
-    requires second { length second.now ≤ MAX_ACES }
-    ensures first { IsStranger E.who owner first.now result }
-    ensures second { IsStranger E.who other_owner second.now result }
+/// Whether one of these is this user.
+fn has_user(known: &[Requester], uid: Uid) -> bool
+    ensures { result ≡ has_user known.now uid }
 {
-    for number in 0..STRANGERS {
-        if let Some(uid) = Uid::new(NOBODY - number) {
-            if !(asks_for(first, owner, uid) || asks_for(second, other_owner, uid)) {
-                return uid;
+    known.iter().any(|one| one.uid() == uid)
+}
+
+/// Whether the user is uid 0 or one of these.
+pub fn is_known(known: &[Requester], uid: Uid) -> bool
+    ensures { result ≡ is_known known.now uid }
+{
+    uid.value() == 0 || has_user(known, uid)
+}
+
+/// The number of the user who is tried at this place: from nobody's number downwards, since low
+/// numbers are those of people and of root, and then upwards.
+fn tried(place: u32) -> u32
+    requires { place ≤ MAX_ID }
+    ensures value { result ≡ tried place }
+    ensures in_range { result ≤ MAX_ID }
+{
+    if place <= NOBODY {
+        NOBODY - place
+    } else {
+        place
+    }
+}
+
+/// Whether an entry requires this user, each list for a file of its own owner.
+fn is_needed<E: AboutWho>(first: &[E], owner: Uid, second: &[E], other_owner: Uid, uid: Uid) -> bool
+    ensures { result ≡ is_needed E.who first.now owner second.now other_owner uid }
+{
+    asks_for(first, owner, uid) || asks_for(second, other_owner, uid)
+}
+
+/// A uid that no entry requires, each list for a file of its own owner, and that is neither 0 nor
+/// that of one of these. Each entry requires one at most, so there is one unless nearly all ids are
+/// those of these.
+pub fn stranger<E: AboutWho>(
+    first: &[E],
+    owner: Uid,
+    second: &[E],
+    other_owner: Uid,
+    known: &[Requester],
+) -> Option<Uid>
+    ensures some { IfSome result
+        (IsStrangerTo E.who first.now owner second.now other_owner known.now) }
+    ensures none { IfNone result
+        (MAX_ID ≤ length first.now + length second.now + length known.now + 1) }
+{
+    for place in 0..MAX_ID {
+        if let Some(uid) = Uid::new(tried(place)) {
+            if !is_needed(first, owner, second, other_owner, uid) && !is_known(known, uid) {
+                return Some(uid);
             }
         }
     }
-    owner
+    None
 }
 
 /// What the lists decide differently for the asker of these two.
@@ -226,6 +266,30 @@ fn difference_of<E: AboutWho, L: Compared>(
     difference_for(lists, second, askers, &Who::Everyone)
 }
 
+/// What two lists decide differently for the asker of a pair of entries, one of each, each list for
+/// a file of its own owners. Where neither asks for a user, it is this stranger. It takes no
+/// memory.
+pub fn difference_with<E: AboutWho, L: Compared>(
+    lists: &L,
+    first: &[E],
+    owners: &Owners,
+    second: &[E],
+    other_owners: &Owners,
+    stranger: Uid,
+) -> Option<L::Difference>
+    ensures { MatchOption result
+        (AsksPairs E.who first.now second.now owners.now other_owners.now stranger
+        (L.Alike lists.now))
+        (L.Differs lists.now) }
+{
+    let askers = Askers {
+        owners: *owners,
+        other_owners: *other_owners,
+        stranger,
+    };
+    difference_of(lists, first, second, &askers)
+}
+
 /// What two lists decide differently for the asker of a pair of entries, one of each: the lists of
 /// these entries, at most 128 each (`MAX_ACES`), each for a file of its own owners. It takes no
 /// memory.
@@ -242,10 +306,6 @@ pub fn difference_by_pairs<E: AboutWho, L: Compared>(
         (OfEachAsker E.who first.now second.now owners.now other_owners.now (L.Alike lists.now))
         (L.Differs lists.now) }
 {
-    let askers = Askers {
-        owners: *owners,
-        other_owners: *other_owners,
-        stranger: stranger(first, second, owners.owner, other_owners.owner),
-    };
-    difference_of(lists, first, second, &askers)
+    let stranger = stranger(first, owners.owner, second, other_owners.owner, &[])?;
+    difference_with(lists, first, owners, second, other_owners, stranger)
 }

@@ -66,16 +66,14 @@ fn read_who_of_parts(text: &[u8]) -> Option<WrittenWho<'_>>
 fn read_special<'a>(word: &'a [u8]) -> Option<WrittenWho<'a>>
     ensures { option_map view_who result ≡ special_of word.now }
 {
-    match word {
-        b"OWNER" => Some(WrittenWho::Owner),
-        b"GROUP" => Some(WrittenWho::Group),
-        _ => {
-            if word == b"EVERYONE".as_slice() {
-                Some(WrittenWho::Everyone)
-            } else {
-                None
-            }
-        }
+    if word == b"OWNER".as_slice() {
+        Some(WrittenWho::Owner)
+    } else if word == b"GROUP".as_slice() {
+        Some(WrittenWho::Group)
+    } else if word == b"EVERYONE".as_slice() {
+        Some(WrittenWho::Everyone)
+    } else {
+        None
     }
 }
 

@@ -154,12 +154,16 @@ fn read_fields(piece: &[u8]) -> Option<Fields<'_>>
 fn read_tag_word(text: &[u8]) -> Option<TagWord>
     ensures { result ≡ tag_word text.now }
 {
-    match text {
-        b"user" | b"u" => Some(TagWord::User),
-        b"group" | b"g" => Some(TagWord::Group),
-        b"mask" | b"m" => Some(TagWord::Mask),
-        b"other" | b"o" => Some(TagWord::Other),
-        _ => None,
+    if text == b"user".as_slice() || text == b"u".as_slice() {
+        Some(TagWord::User)
+    } else if text == b"group".as_slice() || text == b"g".as_slice() {
+        Some(TagWord::Group)
+    } else if text == b"mask".as_slice() || text == b"m".as_slice() {
+        Some(TagWord::Mask)
+    } else if text == b"other".as_slice() || text == b"o".as_slice() {
+        Some(TagWord::Other)
+    } else {
+        None
     }
 }
 

@@ -1,6 +1,6 @@
 use Rattle.std.proofs.Common.{subst, set, true, ◌+◌, Bool, ℕ, ◌∙◌, sym, ap, ◌++◌, List, take, append_assoc, flat_map}
 use Rattle.std.specs.List.{list_any}
-use Rattle.acl_posix.specs.Perms.{bits_of}
+use Rattle.acl_nfs4.specs.Mask.{mask_bits}
 use Rattle.acl_nfs4.specs.Ace.{Nfsace4}
 use Rattle.acl_nfs4.specs.Marks.{mark_of, IsMarked}
 use Rattle.acl_nfs4.proofs.MarkLemmas.{marked-more, names-about}
@@ -20,11 +20,11 @@ returns-in_err-push_denial-clause-full g c =
     let aces = c.args.aces.now in
     let i = c.loop-place.place in
     let ace = c.index-aces-place.result in
-    let f : Who → List Nfsace4 = denial_of (bits_of c.args.group) aces in
+    let f : Who → List Nfsace4 = denial_of (mask_bits c.args.bits) aces in
     let ahead = made-ahead f aces i ace c.loop-place-test.true c.index-aces-place.is (sym c.names_someone.ensures ∙ c.if-names_someone.true)
     (ap (λ who. list_any (names who) (take i aces)) (sym c.who.ensures) ∙ sym c.any_marked_names.ensures ∙ c.if-not-any_marked_names.true) in
     OnErr-from c.from_residual.result
-    (too_long-within g.row.N c.loop-place.draft (f ace.who) ahead.0 (c.args.draft.now ++ denials (bits_of c.args.group) aces)
+    (too_long-within g.row.N c.loop-place.draft (f ace.who) ahead.0 (c.args.draft.now ++ denials (mask_bits c.args.bits) aces)
     (ap (λ (xs : List Nfsace4). xs ++ (f ace.who ++ ahead.0)) c.loop-place.invariant.0
     ∙ append_assoc c.args.draft.now (flat_map f (named_whos (take i aces))) (f ace.who ++ ahead.0)
     ∙ ap (λ (xs : List Nfsace4). c.args.draft.now ++ xs) ahead.1)
@@ -35,7 +35,7 @@ loop-place-preserved g c =
     let aces = c.args.aces.now in
     let i = c.loop-place.place in
     let ace = c.index-aces-place.result in
-    let f : Who → List Nfsace4 = denial_of (bits_of c.args.group) aces in
+    let f : Who → List Nfsace4 = denial_of (mask_bits c.args.bits) aces in
     let front : List Nfsace4 = c.args.draft.now in (
       elim c.if-names_someone.branch [
         | then-names_someone+then-not-any_marked_names+in_ok-push_denial w ↦
