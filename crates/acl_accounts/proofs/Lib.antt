@@ -6,3 +6,8 @@ pub mod FirstLemmas
 pub mod ResultLemmas
 pub mod PlaceLemmas
 pub mod FrontLemmas
+pub mod CutLemmas
+pub mod SpaceLemmas
+pub mod FieldLemmas
+pub mod MemberLemmas
+pub mod ShapeLemmas

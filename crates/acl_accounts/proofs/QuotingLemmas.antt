@@ -5,9 +5,10 @@ use Rattle.std.specs.Char.{is_ascii_digit}
 use Rattle.std.specs.List.{list_all, list_any}
 use Rattle.std.proofs.lemmas.Bool.{cases_Bool, true≢false, or_parts, or_cases, and_parts}
 use Rattle.std.proofs.lemmas.Bool.Decides.{Decides-eqb}
-use Rattle.acl_names.specs.Bytes.{newline, tab, space, comma, colon}
+use Rattle.acl_names.specs.Bytes.{backslash, carriage_return, colon, comma, newline, space, tab}
+use Rattle.acl_names.specs.Shown.{octal}
 use Rattle.acl_names.specs.Ids.{Number, decimal_value}
-use Rattle.acl_accounts.specs.Names.{backslash, carriage_return, octal, is_quoted, quoted, quoted_byte, unquoted, splits, named, written_account}
+use Rattle.acl_accounts.specs.Names.{is_quoted, quoted, quoted_byte, unquoted, splits, named, written_account}
 
 -- what holds of the seven bytes holds of each byte that is written by its digits
 of_each : (P : ℕ → Type 0) → P space → P tab → P newline → P carriage_return → P colon → P comma → P backslash

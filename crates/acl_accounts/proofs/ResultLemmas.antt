@@ -40,7 +40,7 @@ find-map {X} {Y} f p (x ∷ xs) = go (p (f x)) (find-map f p xs)
 find_stays : {X : Type 0} (p : X → Bool) (old new : List X) → filter p new ≡ filter p old → find p new ≡ find p old
 find_stays p old new kept = find-filter p new ∙ ap first_of kept ∙ sym (find-filter p old)
 
-map_twice : {X Y Z : Type 0} (f : X → Y) (g : Y → Z) (o : Option X) → option_map (λ x. g (f x)) o ≡ option_map g (option_map f o)
+pub map_twice : {X Y Z : Type 0} (f : X → Y) (g : Y → Z) (o : Option X) → option_map (λ x. g (f x)) o ≡ option_map g (option_map f o)
 map_twice f g None = refl
 map_twice f g (Some x) = refl
 

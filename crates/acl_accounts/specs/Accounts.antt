@@ -1,15 +1,13 @@
 -- The users and groups of a host.
-use Rattle.std.specs.Prelude.{◌≡◌, ℕ, ◌==◌, nat_lt, List, [], ◌∷◌, length, Option}
+use Rattle.std.specs.Prelude.{◌≡◌, ℕ, Bool, ◌==◌, nat_lt, List, [], ◌∷◌, length, Option}
 use Rattle.std.specs.Prelude.{option_map, ◌++◌, fold, map, filter, Result, Err, if◌then◌else◌}
-use Rattle.std.specs.Prelude.{bytes_eq}
+use Rattle.std.specs.Prelude.{bytes_eq, is_some}
 use Rattle.std.specs.List.{find, flat_map, list_any, position}
 use Rattle.std.specs.Cmp.Lexicographic.{slice_cmp}
 use Rattle.std.specs.Ordering.{nat_cmp}
 use Rattle.acl_names.specs.Ascending.{IsAscending}
-use Rattle.acl_names.specs.Bytes.{comma}
 use Rattle.acl_names.specs.Ids.{Written, Number, Name}
 use Rattle.acl_names.specs.Names.{Names}
-use Rattle.acl_names.specs.Pieces.{parts}
 use Rattle.acl_names.specs.Requester.{Identity}
 use Rattle.acl_accounts.specs.Names.{written_account}
 use Rattle.acl_accounts.specs.Rows.{Rows, UserRow, GroupRow, rows_of}
@@ -50,7 +48,7 @@ membership gid name = record { name = name; gid = gid }
 
 -- the memberships in a group, and in groups
 abbrev pub memberships_in : GroupRow → List Membership
-memberships_in group = map (membership group.gid) (parts comma group.members)
+memberships_in group = map (membership group.gid) group.members
 
 abbrev pub memberships_of : List GroupRow → List Membership
 memberships_of groups = flat_map memberships_in groups
@@ -83,6 +81,9 @@ account_named accounts name = find (λ user. bytes_eq user.name name) accounts.u
 
 abbrev pub group_named : KnownAccounts → List ℕ → Option KnownAccountGroup
 group_named accounts name = find (λ group. bytes_eq group.name name) accounts.groups
+
+abbrev pub is_user_in : KnownAccounts → List ℕ → Bool
+is_user_in accounts name = is_some (account_named accounts name)
 
 -- the ids of names
 abbrev pub uid_of : KnownAccounts → List ℕ → Option ℕ

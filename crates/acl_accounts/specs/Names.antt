@@ -3,15 +3,11 @@ use Rattle.std.specs.Prelude.{ℕ, ◌+◌, ◌-◌, ◌*◌, ◌/◌, ◌%◌, 
 use Rattle.std.specs.Prelude.{List, [], ◌∷◌, length, Option, Some, None, option_map, if◌then◌else◌}
 use Rattle.std.specs.List.{flat_map, list_all, list_any}
 use Rattle.std.specs.Char.{is_ascii_digit}
-use Rattle.acl_names.specs.Bytes.{newline, tab, space, comma, colon, digit_0, digit_7}
+use Rattle.acl_names.specs.Bytes.{backslash, carriage_return, colon, comma, digit_0, digit_7}
+use Rattle.acl_names.specs.Bytes.{newline, space, tab}
 use Rattle.acl_names.specs.Ids.{Written, Number, Name, decimal_value}
+use Rattle.acl_names.specs.Shown.{octal}
 use Rattle.acl_accounts.specs.declared.limits.TheConstants.{MAX_ACCOUNT_NAME}
-
-abbrev pub carriage_return : ℕ
-carriage_return = 13
-
-abbrev pub backslash : ℕ
-backslash = 92
 
 -- `3`
 abbrev pub digit_3 : ℕ
@@ -30,11 +26,6 @@ splits byte = (byte == space) || (byte == tab) || (byte == newline) || (byte == 
 -- the bytes that are printed by their octal digits: those, and `\`
 abbrev pub is_quoted : ℕ → Bool
 is_quoted byte = splits byte || (byte == backslash)
-
--- `\` and the three octal digits of a byte
-abbrev pub octal : ℕ → List ℕ
-octal byte =
-    backslash ∷ (digit_0 + byte / 64) ∷ (digit_0 + byte / 8 % 8) ∷ (digit_0 + byte % 8) ∷ []
 
 abbrev pub quoted_byte : ℕ → List ℕ
 quoted_byte byte = if is_quoted byte then octal byte else byte ∷ []

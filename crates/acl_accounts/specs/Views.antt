@@ -16,7 +16,12 @@ abbrev pub view_user : UserRow → text.UserRow
 view_user user = record { name = user.name.now; uid = user.uid; gid = user.gid }
 
 abbrev pub view_group : GroupRow → text.GroupRow
-view_group group = record { name = group.name.now; gid = group.gid; members = group.members.now }
+view_group group = record {
+  name = group.name.now;
+  gid = group.gid;
+  members = text.members_of group.members.now;
+  line = group.line;
+}
 
 abbrev pub view_row : Row → text.Row
 view_row (row.User user) = text.IsUser (view_user user)

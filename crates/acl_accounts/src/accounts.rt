@@ -1,7 +1,7 @@
 //! The users and groups of a host.
 
 ghost use Rattle.std.specs.Prelude.{◌≡◌, ◌≢◌, map, IfErr, IfOk, IfSome, IsOk, Err, Some};
-ghost use Rattle.std.specs.Prelude.{bytes_eq, option_map};
+ghost use Rattle.std.specs.Prelude.{bytes_eq, find, option_map};
 ghost use Rattle.std.specs.Cmp.Lexicographic.{slice_cmp};
 ghost use Rattle.std.specs.List.{position};
 ghost use Rattle.std.specs.Option.{option_copied};
@@ -9,8 +9,9 @@ ghost use Rattle.std.specs.Ordering.{nat_cmp};
 ghost use Rattle.acl_names.specs.Ascending.{IsAscending};
 ghost use Rattle.acl_names.specs.Ids.{id_of_written};
 ghost use Rattle.acl_accounts.specs.Accounts.{AreOf, account_named, account_of, gid_of, group_name};
-ghost use Rattle.acl_accounts.specs.Accounts.{group_of, place_of_written, rows_within, uid_of};
-ghost use Rattle.acl_accounts.specs.Accounts.{user_name};
+ghost use Rattle.acl_accounts.specs.Accounts.{group_of, is_user_in, place_of_written, rows_within};
+ghost use Rattle.acl_accounts.specs.Accounts.{uid_of, user_name};
+ghost use Rattle.acl_accounts.specs.Rows.{is_cut};
 ghost use Rattle.acl_accounts.specs.Views.{view_group, view_rows, view_user, view_written};
 ghost use Rattle.acl_accounts.specs.declared.fault.AccountsFault.TheVariants.{Memory};
 
@@ -19,6 +20,7 @@ use crate::fault::AccountsFault;
 use crate::group::AccountGroup;
 use crate::guesses::{find_by_hash, guesses_of, place_by_hash};
 use crate::limits::MAX_ACCOUNTS_TEXT;
+use crate::members::number_alone;
 use crate::memberships::memberships_of;
 use crate::named::{first_of_each, sort_by_name};
 use crate::places::{find_by_id, places_by_id};
@@ -71,8 +73,9 @@ impl Model for Accounts {
 }
 
 impl Accounts {
-    /// The accounts that a text lists: what `getent passwd` and `getent group` print, in any order.
-    /// The first line that is bad, or one too many, decides. `Memory` comes only if memory runs
+    /// The accounts that a text lists: what `getent passwd` and `getent group` print, in any order,
+    /// or what their files have. The first line that is bad, or one too many, decides; if there is
+    /// none, the first that is what is left of a user's line. `Memory` comes only if memory runs
     /// out.
     pub fn read(alloc: Global, text: &[u8]) -> Result<Accounts, AccountsFault>
         ensures read { IfOk result (λ accounts. IfOk (rows_within text.now)
@@ -85,9 +88,30 @@ impl Accounts {
             return Err(AccountsFault::TooMany);
         }
         let rows = read_rows(alloc, text)?;
-        match Accounts::from_rows(alloc, rows) {
-            Ok(accounts) => Ok(accounts),
-            Err(AllocError) => Err(AccountsFault::Memory),
+        // In the order of the file, in which `from_rows` doesn't leave them.
+        let groups = Vec::from_slice(alloc, &rows.groups)?;
+        let accounts = Accounts::from_rows(alloc, rows)?;
+        match accounts.first_cut(&groups) {
+            Some(line) => Err(AccountsFault::BadAccount(line)),
+            None => Ok(accounts),
+        }
+    }
+
+    /// The line of the first of these groups that is what is left of a user's line.
+    fn first_cut(&self, groups: &[GroupRow<'_>]) -> Option<usize>
+        ensures { result ≡ option_map (λ group. group.line)
+            (find (λ group. is_cut (is_user_in self.now) (view_group group)) groups.now) }
+    {
+        let group = groups.iter().find(|group| self.is_cut(group))?;
+        Some(group.line)
+    }
+
+    fn is_cut(&self, group: &GroupRow<'_>) -> bool
+        ensures { result ≡ is_cut (is_user_in self.now) (view_group group.now) }
+    {
+        match number_alone(group.members) {
+            Some(name) => self.user(name).is_none(),
+            None => false,
         }
     }
 

@@ -8,7 +8,8 @@ use std::alloc::{AllocError, AllocFailed};
 /// Why a text is no accounts.
 #[derive(Clone, Copy, Debug, PartialEq, Eq)]
 pub enum AccountsFault {
-    /// The line of this number, counted from 1, is neither a user nor a group, nor passed over.
+    /// The line of this number, counted from 1, is neither a user nor a group, nor passed over; or
+    /// it is what is left of a user's line.
     BadAccount(usize),
     /// There are more users or groups than `MAX_ACCOUNT_USERS` or `MAX_ACCOUNT_GROUPS`, or more
     /// bytes than `MAX_ACCOUNTS_TEXT`.

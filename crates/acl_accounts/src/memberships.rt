@@ -9,9 +9,10 @@ ghost use Rattle.acl_accounts.specs.Accounts.{each_once, memberships_in, members
 ghost use Rattle.acl_accounts.specs.Seen.{HaveBeenSeen};
 ghost use Rattle.acl_accounts.specs.Views.{view_group, view_membership};
 
+use crate::members::Members;
 use crate::named::sort_by_name;
 use crate::rows::GroupRow;
-use acl_names::{Gid, Parts};
+use acl_names::Gid;
 use std::alloc::{AllocError, Global};
 use std::collections::HashSet;
 
@@ -75,7 +76,7 @@ fn push_members<'t>(
     ensures { OnOk result (map view_membership memberships.new.items
         ≡ map view_membership memberships.old.items ++ memberships_in (view_group group.now)) }
 {
-    let mut members = Parts::new(b',', group.members);
+    let mut members = Members::new(group.members);
     while let Some(name) = members.next() {
         let membership = Membership {
             name,

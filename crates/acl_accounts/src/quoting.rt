@@ -7,12 +7,15 @@ ghost use Rattle.std.specs.Char.{is_ascii_digit};
 ghost use Rattle.std.specs.List.{list_all, list_any};
 ghost use Rattle.acl_names.specs.Ids.{Number, decimal_value};
 ghost use Rattle.acl_names.specs.Pushing.{Pushes};
-ghost use Rattle.acl_accounts.specs.Names.{backslash, is_octal, is_pair, is_quoted, named};
-ghost use Rattle.acl_accounts.specs.Names.{octal, octal_value, quoted, quoted_byte, splits};
+ghost use Rattle.acl_names.specs.Bytes.{backslash};
+ghost use Rattle.acl_names.specs.Shown.{octal};
+ghost use Rattle.acl_accounts.specs.Names.{is_octal, is_pair, is_quoted, named, octal_value};
+ghost use Rattle.acl_accounts.specs.Names.{quoted, quoted_byte, splits};
 ghost use Rattle.acl_accounts.specs.Names.{unquoted, written_account};
 ghost use Rattle.acl_accounts.specs.declared.limits.TheConstants.{MAX_ACCOUNT_NAME};
 
 use crate::limits::MAX_ACCOUNT_NAME;
+use acl_names::octal;
 use arrayvec::ArrayVec;
 use std::alloc::AllocError;
 
@@ -55,18 +58,6 @@ fn is_quoted(byte: u8) -> bool
         || byte == b':'
         || byte == b','
         || byte == b'\\'
-}
-
-/// `\` and the three octal digits of a byte.
-pub fn octal(byte: u8) -> [u8; 4]
-    ensures { result ≡ octal byte }
-{
-    [
-        b'\\',
-        b'0' + byte / 64,
-        b'0' + byte / 8 % 8,
-        b'0' + byte % 8,
-    ]
 }
 
 /// Puts what a text writes, which is undone of its pairs of backslashes and its octal digits, in

@@ -3,15 +3,16 @@
 ghost use Rattle.std.specs.Prelude.{◌≡◌, ◌≢◌, ◌≤◌, length, option_map, IfOk, IfErr, Ok, Err};
 ghost use Rattle.acl_names.specs.Bytes.{colon};
 ghost use Rattle.acl_names.specs.Pieces.{parts};
-ghost use Rattle.acl_names.specs.Ids.{decimal_value};
-ghost use Rattle.acl_accounts.specs.Rows.{group_row, is_passed_over, row_of, row_of_fields};
-ghost use Rattle.acl_accounts.specs.Rows.{rows_of, user_row};
+ghost use Rattle.acl_accounts.specs.Rows.{group_row, is_mark, is_numeric, is_read_at_login};
+ghost use Rattle.acl_accounts.specs.Rows.{members_of, names_nobody, number_of, row_behind_space};
+ghost use Rattle.acl_accounts.specs.Rows.{row_of, row_of_fields, rows_of_lines, user_row};
 ghost use Rattle.acl_accounts.specs.Views.{view_row, view_rows};
 ghost use Rattle.acl_accounts.specs.declared.limits.TheConstants.{MAX_ACCOUNTS_TEXT};
 ghost use Rattle.acl_accounts.specs.declared.fault.AccountsFault.TheVariants.{Memory};
 
 use crate::fault::AccountsFault;
 use crate::limits::{MAX_ACCOUNT_GROUPS, MAX_ACCOUNT_USERS};
+use crate::space::{is_space, skip_space};
 use crate::written::is_account_name;
 use acl_names::{Gid, Parts, Uid, read_decimal};
 use std::alloc::Global;
@@ -30,6 +31,8 @@ pub(crate) struct GroupRow<'t> {
     pub name: &'t [u8],
     pub gid: Gid,
     pub members: &'t [u8],
+    /// The number of the line.
+    pub line: usize,
 }
 
 /// What a line says.
@@ -51,15 +54,15 @@ pub(crate) struct Rows<'t> {
 /// The rows of a text, up to the first line that is bad or one too many.
 pub(crate) fn read_rows(alloc: Global, text: &[u8]) -> Result<Rows<'_>, AccountsFault>
     requires { length text.now ≤ MAX_ACCOUNTS_TEXT }
-    ensures read { IfOk result (λ rows. rows_of text.now ≡ Ok (view_rows rows)) }
-    ensures fault { IfErr result (λ fault. (fault ≢ Memory) → rows_of text.now ≡ Err fault) }
+    ensures read { IfOk result (λ rows. rows_of_lines text.now ≡ Ok (view_rows rows)) }
+    ensures fault { IfErr result (λ fault. (fault ≢ Memory) → rows_of_lines text.now ≡ Err fault) }
 {
     let mut users = Vec::new(alloc);
     let mut groups = Vec::new(alloc);
     let mut lines = Parts::new(b'\n', text);
     let mut number: usize = 1;
     while let Some(line) = lines.next() {
-        match read_row(line) {
+        match read_row(number, line) {
             Some(Row::User(row)) => {
                 if users.len() >= MAX_ACCOUNT_USERS {
                     return Err(AccountsFault::TooMany);
@@ -84,31 +87,88 @@ pub(crate) fn read_rows(alloc: Global, text: &[u8]) -> Result<Rows<'_>, Accounts
     Ok(Rows { users, groups })
 }
 
-/// What a line says, if it is none of those that are bad.
-fn read_row(line: &[u8]) -> Option<Row<'_>>
-    ensures { option_map view_row result ≡ row_of line.now }
+/// What the line of this number says, if it is none of those that are bad.
+fn read_row(number: usize, line: &[u8]) -> Option<Row<'_>>
+    ensures { option_map view_row result ≡ row_of number line.now }
 {
-    if is_passed_over(line) {
-        Some(Row::Passed)
-    } else {
-        read_fields(line)
+    // C would end the line there.
+    if line.contains(&0) {
+        return None;
+    }
+    read_behind_space(number, skip_space(line))
+}
+
+/// The same of a line that has no white space before it, and no zero byte.
+fn read_behind_space(number: usize, line: &[u8]) -> Option<Row<'_>>
+    ensures { option_map view_row result ≡ row_behind_space number line.now }
+{
+    let [byte, ..] = line else {
+        return Some(Row::Passed);
+    };
+    if !is_mark(*byte) {
+        return read_fields(number, line);
+    }
+    if is_read_at_login(line) {
+        return None;
+    }
+    Some(Row::Passed)
+}
+
+/// Whether a line that begins so is a comment, or names another source.
+fn is_mark(byte: u8) -> bool
+    ensures { result ≡ is_mark byte }
+{
+    byte == b'#' || byte == b'+' || byte == b'-'
+}
+
+/// Whether the system reads a line in spite of its mark, when somebody logs in, as a group with
+/// members: glibc looks a user's groups up without regard to marks.
+#[tactic(auto, unfolding(crate::specs::Rows::is_read_at_login))]
+fn is_read_at_login(line: &[u8]) -> bool
+    ensures { result ≡ is_read_at_login (parts colon line.now) }
+{
+    let mut fields = Parts::new(b':', line);
+    match (
+        fields.next(),
+        fields.next(),
+        fields.next(),
+        fields.next(),
+        fields.next(),
+        fields.next(),
+        fields.next(),
+        fields.next(),
+    ) {
+        (Some(_), Some(_), Some(number), Some(members), None, _, _, _) => {
+            is_numeric(number) && !names_nobody(members)
+        }
+        (Some(_), Some(_), Some(uid), Some(gid), Some(_), Some(_), Some(_), None) => {
+            is_numeric(uid) && !is_numeric(gid)
+        }
+        (Some(_), Some(_), Some(number), Some(_), _, _, _, _) => is_numeric(number),
+        _ => false,
     }
 }
 
-/// Whether a line is empty, a comment, or one that names another source.
-fn is_passed_over(line: &[u8]) -> bool
-    ensures { result ≡ is_passed_over line.now }
+/// Whether a field is digits, signs and white space alone.
+pub(crate) fn is_numeric(field: &[u8]) -> bool
+    ensures { result ≡ is_numeric field.now }
 {
-    match line {
-        [] => true,
-        [byte, ..] => *byte == b'#' || *byte == b'+' || *byte == b'-',
-    }
+    field.iter().all(|byte| {
+        byte.is_ascii_digit() || *byte == b'+' || *byte == b'-' || is_space(*byte)
+    })
+}
+
+/// Whether a field is white space and commas alone.
+fn names_nobody(field: &[u8]) -> bool
+    ensures { result ≡ names_nobody field.now }
+{
+    field.iter().all(|byte| is_space(*byte) || *byte == b',')
 }
 
 /// `name:x:uid:gid:gecos:home:shell`, or `name:x:gid:member,member`.
 #[tactic(auto, unfolding(crate::specs::Rows::row_of_fields))]
-fn read_fields(line: &[u8]) -> Option<Row<'_>>
-    ensures { option_map view_row result ≡ row_of_fields (parts colon line.now) }
+fn read_fields(number: usize, line: &[u8]) -> Option<Row<'_>>
+    ensures { option_map view_row result ≡ row_of_fields number (parts colon line.now) }
 {
     let mut fields = Parts::new(b':', line);
     match (
@@ -122,7 +182,7 @@ fn read_fields(line: &[u8]) -> Option<Row<'_>>
         fields.next(),
     ) {
         (Some(name), Some(_), Some(gid), Some(members), None, _, _, _) => {
-            read_group(name, gid, members)
+            read_group(number, name, gid, members)
         }
         (Some(name), Some(_), Some(uid), Some(gid), Some(_), Some(_), Some(_), None) => {
             read_user(name, uid, gid)
@@ -133,7 +193,7 @@ fn read_fields(line: &[u8]) -> Option<Row<'_>>
 
 fn read_user<'t>(name: &'t [u8], uid: &[u8], gid: &[u8]) -> Option<Row<'t>>
     ensures { option_map view_row result
-        ≡ user_row name.now (decimal_value uid.now) (decimal_value gid.now) }
+        ≡ user_row name.now (number_of uid.now) (number_of gid.now) }
 {
     match (read_uid(uid), read_gid(gid)) {
         (Some(uid), Some(gid)) => {
@@ -147,13 +207,19 @@ fn read_user<'t>(name: &'t [u8], uid: &[u8], gid: &[u8]) -> Option<Row<'t>>
     }
 }
 
-fn read_group<'t>(name: &'t [u8], gid: &[u8], members: &'t [u8]) -> Option<Row<'t>>
-    ensures { option_map view_row result ≡ group_row name.now (decimal_value gid.now) members.now }
+fn read_group<'t>(line: usize, name: &'t [u8], gid: &[u8], members: &'t [u8]) -> Option<Row<'t>>
+    ensures { option_map view_row result
+        ≡ group_row line name.now (number_of gid.now) (members_of members.now) }
 {
     match read_gid(gid) {
         Some(gid) => {
             if is_account_name(name) {
-                Some(Row::Group(GroupRow { name, gid, members }))
+                Some(Row::Group(GroupRow {
+                    name,
+                    gid,
+                    members,
+                    line,
+                }))
             } else {
                 None
             }
@@ -162,14 +228,14 @@ fn read_group<'t>(name: &'t [u8], gid: &[u8], members: &'t [u8]) -> Option<Row<'
     }
 }
 
-fn read_uid(text: &[u8]) -> Option<Uid>
-    ensures { result ≡ decimal_value text.now }
+fn read_uid(field: &[u8]) -> Option<Uid>
+    ensures { result ≡ number_of field.now }
 {
-    Uid::new(read_decimal(text)?)
+    Uid::new(read_decimal(skip_space(field))?)
 }
 
-fn read_gid(text: &[u8]) -> Option<Gid>
-    ensures { result ≡ decimal_value text.now }
+fn read_gid(field: &[u8]) -> Option<Gid>
+    ensures { result ≡ number_of field.now }
 {
-    Gid::new(read_decimal(text)?)
+    Gid::new(read_decimal(skip_space(field))?)
 }

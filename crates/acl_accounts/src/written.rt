@@ -4,9 +4,9 @@ ghost use Rattle.std.specs.Prelude.{◌≡◌, ◌==◌, ◌||◌, option_map};
 ghost use Rattle.std.specs.Bool.{OnFalse};
 ghost use Rattle.std.specs.List.{list_all, list_any};
 ghost use Rattle.std.specs.Char.{is_ascii_digit};
-ghost use Rattle.acl_accounts.specs.Names.{backslash, is_account_name, named, unquoted};
+ghost use Rattle.acl_accounts.specs.Names.{is_account_name, named, unquoted};
 ghost use Rattle.acl_accounts.specs.Names.{written_account};
-ghost use Rattle.acl_names.specs.Bytes.{colon, newline};
+ghost use Rattle.acl_names.specs.Bytes.{backslash, colon, newline};
 ghost use Rattle.acl_accounts.specs.Views.{view_written};
 
 use crate::limits::MAX_ACCOUNT_NAME;

@@ -77,6 +77,29 @@ fn users_of_a_host(rt: HostRuntime) {
     assert_eq!(rt; users_of(rt.alloc(), HOST, &USERS), Some(4));
 }
 
+/// White space, members that are empty, and a carriage return, as somebody's files may have them.
+const SPACED: &[u8] = b"  alice:x: 1001:\t100:::
+bob:x:1002:100::/:/bin/sh
+
+staff:x:50:alice, bob
+\twheel:x: 10:,\x0bbob,, ,alice\x20
+  lead:x:11:\x0c\tbob
+ # staff:x:7
+tail:x:12:bob,\r
+";
+
+/// What `id -G` of glibc tells of them.
+const SPACED_USERS: [Row; 2] = [
+    ("alice", 1001, &[100, 50]),
+    ("bob", 1002, &[100, 50, 10, 11, 12]),
+];
+
+/// White space before a line, a number or a member is skipped, and that behind a member is its own.
+#[test]
+fn users_behind_white_space(rt: HostRuntime) {
+    assert_eq!(rt; users_of(rt.alloc(), SPACED, &SPACED_USERS), Some(2));
+}
+
 fn is_group(group: &AccountGroup, name: &str, gid: u32) -> bool {
     group.name() == name.as_bytes() && group.gid().value() == gid
 }

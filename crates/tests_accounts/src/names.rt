@@ -1,5 +1,6 @@
 //! Names as `getfacl` writes them.
-use acl_accounts::{WrittenAccount, is_account_name, octal, push_name};
+use acl_accounts::{WrittenAccount, is_account_name, push_name};
+use acl_names::octal;
 use arrayvec::ArrayVec;
 use std::alloc::Global;
 
