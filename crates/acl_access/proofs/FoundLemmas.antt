@@ -1,5 +1,5 @@
 -- What a comparison of lists finds, as what somebody loses and gains.
-use Rattle.std.proofs.Common.{inl, inr, ℕ, List, [], ◌∷◌, Option, Some, None}
+use Rattle.std.proofs.Common.{inl, inr, ℕ, List, [], ◌∷◌, Option, Some, None, MatchOption}
 use Rattle.std.specs.List.{AllByRecursion}
 use Rattle.acl_names.specs.Asker.{identity_of}
 use Rattle.acl_names.specs.Requester.{Identity}
@@ -8,7 +8,7 @@ use Rattle.acl_nfs4.specs.declared.comparison.Difference.{Difference}
 use Rattle.acl_bridge.specs.Comparison.{GrantAlikeToAll, Granter, IsFirstDifference}
 use Rattle.acl_bridge.specs.Files.{File, decider_of, may}
 use Rattle.acl_bridge.specs.Lists.{Finds, bits_between, requests_between}
-use Rattle.acl_access.specs.Changes.{ChangesBits, ChangesFirst, FindsAnybody, RequestsAlikeTo, change_of}
+use Rattle.acl_access.specs.Changes.{ChangesBits, ChangesFirst, IsAlikeToAll, IsChangeFor, RequestsAlikeTo, change_of}
 
 -- a difference is what its asker loses and gains
 pub bits_change : (before after : Decider) (bits : ℕ) (difference : Difference) → IsDifference before after bits difference
@@ -29,8 +29,13 @@ pub alike_to : (before after : Granter) (requests : List ℕ) (requester : Ident
 alike_to before after [] requester all = tt
 alike_to before after (request ∷ more) requester (here, later) = (here requester, alike_to before after more requester later)
 
+-- nobody was found, and everyone is decided about alike; or somebody who isn't
+abbrev pub FindsAmongAll : File → File → Option Difference → Type 0
+FindsAmongAll before after found =
+    MatchOption found (IsAlikeToAll before after) (λ difference. IsChangeFor before after (identity_of difference.asker) (change_of difference))
+
 -- what was found of the lists is what is found of the files
-pub found : (before after : File) (difference : Option Difference) → Finds before after difference → FindsAnybody before after difference
+pub found : (before after : File) (difference : Option Difference) → Finds before after difference → FindsAmongAll before after difference
 found before after None (bits, requests) =
     λ requester. record {
       bits = bits requester;

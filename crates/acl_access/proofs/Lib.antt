@@ -1,7 +1,9 @@
 pub mod ChangeLemmas
 pub mod FoundLemmas
+pub mod OthersLemmas
 pub mod ExclusiveLemmas
 pub mod GroupLemmas
 pub mod ChangesLeft
 pub mod ReachLemmas
 pub mod GrantedLemmas
+pub mod StandingLemmas

@@ -1,12 +1,13 @@
--- What the lists of two files decide otherwise, for somebody or for anybody.
-use Rattle.std.specs.Prelude.{◌≡◌, ◌≢◌, ◌≤◌, ◌⊎◌, ⊤, ℕ, not, ◌&&◌, IsTrue, List, [], ◌∷◌, length}
+-- What the lists of two files decide otherwise, for somebody or for anybody else.
+use Rattle.std.specs.Prelude.{◌≡◌, ◌≢◌, ◌≤◌, ◌⊎◌, ⊤, ℕ, false, not, ◌&&◌, IsTrue, List, [], ◌∷◌}
+use Rattle.std.specs.Prelude.{length}
 use Rattle.std.specs.Prelude.{Option, MatchOption, if◌then◌else◌}
 use Rattle.std.specs.List.{AllByRecursion}
 use Rattle.acl_names.specs.Asker.{identity_of}
 use Rattle.acl_names.specs.Bits.{has, ◌∪◌}
 use Rattle.acl_names.specs.Requester.{Identity}
 use Rattle.acl_posix.specs.Validity.{IsValid}
-use Rattle.acl_nfs4.specs.Comparison.{Decider}
+use Rattle.acl_nfs4.specs.Comparison.{Decider, is_known}
 use Rattle.acl_nfs4.specs.Mask.{mask_bits}
 use Rattle.acl_nfs4.specs.declared.comparison.Difference.{Difference}
 use Rattle.acl_bridge.specs.Comparison.{Granter, mask_for}
@@ -81,12 +82,23 @@ IsChangeFor before after requester change =
 abbrev pub change_of : Difference → Change
 change_of difference = record { lost = difference.lost; gained = difference.gained }
 
--- what a search among everyone found: nobody, and everyone is decided about alike; or somebody who
--- isn't
-abbrev pub FindsAnybody : File → File → Option Difference → Type 0
-FindsAnybody before after found =
-    MatchOption found (IsAlikeToAll before after)
-    (λ difference. IsChangeFor before after (identity_of difference.asker) (change_of difference))
+-- everybody else is decided about alike: of whatever uid and groups, but neither uid 0 nor one who
+-- is known
+abbrev pub AreOthersAlike : List Identity → File → File → Type 0
+AreOthersAlike known before after = (requester : Identity) → is_known known requester.uid ≡ false
+    → IsAlikeTo before after requester
+
+-- the asker of a difference is somebody else, and loses and gains this
+pub record IsSomebody (known : List Identity) (before after : File) (difference : Difference)
+    : Type 0 where
+  pub unknown : is_known known difference.asker.uid ≡ false
+  pub change : IsChangeFor before after (identity_of difference.asker) (change_of difference)
+
+-- what a search among everybody else found: nobody, and everybody else is decided about alike; or
+-- somebody who isn't
+abbrev pub FindsAnybody : List Identity → File → File → Option Difference → Type 0
+FindsAnybody known before after found =
+    MatchOption found (AreOthersAlike known before after) (IsSomebody known before after)
 
 -- Files that decide alike about everyone who is in at most two groups decide alike about everyone.
 abbrev pub TwoGroupsSuffice : Type 0

@@ -1,6 +1,10 @@
 pub mod Letters
 pub mod Changes
+pub mod ListSteps
+pub mod AnybodySteps
 pub mod Steps
 pub mod Who
 pub mod Reach
 pub mod Marks
+pub mod Deletes
+pub mod Standings

@@ -9,17 +9,18 @@ ghost use Rattle.acl_bridge.specs.Files.{decider_of, view_acl};
 ghost use Rattle.acl_access.specs.Steps.{IsComparedIn, granted_alone};
 
 use acl_bridge::{AnyAclRef, FileAcl};
-use acl_names::{Gid, Requester, Uid};
+use acl_names::{Gid, Subject, Uid};
 use acl_nfs4::{Mask, mask_of};
 use acl_posix::{Acl, Perms};
 use bitflags::Flags;
 
 /// The permission, if the list grants it by itself.
-fn if_granted(acl: &Acl, owner: Uid, group: Gid, requester: &Requester, perm: Perms) -> Perms
-    ensures { bits_of result ≡ (if grants acl.now owner group requester.now (bits_of perm)
+fn if_granted<S: Subject>(acl: &Acl, owner: Uid, group: Gid, subject: &S, perm: Perms) -> Perms
+    ensures { bits_of result
+        ≡ (if grants acl.now owner group (S.identity subject.now) (bits_of perm)
         then bits_of perm else 0) }
 {
-    if acl.grants(owner, group, requester, perm) {
+    if acl.grants(owner, group, subject, perm) {
         perm
     } else {
         Perms::empty()
@@ -27,34 +28,34 @@ fn if_granted(acl: &Acl, owner: Uid, group: Gid, requester: &Requester, perm: Pe
 }
 
 /// The permissions that the list grants, each by itself.
-fn granted_alone(acl: &Acl, owner: Uid, group: Gid, requester: &Requester) -> Perms
-    ensures { bits_of result ≡ granted_alone acl.now owner group requester.now }
+fn granted_alone<S: Subject>(acl: &Acl, owner: Uid, group: Gid, subject: &S) -> Perms
+    ensures { bits_of result ≡ granted_alone acl.now owner group (S.identity subject.now) }
 {
-    if_granted(acl, owner, group, requester, Perms::READ)
-        | if_granted(acl, owner, group, requester, Perms::WRITE)
-        | if_granted(acl, owner, group, requester, Perms::EXECUTE)
+    if_granted(acl, owner, group, subject, Perms::READ)
+        | if_granted(acl, owner, group, subject, Perms::WRITE)
+        | if_granted(acl, owner, group, subject, Perms::EXECUTE)
 }
 
-/// Those of the bits that a POSIX list decides to allow the requester: bits of a file mode.
-fn allowed_alone(acl: &Acl, owner: Uid, group: Gid, requester: &Requester, bits: Mask) -> Mask
+/// Those of the bits that a POSIX list decides to allow the subject: bits of a file mode.
+fn allowed_alone<S: Subject>(acl: &Acl, owner: Uid, group: Gid, subject: &S, bits: Mask) -> Mask
     requires { (mask_bits bits ≡ mode_bits) ⊎ (mask_bits bits ≡ permission_bits) }
     ensures { (bit : ℕ) → has (mask_bits result) bit
-        ≡ (has (mask_bits bits) bit && granted_by acl.now owner group requester.now bit) }
+        ≡ (has (mask_bits bits) bit && granted_by acl.now owner group (S.identity subject.now) bit) }
 {
-    bits.intersection(mask_of(granted_alone(acl, owner, group, requester)))
+    bits.intersection(mask_of(granted_alone(acl, owner, group, subject)))
 }
 
-/// Those of the bits that the file's list allows the requester: of a POSIX list bits of a file
+/// Those of the bits that the file's list allows the subject: of a POSIX list bits of a file
 /// mode. It takes no memory.
-pub(crate) fn allowed(file: &FileAcl<'_>, requester: &Requester, bits: Mask) -> Mask
+pub(crate) fn allowed<S: Subject>(file: &FileAcl<'_>, subject: &S, bits: Mask) -> Mask
     requires { IsComparedIn (view_acl file.now).list (mask_bits bits) }
     ensures { (bit : ℕ) → has (mask_bits result) bit
-        ≡ (has (mask_bits bits) bit && decider_of (view_acl file.now) requester.now bit) }
+        ≡ (has (mask_bits bits) bit && decider_of (view_acl file.now) (S.identity subject.now) bit) }
 {
     let owner = file.owners.owner;
     let group = file.owners.group;
     match file.list {
-        AnyAclRef::Posix(acl) => allowed_alone(acl, owner, group, requester, bits),
-        AnyAclRef::Nfs4(acl) => acl.allowed(owner, group, requester, bits),
+        AnyAclRef::Posix(acl) => allowed_alone(acl, owner, group, subject, bits),
+        AnyAclRef::Nfs4(acl) => acl.allowed(owner, group, subject, bits),
     }
 }

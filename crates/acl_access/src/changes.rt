@@ -1,21 +1,20 @@
-//! What lists decide otherwise, for somebody or for anybody.
-ghost use Rattle.std.specs.Prelude.{◌≡◌, IfOk, MatchOption, map};
+//! What lists decide otherwise for somebody.
+ghost use Rattle.std.specs.Prelude.{◌≡◌, MatchOption, map};
 ghost use Rattle.acl_nfs4.specs.Mask.{mask_bits};
 ghost use Rattle.acl_posix.specs.Perms.{bits_of};
 ghost use Rattle.acl_bridge.specs.Files.{decider_of, may, view_acl};
 ghost use Rattle.acl_bridge.specs.Lists.{bits_between, requests_between};
 ghost use Rattle.acl_access.specs.Changes.{BitsAlikeTo, IsChangeFor, ChangesBits, ChangesFirst};
-ghost use Rattle.acl_access.specs.Changes.{ChangesRequest, FindsAnybody, IsAlikeTo};
-ghost use Rattle.acl_access.specs.Changes.{RequestsAlikeTo};
+ghost use Rattle.acl_access.specs.Changes.{ChangesRequest, IsAlikeTo, RequestsAlikeTo};
+ghost use Rattle.acl_access.specs.ListSteps.{grants_after, grants_before};
 
 use crate::allowed::allowed;
 use acl_bridge::bits::{mask_for, mode_bits, permission_bits, whole_requests};
-use acl_bridge::{AnyAclRef, FileAcl, list_difference};
-use acl_names::Requester;
-use acl_nfs4::{Difference, Mask};
-use acl_posix::{Perms, without};
+use acl_bridge::{AnyAclRef, FileAcl};
+use acl_names::Subject;
+use acl_nfs4::{Mask, Owners};
+use acl_posix::{Acl, Perms, without};
 use bitflags::Flags;
-use std::alloc::{AllocError, Global};
 
 /// What somebody loses and gains.
 #[derive(Clone, Copy, Debug, PartialEq, Eq)]
@@ -39,20 +38,22 @@ fn bits_between(before: &FileAcl<'_>, after: &FileAcl<'_>) -> Mask
 }
 
 /// What the requester loses or gains of the bits that are compared.
-fn change_of_bits(
+fn change_of_bits<S: Subject>(
     before: &FileAcl<'_>,
     after: &FileAcl<'_>,
-    requester: &Requester,
+    subject: &S,
 ) -> Option<Change>
     ensures { MatchOption result
         (BitsAlikeTo (decider_of (view_acl before.now)) (decider_of (view_acl after.now))
-        (bits_between (view_acl before.now).list (view_acl after.now).list) requester.now)
+        (bits_between (view_acl before.now).list (view_acl after.now).list)
+        (S.identity subject.now))
         (ChangesBits (decider_of (view_acl before.now)) (decider_of (view_acl after.now))
-        (bits_between (view_acl before.now).list (view_acl after.now).list) requester.now) }
+        (bits_between (view_acl before.now).list (view_acl after.now).list)
+        (S.identity subject.now)) }
 {
     let bits = bits_between(before, after);
-    let was = allowed(before, requester, bits);
-    let is = allowed(after, requester, bits);
+    let was = allowed(before, subject, bits);
+    let is = allowed(after, subject, bits);
     if was == is {
         return None;
     }
@@ -62,21 +63,29 @@ fn change_of_bits(
     })
 }
 
+/// Two POSIX lists, each for a file of its own owners.
+#[derive(Clone, Copy)]
+struct Lists<'a> {
+    before: &'a Acl,
+    owners: &'a Owners,
+    after: &'a Acl,
+    other_owners: &'a Owners,
+}
+
 /// Whether the requester loses or gains the request as a whole.
-fn change_in(
-    before: &FileAcl<'_>,
-    after: &FileAcl<'_>,
-    requester: &Requester,
-    request: Perms,
-) -> Option<Change>
+fn change_in<S: Subject>(lists: &Lists<'_>, subject: &S, request: Perms) -> Option<Change>
     ensures { MatchOption result
-        (may (view_acl before.now) requester.now (bits_of request)
-        ≡ may (view_acl after.now) requester.now (bits_of request))
-        (ChangesRequest (may (view_acl before.now)) (may (view_acl after.now))
-        (bits_of request) requester.now) }
+        (grants_before lists.now (S.identity subject.now) (bits_of request)
+        ≡ grants_after lists.now (S.identity subject.now) (bits_of request))
+        (ChangesRequest (grants_before lists.now) (grants_after lists.now) (bits_of request)
+        (S.identity subject.now)) }
 {
-    let was = before.may(requester, request);
-    let is = after.may(requester, request);
+    let owners = lists.owners;
+    let others = lists.other_owners;
+    let before = lists.before;
+    let after = lists.after;
+    let was = before.grants(owners.owner, owners.group, subject, request);
+    let is = after.grants(others.owner, others.group, subject, request);
     if was == is {
         return None;
     }
@@ -95,20 +104,15 @@ fn change_in(
 }
 
 /// The first of the requests that the requester loses or gains.
-fn first_change(
-    before: &FileAcl<'_>,
-    after: &FileAcl<'_>,
-    requester: &Requester,
-    requests: &[Perms],
-) -> Option<Change>
+fn first_change<S: Subject>(lists: &Lists<'_>, subject: &S, requests: &[Perms]) -> Option<Change>
     ensures { MatchOption result
-        (RequestsAlikeTo (may (view_acl before.now)) (may (view_acl after.now))
-        (map bits_of requests.now) requester.now)
-        (ChangesFirst (may (view_acl before.now)) (may (view_acl after.now))
-        (map bits_of requests.now) requester.now) }
+        (RequestsAlikeTo (grants_before lists.now) (grants_after lists.now)
+        (map bits_of requests.now) (S.identity subject.now))
+        (ChangesFirst (grants_before lists.now) (grants_after lists.now)
+        (map bits_of requests.now) (S.identity subject.now)) }
 {
     for request in requests {
-        if let Some(change) = change_in(before, after, requester, *request) {
+        if let Some(change) = change_in(lists, subject, *request) {
             return Some(change);
         }
     }
@@ -117,21 +121,28 @@ fn first_change(
 
 /// The first of the requests of several permissions that the requester loses or gains, of POSIX
 /// lists.
-fn change_of_requests(
+fn change_of_requests<S: Subject>(
     before: &FileAcl<'_>,
     after: &FileAcl<'_>,
-    requester: &Requester,
+    subject: &S,
 ) -> Option<Change>
     ensures { MatchOption result
         (RequestsAlikeTo (may (view_acl before.now)) (may (view_acl after.now))
-        (requests_between (view_acl before.now).list (view_acl after.now).list) requester.now)
+        (requests_between (view_acl before.now).list (view_acl after.now).list)
+        (S.identity subject.now))
         (ChangesFirst (may (view_acl before.now)) (may (view_acl after.now))
-        (requests_between (view_acl before.now).list (view_acl after.now).list) requester.now) }
+        (requests_between (view_acl before.now).list (view_acl after.now).list)
+        (S.identity subject.now)) }
 {
     match (before.list, after.list) {
-        (AnyAclRef::Posix(_), AnyAclRef::Posix(_)) => {
-            let requests = whole_requests();
-            first_change(before, after, requester, &requests)
+        (AnyAclRef::Posix(first), AnyAclRef::Posix(second)) => {
+            let lists = Lists {
+                before: first,
+                owners: &before.owners,
+                after: second,
+                other_owners: &after.owners,
+            };
+            first_change(&lists, subject, &whole_requests())
         }
         _ => None,
     }
@@ -140,32 +151,17 @@ fn change_of_requests(
 /// What the requester loses and gains if a file becomes another, each with its own owner, group and
 /// list: none exactly if each permission, and each request of several that can be told apart from
 /// them, is decided for the requester as it was. It takes no memory.
-pub fn change_for(
+pub fn change_for<S: Subject>(
     before: &FileAcl<'_>,
     after: &FileAcl<'_>,
-    requester: &Requester,
+    subject: &S,
 ) -> Option<Change>
     ensures { MatchOption result
-        (IsAlikeTo (view_acl before.now) (view_acl after.now) requester.now)
-        (IsChangeFor (view_acl before.now) (view_acl after.now) requester.now) }
+        (IsAlikeTo (view_acl before.now) (view_acl after.now) (S.identity subject.now))
+        (IsChangeFor (view_acl before.now) (view_acl after.now) (S.identity subject.now)) }
 {
-    match change_of_bits(before, after, requester) {
+    match change_of_bits(before, after, subject) {
         Some(change) => Some(change),
-        None => change_of_requests(before, after, requester),
+        None => change_of_requests(before, after, subject),
     }
-}
-
-/// Whether anybody at all loses or gains anything if a file becomes another, each with its own
-/// owner, group and list: none exactly if every requester, of whatever uid and groups, is decided
-/// about as before; else someone in at most two groups who is not, and what is lost and gained. If
-/// the style of the list changed, single permissions are compared, and no request of several. It
-/// fails only if memory runs out.
-pub fn change_for_anybody(
-    alloc: Global,
-    before: &FileAcl<'_>,
-    after: &FileAcl<'_>,
-) -> Result<Option<Difference>, AllocError>
-    ensures { IfOk result (FindsAnybody (view_acl before.now) (view_acl after.now)) }
-{
-    list_difference(alloc, before, after)
 }

@@ -3,16 +3,20 @@
 #![tactic(auto)]
 
 mod allowed;
+mod anybody;
 mod changes;
 mod laws;
 mod letters;
 mod marks;
 mod same;
+mod standing;
 mod who;
 
-pub use changes::{Change, change_for, change_for_anybody};
+pub use anybody::change_for_anybody;
+pub use changes::{Change, change_for};
 pub use laws::{change_laws, letter_laws};
 pub use letters::{LetterSet, effective, granted_mask};
 pub use marks::{both, is_set, letters_at, letters_of_each, places_of_those_who_may, which_may};
 pub use same::is_same_file;
+pub use standing::{Standing, places_of_takers, standings_of_each};
 pub use who::{push_letters_line, push_may_line};

@@ -65,7 +65,7 @@ pub fn places_of_those_who_may(
 }
 
 /// Appends the place, if it is one. It fails only if memory runs out.
-fn push_if(places: &mut Vec<usize>, place: usize, is: bool) -> Result<(), AllocError>
+pub(crate) fn push_if(places: &mut Vec<usize>, place: usize, is: bool) -> Result<(), AllocError>
     ensures { OnOk result (places.new.items
         ≡ places.old.items ++ (if is then place ∷ [] else [])) }
 {

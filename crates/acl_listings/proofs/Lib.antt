@@ -11,6 +11,7 @@ pub mod PathLemmas
 pub mod PrintedLemmas
 pub mod AlikeLemmas
 pub mod WayLemmas
+pub mod PlaceLemmas
 pub mod FaultyLemmas
 pub mod RefusedLemmas
 pub mod ListsLemmas
@@ -18,4 +19,6 @@ pub mod FormLemmas
 pub mod DefaultLemmas
 pub mod AceForms
 pub mod Nfs4Lemmas
+pub mod NumberedEntries
+pub mod NumberedLemmas
 pub mod ValidLemmas

@@ -46,3 +46,9 @@ first-alone [] lacks = refl
 first-alone (byte ∷ line) lacks =
     first_line-cons byte line false (All-head (λ x. is_newline x ≡ false) byte line lacks)
     ∙ ap (λ more. byte ∷ more) (first-alone line (All-tail (λ x. is_newline x ≡ false) byte line lacks))
+
+pub after-alone : (line : List ℕ) → LacksNewline line → after_line line ≡ []
+after-alone [] lacks = refl
+after-alone (byte ∷ line) lacks =
+    after_line-cons byte line false (All-head (λ x. is_newline x ≡ false) byte line lacks)
+    ∙ after-alone line (All-tail (λ x. is_newline x ≡ false) byte line lacks)

@@ -100,15 +100,15 @@ module _ (names : Names) (print : Nfsace4 → List ℕ) (of : IsAceForm names pr
       let piece = of.piece ace (All-head HasIdOf ace aces have) in
       All-cons IsLine ace aces (piece.0, piece.1, nothing) (are_lines aces (All-tail HasIdOf ace aces have))
 
-  lines_ended : (aces : List Nfsace4) → aces_lines print aces ≡ ended (map print aces)
+  pub lines_ended : (aces : List Nfsace4) → aces_lines print aces ≡ ended (map print aces)
   lines_ended [] = refl
   lines_ended (ace ∷ aces) = ap (λ rest. (print ace ++ newline ∷ []) ++ rest) (lines_ended aces)
 
   module _ (first : Nfsace4) (more : List Nfsace4) (are : AreAces (first ∷ more)) (have : HaveIds (first ∷ more)) where
-    abbrev aces : List Nfsace4
+    abbrev pub aces : List Nfsace4
     aces = first ∷ more
 
-    abbrev lines : List ℕ
+    abbrev pub lines : List ℕ
     lines = joined (map print (first ∷ more))
 
     lines-pieces : pieces lines ≡ map print aces
@@ -124,7 +124,7 @@ module _ (names : Names) (print : Nfsace4 → List ℕ) (of : IsAceForm names pr
     first_is = plain_lacks_newline (print first) (of.piece first first_has).1
 
     -- behind the flags of another list
-    abbrev behind : Bool → List ℕ → List ℕ
+    abbrev pub behind : Bool → List ℕ → List ℕ
     behind b list = cond b (first_line list ++ newline ∷ []) [] ++ lines
 
     behind-pieces : (list : List ℕ) (b : Bool) → begins (codes "# flags: ") (first_line list) ≡ b → pieces (behind b list) ≡ map print aces
@@ -135,7 +135,7 @@ module _ (names : Names) (print : Nfsace4 → List ℕ) (of : IsAceForm names pr
         ∙ ap (λ front. front ++ pieces lines) (flags_no_piece (first_line list) is)
         ∙ lines-pieces
 
-    lists_again : (list : List ℕ) (b : Bool) → begins (codes "# flags: ") (first_line list) ≡ b → lists_by names (behind b list) ≡ Ok (Nfs4 aces)
+    pub lists_again : (list : List ℕ) (b : Bool) → begins (codes "# flags: ") (first_line list) ≡ b → lists_by names (behind b list) ≡ Ok (Nfs4 aces)
     lists_again list b is =
         let texts = behind-pieces list b is in
         let spelt : Spells of.said MAX_ACES (behind b list) aces =
@@ -151,10 +151,10 @@ module _ (names : Names) (print : Nfsace4 → List ℕ) (of : IsAceForm names pr
         by_more [] = first-alone (print first) first_is
         by_more (next ∷ more) = first-of (print first) (joined (map print (next ∷ more))) first_is
 
-    abbrev flags_at : List ℕ → FileFlags
+    abbrev pub flags_at : List ℕ → FileFlags
     flags_at line = unwrap_or (option_and_then flags_in (after_prefix (codes "# flags: ") line)) no_flags
 
-    flags_again : (list : List ℕ) (b : Bool) → begins (codes "# flags: ") (first_line list) ≡ b → flags_by (behind b list) ≡ flags_by list
+    pub flags_again : (list : List ℕ) (b : Bool) → begins (codes "# flags: ") (first_line list) ≡ b → flags_by (behind b list) ≡ flags_by list
     flags_again list true is =
         ap flags_at (ap first_line (append_assoc (first_line list) (newline ∷ []) lines) ∙ first-of (first_line list) lines (first-lacks list))
     flags_again list false is =

@@ -71,14 +71,14 @@ ended-joined line (next ∷ lines) =
     ∙ ap (λ text. line ++ newline ∷ text) (ended-joined next lines)
     ∙ sym (append_assoc line (newline ∷ joined (next ∷ lines)) (newline ∷ []))
 
-full-joined : (line : List ℕ) (lines : List (List ℕ)) → All IsOneLine (line ∷ lines) → HasFullLines (joined (line ∷ lines))
+pub full-joined : (line : List ℕ) (lines : List (List ℕ)) → All IsOneLine (line ∷ lines) → HasFullLines (joined (line ∷ lines))
 full-joined line [] each = let is = All-head IsOneLine line [] each in full-line line is.some is.lacks
 full-joined line (next ∷ lines) each =
     let is = All-head IsOneLine line (next ∷ lines) each in
     full-append false line (newline ∷ joined (next ∷ lines)) (full-line line is.some is.lacks)
     ∙ full-joined next lines (All-tail IsOneLine line (next ∷ lines) each)
 
-parts-joined : (line : List ℕ) (lines : List (List ℕ)) → All IsOneLine (line ∷ lines) → parts newline (joined (line ∷ lines)) ≡ line ∷ lines
+pub parts-joined : (line : List ℕ) (lines : List (List ℕ)) → All IsOneLine (line ∷ lines) → parts newline (joined (line ∷ lines)) ≡ line ∷ lines
 parts-joined line [] each = slice_split_none is_newline line (All-head IsOneLine line [] each).lacks
 parts-joined line (next ∷ lines) each =
     slice_split_at is_newline line newline (joined (next ∷ lines)) (All-head IsOneLine line (next ∷ lines) each).lacks refl
@@ -176,7 +176,7 @@ no_flags_line Mask (field ∷ fields) more = refl
 no_flags_line Other [] more = refl
 no_flags_line Other (field ∷ fields) more = refl
 
-first-joined : (line : List ℕ) (lines : List (List ℕ)) → LacksNewline line → first_line (joined (line ∷ lines)) ≡ line
+pub first-joined : (line : List ℕ) (lines : List (List ℕ)) → LacksNewline line → first_line (joined (line ∷ lines)) ≡ line
 first-joined line [] lacks = first-alone line lacks
 first-joined line (next ∷ lines) lacks = first-of line (joined (next ∷ lines)) lacks
 
@@ -190,16 +190,16 @@ flags_again known mask first more names ids =
 
 -- the header of a block
 
-abbrev file_word : List ℕ
+abbrev pub file_word : List ℕ
 file_word = codes "# file: "
 
-abbrev owner_word : List ℕ
+abbrev pub owner_word : List ℕ
 owner_word = codes "# owner: "
 
-abbrev group_word : List ℕ
+abbrev pub group_word : List ℕ
 group_word = codes "# group: "
 
-path_again : (path : List ℕ) → 0 < length path → path_in (file_word ++ path) ≡ Some path
+pub path_again : (path : List ℕ) → 0 < length path → path_in (file_word ++ path) ≡ Some path
 path_again [] some = absurd (omega arith)
 path_again (byte ∷ bytes) some = refl
 
@@ -223,13 +223,13 @@ header-headed first second third list one two three =
     ∙ ap (λ more. as_header (path_in first) (after_prefix owner_word second) (after_prefix group_word third) more) (after-of third list three)
 
 -- a test that computes
-lacking : (text : List ℕ) → list_all (λ x. not (is_newline x)) text ≡ true → LacksNewline text
+pub lacking : (text : List ℕ) → list_all (λ x. not (is_newline x)) text ≡ true → LacksNewline text
 lacking [] e = All-nil (λ x. is_newline x ≡ false)
 lacking (byte ∷ bytes) e =
     let both = and_parts (not (is_newline byte)) (list_all (λ x. not (is_newline x)) bytes) e in
     All-cons (λ x. is_newline x ≡ false) byte bytes (not-true (is_newline byte) both.0) (lacking bytes both.1)
 
-word_line : (word text : List ℕ) → 0 < length word → LacksNewline word → LacksNewline text → IsOneLine (word ++ text)
+pub word_line : (word text : List ℕ) → 0 < length word → LacksNewline word → LacksNewline text → IsOneLine (word ++ text)
 word_line word text some lacks more = record {
   some = omega (arith, some, length-append word text);
   lacks = All-append (λ x. is_newline x ≡ false) word text lacks more;

@@ -30,11 +30,25 @@ steps-trans (first ∷ one) (step ∷ two) (other ∷ three) is are =
     by true false same alike is are rest = cc
     by false c same alike is are rest = cc
 
-begin-trans : (one two three : Bool) → begin_alike one two ≡ true → begin_alike two three ≡ true → begin_alike one three ≡ true
+-- ---- how paths begin
+
+pub begin-trans : (one two three : Bool) → begin_alike one two ≡ true → begin_alike two three ≡ true → begin_alike one three ≡ true
 begin-trans true true three is are = are
 begin-trans true false three is are = cc
 begin-trans false true three is are = cc
 begin-trans false false three is are = are
+
+pub begin-turned : (one two : Bool) → begin_alike one two ≡ true → begin_alike two one ≡ true
+begin-turned true true is = refl
+begin-turned true false is = cc
+begin-turned false true is = cc
+begin-turned false false is = refl
+
+pub begin-same : (one : Bool) → begin_alike one one ≡ true
+begin-same true = refl
+begin-same false = refl
+
+-- ---- what is above
 
 pub is_above-trans : (one two three : List ℕ) → is_above one two ≡ true → is_above two three ≡ true → is_above one three ≡ true
 is_above-trans one two three is are = by (begin_alike (is_absolute one) (is_absolute two)) (begin_alike (is_absolute two) (is_absolute three)) refl refl is are

@@ -2,7 +2,7 @@
 use Rattle.std.specs.Prelude.{ℕ, Bool, true, false, ◌&&◌, ◌||◌, not, List, [], ◌∷◌, codes, drop}
 use Rattle.std.specs.Prelude.{bytes_eq, if◌then◌else◌, is_some, length, take}
 use Rattle.std.specs.Io.BufRead.{ends_with_byte}
-use Rattle.acl_accounts.specs.Names.{carriage_return}
+use Rattle.acl_names.specs.Bytes.{carriage_return}
 use Rattle.acl_forms.specs.Forms.{form_of}
 use Rattle.acl_forms.specs.declared.form.Form.{Form}
 use Rattle.acl_forms.specs.declared.form.Form.TheVariants.{Posix, Nfs4, Freebsd}

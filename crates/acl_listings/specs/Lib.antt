@@ -15,8 +15,8 @@ pub mod Source
 pub mod Cursor
 pub mod Steps
 pub mod Printed
+pub mod Numbered
 pub mod Way
-pub mod Shown
 pub mod Guess
 pub mod FaultyLine
 pub mod Nfs4Block

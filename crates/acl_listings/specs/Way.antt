@@ -1,7 +1,10 @@
 -- Which folders stand above a file, by their paths alone.
 use Rattle.std.specs.Prelude.{◌&&◌, ℕ, Bool, true, false, not, List, [], ◌∷◌, length, take, Option}
 use Rattle.std.specs.Prelude.{Some, None, bytes_eq, codes, if◌then◌else◌, nat_lt}
+use Rattle.std.specs.Cmp.Lexicographic.{slice_cmp}
 use Rattle.std.specs.List.{filter}
+use Rattle.std.specs.Ordering.{nat_cmp}
+use Rattle.std.specs.declared.cmp.Ordering.{Ordering}
 use Rattle.acl_names.specs.Pieces.{parts}
 use Rattle.acl_listings.specs.declared.way.Place.{Place}
 use Rattle.acl_listings.specs.declared.way.Place.TheVariants.{Elsewhere, Same, Inside, Deeper}
@@ -17,6 +20,10 @@ steps_among each = filter leads each
 -- the steps of a path, from where it begins
 abbrev pub steps_of : List ℕ → List (List ℕ)
 steps_of path = steps_among (parts SLASH path)
+
+-- how steps compare: by the first that differ, and else what there is of the longer comes behind
+abbrev pub steps_cmp : List (List ℕ) → List (List ℕ) → Ordering
+steps_cmp = slice_cmp (slice_cmp nat_cmp)
 
 -- a path begins at the root, or else where the listing was made
 abbrev pub is_absolute : List ℕ → Bool

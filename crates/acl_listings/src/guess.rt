@@ -2,7 +2,7 @@
 
 ghost use Rattle.std.specs.Prelude.{◌≡◌};
 ghost use Rattle.std.specs.Io.BufRead.{ends_with_byte};
-ghost use Rattle.acl_accounts.specs.Names.{carriage_return};
+ghost use Rattle.acl_names.specs.Bytes.{carriage_return};
 ghost use Rattle.acl_listings.specs.Guess.{begins, begins_wide, guess_of_lines, is_nfs4};
 
 use crate::header::{read_path, split_line};

@@ -1,8 +1,9 @@
 //! Laws of the definitions.
 
-ghost use Rattle.std.specs.Prelude.{◌≡◌, ℕ, List, All, Ok, Err, false, map};
+ghost use Rattle.std.specs.Prelude.{◌≡◌, ◌≤◌, ◌+◌, ℕ, List, All, Ok, Err, false, length, map};
 ghost use Rattle.acl_names.specs.Directory.{Known, NamesReadBack};
 ghost use Rattle.acl_names.specs.Names.{Names};
+ghost use Rattle.acl_names.specs.declared.limits.TheConstants.{MAX_ID};
 ghost use Rattle.acl_posix.specs.declared.acl_text.AclFault.{AclFault};
 ghost use Rattle.acl_nfs4.specs.PrintedText.{short_ace};
 ghost use Rattle.acl_forms.specs.ShortForm.{short_entry};
@@ -12,8 +13,10 @@ ghost use Rattle.acl_listings.specs.Cursor.{as_handed_out};
 ghost use Rattle.acl_listings.specs.Listing.{Block, blocks_of};
 ghost use Rattle.acl_listings.specs.FaultyLine.{faulty_kind, list_in, list_lines, lines_read};
 ghost use Rattle.acl_listings.specs.Nfs4Block.{AreReadAgain};
+ghost use Rattle.acl_listings.specs.Numbered as numbered;
 ghost use Rattle.acl_listings.specs.Printed.{listing_text, IsPrintable};
 ghost use Rattle.acl_listings.specs.declared.fault.BlockFault.TheVariants.{Acl};
+ghost use Rattle.acl_listings.specs.declared.limits.TheConstants.{MAX_BLOCK};
 
 /// What is handed out of a block says the same file as the block, or is refused for the same, and
 /// its path is the same. There is nothing to run here: a proof cites the contract.
@@ -31,6 +34,18 @@ pub fn printed_files_are_read_again()
         → All (IsPrintable known) files
         → map (λ block. file_of known block.text) (blocks_of (listing_text known files))
         ≡ map Ok files }
+{}
+
+/// Files that are printed with their ids in decimal are read again as these files, one block for
+/// each, by whatever names: with their default lists, and with NFSv4 lists that have entries. A
+/// block is short enough if its path has at most 60,000 bytes. There is nothing to run here: a
+/// proof cites the contract.
+pub fn numbered_files_are_read_again()
+    ensures said { (files : List FileValue) → All numbered.IsPrintable files
+        → numbered.SaysFiles files (numbered.files_text files) }
+    ensures short { (file : FileValue) → length file.path ≤ 60000
+        → file.owner ≤ MAX_ID → file.group ≤ MAX_ID → numbered.ArePrintable file.lists
+        → length (numbered.file_text file) ≤ MAX_BLOCK + 2 }
 {}
 
 /// If a block is refused for its entries, those of its list's lines are malformed: so there is a

@@ -16,8 +16,8 @@ mod limits;
 mod list_lines;
 mod lists;
 mod newlines;
+mod printing;
 mod rule;
-mod shown;
 mod source;
 mod steps;
 mod way;
@@ -30,12 +30,12 @@ pub use file::{File, lines_behind, path_and_lines, path_of, read_file};
 pub use file_flags::FileFlags;
 pub use guess::Guess;
 pub use laws::{
-    handed_blocks_tell_the_same, nfs4_blocks_are_read_again, printed_files_are_read_again,
-    refused_entries_stand_in_lines,
+    handed_blocks_tell_the_same, nfs4_blocks_are_read_again, numbered_files_are_read_again,
+    printed_files_are_read_again, refused_entries_stand_in_lines,
 };
-pub use limits::{MAX_BLOCK, MAX_SHOWN, limits_in_numbers};
+pub use limits::{MAX_BLOCK, bytes_in_numbers, limits_in_numbers};
 pub use lists::Lists;
+pub use printing::{push_header, push_nfs4, push_posix};
 pub use rule::Rule;
-pub use shown::push_shown;
-pub use way::{Place, place_below};
+pub use way::{Place, compare_steps, place_below};
 pub use window::ReadFault;

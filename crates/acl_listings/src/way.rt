@@ -2,8 +2,10 @@
 
 ghost use Rattle.std.specs.Prelude.{◌≡◌, ◌∷◌, [], MatchOption};
 ghost use Rattle.acl_listings.specs.Way.{is_absolute, leads, place_below, steps_among};
+ghost use Rattle.acl_listings.specs.Way.{steps_cmp, steps_of};
 
 use acl_names::Parts;
+use std::cmp::Ordering;
 
 /// What stands between the steps of a path.
 const SLASH: u8 = b'/';
@@ -70,5 +72,27 @@ pub fn place_below(above: &[u8], path: &[u8]) -> Place
     match next_step(&mut steps) {
         Some(_) => Place::Deeper,
         None => Place::Inside,
+    }
+}
+
+/// How two paths compare, step by step: what comes before what is in a folder is the folder.
+pub fn compare_steps(one: &[u8], other: &[u8]) -> Ordering
+    ensures { result ≡ steps_cmp (steps_of one.now) (steps_of other.now) }
+{
+    let mut steps = Parts::new(SLASH, one);
+    let mut others = Parts::new(SLASH, other);
+    while let Some(step) = next_step(&mut steps) {
+        let Some(next) = next_step(&mut others) else {
+            return Ordering::Greater;
+        };
+        match step.cmp(next) {
+            Ordering::Equal => {}
+            order => return order,
+        }
+    }
+    if next_step(&mut others).is_some() {
+        Ordering::Less
+    } else {
+        Ordering::Equal
     }
 }

@@ -4,7 +4,8 @@
 //! `rt try --test --fail-alloc N` fails allocation N of a test. Each test here passes whichever
 //! growth that is, and prints how many failures it saw: one up to the last allocation that it asks
 //! for, and none from then on.
-use acl_listings::{Blocks, Lists, ReadFault, push_shown, read_file};
+use acl_listings::{Blocks, Lists, ReadFault, read_file};
+use acl_names::push_shown;
 use std::alloc::Global;
 use std::test::Fail;
 use tests_common::{Refusals, directory};

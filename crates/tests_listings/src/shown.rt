@@ -1,5 +1,5 @@
 //! How a line at fault is shown.
-use acl_listings::push_shown;
+use acl_names::push_shown;
 use std::alloc::Global;
 
 fn is_shown(alloc: Global, line: &[u8], wanted: &[u8]) -> Option<bool> {

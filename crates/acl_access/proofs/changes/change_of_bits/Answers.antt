@@ -8,10 +8,10 @@ use Rattle.acl_access.proofs.ChangeLemmas.{lost-bit, gained-bit}
 use Rattle.acl_access.proofs.changes.change_of_bits.Goals as goal
 
 pub returns : goal.returns
-returns c =
+returns g c =
     let before = decider_of (view_acl c.args.before.now) in
     let after = decider_of (view_acl c.args.after.now) in
-    let who = c.args.requester.now in
+    let who = g.S.Subject.identity c.args.subject.now in
     let bits : ℕ = bits_between (view_acl c.args.before.now).list (view_acl c.args.after.now).list in
     let was : ℕ = mask_bits c.allowed-was.result in
     let is : ℕ = mask_bits c.allowed-is.result in
