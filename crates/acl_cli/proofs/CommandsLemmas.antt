@@ -14,6 +14,18 @@ use Rattle.acl_cli.specs.declared.command.Ending.TheVariants.{Answered}
 use Rattle.acl_cli.specs.declared.failure.Failure.{Failure}
 use Rattle.acl_cli.proofs.TellingLemmas.{Tells-nothing}
 
+-- a command that failed before anything went out
+pub Comes-failed : {I : Type 0} (meaning : Meaning) (failure : Failure) (out : Option (List ℕ)) (err : ErrorText) (input : I) → meaning.Fails failure
+    → Comes meaning (Err failure) out out err err input input
+Comes-failed meaning failure out err input is = record {
+  answered = tt;
+  fails = is;
+  silent = λ few. (Keeps-refl out, refl);
+  cut = inl (Keeps-refl out, refl);
+  untouched = λ none. refl;
+  unread = λ two. refl;
+}
+
 -- what came of a part came of the whole
 pub Comes-as : {I : Type 0} (part whole : Meaning) (result : Result Ending Failure) (out out' : Option (List ℕ)) (err err' : ErrorText) (input input' : I)
     → ((answer : Answer) → part.Answers answer → whole.Answers answer) → ((answer : Answer) → part.Begins answer → whole.Begins answer)

@@ -7,31 +7,24 @@ use Rattle.clap.specs.declared.error.kind.ErrorKind.{ErrorKind}
 use Rattle.clap.specs.declared.error.kind.ErrorKind.TheVariants.{OutOfMemory}
 use Rattle.acl_cli.specs.Failures.{AsksForHelp, Explains, IsRefusal, IsUnexplained, is_help, status_of}
 use Rattle.acl_cli.specs.declared.failure.Failure.{Failure}
-use Rattle.acl_cli.specs.declared.failure.Failure.TheVariants.{Accounts, BadWords, CannotRead, Field, InputTwice, Lacks, LineTooLong, Mismatch, NoCommand, NoFile, Setup, TooManySessions, TooManyWords, Unread, Usage}
-use Rattle.acl_cli.specs.declared.field_fault.FieldFault.{FieldFault}
+use Rattle.acl_cli.specs.declared.failure.Failure.TheVariants.{CannotRead, Field, Lacks, Malformed, Misuse, Refused, Unread, Usage}
+use Rattle.acl_cli.specs.Faults.{Malformed as MalformedField}
 use Rattle.acl_cli.specs.declared.run_fault.RunFault.TheVariants.{Memory, NoThread, Output, Stopped}
 
 -- what explains one reading explains another that fails with it
-pub Explains-as : {A B : Type 0} (reading : Result A FieldFault) (other : Result B FieldFault) → ((fault : FieldFault) → reading ≡ Err fault → other ≡ Err fault)
+pub Explains-as : {A B : Type 0} (reading : Result A MalformedField) (other : Result B MalformedField) → ((fault : MalformedField) → reading ≡ Err fault → other ≡ Err fault)
     → (failure : Failure) → Explains reading failure → Explains other failure
-Explains-as reading other turned (Field fault) is = turned fault is
+Explains-as reading other turned (Malformed malformed) is = turned malformed is
+Explains-as reading other turned (Field fault) is = absurd is
 Explains-as reading other turned (Lacks Memory) is = tt
 Explains-as reading other turned (Lacks Output) is = absurd is
 Explains-as reading other turned (Lacks Stopped) is = absurd is
 Explains-as reading other turned (Lacks NoThread) is = absurd is
 Explains-as reading other turned (Usage error) is = absurd is
-Explains-as reading other turned InputTwice is = absurd is
-Explains-as reading other turned (Mismatch mismatch) is = absurd is
-Explains-as reading other turned TooManySessions is = absurd is
-Explains-as reading other turned (Setup error) is = absurd is
-Explains-as reading other turned (Accounts name fault) is = absurd is
+Explains-as reading other turned (Misuse misuse) is = absurd is
+Explains-as reading other turned (Refused refusal) is = absurd is
 Explains-as reading other turned (CannotRead name reason) is = absurd is
-Explains-as reading other turned LineTooLong is = absurd is
 Explains-as reading other turned (Unread name) is = absurd is
-Explains-as reading other turned (NoFile name path) is = absurd is
-Explains-as reading other turned NoCommand is = absurd is
-Explains-as reading other turned BadWords is = absurd is
-Explains-as reading other turned TooManyWords is = absurd is
 
 -- the parser's error has one of the kinds, unless memory ran out
 among : (kinds : Kinds) (error : Error) → HasKind kinds error → (kind_of error ≡ OutOfMemory → ⊥) → IsAmong (kind_of error) kinds
@@ -52,38 +45,24 @@ IsUnexplained-as IsName IsOther as_other (Lacks Stopped) is = absurd is
 IsUnexplained-as IsName IsOther as_other (Lacks NoThread) is = absurd is
 IsUnexplained-as IsName IsOther as_other (Usage error) is = absurd is
 IsUnexplained-as IsName IsOther as_other (Field fault) is = absurd is
-IsUnexplained-as IsName IsOther as_other (Mismatch mismatch) is = absurd is
-IsUnexplained-as IsName IsOther as_other InputTwice is = absurd is
-IsUnexplained-as IsName IsOther as_other TooManySessions is = absurd is
-IsUnexplained-as IsName IsOther as_other (Setup error) is = absurd is
-IsUnexplained-as IsName IsOther as_other (Accounts name fault) is = absurd is
-IsUnexplained-as IsName IsOther as_other LineTooLong is = absurd is
+IsUnexplained-as IsName IsOther as_other (Misuse misuse) is = absurd is
+IsUnexplained-as IsName IsOther as_other (Refused refusal) is = absurd is
+IsUnexplained-as IsName IsOther as_other (Malformed malformed) is = absurd is
 IsUnexplained-as IsName IsOther as_other (Unread name) is = absurd is
-IsUnexplained-as IsName IsOther as_other (NoFile name path) is = absurd is
-IsUnexplained-as IsName IsOther as_other NoCommand is = absurd is
-IsUnexplained-as IsName IsOther as_other BadWords is = absurd is
-IsUnexplained-as IsName IsOther as_other TooManyWords is = absurd is
 
 -- what can't be read isn't wrong usage
 pub unexplained_not_two : (IsName : List ℕ → Type 0) (failure : Failure) → IsUnexplained IsName failure → status_of failure ≢ 2
 unexplained_not_two IsName (Usage error) is two = absurd is
 unexplained_not_two IsName (Field fault) is two = absurd is
-unexplained_not_two IsName (Mismatch mismatch) is two = absurd is
-unexplained_not_two IsName InputTwice is two = absurd is
-unexplained_not_two IsName TooManySessions is two = absurd is
+unexplained_not_two IsName (Misuse misuse) is two = absurd is
 unexplained_not_two IsName (CannotRead name reason) is two = absurd (omega (arith, two))
-unexplained_not_two IsName (Setup error) is two = absurd is
-unexplained_not_two IsName (Accounts name fault) is two = absurd is
-unexplained_not_two IsName LineTooLong is two = absurd is
+unexplained_not_two IsName (Refused refusal) is two = absurd is
+unexplained_not_two IsName (Malformed malformed) is two = absurd is
 unexplained_not_two IsName (Unread name) is two = absurd is
-unexplained_not_two IsName (NoFile name path) is two = absurd is
 unexplained_not_two IsName (Lacks Memory) is two = absurd (omega (arith, two))
 unexplained_not_two IsName (Lacks Output) is two = absurd is
 unexplained_not_two IsName (Lacks Stopped) is two = absurd is
 unexplained_not_two IsName (Lacks NoThread) is two = absurd is
-unexplained_not_two IsName NoCommand is two = absurd is
-unexplained_not_two IsName BadWords is two = absurd is
-unexplained_not_two IsName TooManyWords is two = absurd is
 
 not_among : (kinds : Kinds) (kind : ErrorKind) → IsAmong kind kinds → ¬ (kinds ≡ [])
 not_among kinds kind among none = subst (IsAmong kind) none among
@@ -92,19 +71,12 @@ not_among kinds kind among none = subst (IsAmong kind) none among
 pub refusal_status : (helps : Bool) (kinds : Kinds) (failure : Failure) → IsRefusal helps kinds failure → (status_of failure ≡ 3) ⊎ ((status_of failure ≡ 2) × (¬ (kinds ≡ [])))
 refusal_status helps kinds (Usage error) (among, other) = inr (refl, not_among kinds (kind_of error) among)
 refusal_status helps kinds (Field fault) is = absurd is
-refusal_status helps kinds (Mismatch mismatch) is = absurd is
-refusal_status helps kinds InputTwice is = absurd is
-refusal_status helps kinds TooManySessions is = absurd is
+refusal_status helps kinds (Misuse misuse) is = absurd is
 refusal_status helps kinds (CannotRead name reason) is = absurd is
-refusal_status helps kinds (Setup error) is = absurd is
-refusal_status helps kinds (Accounts name fault) is = absurd is
-refusal_status helps kinds LineTooLong is = absurd is
+refusal_status helps kinds (Refused refusal) is = absurd is
+refusal_status helps kinds (Malformed malformed) is = absurd is
 refusal_status helps kinds (Unread name) is = absurd is
-refusal_status helps kinds (NoFile name path) is = absurd is
 refusal_status helps kinds (Lacks Memory) is = inl refl
 refusal_status helps kinds (Lacks Output) is = inl refl
 refusal_status helps kinds (Lacks Stopped) is = absurd is
 refusal_status helps kinds (Lacks NoThread) is = absurd is
-refusal_status helps kinds NoCommand is = absurd is
-refusal_status helps kinds BadWords is = absurd is
-refusal_status helps kinds TooManyWords is = absurd is

@@ -3,6 +3,7 @@ pub mod ErrorLemmas
 pub mod LineLemmas
 pub mod CommandLemmas
 pub mod FailureLemmas
+pub mod FieldLemmas
 pub mod SessionFileLemmas
 pub mod PiecesLemmas
 pub mod TellingLemmas

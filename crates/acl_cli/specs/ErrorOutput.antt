@@ -1,6 +1,5 @@
 -- What goes to standard error.
 use Rattle.std.specs.Prelude.{◌≡◌, ◌++◌, ◌∷◌, [], ℕ, Bool, false, true, List, Option, codes}
-use Rattle.std.specs.Prelude.{decimal}
 use Rattle.std.specs.Io.KnownBytes.{Appends}
 use Rattle.acl_names.specs.Bytes.{newline}
 use Rattle.acl_cli.specs.Output.{AppendsFront}
@@ -13,10 +12,6 @@ pub record ErrorText : Type 0 where
 -- the line of a fault, by its words
 abbrev pub line_of_words : List ℕ → List ℕ
 line_of_words words = codes "aclctl: " ++ words ++ newline ∷ []
-
--- what follows a name, where the fault is at a line of what has the name
-abbrev pub placed_words : ℕ → List ℕ → List ℕ
-placed_words line words = codes ":" ++ decimal line ++ codes ": " ++ words
 
 -- a text went there: all of it, or, if a write failed, a prefix of it; nothing more after a failed
 -- write; and of an empty text nothing is seen at all

@@ -1,26 +1,19 @@
 -- All faults that the program tells: the exit status and the line of each.
 use Rattle.std.specs.Prelude.{◌≡◌, ◌≢◌, ◌⊎◌, ⊤, ℕ, Bool, false, true, ◌&&◌, List, [], Option, Some}
-use Rattle.std.specs.Prelude.{None, Result, Err, ◌++◌, codes, option_map}
-use Rattle.clap.specs.Words.{IsAmong, Kinds, kind_of}
+use Rattle.std.specs.Prelude.{None, Result, Err, ◌++◌, codes, option_map, unwrap_or}
+use Rattle.clap.specs.Words.{IsAmong, Kinds, Text, kind_of}
 use Rattle.clap.specs.declared.error.Error.{Error}
 use Rattle.clap.specs.declared.error.kind.ErrorKind.{ErrorKind}
 use Rattle.clap.specs.declared.error.kind.ErrorKind.TheVariants.{OutOfMemory, DisplayHelp}
 use Rattle.clap.specs.declared.error.kind.ErrorKind.TheVariants.{DisplayVersion}
-use Rattle.acl_accounts.specs.declared.fault.AccountsFault.{AccountsFault}
-use Rattle.acl_accounts.specs.declared.fault.AccountsFault.TheVariants as accounts
-use Rattle.acl_setup.specs.SetupFaults.{setup_error_words}
-use Rattle.acl_setup.specs.declared.fault.SetupError.{SetupError}
-use Rattle.acl_setup.specs.declared.fault.SetupError.TheVariants as setup
-use Rattle.acl_cli.specs.ErrorOutput.{line_of_words, placed_words}
-use Rattle.acl_cli.specs.Faults.{field_fault_words, mismatch_words}
+use Rattle.acl_cli.specs.ErrorOutput.{line_of_words}
+use Rattle.acl_cli.specs.Faults.{field_fault_words, malformed_words, misuse_words}
+use Rattle.acl_cli.specs.Faults.{Malformed as MalformedField}
+use Rattle.acl_cli.specs.Refusals.{refusal_words}
 use Rattle.acl_cli.specs.RunFaults.{run_fault_words}
 use Rattle.acl_cli.specs.declared.failure.Failure.{Failure}
-use Rattle.acl_cli.specs.declared.failure.Failure.TheVariants.{Usage, Field, InputTwice, CannotRead}
-use Rattle.acl_cli.specs.declared.failure.Failure.TheVariants.{LineTooLong, Unread, Lacks}
-use Rattle.acl_cli.specs.declared.failure.Failure.TheVariants.{NoCommand, BadWords, TooManyWords}
-use Rattle.acl_cli.specs.declared.failure.Failure.TheVariants.{NoFile}
-use Rattle.acl_cli.specs.declared.failure.Failure.TheVariants.{Mismatch, TooManySessions}
-use Rattle.acl_cli.specs.declared.failure.Failure.TheVariants.{Setup, Accounts}
+use Rattle.acl_cli.specs.declared.failure.Failure.TheVariants.{CannotRead, Field, Lacks, Malformed}
+use Rattle.acl_cli.specs.declared.failure.Failure.TheVariants.{Misuse, Refused, Unread, Usage}
 use Rattle.acl_cli.specs.declared.field_fault.FieldFault.{FieldFault}
 use Rattle.acl_cli.specs.declared.reason.Reason.{Reason}
 use Rattle.acl_cli.specs.declared.reason.Reason.TheVariants.{Unknown, NotFound, PermissionDenied}
@@ -30,20 +23,13 @@ use Rattle.acl_cli.specs.declared.run_fault.RunFault.TheVariants.{Memory, Output
 -- 1: something is malformed; 2: wrong usage; 3: something failed or lacks
 abbrev pub status_of : Failure → ℕ
 status_of (Usage error) = 2
+status_of (Misuse misuse) = 2
 status_of (Field fault) = 1
-status_of (Mismatch mismatch) = 2
-status_of InputTwice = 2
-status_of TooManySessions = 2
+status_of (Malformed malformed) = 1
 status_of (CannotRead name reason) = 1
-status_of (Setup error) = 1
-status_of (Accounts name fault) = 1
-status_of LineTooLong = 1
+status_of (Refused refusal) = 1
 status_of (Unread name) = 3
-status_of (NoFile name path) = 1
 status_of (Lacks lack) = 3
-status_of NoCommand = 2
-status_of BadWords = 2
-status_of TooManyWords = 2
 
 abbrev pub reason_words : Reason → List ℕ
 reason_words Unknown = []
@@ -52,29 +38,16 @@ reason_words PermissionDenied = codes ": Permission denied"
 reason_words NotADirectory = codes ": Not a directory"
 reason_words IsADirectory = codes ": Is a directory"
 
--- what follows the name of a file that is no accounts
-abbrev pub accounts_fault_words : AccountsFault → List ℕ
-accounts_fault_words (accounts.BadAccount line) = placed_words line (codes "bad-account")
-accounts_fault_words accounts.TooMany = codes ": too-many"
-accounts_fault_words accounts.Memory = codes ": memory"
-
 -- what follows `aclctl: ` on the line; the parser's text isn't fixed
 abbrev pub words_of : Failure → Option (List ℕ)
 words_of (Usage error) = None
+words_of (Misuse misuse) = Some (misuse_words misuse)
 words_of (Field fault) = Some (field_fault_words fault)
-words_of (Mismatch mismatch) = Some (mismatch_words mismatch)
-words_of InputTwice = Some (codes "- is given twice")
-words_of TooManySessions = Some (codes "at most 64 sessions")
+words_of (Malformed malformed) = Some (malformed_words malformed)
 words_of (CannotRead name reason) = Some (codes "cannot read " ++ name.now ++ reason_words reason)
-words_of (Setup error) = Some (codes "setup: " ++ setup_error_words error)
-words_of (Accounts name fault) = Some (name.now ++ accounts_fault_words fault)
-words_of LineTooLong = Some (codes "dump: line too long")
+words_of (Refused refusal) = Some (refusal_words refusal)
 words_of (Unread name) = Some (codes "cannot read " ++ name.now)
-words_of (NoFile name path) = Some (name.now ++ codes ": no such file: " ++ path.now)
 words_of (Lacks lack) = Some (codes "run: " ++ run_fault_words lack)
-words_of NoCommand = Some (codes "no command")
-words_of BadWords = Some (codes "bad words")
-words_of TooManyWords = Some (codes "too many words")
 
 abbrev pub line_of : Failure → Option (List ℕ)
 line_of failure = option_map line_of_words (words_of failure)
@@ -89,29 +62,34 @@ failed_write = Lacks Output
 abbrev pub IsAnswerLack : Failure → Type 0
 IsAnswerLack failure = (failure ≡ out_of_memory) ⊎ (failure ≡ failed_write)
 
--- a setup is refused, unless memory ran out
-abbrev pub failure_of_setup : SetupError → Failure
-failure_of_setup setup.Memory = out_of_memory
-failure_of_setup error = Setup error
-
--- what has this name is no accounts for this fault, unless memory ran out
-abbrev pub BecomesAccountsFailure : List ℕ → AccountsFault → Failure → Type 0
-BecomesAccountsFailure name fault (Accounts refused same) =
-    (refused.now ≡ name) × (same ≡ fault) × (fault ≢ accounts.Memory)
-BecomesAccountsFailure name fault (Lacks Memory) = fault ≡ accounts.Memory
-BecomesAccountsFailure name fault _ = ⊥
-
 -- a refusal by the parser is wrong usage, unless memory ran out
 abbrev pub BecomesFailure : Error → Failure → Type 0
 BecomesFailure error (Usage same) = (same ≡ error) × (kind_of error ≡ OutOfMemory → ⊥)
 BecomesFailure error (Lacks Memory) = kind_of error ≡ OutOfMemory
 BecomesFailure error _ = ⊥
 
--- the failure is that of the reading, or out of memory
-abbrev pub Explains : {A : Type 0} → Result A FieldFault → Failure → Type 0
-Explains reading (Field fault) = reading ≡ Err fault
+-- the failure is that of the reading of a text, or out of memory
+abbrev pub ExplainsText : {A : Type 0} → Result A FieldFault → Failure → Type 0
+ExplainsText reading (Field fault) = reading ≡ Err fault
+ExplainsText reading (Lacks Memory) = ⊤
+ExplainsText reading _ = ⊥
+
+-- and that of the reading of a field
+abbrev pub Explains : {A : Type 0} → Result A MalformedField → Failure → Type 0
+Explains reading (Malformed malformed) = reading ≡ Err malformed
 Explains reading (Lacks Memory) = ⊤
 Explains reading _ = ⊥
+
+-- a failure of the word that stands there
+abbrev pub failure_at : List ℕ → Option Text → Failure → Failure
+failure_at place word (Field fault) =
+    Malformed (record { place = place; word = unwrap_or word []; fault = fault })
+failure_at place word failure = failure
+
+-- a failure without where it stands
+abbrev pub without_place : Failure → Failure
+without_place (Malformed malformed) = Field malformed.fault
+without_place failure = failure
 
 -- what has this name can't be read for this: it can't be opened or read, is too long, or memory ran
 -- out

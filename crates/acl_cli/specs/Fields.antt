@@ -1,6 +1,6 @@
 -- What fields of command lines say, each by itself.
-use Rattle.std.specs.Prelude.{ℕ, Bool, false, List, [], Option, Some, None, Result, Ok, codes}
-use Rattle.std.specs.Prelude.{bytes_eq}
+use Rattle.std.specs.Prelude.{◌++◌, ℕ, Bool, false, List, [], Option, Some, None, Result, Ok, Err}
+use Rattle.std.specs.Prelude.{bytes_eq, codes, unwrap_or}
 use Rattle.clap.specs.Words.{Text, Row, first_of}
 use Rattle.acl_names.specs.Bytes.{comma}
 use Rattle.acl_names.specs.Ids.{decimal_value}
@@ -9,6 +9,7 @@ use Rattle.acl_names.specs.ReadList.{at_most_read}
 use Rattle.acl_names.specs.Steps.{◌>>=◌, or_fault}
 use Rattle.acl_names.specs.declared.limits.TheConstants.{MAX_GROUPS_OF_USER}
 use Rattle.acl_posix.specs.PermsText.{perms_of_text}
+use Rattle.acl_cli.specs.Faults.{Malformed}
 use Rattle.acl_cli.specs.declared.field_fault.FieldFault.{FieldFault}
 use Rattle.acl_cli.specs.declared.field_fault.FieldFault.TheVariants.{BadId, BadPerms, TooMany}
 
@@ -32,14 +33,36 @@ flag_of (Some text) = bytes_eq text (codes "true")
 
 -- The fields by name, among what the parser found.
 
-abbrev pub id_in : Text → List Row → Result ℕ FieldFault
-id_in name rows = or_fault BadId (first_of name rows) >>= id_of
+-- what is read of a word that stands there, and else where it stands
+abbrev pub located : {A : Type 0} → List ℕ → Option Text → Result A FieldFault → Result A Malformed
+located place word (Ok value) = Ok value
+located place word (Err fault) =
+    Err (record { place = place; word = unwrap_or word []; fault = fault })
 
-abbrev pub gids_in : List Row → Result (List ℕ) FieldFault
-gids_in rows = gids_of (first_of (codes "gids") rows)
+-- what is read of the value of an option
+abbrev pub of_option : {A : Type 0} → Text → (Option Text → Result A FieldFault) → List Row
+    → Result A Malformed
+of_option name read rows =
+    located (codes "--" ++ name) (first_of name rows) (read (first_of name rows))
 
-abbrev pub perms_in : List Row → Result ℕ FieldFault
-perms_in rows = or_fault BadPerms (first_of (codes "perms") rows) >>= perms_of
+-- what is read of a word of its own, which help calls so
+abbrev pub of_word : {A : Type 0} → Text → List ℕ → (Option Text → Result A FieldFault) → List Row
+    → Result A Malformed
+of_word name place read rows = located place (first_of name rows) (read (first_of name rows))
+
+-- what has to be given
+abbrev pub given : {A : Type 0} → FieldFault → (Text → Result A FieldFault) → Option Text
+    → Result A FieldFault
+given missing read word = or_fault missing word >>= read
+
+abbrev pub id_in : Text → List Row → Result ℕ Malformed
+id_in name = of_option name (given BadId id_of)
+
+abbrev pub gids_in : List Row → Result (List ℕ) Malformed
+gids_in = of_option (codes "gids") gids_of
+
+abbrev pub perms_in : List Row → Result ℕ Malformed
+perms_in = of_option (codes "perms") (given BadPerms perms_of)
 
 -- the same, if the words tell
 abbrev pub perms_given : Option Text → Result (Option ℕ) FieldFault
@@ -48,8 +71,8 @@ perms_given (Some text) = do
   perms ← perms_of text
   Ok (Some perms)
 
-abbrev pub optional_perms_in : List Row → Result (Option ℕ) FieldFault
-optional_perms_in rows = perms_given (first_of (codes "perms") rows)
+abbrev pub optional_perms_in : List Row → Result (Option ℕ) Malformed
+optional_perms_in = of_option (codes "perms") perms_given
 
 abbrev pub flag_in : Text → List Row → Bool
 flag_in name rows = flag_of (first_of name rows)

@@ -3,6 +3,7 @@ pub mod Output
 pub mod ErrorOutput
 pub mod CommandLine
 pub mod RunFaults
+pub mod Refusals
 pub mod Faults
 pub mod Failures
 pub mod Fields

@@ -4,10 +4,6 @@ use Rattle.std.specs.Prelude.{◌≡◌, ⊤, ℕ, ◌+◌, List, [], ◌∷◌,
 use Rattle.std.specs.Prelude.{bytes_eq, if◌then◌else◌, unwrap_or}
 use Rattle.std.specs.declared.alloc.Global.{Global}
 use Rattle.clap.specs.Words.{Row, Text, all_of, first_of}
-use Rattle.acl_setup.specs.Opened.{IsRefusedBy}
-use Rattle.acl_cli.specs.declared.failure.Failure.{Failure}
-use Rattle.acl_cli.specs.declared.failure.Failure.TheVariants.{Lacks, Setup}
-use Rattle.acl_cli.specs.declared.run_fault.RunFault.TheVariants.{Memory}
 
 -- the name of the setup's file
 unfoldable pub setup_in : List Row → Text
@@ -47,10 +43,3 @@ HaveBytes bytes_of input (name ∷ names) (text ∷ texts) =
     HasBytes (bytes_of_session bytes_of input name) text.items
     × HaveBytes bytes_of input names texts
 HaveBytes bytes_of input _ _ = ⊥
-
--- the setup of these bytes, if they are known, is refused for this, or memory ran out
-abbrev pub IsSetupFailure : Option (List ℕ) → Failure → Type 0
-IsSetupFailure known (Setup error) =
-    (bytes : List ℕ) × HasBytes known bytes × IsRefusedBy bytes error
-IsSetupFailure known (Lacks Memory) = ⊤
-IsSetupFailure known _ = ⊥

@@ -1,12 +1,9 @@
 //! Why a command gives no answer, or not all of it.
-ghost use Rattle.std.specs.Prelude.{◌≡◌, ◌++◌, IfSome};
-ghost use Rattle.acl_cli.specs.ErrorOutput.{Tells, line_of_words};
-ghost use Rattle.acl_cli.specs.Failures.{BecomesAccountsFailure, accounts_fault_words, line_of};
-ghost use Rattle.acl_cli.specs.Failures.{status_of};
+ghost use Rattle.std.specs.Prelude.{◌≡◌, IfSome};
+ghost use Rattle.acl_cli.specs.ErrorOutput.{Tells};
+ghost use Rattle.acl_cli.specs.Failures.{line_of, status_of};
 
-use crate::{ErrorOutput, FieldFault, Mismatch, Reason, RunFault};
-use acl_accounts::AccountsFault;
-use acl_setup::SetupError;
+use crate::{ErrorOutput, FieldFault, Malformed, Misuse, Place, Reason, Refusal, RunFault};
 use clap::error::ErrorKind;
 use std::alloc::{AllocError, AllocFailed};
 use std::io::{self, Write};
@@ -16,56 +13,32 @@ use std::io::{self, Write};
 pub enum Failure<'a> {
     /// The parser of command lines refuses the words, or was asked for help.
     Usage(clap::Error),
-    /// A field is malformed.
+    /// The words are wrong in a way that the parser doesn't know.
+    Misuse(Misuse),
+    /// A field is malformed, and where it stands isn't told.
     Field(FieldFault),
-    /// Options or words that the parser takes don't go with each other.
-    Mismatch(Mismatch),
-    /// Standard input is named twice.
-    InputTwice,
-    /// There are more sessions than may be served at once.
-    TooManySessions,
+    /// A field is malformed.
+    Malformed(Malformed<'a>),
     /// The file of this name can't be opened or read, or it is too long. Nothing was written.
     CannotRead(&'a str, Reason),
-    /// The setup is refused. It is never `SetupError::Memory`.
-    Setup(SetupError),
-    /// The file of this name is no accounts. It is never `AccountsFault::Memory`.
-    Accounts(&'a str, AccountsFault),
-    /// A line of the answer is longer than lines may be.
-    LineTooLong,
+    /// What a file has, or what a command would answer, is refused. Nothing was written.
+    Refused(Refusal<'a>),
     /// What has this name failed while it was read, and part of the answer may be written.
     Unread(&'a str),
-    /// The listing of the first name has no file of this path.
-    NoFile(&'a str, &'a str),
     /// Something lacks.
     Lacks(RunFault),
-    /// There is no word, or the first names no command.
-    NoCommand,
-    /// A word is not UTF-8.
-    BadWords,
-    /// Standard input is longer than words may be.
-    TooManyWords,
 }
 
 impl<'a> Failure<'a> {
-    /// The file of this name is no accounts, or memory ran out while it was read.
-    pub fn of_accounts(name: &'a str, fault: AccountsFault) -> Failure<'a>
-        ensures { BecomesAccountsFailure name.entry.now fault result }
-    {
-        match fault {
-            AccountsFault::Memory => Failure::Lacks(RunFault::Memory),
-            _ => Failure::Accounts(name, fault),
-        }
-    }
-
     /// The exit status: 1 if something is malformed, 2 for wrong usage, 3 if something lacks.
     pub fn status(&self) -> u8
         ensures { result ≡ status_of self.now }
     {
         match self {
-            Failure::Field(_) | Failure::CannotRead(_, _) | Failure::LineTooLong => 1,
-            Failure::Setup(_) | Failure::Accounts(_, _) | Failure::NoFile(_, _) => 1,
+            Failure::Usage(_) | Failure::Misuse(_) => 2,
+            Failure::Field(_) | Failure::Malformed(_) => 1,
+            Failure::CannotRead(_, _) | Failure::Refused(_) => 1,
             Failure::Unread(_) | Failure::Lacks(_) => 3,
-            _ => 2,
         }
     }
 
@@ -74,37 +47,46 @@ impl<'a> Failure<'a> {
         ensures { IfSome (line_of self.now) (λ line. Tells line err.old err.new) }
     {
         match self {
-            Failure::Usage(error) => err.write_shown(error),
-            Failure::Field(fault) => err.write_line(fault.words(), ""),
-            Failure::Mismatch(mismatch) => err.write_line(mismatch.words(), ""),
-            Failure::InputTwice => err.write_line("- is given twice", ""),
-            Failure::TooManySessions => err.write_line("at most 64 sessions", ""),
+            Failure::Usage(error) => err.write_displayed(error),
+            Failure::Misuse(misuse) => err.write_line(misuse.words()),
+            Failure::Field(fault) => err.write_line(fault.words()),
+            Failure::Malformed(malformed) => malformed.tell(err),
             Failure::CannotRead(name, reason) => err.write_named(
                 "cannot read ",
                 name,
                 reason.words(),
             ),
-            Failure::Setup(error) => err.write_line("setup: ", error.words()),
-            Failure::Accounts(name, fault) => tell_accounts(name, *fault, err),
-            Failure::LineTooLong => err.write_line("dump: line too long", ""),
-            Failure::Unread(name) => err.write_line("cannot read ", name),
-            Failure::NoFile(name, path) => err.write_named(name, ": no such file: ", path),
-            Failure::Lacks(lack) => err.write_line("run: ", lack.words()),
-            Failure::NoCommand => err.write_line("no command", ""),
-            Failure::BadWords => err.write_line("bad words", ""),
-            Failure::TooManyWords => err.write_line("too many words", ""),
+            Failure::Refused(refusal) => refusal.tell(err),
+            Failure::Unread(name) => err.write_pair("cannot read ", name),
+            Failure::Lacks(lack) => err.write_pair("run: ", lack.words()),
         }
     }
 }
 
-/// Writes the line of a file that is no accounts.
-fn tell_accounts<E: Write + Drop>(name: &str, fault: AccountsFault, err: &mut ErrorOutput<E>)
-    ensures { Tells (line_of_words (name.now ++ accounts_fault_words fault)) err.old err.new }
-{
-    match fault {
-        AccountsFault::BadAccount(line) => err.write_placed(name, line, "bad-account"),
-        AccountsFault::TooMany => err.write_line(name, ": too-many"),
-        AccountsFault::Memory => err.write_line(name, ": memory"),
+impl<'a> Failure<'a> {
+    ghost use Rattle.std.specs.Prelude.{option_map};
+    ghost use Rattle.acl_cli.specs.Failures.{failure_at, without_place};
+    ghost use Rattle.acl_cli.specs.Faults.{place_words};
+
+    /// A failure of the word that stands there: of a malformed field it says where that is.
+    pub fn at(self, place: Place<'a>, word: Option<&'a str>) -> Failure<'a>
+        ensures { result ≡ failure_at (place_words place.entry)
+            (option_map (λ text. text.now) word.entry) self.entry }
+    {
+        match self {
+            Failure::Field(fault) => Failure::Malformed(Malformed::new(place, word, fault)),
+            failure => failure,
+        }
+    }
+
+    /// The failure without where a malformed field stands.
+    pub fn without_place(self) -> Failure<'a>
+        ensures { result ≡ without_place self.entry }
+    {
+        match self {
+            Failure::Malformed(malformed) => Failure::Field(malformed.fault()),
+            failure => failure,
+        }
     }
 }
 
@@ -128,6 +110,36 @@ impl<'a> From<FieldFault> for Failure<'a> {
 
     fn from(fault: FieldFault) -> Failure<'a> {
         Failure::Field(fault)
+    }
+}
+
+impl<'a> From<Misuse> for Failure<'a> {
+    ghost use Rattle.acl_cli.specs.declared.failure.Failure.TheVariants as failure;
+
+    ghost from_gives = { λ misuse becomes. becomes ≡ failure.Misuse misuse };
+
+    fn from(misuse: Misuse) -> Failure<'a> {
+        Failure::Misuse(misuse)
+    }
+}
+
+impl<'a> From<Malformed<'a>> for Failure<'a> {
+    ghost use Rattle.acl_cli.specs.declared.failure.Failure.TheVariants as failure;
+
+    ghost from_gives = { λ malformed becomes. becomes ≡ failure.Malformed malformed };
+
+    fn from(malformed: Malformed<'a>) -> Failure<'a> {
+        Failure::Malformed(malformed)
+    }
+}
+
+impl<'a> From<Refusal<'a>> for Failure<'a> {
+    ghost use Rattle.acl_cli.specs.declared.failure.Failure.TheVariants as failure;
+
+    ghost from_gives = { λ refusal becomes. becomes ≡ failure.Refused refusal };
+
+    fn from(refusal: Refusal<'a>) -> Failure<'a> {
+        Failure::Refused(refusal)
     }
 }
 
@@ -159,19 +171,5 @@ impl<'a> From<io::Error> for Failure<'a> {
 
     fn from(_failed: io::Error) -> Failure<'a> {
         Failure::Lacks(RunFault::Output)
-    }
-}
-
-/// A refused setup, unless memory ran out.
-impl<'a> From<SetupError> for Failure<'a> {
-    ghost use Rattle.acl_cli.specs.Failures.{failure_of_setup};
-
-    ghost from_gives = { λ error becomes. becomes ≡ failure_of_setup error };
-
-    fn from(error: SetupError) -> Failure<'a> {
-        match error {
-            SetupError::Memory => Failure::Lacks(RunFault::Memory),
-            _ => Failure::Setup(error),
-        }
     }
 }

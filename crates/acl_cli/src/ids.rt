@@ -1,12 +1,13 @@
 //! Ids, as fields write them: in decimal, for the directory has no names.
-ghost use Rattle.std.specs.Prelude.{◌≡◌, ◌≤◌, Some, Ok, IfErr, IfOk};
+ghost use Rattle.std.specs.Prelude.{◌≡◌, ◌≤◌, Some, Ok, IfErr, IfOk, option_map};
 ghost use Rattle.clap.specs.Words.{found_of, rows_of};
 ghost use Rattle.acl_names.specs.declared.limits.TheConstants.{MAX_ID};
-ghost use Rattle.acl_cli.specs.Fields.{gids_in, gids_of, id_in, id_of};
-ghost use Rattle.acl_cli.specs.Failures.{Explains};
+ghost use Rattle.acl_cli.specs.Fields.{gids_in, gids_of, given, id_in, id_of};
+ghost use Rattle.acl_cli.specs.Failures.{Explains, ExplainsText};
+ghost use Rattle.acl_cli.specs.declared.field_fault.FieldFault.TheVariants.{BadId};
 
 use super::fields::text_field;
-use crate::{Failure, FieldFault};
+use crate::{Failure, FieldFault, Malformed, Place};
 use acl_names::{Gid, MAX_GROUPS_OF_USER, Uid, read_decimal};
 use clap::ArgMatches;
 use std::alloc::Global;
@@ -36,24 +37,46 @@ fn read_gid(text: &str) -> Result<Gid, FieldFault>
     Gid::new(read_id(text)?).ok_or(FieldFault::BadId)
 }
 
-/// The uid in the field of a name.
-pub fn uid_field(matches: &ArgMatches<'_>, name: &str) -> Result<Uid, FieldFault>
-    ensures { result ≡ id_in name.now (rows_of (found_of matches.now)) }
+/// The user whom a word names, which has to be given.
+fn uid_given(word: Option<&str>) -> Result<Uid, FieldFault>
+    ensures { result ≡ given BadId id_of (option_map (λ text. text.now) word.entry) }
 {
-    read_uid(text_field(matches, name).ok_or(FieldFault::BadId)?)
+    read_uid(word.ok_or(FieldFault::BadId)?)
 }
 
-/// The gid in the field of a name.
-pub fn gid_field(matches: &ArgMatches<'_>, name: &str) -> Result<Gid, FieldFault>
-    ensures { result ≡ id_in name.now (rows_of (found_of matches.now)) }
+/// The group that a word names, which has to be given.
+fn gid_given(word: Option<&str>) -> Result<Gid, FieldFault>
+    ensures { result ≡ given BadId id_of (option_map (λ text. text.now) word.entry) }
 {
-    read_gid(text_field(matches, name).ok_or(FieldFault::BadId)?)
+    read_gid(word.ok_or(FieldFault::BadId)?)
+}
+
+/// The uid in the option of this name.
+pub fn uid_field<'a>(matches: &ArgMatches<'a>, name: &'a str) -> Result<Uid, Malformed<'a>>
+    ensures { result ≡ id_in name.entry.now (rows_of (found_of matches.now)) }
+{
+    let word = text_field(matches, name);
+    match uid_given(word) {
+        Ok(uid) => Ok(uid),
+        Err(fault) => Err(Malformed::new(Place::Option(name), word, fault)),
+    }
+}
+
+/// The gid in the option of this name.
+pub fn gid_field<'a>(matches: &ArgMatches<'a>, name: &'a str) -> Result<Gid, Malformed<'a>>
+    ensures { result ≡ id_in name.entry.now (rows_of (found_of matches.now)) }
+{
+    let word = text_field(matches, name);
+    match gid_given(word) {
+        Ok(gid) => Ok(gid),
+        Err(fault) => Err(Malformed::new(Place::Option(name), word, fault)),
+    }
 }
 
 /// The groups between the commas of a text. One that would be too many isn't read.
 fn read_gids<'a>(alloc: Global, text: &'a str) -> Result<Vec<Gid>, Failure<'a>>
     ensures read { IfOk result (λ gids. gids_of (Some text.entry.now) ≡ Ok gids.items) }
-    ensures refused { IfErr result (Explains (gids_of (Some text.entry.now))) }
+    ensures refused { IfErr result (ExplainsText (gids_of (Some text.entry.now))) }
 {
     let mut gids = Vec::new(alloc);
     for piece in text.split(',') {
@@ -71,8 +94,11 @@ pub fn gids_field<'a>(alloc: Global, matches: &ArgMatches<'a>) -> Result<Vec<Gid
     ensures read { IfOk result (λ gids. gids_in (rows_of (found_of matches.now)) ≡ Ok gids.items) }
     ensures refused { IfErr result (Explains (gids_in (rows_of (found_of matches.now)))) }
 {
-    match text_field(matches, "gids") {
-        Some(text) => read_gids(alloc, text),
-        None => Ok(Vec::new(alloc)),
+    let Some(text) = text_field(matches, "gids") else {
+        return Ok(Vec::new(alloc));
+    };
+    match read_gids(alloc, text) {
+        Ok(gids) => Ok(gids),
+        Err(failure) => Err(failure.at(Place::Option("gids"), Some(text))),
     }
 }

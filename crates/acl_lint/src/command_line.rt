@@ -1,11 +1,9 @@
 //! The command line of `lint`.
 
 use crate::Lint;
-use acl_cli::CommandLine;
-use acl_cli::options::setup_option;
-use acl_service::session_words;
-use clap::Command;
-use std::alloc::{AllocError, Global};
+use acl_cli::options::SETUP;
+use acl_cli::{CommandLine, Line, Word};
+use acl_service::SESSION_WORDS;
 
 /// What is reported, and what the exit statuses are.
 const ANSWERS: &str = "A line for each fault, and none if nothing is wrong. Of a setup that is
@@ -20,6 +18,9 @@ list, counted from 1. A PLACE that there isn't is -.
 Exit status: 0 with an answer; 1 if a file can't be read; 2 if the words are
 wrong; 3 if memory runs out or the answer can't be written.";
 
+/// What stands in the line, in the order of help.
+const WORDS: [Word<'static>; 2] = [SETUP, SESSION_WORDS];
+
 impl CommandLine for Lint {
     ghost use Rattle.acl_lint.specs.LintLine.{lint_line, lint_line-free, lint_line-simple};
 
@@ -29,12 +30,13 @@ impl CommandLine for Lint {
 
     ghost line_free = { lint_line-free };
 
-    fn command<'a>(alloc: Global) -> Result<Command<'a>, AllocError> {
-        Command::new(alloc, "lint")
-            .bin_name("aclctl lint")?
-            .about("Tells what is wrong with a setup or with sessions, and where, before they run.")
-            .after_help(ANSWERS)
-            .arg(setup_option(alloc))?
-            .arg(session_words(alloc))
+    #[tactic(auto, unfolding(crate::specs::LintLine::lint_line))]
+    fn line() -> Line<'static> {
+        Line {
+            name: "lint",
+            about: "Tells what is wrong with a setup or with sessions, and where, before they run.",
+            after_help: ANSWERS,
+            words: &WORDS,
+        }
     }
 }

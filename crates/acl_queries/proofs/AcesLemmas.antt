@@ -12,7 +12,7 @@ use Rattle.acl_nfs4.specs.declared.limits.TheConstants.{MAX_ACES}
 use Rattle.acl_posix.specs.declared.acl_text.AclFault.TheVariants as acl
 use Rattle.acl_queries.specs.AclText.{nobody}
 use Rattle.acl_queries.specs.ListField.{aces_of, as_ace, failure_of_aces}
-use Rattle.acl_cli.specs.Failures.{Explains}
+use Rattle.acl_cli.specs.Failures.{ExplainsText}
 use Rattle.acl_cli.specs.declared.field_fault.FieldFault.{FieldFault}
 use Rattle.acl_cli.specs.declared.field_fault.FieldFault.TheVariants.{Acl}
 
@@ -29,7 +29,7 @@ aces_of-spelt text = read-spelt (piece_value nobody) ace_field (Acl acl.TooMany)
 
 -- a text that is refused doesn't read
 pub Explains-aces : (text : Text) (fault : AceFault) → IsFaultOf (piece_value nobody) MAX_ACES text (list_fault fault)
-    → Explains (aces_of text) (failure_of_aces fault)
+    → ExplainsText (aces_of text) (failure_of_aces fault)
 Explains-aces text aces.Syntax is = read-fault (piece_value nobody) ace_field (Acl acl.TooMany) MAX_ACES text ace_field-ok _ _ is (λ piece is. ap as_ace is)
 Explains-aces text aces.UnknownName is = read-fault (piece_value nobody) ace_field (Acl acl.TooMany) MAX_ACES text ace_field-ok _ _ is (λ piece is. ap as_ace is)
 Explains-aces text aces.InheritOnly is = read-fault (piece_value nobody) ace_field (Acl acl.TooMany) MAX_ACES text ace_field-ok _ _ is (λ piece is. ap as_ace is)

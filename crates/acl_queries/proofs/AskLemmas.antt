@@ -1,5 +1,5 @@
 -- Words ask what their fields give.
-use Rattle.std.proofs.Common.{◌≡◌, [], ◌∷◌, ℕ, List, Option, Some, None, Ok, Bool, true, false, ap, codes, inl, inr, map, refl, subst, sym, ◌↔◌}
+use Rattle.std.proofs.Common.{◌≡◌, [], ◌∷◌, ◌++◌, ℕ, List, Option, Some, None, Ok, Bool, true, false, ap, codes, inl, inr, map, refl, subst, sym, ◌↔◌}
 use Rattle.std.proofs.lemmas.Slice.Eq.{bytes_eq-Decides}
 use Rattle.clap.specs.Words.{Row, Text, first_of, matches_of}
 use Rattle.acl_names.specs.Bytes.{comma}
@@ -7,7 +7,7 @@ use Rattle.acl_names.specs.Ids.{decimal_value}
 use Rattle.acl_names.specs.ListText.{PiecesSay}
 use Rattle.acl_names.specs.Names.{names_of}
 use Rattle.acl_names.specs.Pieces.{parts, pieces}
-use Rattle.acl_names.specs.Steps.{map_fault, or_fault}
+use Rattle.acl_names.specs.Steps.{◌>>=◌, map_fault, or_fault}
 use Rattle.acl_names.proofs.ReadListLemmas.{at_most_read-all, at_most_read-said}
 use Rattle.acl_names.proofs.StepLemmas.{bind_ok, given, map_fault-ok}
 use Rattle.acl_names.specs.declared.limits.TheConstants.{MAX_GROUPS_OF_USER}
@@ -20,6 +20,7 @@ use Rattle.acl_queries.specs.Ask.{Ask, GiveAcl, GiveFlag, GiveGids, GiveId, Give
 use Rattle.acl_cli.specs.Fields.{flag_in, flag_of, gids_in, gids_of, id_in, id_of, perms_in, perms_of}
 use Rattle.acl_queries.specs.Asked.{Asked, acl_in, asked_in}
 use Rattle.acl_cli.specs.CommandLine.{Takes}
+use Rattle.acl_cli.proofs.FieldLemmas.{located-of, located-ok}
 use Rattle.acl_queries.specs.DecideLine.{decide_line}
 use Rattle.acl_cli.specs.declared.field_fault.FieldFault.TheVariants.{Acl, BadId, BadPerms, TooMany}
 
@@ -57,18 +58,20 @@ module _ (words : List Text) where
   gids_in-given : (gids : List ℕ) → GiveGids words gids → gids_in rows ≡ Ok gids
   gids_in-given gids (inl (given, none)) = rw (given, none) refl
   gids_in-given gids (inr (text, given, written, within)) =
-      rw given (at_most_read-all id_of TooMany MAX_GROUPS_OF_USER (parts comma text) gids (Say-Write _ _ written) within)
+      located-of (codes "--" ++ codes "gids") (first_of (codes "gids") rows) (gids_of (first_of (codes "gids") rows)) gids (rw given (at_most_read-all id_of TooMany MAX_GROUPS_OF_USER (parts comma text) gids (Say-Write _ _ written) within))
 
   perms_in-given : (perms : ℕ) → GivePerms words perms → perms_in rows ≡ Ok perms
   perms_in-given perms (text, given, is) = rw (given, is) refl
 
   acl_in-given : (acl : List EntryValue) → GiveAcl words acl → acl_in rows ≡ Ok acl
-  acl_in-given acl (text, given, spells) = rw given (ap (map_fault (λ fault. Acl fault)) (acl_of-spelt (names_of nobody) text acl spells))
+  acl_in-given acl (text, given, spells) =
+      located-of (codes "TEXT") (first_of (codes "text") rows) (or_fault (Acl cause.BadAcl) (first_of (codes "text") rows) >>= acl_of) acl
+      (rw given (ap (map_fault (λ fault. Acl fault)) (acl_of-spelt (names_of nobody) text acl spells)))
 
   -- a field that reads is given
   GiveId-read : (name : Text) (id : ℕ) → id_in name rows ≡ Ok id → GiveId words name id
   GiveId-read name id is =
-      let text = bind_ok (or_fault BadId (first_of name rows)) id_of id is in
+      let text = bind_ok (or_fault BadId (first_of name rows)) id_of id (located-ok (codes "--" ++ name) (first_of name rows) (or_fault BadId (first_of name rows) >>= id_of) id is) in
       (text.0, given BadId _ _ text.1, given BadId _ _ text.2)
 
   GiveGids-from : (gids : List ℕ) (text : Option Text) → first_of (codes "gids") rows ≡ text → gids_of text ≡ Ok gids → GiveGids words gids
@@ -79,12 +82,12 @@ module _ (words : List Text) where
 
   GivePerms-read : (perms : ℕ) → perms_in rows ≡ Ok perms → GivePerms words perms
   GivePerms-read perms is =
-      let text = bind_ok (or_fault BadPerms (first_of (codes "perms") rows)) perms_of perms is in
+      let text = bind_ok (or_fault BadPerms (first_of (codes "perms") rows)) perms_of perms (located-ok (codes "--" ++ codes "perms") (first_of (codes "perms") rows) (or_fault BadPerms (first_of (codes "perms") rows) >>= perms_of) perms is) in
       (text.0, given BadPerms _ _ text.1, given BadPerms _ _ text.2)
 
   GiveAcl-read : (acl : List EntryValue) → acl_in rows ≡ Ok acl → GiveAcl words acl
   GiveAcl-read acl is =
-      let text = bind_ok (or_fault (Acl cause.BadAcl) (first_of (codes "text") rows)) acl_of acl is in
+      let text = bind_ok (or_fault (Acl cause.BadAcl) (first_of (codes "text") rows)) acl_of acl (located-ok (codes "TEXT") (first_of (codes "text") rows) (or_fault (Acl cause.BadAcl) (first_of (codes "text") rows) >>= acl_of) acl is) in
       let spelt = map_fault-ok (λ fault. Acl fault) (posix.acl_of nobody (pieces text.0)) acl text.2 in
       (text.0, given (Acl cause.BadAcl) _ _ text.1, acl_of-ok (names_of nobody) text.0 acl spelt)
 
@@ -139,7 +142,7 @@ Ask-asked_in words asked taken is =
       owner = GiveId-read words _ _ owner.1;
       group = GiveId-read words _ _ group.1;
       uid = GiveId-read words _ _ uid.1;
-      gids = GiveGids-from words _ _ refl gids.1;
+      gids = GiveGids-from words _ _ refl (located-ok (codes "--" ++ codes "gids") (first_of (codes "gids") (rows words)) (gids_of (first_of (codes "gids") (rows words))) gids.0 gids.1);
       request = GivePerms-read words _ perms.1;
       acl = GiveAcl-read words _ acl.1;
       nfs4 = flag_of-given words (first_of (codes "nfs4") (rows words));

@@ -4,7 +4,7 @@ use Rattle.clap.specs.Words.{Row}
 use Rattle.acl_cli.specs.Failures.{Explains}
 use Rattle.acl_cli.specs.Fields.{id_in}
 use Rattle.acl_cli.specs.declared.failure.Failure.{Failure}
-use Rattle.acl_cli.specs.declared.field_fault.FieldFault.{FieldFault}
+use Rattle.acl_cli.specs.Faults.{Malformed}
 use Rattle.acl_cli.proofs.FailureLemmas.{Explains-as}
 use Rattle.acl_queries.specs.Compared.{compared_in}
 use Rattle.acl_queries.specs.Comparing.{between}
@@ -18,7 +18,7 @@ module _ (owner group : ℕ) (first : AnyAcl) (rows : List Row) (is_owner : id_i
   unfolding compared_in
   compared-read second is_second = rw (is_owner, is_group, is_first, is_second) refl
 
-  compared-fault : (fault : FieldFault) → list_in (codes "other-style") (codes "other-text") rows ≡ Err fault → compared_in rows ≡ Err fault
+  compared-fault : (fault : Malformed) → list_in (codes "other-style") (codes "other-text") rows ≡ Err fault → compared_in rows ≡ Err fault
   unfolding compared_in
   compared-fault fault is_second = rw (is_owner, is_group, is_first, is_second) refl
 

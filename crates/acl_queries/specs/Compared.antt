@@ -5,7 +5,7 @@ use Rattle.acl_names.specs.Steps.{◌>>=◌}
 use Rattle.acl_cli.specs.Fields.{id_in}
 use Rattle.acl_queries.specs.ListField.{list_in}
 use Rattle.acl_bridge.specs.declared.any_acl.AnyAcl.{AnyAcl}
-use Rattle.acl_cli.specs.declared.field_fault.FieldFault.{FieldFault}
+use Rattle.acl_cli.specs.Faults.{Malformed}
 
 -- two lists, compared for a file of this owner and this group
 pub record Compared : Type 0 where
@@ -15,7 +15,7 @@ pub record Compared : Type 0 where
   pub second : AnyAcl
 
 -- what is compared, or the fault of the first field that is malformed, in this order
-unfoldable pub compared_in : List Row → Result Compared FieldFault
+unfoldable pub compared_in : List Row → Result Compared Malformed
 compared_in rows = do
   owner ← id_in (codes "owner") rows
   group ← id_in (codes "group") rows

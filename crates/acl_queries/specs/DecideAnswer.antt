@@ -1,5 +1,5 @@
 -- What `decide` answers.
-use Rattle.std.specs.Prelude.{◌≡◌, ◌++◌, ◌∷◌, [], Bool, ℕ, List, codes, if◌then◌else◌}
+use Rattle.std.specs.Prelude.{◌≡◌, ◌++◌, ◌∷◌, [], Bool, false, ℕ, List, codes, if◌then◌else◌}
 use Rattle.clap.specs.Words.{Row}
 use Rattle.acl_names.specs.Bytes.{newline}
 use Rattle.acl_posix.specs.Access.{grants}
@@ -35,4 +35,4 @@ IsDecideText asked text = text ≡ answer_text asked
 
 -- what the fields of `decide` mean
 abbrev pub decide_meaning : List Row → Meaning
-decide_meaning = query_meaning asked_in IsDecideText
+decide_meaning = query_meaning false asked_in IsDecideText

@@ -1,6 +1,6 @@
 -- What two lists decide differently, and how that is reported.
 use Rattle.std.specs.Prelude.{◌≡◌, ◌⊎◌, ◌==◌, ℕ, List, ◌∷◌, ◌++◌, Option, Some, None, codes}
-use Rattle.std.specs.Prelude.{decimal, if◌then◌else◌}
+use Rattle.std.specs.Prelude.{decimal, if◌then◌else◌, true}
 use Rattle.clap.specs.Words.{Row}
 use Rattle.acl_names.specs.Bytes.{comma}
 use Rattle.acl_names.specs.Letters.{letters_text}
@@ -70,4 +70,4 @@ IsComparison compared text =
 
 -- what the fields of `compare` mean
 abbrev pub compare_meaning : List Row → Meaning
-compare_meaning = query_meaning compared_in IsComparison
+compare_meaning = query_meaning true compared_in IsComparison

@@ -1,5 +1,5 @@
 -- What `explain` says: the answer, and why it is so.
-use Rattle.std.specs.Prelude.{◌≡◌, ◌↔◌, Bool, IsTrue, List, ℕ, ◌++◌}
+use Rattle.std.specs.Prelude.{◌≡◌, ◌↔◌, Bool, true, IsTrue, List, ℕ, ◌++◌}
 use Rattle.clap.specs.Words.{Row}
 use Rattle.acl_posix.specs.Access.{grants}
 use Rattle.acl_nfs4.specs.Evaluation.{Grants}
@@ -29,4 +29,4 @@ pub record IsExplanation (explained : Explained) (text : List ℕ) : Type 0 wher
 
 -- what the fields of `explain` mean
 abbrev pub explain_meaning : List Row → Meaning
-explain_meaning = query_meaning explained_in IsExplanation
+explain_meaning = query_meaning true explained_in IsExplanation

@@ -6,7 +6,7 @@ use Rattle.acl_cli.specs.Fields.{gids_in, id_in, perms_in}
 use Rattle.acl_queries.specs.ListField.{list_in}
 use Rattle.acl_queries.specs.Reasons.{FileRequestValue}
 use Rattle.acl_bridge.specs.declared.any_acl.AnyAcl.{AnyAcl}
-use Rattle.acl_cli.specs.declared.field_fault.FieldFault.{FieldFault}
+use Rattle.acl_cli.specs.Faults.{Malformed}
 
 -- why the requester may do all of what is requested with a file of this access control list, or may
 -- not
@@ -15,7 +15,7 @@ pub record Explained : Type 0 where
   pub acl : AnyAcl
 
 -- what is asked, or the fault of the first field that is malformed, in this order
-unfoldable pub explained_in : List Row → Result Explained FieldFault
+unfoldable pub explained_in : List Row → Result Explained Malformed
 explained_in rows = do
   owner ← id_in (codes "owner") rows
   group ← id_in (codes "group") rows

@@ -1,6 +1,6 @@
 -- Which list of either style a field spells.
-use Rattle.std.specs.Prelude.{List, Result, Ok, Err, option_and_then}
-use Rattle.clap.specs.Words.{Text, Row, first_of}
+use Rattle.std.specs.Prelude.{List, Option, Result, Ok, Err, codes, option_and_then}
+use Rattle.clap.specs.Words.{Text, Row}
 use Rattle.acl_names.specs.Pieces.{pieces}
 use Rattle.acl_names.specs.ReadList.{at_most_read}
 use Rattle.acl_names.specs.Steps.{◌>>=◌, or_fault}
@@ -12,6 +12,8 @@ use Rattle.acl_nfs4.specs.AceText.{piece_value}
 use Rattle.acl_nfs4.specs.declared.acl.AceFault.{AceFault}
 use Rattle.acl_nfs4.specs.declared.acl.AceFault.TheVariants as aces
 use Rattle.acl_cli.specs.Failures.{out_of_memory}
+use Rattle.acl_cli.specs.Faults.{Malformed}
+use Rattle.acl_cli.specs.Fields.{given, of_word}
 use Rattle.acl_cli.specs.declared.failure.Failure.{Failure}
 use Rattle.acl_cli.specs.declared.failure.Failure.TheVariants.{Field}
 use Rattle.acl_nfs4.specs.declared.limits.TheConstants.{MAX_ACES}
@@ -53,8 +55,12 @@ abbrev pub list_of : Style → Text → Result AnyAcl FieldFault
 list_of style.Posix text = acl_of text >>= (λ acl. Ok (list.Posix acl))
 list_of style.Nfs4 text = aces_of text >>= (λ aces. Ok (list.Nfs4 aces))
 
+-- the style that a word names
+abbrev pub style_given : Option Text → Result Style FieldFault
+style_given word = or_fault BadStyle (option_and_then style_of word)
+
 -- the fields of a list by name: its style, and then its text
-abbrev pub list_in : Text → Text → List Row → Result AnyAcl FieldFault
+abbrev pub list_in : Text → Text → List Row → Result AnyAcl Malformed
 list_in style_name text_name rows = do
-  style ← or_fault BadStyle (option_and_then style_of (first_of style_name rows))
-  or_fault (Acl acl.BadAcl) (first_of text_name rows) >>= list_of style
+  style ← of_word style_name (codes "STYLE") style_given rows
+  of_word text_name (codes "TEXT") (given (Acl acl.BadAcl) (list_of style)) rows

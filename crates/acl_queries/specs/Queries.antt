@@ -1,36 +1,44 @@
 -- What fields mean that by themselves are answered.
-use Rattle.std.specs.Prelude.{◌≡◌, ⊤, ℕ, List, [], Result, Ok, Err, IsOk}
+use Rattle.std.specs.Prelude.{◌≡◌, ⊤, ℕ, Bool, false, true, List, [], Result, Ok, Err, IsOk}
 use Rattle.clap.specs.Words.{Row}
 use Rattle.acl_cli.specs.Commands.{Answer, Meaning}
+use Rattle.acl_cli.specs.Failures.{Explains}
+use Rattle.acl_cli.specs.Faults.{Malformed as MalformedField}
 use Rattle.acl_cli.specs.declared.command.Ending.TheVariants.{Answered}
 use Rattle.acl_cli.specs.declared.failure.Failure.{Failure}
 use Rattle.acl_cli.specs.declared.failure.Failure.TheVariants.{Field, Lacks}
-use Rattle.acl_cli.specs.declared.field_fault.FieldFault.{FieldFault}
 use Rattle.acl_cli.specs.declared.run_fault.RunFault.TheVariants.{Memory, Output}
 
 -- by what the fields ask, and by which texts answer that: they ask something, and this answers it,
 -- wholly, with nothing beside it
-pub record IsAnswered {A : Type 0} (reading : Result A FieldFault) (IsAnswer : A → List ℕ → Type 0)
-    (answer : Answer) : Type 0 where
+pub record IsAnswered {A : Type 0} (reading : Result A MalformedField)
+    (IsAnswer : A → List ℕ → Type 0) (answer : Answer) : Type 0 where
   pub asked : A
   pub read : reading ≡ Ok asked
   pub answers : IsAnswer asked answer.text
   pub quiet : answer.beside ≡ []
   pub whole : answer.ending ≡ Answered
 
+-- the failure is that of the reading, of which it tells where it stands or not; or out of memory
+abbrev pub IsFailureOf : {A : Type 0} → Bool → Result A MalformedField → Failure → Type 0
+IsFailureOf true reading failure = Explains reading failure
+IsFailureOf false reading (Field fault) =
+    (malformed : MalformedField) × (reading ≡ Err malformed) × (malformed.fault ≡ fault)
+IsFailureOf false reading (Lacks Memory) = ⊤
+IsFailureOf false reading _ = ⊥
+
 -- they have no answer for the first of them that is malformed, or since memory ran out; or they
 -- have one, and it can't be written
-abbrev pub FailsFor : {A : Type 0} → Result A FieldFault → Failure → Type 0
-FailsFor reading (Field fault) = reading ≡ Err fault
-FailsFor reading (Lacks Memory) = ⊤
-FailsFor reading (Lacks Output) = IsOk reading
-FailsFor reading _ = ⊥
+abbrev pub FailsFor : {A : Type 0} → Bool → Result A MalformedField → Failure → Type 0
+FailsFor located reading (Lacks Output) = IsOk reading
+FailsFor located reading failure = IsFailureOf located reading failure
 
-abbrev pub query_meaning : {A : Type 0} → (List Row → Result A FieldFault)
+-- a failure tells where a malformed field stands, or not
+abbrev pub query_meaning : {A : Type 0} → Bool → (List Row → Result A MalformedField)
     → (A → List ℕ → Type 0) → List Row → Meaning
-query_meaning asked_in IsAnswer rows = record {
+query_meaning located asked_in IsAnswer rows = record {
   Answers = IsAnswered (asked_in rows) IsAnswer;
   Begins = IsAnswered (asked_in rows) IsAnswer;
-  Fails = FailsFor (asked_in rows);
+  Fails = FailsFor located (asked_in rows);
   inputs = 0;
 }

@@ -6,11 +6,11 @@ use Rattle.clap.specs.declared.error.kind.ErrorKind.{ErrorKind}
 use Rattle.acl_cli.specs.Commands.{Ends, of_words}
 use Rattle.acl_cli.specs.ErrorOutput.{ErrorText}
 use Rattle.acl_cli.specs.Failures.{is_help}
-use Rattle.acl_cli.specs.declared.field_fault.FieldFault.{FieldFault}
+use Rattle.acl_cli.specs.Faults.{Malformed}
 use Rattle.acl_queries.specs.Queries.{query_meaning}
 
 -- the status of words that are taken, by the reading of their fields
-abbrev pub status_of_reading : {A : Type 0} → Result A FieldFault → ℕ
+abbrev pub status_of_reading : {A : Type 0} → Result A Malformed → ℕ
 status_of_reading (Ok asked) = 0
 status_of_reading (Err fault) = 1
 
@@ -21,16 +21,16 @@ status_of_kind helps kind = if helps && is_help kind then 0 else 2
 
 -- the status is that of words, by the faults that the parser finds in them, and by the reading of
 -- their fields
-abbrev pub IsStatusOf : {A : Type 0} → Bool → Kinds → Result A FieldFault → ℕ → Type 0
+abbrev pub IsStatusOf : {A : Type 0} → Bool → Kinds → Result A Malformed → ℕ → Type 0
 IsStatusOf helps kinds reading status =
     ((kinds ≡ []) × (status ≡ status_of_reading reading))
     ⊎ ((kind : ErrorKind) × IsAmong kind kinds × (status ≡ status_of_kind helps kind))
 
 -- a query that ended has the status of its words, unless something lacks
-abbrev pub HasTheStatusOfItsWords : {A : Type 0} → App → Bool → (List Row → Result A FieldFault)
-    → (A → List ℕ → Type 0) → Type 0
-HasTheStatusOfItsWords line helps asked_in IsAnswer = (words : List Text) (status : ℕ)
+abbrev pub HasTheStatusOfItsWords : {A : Type 0} → App → Bool → Bool
+    → (List Row → Result A Malformed) → (A → List ℕ → Type 0) → Type 0
+HasTheStatusOfItsWords line helps located asked_in IsAnswer = (words : List Text) (status : ℕ)
     (out out' : Option (List ℕ)) (err err' : ErrorText) (input input' : Unit {0})
-    → Ends (of_words line helps (query_meaning asked_in IsAnswer) words) status out out' err err'
-    input input' → status ≢ 3
+    → Ends (of_words line helps (query_meaning located asked_in IsAnswer) words) status out out'
+    err err' input input' → status ≢ 3
     → IsStatusOf helps (fault_of line words) (asked_in (matches_of line words)) status

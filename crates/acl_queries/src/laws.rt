@@ -23,9 +23,9 @@ ghost use Rattle.acl_queries.specs.QueryLaws.{HasTheStatusOfItsWords};
 /// 0; and 0 of `explain` and `compare` if the words ask for help. What ended as the words mean has
 /// no other.
 pub fn statuses_are_those_of_the_words()
-    ensures decide { HasTheStatusOfItsWords decide_line false asked_in IsDecideText }
-    ensures explain { HasTheStatusOfItsWords explain_line true explained_in IsExplanation }
-    ensures compare { HasTheStatusOfItsWords compare_line true compared_in IsComparison }
+    ensures decide { HasTheStatusOfItsWords decide_line false false asked_in IsDecideText }
+    ensures explain { HasTheStatusOfItsWords explain_line true true explained_in IsExplanation }
+    ensures compare { HasTheStatusOfItsWords compare_line true true compared_in IsComparison }
 {}
 
 /// Words of `decide` ask what their fields give, each field by itself, and nothing else.

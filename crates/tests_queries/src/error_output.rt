@@ -5,7 +5,7 @@ use acl_cli::{ErrorOutput, Failure, RunFault};
 /// Writes a line of these words to so much room. Whether a write failed.
 fn fails_in(room: &mut [u8], words: &str, more: &str) -> bool {
     let mut err = ErrorOutput::new(room);
-    err.write_line(words, more);
+    err.write_pair(words, more);
     err.has_failed()
 }
 

@@ -1,7 +1,7 @@
 //! Access control lists, as fields write them: with ids, for the directory has no names.
 ghost use Rattle.std.specs.Prelude.{◌≡◌, Ok, IfErr, IfOk};
 ghost use Rattle.acl_queries.specs.AclText.{acl_of, nobody};
-ghost use Rattle.acl_cli.specs.Failures.{Explains};
+ghost use Rattle.acl_cli.specs.Failures.{ExplainsText};
 
 use acl_cli::{Failure, FieldFault, RunFault};
 use acl_names::{Directory, SetupFault};
@@ -25,7 +25,7 @@ pub fn empty_directory(alloc: Global) -> Result<Directory, AllocError>
 /// The access control list that a text spells.
 pub(crate) fn read_acl<'a>(alloc: Global, text: &'a str) -> Result<Acl, Failure<'a>>
     ensures read { IfOk result (λ acl. acl_of text.entry.now ≡ Ok acl) }
-    ensures refused { IfErr result (Explains (acl_of text.entry.now)) }
+    ensures refused { IfErr result (ExplainsText (acl_of text.entry.now)) }
 {
     let directory = empty_directory(alloc)?;
     match acl_posix::read_acl(alloc, text.as_bytes(), &directory) {

@@ -1,10 +1,8 @@
 //! The command line of `compare`.
 
 use super::Compare;
-use acl_cli::CommandLine;
-use acl_cli::options::{group_option, owner_option, required_word};
-use clap::Command;
-use std::alloc::{AllocError, Global};
+use acl_cli::options::{GROUP, OWNER};
+use acl_cli::{CommandLine, Given, Line, Word};
 
 /// An example, and what the exit statuses are.
 const EXAMPLE: &str = "For example:
@@ -12,6 +10,36 @@ const EXAMPLE: &str = "For example:
 
 Exit status: 0 with an answer, whichever it is; 1 if a field is malformed; 2 if
 the words are wrong; 3 if memory runs out or the answer can't be written.";
+
+/// What stands in the line, in the order of help.
+const WORDS: [Word<'static>; 6] = [
+    OWNER,
+    GROUP,
+    Word {
+        given: Given::RequiredWord,
+        name: "style",
+        value: "STYLE",
+        help: "The style of the first list: posix or nfs4",
+    },
+    Word {
+        given: Given::RequiredWord,
+        name: "text",
+        value: "TEXT",
+        help: "The first access control list, as u::rw,g::r,o::- or A::OWNER@:rwa",
+    },
+    Word {
+        given: Given::RequiredWord,
+        name: "other-style",
+        value: "STYLE",
+        help: "The style of the second list",
+    },
+    Word {
+        given: Given::RequiredWord,
+        name: "other-text",
+        value: "TEXT",
+        help: "The second access control list",
+    },
+];
 
 impl CommandLine for Compare {
     ghost use Rattle.acl_queries.specs.CompareLine.{compare_line, compare_line-free};
@@ -23,38 +51,14 @@ impl CommandLine for Compare {
 
     ghost line_free = { compare_line-free };
 
-    fn command<'a>(alloc: Global) -> Result<Command<'a>, AllocError> {
-        Command::new(alloc, "compare")
-            .bin_name("aclctl compare")?
-            .about(
-                "Tells whether anybody gains or loses access between two access control lists: `alike`, or who does and what.",
-            )
-            .after_help(EXAMPLE)
-            .arg(owner_option(alloc))?
-            .arg(group_option(alloc))?
-            .arg(required_word(
-                alloc,
-                "style",
-                "STYLE",
-                "The style of the first list: posix or nfs4",
-            ))?
-            .arg(required_word(
-                alloc,
-                "text",
-                "TEXT",
-                "The first access control list, as u::rw,g::r,o::- or A::OWNER@:rwa",
-            ))?
-            .arg(required_word(
-                alloc,
-                "other-style",
-                "STYLE",
-                "The style of the second list",
-            ))?
-            .arg(required_word(
-                alloc,
-                "other-text",
-                "TEXT",
-                "The second access control list",
-            ))
+    #[tactic(auto, unfolding(crate::specs::CompareLine::compare_line))]
+    fn line() -> Line<'static> {
+        Line {
+            name: "compare",
+            about: "Tells whether anybody gains or loses access between two access control lists: \
+                 `alike`, or who does and what.",
+            after_help: EXAMPLE,
+            words: &WORDS,
+        }
     }
 }

@@ -62,10 +62,13 @@ impl Comparison {
 }
 
 impl Query for Comparison {
+    ghost use Rattle.std.specs.Prelude.{true};
     ghost use Rattle.acl_queries.specs.Compared.{compared_in};
     ghost use Rattle.acl_queries.specs.Differences.{IsComparison};
 
     ghost asked_in = { compared_in };
+
+    ghost located = { true };
 
     ghost IsAnswer = { IsComparison };
 

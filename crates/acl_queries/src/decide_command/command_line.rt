@@ -1,12 +1,8 @@
 //! The command line of `decide`.
 
 use super::Decide;
-use acl_cli::CommandLine;
-use acl_cli::options::{
-    flag, gids_option, group_option, owner_option, perms_option, required_word, uid_option,
-};
-use clap::Command;
-use std::alloc::{AllocError, Global};
+use acl_cli::options::{GIDS, GROUP, OWNER, PERMS, UID};
+use acl_cli::{CommandLine, Given, Line, Word};
 
 /// An example, and what the exit statuses are.
 const EXAMPLE: &str = "For example:
@@ -15,6 +11,28 @@ const EXAMPLE: &str = "For example:
 Exit status: 0 with an answer, granted or denied; 1 if a field doesn't read;
 2 if the words are wrong, and with this help; 3 if memory runs out or the
 answer can't be written.";
+
+/// What stands in the line, in the order of help.
+const WORDS: [Word<'static>; 7] = [
+    Word {
+        given: Given::Flag,
+        name: "nfs4",
+        value: "",
+        help: "Prints the translation too: the NFSv4 entries that decide alike, one a line",
+    },
+    OWNER,
+    GROUP,
+    UID,
+    GIDS,
+    PERMS,
+    Word {
+        given: Given::RequiredWord,
+        name: "text",
+        value: "TEXT",
+        help: "The access control list, as u::rw,g::r,o::-. One that begins with - follows a \
+             word --",
+    },
+];
 
 impl CommandLine for Decide {
     ghost use Rattle.acl_queries.specs.DecideLine.{decide_line, decide_line-free};
@@ -26,26 +44,13 @@ impl CommandLine for Decide {
 
     ghost line_free = { decide_line-free };
 
-    fn command<'a>(alloc: Global) -> Result<Command<'a>, AllocError> {
-        Command::new(alloc, "decide")
-            .bin_name("aclctl decide")?
-            .about("Tells whether an access control list grants a request: `granted` or `denied`.")
-            .after_help(EXAMPLE)
-            .arg(flag(
-                alloc,
-                "nfs4",
-                "Prints the translation too: the NFSv4 entries that decide alike, one a line",
-            ))?
-            .arg(owner_option(alloc))?
-            .arg(group_option(alloc))?
-            .arg(uid_option(alloc))?
-            .arg(gids_option(alloc))?
-            .arg(perms_option(alloc))?
-            .arg(required_word(
-                alloc,
-                "text",
-                "TEXT",
-                "The access control list, as u::rw,g::r,o::-. One that begins with - follows a word --",
-            ))
+    #[tactic(auto, unfolding(crate::specs::DecideLine::decide_line))]
+    fn line() -> Line<'static> {
+        Line {
+            name: "decide",
+            about: "Tells whether an access control list grants a request: `granted` or `denied`.",
+            after_help: EXAMPLE,
+            words: &WORDS,
+        }
     }
 }

@@ -1,12 +1,8 @@
 //! The command line of `explain`.
 
 use super::Explain;
-use acl_cli::CommandLine;
-use acl_cli::options::{
-    gids_option, group_option, owner_option, perms_option, required_word, uid_option,
-};
-use clap::Command;
-use std::alloc::{AllocError, Global};
+use acl_cli::options::{GIDS, GROUP, OWNER, PERMS, UID};
+use acl_cli::{CommandLine, Given, Line, Word};
 
 /// An example, and what the exit statuses are.
 const EXAMPLE: &str = "For example:
@@ -14,6 +10,27 @@ const EXAMPLE: &str = "For example:
 
 Exit status: 0 with an answer, granted or denied; 1 if a field is malformed; 2
 if the words are wrong; 3 if memory runs out or the answer can't be written.";
+
+/// What stands in the line, in the order of help.
+const WORDS: [Word<'static>; 7] = [
+    OWNER,
+    GROUP,
+    UID,
+    GIDS,
+    PERMS,
+    Word {
+        given: Given::RequiredWord,
+        name: "style",
+        value: "STYLE",
+        help: "The style of the list: posix or nfs4",
+    },
+    Word {
+        given: Given::RequiredWord,
+        name: "text",
+        value: "TEXT",
+        help: "The access control list, as u::rw,g::r,o::- or A::OWNER@:rwa",
+    },
+];
 
 impl CommandLine for Explain {
     ghost use Rattle.acl_queries.specs.ExplainLine.{explain_line, explain_line-free};
@@ -25,29 +42,14 @@ impl CommandLine for Explain {
 
     ghost line_free = { explain_line-free };
 
-    fn command<'a>(alloc: Global) -> Result<Command<'a>, AllocError> {
-        Command::new(alloc, "explain")
-            .bin_name("aclctl explain")?
-            .about(
-                "Tells why an access control list grants or denies a request: which entries decide.",
-            )
-            .after_help(EXAMPLE)
-            .arg(owner_option(alloc))?
-            .arg(group_option(alloc))?
-            .arg(uid_option(alloc))?
-            .arg(gids_option(alloc))?
-            .arg(perms_option(alloc))?
-            .arg(required_word(
-                alloc,
-                "style",
-                "STYLE",
-                "The style of the list: posix or nfs4",
-            ))?
-            .arg(required_word(
-                alloc,
-                "text",
-                "TEXT",
-                "The access control list, as u::rw,g::r,o::- or A::OWNER@:rwa",
-            ))
+    #[tactic(auto, unfolding(crate::specs::ExplainLine::explain_line))]
+    fn line() -> Line<'static> {
+        Line {
+            name: "explain",
+            about: "Tells why an access control list grants or denies a request: which entries \
+                 decide.",
+            after_help: EXAMPLE,
+            words: &WORDS,
+        }
     }
 }

@@ -41,10 +41,13 @@ impl Model for Question {
 }
 
 impl Query for Question {
+    ghost use Rattle.std.specs.Prelude.{true};
     ghost use Rattle.acl_queries.specs.ExplainText.{IsExplanation};
     ghost use Rattle.acl_queries.specs.Explained.{explained_in};
 
     ghost asked_in = { explained_in };
+
+    ghost located = { true };
 
     ghost IsAnswer = { IsExplanation };
 

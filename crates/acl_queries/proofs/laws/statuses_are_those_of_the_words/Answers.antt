@@ -12,10 +12,10 @@ use Rattle.acl_queries.proofs.StatusLemmas.{the_status_of_its_words}
 use Rattle.acl_queries.proofs.laws.statuses_are_those_of_the_words.Goals as goal
 
 pub returns-clause-decide : goal.returns-clause-decide
-returns-clause-decide c = the_status_of_its_words decide_line false asked_in IsDecideText
+returns-clause-decide c = the_status_of_its_words decide_line false false asked_in IsDecideText
 
 pub returns-clause-explain : goal.returns-clause-explain
-returns-clause-explain c = the_status_of_its_words explain_line true explained_in IsExplanation
+returns-clause-explain c = the_status_of_its_words explain_line true true explained_in IsExplanation
 
 pub returns-clause-compare : goal.returns-clause-compare
-returns-clause-compare c = the_status_of_its_words compare_line true compared_in IsComparison
+returns-clause-compare c = the_status_of_its_words compare_line true true compared_in IsComparison

@@ -3,7 +3,7 @@ use Rattle.acl_names.specs.ListText.{IsFaultOf, Spells}
 use Rattle.acl_nfs4.specs.AceText.{piece_value}
 use Rattle.acl_nfs4.specs.ReadFault.{list_fault}
 use Rattle.acl_nfs4.specs.declared.limits.TheConstants.{MAX_ACES}
-use Rattle.acl_cli.specs.Failures.{Explains}
+use Rattle.acl_cli.specs.Failures.{ExplainsText}
 use Rattle.acl_cli.specs.declared.failure.Failure.{Failure}
 use Rattle.acl_queries.specs.AclText.{nobody}
 use Rattle.acl_queries.specs.ListField.{aces_of}
@@ -18,4 +18,4 @@ returns-in-Ok-clause-read c =
 pub returns-clause-refused : goal.returns-clause-refused
 returns-clause-refused c =
     let is : IsFaultOf (piece_value nobody) MAX_ACES c.args.text.now (list_fault c.in-Err.fault) = search rules in
-    subst (λ (failure : Failure). Explains (aces_of c.args.text.now) failure) (sym c.failure_of.ensures) (Explains-aces c.args.text.now c.in-Err.fault is)
+    subst (λ (failure : Failure). ExplainsText (aces_of c.args.text.now) failure) (sym c.failure_of.ensures) (Explains-aces c.args.text.now c.in-Err.fault is)

@@ -17,9 +17,9 @@ returns-in_err-write_text g c =
     let out' = g.W.Write.contents c.write_text.new.out in
     let front : AppendsFront out out' c.in_ok-text.text.items = search rules in
     let is : c.from_residual-in_err-write_text.result ≡ Err failed_write = search rules in
-    let comes = Comes-unwritten g.Q.Query.asked_in g.Q.Query.IsAnswer rows c.in_ok-query.query c.in_ok-query.ensures.read c.in_ok-text.text.items
+    let comes = Comes-unwritten g.Q.Query.located g.Q.Query.asked_in g.Q.Query.IsAnswer rows c.in_ok-query.query c.in_ok-query.ensures.read c.in_ok-text.text.items
     c.in_ok-text.ensures out out' c.args._err.now c.args._input.now front in
-    subst (λ (result : Result Ending Failure). Comes (query_meaning g.Q.Query.asked_in g.Q.Query.IsAnswer rows) result out out' c.args._err.now c.args._err.now c.args._input.now c.args._input.now)
+    subst (λ (result : Result Ending Failure). Comes (query_meaning g.Q.Query.located g.Q.Query.asked_in g.Q.Query.IsAnswer rows) result out out' c.args._err.now c.args._err.now c.args._input.now c.args._input.now)
     (sym is) comes
 
 pub returns : goal.returns
@@ -28,5 +28,5 @@ returns g c =
     let out = g.W.Write.contents c.args.out.now in
     let out' = g.W.Write.contents c.write_text.new.out in
     let went : Appends out out' c.in_ok-text.text.items = search rules in
-    Comes-written g.Q.Query.asked_in g.Q.Query.IsAnswer rows c.in_ok-query.query c.in_ok-query.ensures.read c.in_ok-text.text.items c.in_ok-text.ensures
+    Comes-written g.Q.Query.located g.Q.Query.asked_in g.Q.Query.IsAnswer rows c.in_ok-query.query c.in_ok-query.ensures.read c.in_ok-text.text.items c.in_ok-text.ensures
     out out' c.args._err.now c.args._input.now went

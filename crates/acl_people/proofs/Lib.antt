@@ -1,0 +1,4 @@
+pub mod LineLemmas
+pub mod HostLemmas
+pub mod PeopleLemmas
+pub mod AskedLemmas

@@ -1,0 +1,5 @@
+pub mod Person
+pub mod Host
+pub mod HostFailures
+pub mod People
+pub mod Asked

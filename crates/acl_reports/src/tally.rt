@@ -1,0 +1,128 @@
+//! How many blocks of a listing there were, and how many weren't answered.
+ghost use Rattle.std.specs.Prelude.{◌≡◌, ◌++◌, ◌+◌, IfSome, OnOk};
+ghost use Rattle.acl_reports.specs.Listed.{closing, count_line, ending_of, first_guess};
+ghost use Rattle.acl_reports.specs.Listed.{guess_line, is_fault, is_unread};
+ghost use Rattle.acl_reports.specs.Listed.{no_blocks};
+
+use crate::lines::{push_line, push_number, push_start};
+use acl_cli::Ending;
+use acl_listings::{BlockFault, Guess};
+use std::alloc::AllocError;
+
+/// How many blocks there were, how many weren't answered, and what the first was taken for.
+#[derive(Clone, Copy)]
+pub struct Tally {
+    pub blocks: u64,
+    pub faults: u64,
+    /// How many of these are malformed, whatever the way to them.
+    pub unread: u64,
+    pub guess: Option<Guess>,
+}
+
+/// 1 if the block isn't answered.
+fn is_fault(fault: Option<BlockFault>) -> u64
+    ensures { result ≡ is_fault fault }
+{
+    match fault {
+        None => 0,
+        Some(_) => 1,
+    }
+}
+
+/// 1 if the block is malformed. One of which only the way is unknown reads all the same.
+fn is_unread(fault: Option<BlockFault>) -> u64
+    ensures { result ≡ is_unread fault }
+{
+    match fault {
+        None | Some(BlockFault::UnknownWay) => 0,
+        Some(_) => 1,
+    }
+}
+
+impl Tally {
+    /// No block was seen.
+    pub fn new() -> Tally
+        ensures { result ≡ no_blocks }
+    {
+        Tally {
+            blocks: 0,
+            faults: 0,
+            unread: 0,
+            guess: None,
+        }
+    }
+
+    /// One block more, with this text, of which this is wrong, if anything is. `None` if there are
+    /// more than can be counted, which no listing has.
+    pub fn with(self, text: &[u8], fault: Option<BlockFault>) -> Option<Tally>
+        ensures blocks { IfSome result (λ tally. tally.blocks ≡ self.blocks + 1) }
+        ensures faults { IfSome result (λ tally. tally.faults ≡ self.faults + is_fault fault) }
+        ensures unread { IfSome result (λ tally. tally.unread ≡ self.unread + is_unread fault) }
+        ensures guess { IfSome result (λ tally. tally.guess ≡ first_guess self.guess text.now) }
+    {
+        let blocks = self.blocks.checked_add(1)?;
+        let faults = self.faults.checked_add(is_fault(fault))?;
+        let unread = self.unread.checked_add(is_unread(fault))?;
+        let guess = match self.guess {
+            Some(guess) => guess,
+            None => Guess::of(text),
+        };
+        Some(Tally {
+            blocks,
+            faults,
+            unread,
+            guess: Some(guess),
+        })
+    }
+
+    /// How the answer ends.
+    pub fn ending(self) -> Ending
+        ensures { result ≡ ending_of self }
+    {
+        if self.blocks == 0 || self.faults != 0 {
+            Ending::InPart
+        } else {
+            Ending::Answered
+        }
+    }
+
+    /// Appends the line that tells what the listing may be.
+    fn push_guess(self, name: &str, out: &mut Vec<u8>) -> Result<(), AllocError>
+        ensures { OnOk result (out.new.items ≡ out.old.items ++ guess_line name.now self.guess) }
+    {
+        match self.guess {
+            Some(guess) => push_line(name, guess.words(), out),
+            None => Ok(()),
+        }
+    }
+
+    /// Appends the line that counts the files that weren't answered.
+    fn push_count(self, name: &str, out: &mut Vec<u8>) -> Result<(), AllocError>
+        ensures { OnOk result (out.new.items ≡ out.old.items ++ count_line name.now self) }
+    {
+        push_start(name, out)?;
+        out.extend_from_slice(b": ")?;
+        push_number(self.faults, out)?;
+        out.extend_from_slice(b" of ")?;
+        push_number(self.blocks, out)?;
+        out.extend_from_slice(b" files were not answered")?;
+        out.push(b'\n')?;
+        Ok(())
+    }
+
+    /// Appends what is said at the end of the listing of this name.
+    pub fn push_closing(self, name: &str, out: &mut Vec<u8>) -> Result<(), AllocError>
+        ensures { OnOk result (out.new.items ≡ out.old.items ++ closing name.now self) }
+    {
+        if self.blocks == 0 {
+            return push_line(name, "no file", out);
+        }
+        if self.faults == 0 {
+            return Ok(());
+        }
+        if self.unread == self.blocks {
+            self.push_guess(name, out)?;
+        }
+        self.push_count(name, out)
+    }
+}
