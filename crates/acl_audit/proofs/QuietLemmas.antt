@@ -163,11 +163,11 @@ quiet-chmod4 : (aces : List Nfsace4) (mode : Classes) → has_inheritance aces �
 quiet-chmod4 aces mode quiet =
     let first = for_owner mode.user in
     let second = kept_of_list mode.group aces in
-    let third = denials mode.group aces in
+    let third = denials (rest_of mode.group) aces in
     any-append inherits (first ++ second ++ third) (for_others mode.group mode.other)
     (any-append inherits (first ++ second) third
     (any-append inherits first second (quiet-for_owner mode.user) (quiet-kept mode.group aces quiet))
-    (any-flat_map-all inherits (denial_of mode.group aces)
+    (any-flat_map-all inherits (denial_of (rest_of mode.group) aces)
     (λ who. quiet-plain Deny who (without (rest_of mode.group) (denied_to who aces))) (named_whos aces)))
     (quiet-for_others mode.group mode.other)
 

@@ -1,4 +1,3 @@
 pub mod Checks
-pub mod Reach
 pub mod Quiet
 pub mod Dump

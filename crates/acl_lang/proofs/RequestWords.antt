@@ -76,7 +76,7 @@ slash_byte : (byte : ℕ) → is_slash byte ≡ true → is_field_byte byte ≡ 
 slash_byte byte is = grind (arith, nat_tests)
 
 -- a field that is not empty
-abbrev IsSomeField : List ℕ → Type 0
+abbrev pub IsSomeField : List ℕ → Type 0
 IsSomeField text = IsField text × (0 < length text)
 
 components_field : (path : List ℕ) → has_components path ≡ true → IsSomeField path
@@ -92,8 +92,11 @@ path_by : (path : List ℕ) (b : Bool) → bytes_eq path (codes "/") ≡ b → (
 path_by path true root is = subst IsSomeField (sym ((bytes_eq-Decides path (codes "/")).0 root)) (tested_field (codes "/") refl, omega arith)
 path_by path false other is = components_field path (and_second (nat_le (length path) MAX_PATH_LEN) (has_components path) is)
 
+pub path_field : (path : List ℕ) → IsPath path → IsSomeField path
+path_field path is = path_by path (bytes_eq path (codes "/")) refl is
+
 pub path_word : (path : List ℕ) → IsPath path → IsWord path
-path_word path is = let field = path_by path (bytes_eq path (codes "/")) refl is in field_word path field.1 field.0
+path_word path is = let field = path_field path is in field_word path field.1 field.0
 
 -- ---- fields
 

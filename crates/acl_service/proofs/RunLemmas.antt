@@ -12,7 +12,8 @@ use Rattle.acl_cli.specs.Output.{AppendsFront}
 use Rattle.acl_cli.specs.SessionFiles.{HasBytes, HaveBytes, input_count, setup_in}
 use Rattle.acl_cli.specs.declared.command.Ending.TheVariants.{Answered}
 use Rattle.acl_cli.specs.declared.failure.Failure.{Failure}
-use Rattle.acl_cli.specs.declared.failure.Failure.TheVariants.{Accounts, BadWords, CannotRead, Field, InputTwice, Lacks, LineTooLong, Mismatch, NoCommand, NoFile, Setup, TooManySessions, TooManyWords, Unread, Usage}
+use Rattle.acl_cli.specs.declared.failure.Failure.TheVariants.{CannotRead, Field, Lacks, Malformed, Misuse, Refused, Unread, Usage}
+use Rattle.acl_cli.specs.declared.misuse.Misuse.TheVariants.{BadWords, DeleteAndOthers, InputTwice, LettersAndPerms, NoCommand, TooManySessions, TooManyWords}
 use Rattle.acl_cli.specs.declared.run_fault.RunFault.TheVariants.{Memory, NoThread, Output, Stopped}
 use Rattle.acl_cli.proofs.TellingLemmas.{Tells-nothing}
 use Rattle.acl_service.specs.RunMeaning.{AnswersTexts, run_meaning, texts_meaning}
@@ -21,11 +22,11 @@ use Rattle.acl_service.specs.RunWords.{CanRun, HasLimit, sessions_in}
 use Rattle.acl_service.specs.TextsFailures.{IsTextsFailure}
 
 abbrev IsSetup : Failure → Type 0
-IsSetup (Setup error) = ⊤
+IsSetup (Refused refusal) = ⊤
 IsSetup _ = ⊥
 
 abbrev IsTooMany : Failure → Type 0
-IsTooMany TooManySessions = ⊤
+IsTooMany (Misuse TooManySessions) = ⊤
 IsTooMany _ = ⊥
 
 abbrev IsNotOutput : Failure → Type 0
@@ -34,26 +35,25 @@ IsNotOutput _ = ⊤
 
 -- which failures of texts there are
 module _ (setup : List ℕ) (sessions : ℕ) where
-  by_failure : {A : Type 0} (failure : Failure) → IsTextsFailure setup sessions failure → (failure ≡ TooManySessions → SESSIONS < sessions → A)
+  by_failure : {A : Type 0} (failure : Failure) → IsTextsFailure setup sessions failure → (failure ≡ Misuse TooManySessions → SESSIONS < sessions → A)
       → (status_of failure ≡ 1 → failure ≢ failed_write → sessions ≤ SESSIONS → A) → (status_of failure ≡ 3 → failure ≢ failed_write → sessions ≤ SESSIONS → A)
       → (failure ≡ failed_write → sessions ≤ SESSIONS → A) → A
-  by_failure TooManySessions is many refused lacks lost = many refl is
-  by_failure (Setup error) is many refused lacks lost = refused refl (λ same. subst IsSetup same tt) is.0
+  by_failure (Misuse TooManySessions) is many refused lacks lost = many refl is
+  by_failure (Refused refusal) is many refused lacks lost = refused refl (λ same. subst IsSetup same tt) is.0
   by_failure (Lacks Memory) is many refused lacks lost = lacks refl (λ same. subst IsNotOutput same tt) is
   by_failure (Lacks Stopped) is many refused lacks lost = lacks refl (λ same. subst IsNotOutput same tt) is
   by_failure (Lacks NoThread) is many refused lacks lost = lacks refl (λ same. subst IsNotOutput same tt) is
   by_failure (Lacks Output) is many refused lacks lost = lost refl is
-  by_failure (Accounts name fault) is many refused lacks lost = absurd is
-  by_failure BadWords is many refused lacks lost = absurd is
+  by_failure (Malformed malformed) is many refused lacks lost = absurd is
+  by_failure (Misuse BadWords) is many refused lacks lost = absurd is
   by_failure (CannotRead name reason) is many refused lacks lost = absurd is
   by_failure (Field fault) is many refused lacks lost = absurd is
-  by_failure InputTwice is many refused lacks lost = absurd is
-  by_failure LineTooLong is many refused lacks lost = absurd is
-  by_failure (Mismatch mismatch) is many refused lacks lost = absurd is
-  by_failure NoCommand is many refused lacks lost = absurd is
-  by_failure TooManyWords is many refused lacks lost = absurd is
+  by_failure (Misuse InputTwice) is many refused lacks lost = absurd is
+  by_failure (Misuse LettersAndPerms) is many refused lacks lost = absurd is
+  by_failure (Misuse DeleteAndOthers) is many refused lacks lost = absurd is
+  by_failure (Misuse NoCommand) is many refused lacks lost = absurd is
+  by_failure (Misuse TooManyWords) is many refused lacks lost = absurd is
   by_failure (Unread name) is many refused lacks lost = absurd is
-  by_failure (NoFile name path) is many refused lacks lost = absurd is
   by_failure (Usage error) is many refused lacks lost = absurd is
 
   -- wrong usage is that of too many

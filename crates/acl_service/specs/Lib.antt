@@ -5,6 +5,7 @@ pub mod Sessions
 pub mod Cursor
 pub mod ReportOf
 pub mod Headline
+pub mod Setups
 pub mod TextsFailures
 pub mod RunText
 pub mod RunTexts

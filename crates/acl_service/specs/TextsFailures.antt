@@ -3,13 +3,14 @@ use Rattle.std.specs.Prelude.{◌<◌, ◌≤◌, ⊤, ℕ, List}
 use Rattle.acl_broker.specs.declared.limits.TheConstants.{SESSIONS}
 use Rattle.acl_cli.specs.Failures.{failed_write, out_of_memory}
 use Rattle.acl_cli.specs.declared.failure.Failure.{Failure}
-use Rattle.acl_cli.specs.declared.failure.Failure.TheVariants.{Lacks, Setup, TooManySessions}
+use Rattle.acl_cli.specs.declared.failure.Failure.TheVariants.{Lacks, Misuse, Refused}
+use Rattle.acl_cli.specs.declared.misuse.Misuse.TheVariants.{TooManySessions}
 use Rattle.acl_cli.specs.declared.run_fault.RunFault.TheVariants as run
 use Rattle.acl_runs.specs.declared.stop.ServeFault.{ServeFault}
 use Rattle.acl_runs.specs.declared.stop.ServeFault.TheVariants as serve
 use Rattle.acl_service.specs.declared.one.OneFault.{OneFault}
 use Rattle.acl_service.specs.declared.one.OneFault.TheVariants as one
-use Rattle.acl_setup.specs.Opened.{IsRefusedBy}
+use Rattle.acl_service.specs.Setups.{IsRefusedSo}
 
 -- what one session by itself lacks
 abbrev pub failure_of_one : OneFault → Failure
@@ -25,8 +26,8 @@ failure_of_serve serve.ThreadRefused = Lacks run.NoThread
 -- so many sessions with this setup are refused for this: there are too many, or else for the setup;
 -- of a run that lacked something nothing is said but that there weren't too many
 abbrev pub IsTextsFailure : List ℕ → ℕ → Failure → Type 0
-IsTextsFailure bytes sessions TooManySessions = SESSIONS < sessions
-IsTextsFailure bytes sessions (Setup error) = (sessions ≤ SESSIONS) × IsRefusedBy bytes error
+IsTextsFailure bytes sessions (Misuse TooManySessions) = SESSIONS < sessions
+IsTextsFailure bytes sessions (Refused refusal) = (sessions ≤ SESSIONS) × IsRefusedSo bytes refusal
 IsTextsFailure bytes sessions (Lacks lack) = sessions ≤ SESSIONS
 IsTextsFailure bytes sessions _ = ⊥
 

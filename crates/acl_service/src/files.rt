@@ -7,9 +7,9 @@ ghost use Rattle.acl_service.specs.Files.{IsFilesFailure};
 ghost use Rattle.acl_service.specs.RunWords.{CanRun};
 
 use acl_broker::SESSIONS;
-use acl_cli::Failure;
 pub use acl_cli::OpenFiles;
 use acl_cli::session_files::{count_inputs, read_sessions, read_unexplained};
+use acl_cli::{Failure, Misuse};
 use acl_lang::MAX_TEXT_LEN;
 use std::alloc::Global;
 use std::io::Read;
@@ -47,10 +47,10 @@ pub fn read_texts<'a, F: OpenFiles, I: Read>(
         (map (λ name. name.now) names.now)) }
 {
     if names.is_empty() || names.len() > SESSIONS as usize {
-        return Err(Failure::TooManySessions);
+        return Err(Failure::Misuse(Misuse::TooManySessions));
     }
     if count_inputs(names) > 1 {
-        return Err(Failure::InputTwice);
+        return Err(Failure::Misuse(Misuse::InputTwice));
     }
     let setup = read_unexplained(alloc, files, setup, MAX_TEXT_LEN)?;
     let sessions = read_sessions(alloc, files, input, names, MAX_TEXT_LEN)?;

@@ -9,7 +9,8 @@ ghost use Rattle.acl_broker.specs.Points.{BrokerState};
 ghost use Rattle.acl_broker.specs.Steps.{GoesOnAll, History};
 ghost use Rattle.acl_bridge.specs.TranslationLaws.{TranslationDecidesAlike};
 ghost use Rattle.acl_cli.specs.Failures.{words_of};
-ghost use Rattle.acl_cli.specs.declared.failure.Failure.TheVariants.{TooManySessions};
+ghost use Rattle.acl_cli.specs.declared.failure.Failure.TheVariants.{Misuse};
+ghost use Rattle.acl_cli.specs.declared.misuse.Misuse.TheVariants.{TooManySessions};
 ghost use Rattle.acl_lang.specs.declared.answer.Answer.{Answer};
 ghost use Rattle.acl_lang.specs.declared.text.Numbered.{Numbered};
 ghost use Rattle.acl_service.specs.Headline.{IsServedBy};
@@ -54,5 +55,5 @@ pub fn one_session_is_served_as_alone()
 /// There is nothing to run here: a proof cites the contract.
 pub fn run_statuses_tell_the_words()
     ensures statuses { StatusesTellTheWords }
-    ensures number { words_of TooManySessions ≡ Some too_many_sessions }
+    ensures number { words_of (Misuse TooManySessions) ≡ Some too_many_sessions }
 {}

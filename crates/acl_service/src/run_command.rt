@@ -20,7 +20,7 @@ use acl_cli::{Ending, ErrorOutput, Failure, parse};
 use acl_runs::{Gate, OpenGate};
 use clap::ArgMatches;
 use command_line::limit_field;
-pub use command_line::{RunLine, session_names, session_words};
+pub use command_line::{RunLine, SESSION_WORDS, session_names};
 use std::alloc::Global;
 use std::convert::AsStr;
 use std::io::{Read, Write};

@@ -18,7 +18,10 @@ pub use acl_bridge::Style;
 pub use boxed::Boxed;
 pub use faults::{LineFault, TreeFault};
 pub use laws::{command_laws, tree_laws};
-pub use limits::{INLINE_PATH_LEN, MAX_COMPONENT_LEN, MAX_NODES, MAX_PATH_LEN, limits_in_numbers};
+pub use limits::{
+    INLINE_PATH_LEN, MAX_COMPONENT_LEN, MAX_NODES, MAX_PATH_LEN, bytes_in_numbers,
+    limits_in_numbers,
+};
 pub use node::Node;
 pub use node_acl::NodeAcl;
 pub use path::{Path, PathFault};

@@ -12,7 +12,7 @@ use Rattle.acl_tree.specs.Entries.{Entry}
 use Rattle.acl_tree.specs.declared.request.Request.{Request}
 use Rattle.acl_lang.specs.CommandText.{command_text, session_text}
 use Rattle.acl_lang.specs.declared.limits.TheConstants.{MAX_LINE_LEN}
-use Rattle.acl_tree_queries.specs.TreeQuestions.{IsAnswerFailure}
+use Rattle.acl_tree_queries.specs.TreeMeaning.{IsAnswerFailure}
 use Rattle.acl_tree_queries.specs.DumpText.{AddsLines, HasLongLine, IsDumped}
 use Rattle.acl_cli.specs.declared.failure.Failure.{Failure}
 

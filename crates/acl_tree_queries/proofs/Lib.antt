@@ -1,6 +1,7 @@
 pub mod DumpLemmas
+pub mod MadeLemmas
 pub mod DumpRunLemmas
-pub mod NodesLemmas
+pub mod ListLemmas
 pub mod OpenedLemmas
-pub mod TreeQuestionsLemmas
-pub mod TreesLemmas
+pub mod TreeMeaningLemmas
+pub mod SetupTreeLemmas

@@ -1,16 +1,12 @@
--- The trees that a setup opens have a root alone, and sessions in two parts are sessions in a row.
-use Rattle.std.proofs.Common.{◌≡◌, ◌++◌, refl, ℕ, List, [], ◌∷◌, Result, Ok, Err, Vec}
-use Rattle.std.specs.declared.alloc.Global.{Global}
+-- The trees that a setup opens have a root alone.
+use Rattle.std.proofs.Common.{◌≡◌, ℕ, List, Result, Ok, Err}
 use Rattle.acl_names.specs.Directory.{Known}
 use Rattle.acl_posix.specs.Mode.{Classes}
 use Rattle.acl_tree.specs.Commands.{root_alone}
 use Rattle.acl_tree.specs.Tree.{NodesUnderUmask}
 use Rattle.acl_bridge.specs.declared.style.Style.{Style}
-use Rattle.acl_lang.specs.Texts.{requests_of}
 use Rattle.acl_setup.specs.Opened.{IsOpened, Opened, Opens, opened_in}
-use Rattle.acl_service.specs.Runs.{tree_after}
 use Rattle.acl_setup.specs.declared.fault.SetupError.{SetupError}
-use Rattle.acl_tree_queries.specs.Trees.{tree_left}
 
 -- a tree of the root alone
 pub record IsRootAlone (tree : NodesUnderUmask) : Type 0 where
@@ -27,9 +23,3 @@ opens_a_root_alone bytes directory tree opens = by (opened_in opens.0) opens.2
     by : (reading : Result Opened SetupError) → IsOpened reading directory tree → IsRootAlone tree
     by (Err error) is = absurd is
     by (Ok opened) is = record { owner = opened.owner; group = opened.group; mode = opened.mode; style = opened.style; umask = opened.umask; is = is.1 }
-
--- sessions one after the other
-pub left_by_both : (known : Known) (tree : NodesUnderUmask) (first second : List (Vec ℕ Global))
-    → tree_left known (tree_left known tree first) second ≡ tree_left known tree (first ++ second)
-left_by_both known tree [] second = refl
-left_by_both known tree (text ∷ more) second = left_by_both known (tree_after known tree (requests_of known text.items)) more second

@@ -2,15 +2,15 @@
 
 mod command_line;
 mod lines;
-mod question;
 mod text;
 
-use crate::question::answer_question;
+use crate::answering::{PrintTree, answer_tree};
+use crate::setup_tree::SetupTree;
 use acl_cli::{Command, Ending, ErrorOutput, Failure, OpenFiles};
 use clap::ArgMatches;
-use question::DumpQuestion;
 use std::alloc::Global;
 use std::io::{Read, Write};
+use text::push_dump;
 
 /// Prints a tree as a session that makes it again over the same setup. The words are those of the
 /// command, its name first: `dump --setup FILE [SESSION]`. The tree is the one that the setup
@@ -29,6 +29,18 @@ use std::io::{Read, Write};
 /// nothing was written, and at 3 nothing or a prefix of the session.
 #[derive(Clone, Copy)]
 pub struct Dump;
+
+impl PrintTree for Dump {
+    ghost use Rattle.acl_tree_queries.specs.DumpAnswer.{HasNoDump, IsDump};
+
+    ghost IsAnswer = { IsDump };
+
+    ghost IsRefused = { HasNoDump };
+
+    fn push<'n>(alloc: Global, given: &SetupTree, out: &mut Vec<u8>) -> Result<(), Failure<'n>> {
+        push_dump(alloc, &given.tree, out)
+    }
+}
 
 impl Command for Dump {
     ghost use Rattle.std.specs.Prelude.{true};
@@ -51,6 +63,6 @@ impl Command for Dump {
         out: &mut W,
         err: &mut ErrorOutput<E>,
     ) -> Result<Ending, Failure<'a>> {
-        answer_question::<DumpQuestion, F, I, W, E>(alloc, files, matches, input, out, err)
+        answer_tree::<Dump, F, I, W, E>(alloc, files, matches, input, out, err)
     }
 }

@@ -1,20 +1,14 @@
-//! Queries of whole trees, from the words of a command line to what is printed: who may do what
-//! (`who`), who gains or loses what by a session (`impact`), and the session that makes a tree
-//! again (`dump`). A tree is that of a setup, or what sessions leave on it. `who` is asked of the
-//! real files of a listing, too, which acl_listing_queries answers, and `impact` of two listings,
-//! which acl_listing_changes does.
+//! A setup's tree, or what sessions leave on it, printed from the words of a command line: as a
+//! listing, of which the other commands ask (`list`), and as the session that makes it again
+//! (`dump`).
 #![tactic(auto)]
 
+mod answering;
 mod dump_command;
-mod impact_command;
 mod laws;
-mod nodes;
-mod question;
-mod subject;
-mod trees;
-mod who_command;
+mod list_command;
+mod setup_tree;
 
 pub use dump_command::Dump;
-pub use impact_command::Impact;
 pub use laws::dump_laws;
-pub use who_command::Who;
+pub use list_command::List;

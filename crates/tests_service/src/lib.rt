@@ -1,19 +1,14 @@
-//! Tests of the service: setups, one session, sessions in rounds and in threads, and runs of texts.
+//! Tests of the service: sessions in rounds and in threads, and runs of texts.
 //!
 //! They stand in a crate of their own, as callers of the public surface: what is tested is what any
 //! caller may rest on, and the gate needn't prove each crate a second time beside its tests.
+//! What `run` answers is tried on the program, by the cases in `crates/aclctl/cases/sessions`.
 #![tactic(auto)]
 
-#[cfg(test)]
-mod files;
 #[cfg(test)]
 mod fixture;
 #[cfg(test)]
 mod gates;
-#[cfg(test)]
-mod longest;
-#[cfg(test)]
-mod one;
 #[cfg(test)]
 mod refused_growths;
 #[cfg(test)]
@@ -22,7 +17,5 @@ mod rounds;
 mod run_texts;
 #[cfg(test)]
 mod serve;
-#[cfg(test)]
-mod setup;
 #[cfg(test)]
 mod texts;

@@ -5,20 +5,14 @@
 //! growth that is, and prints how many failures it saw: one up to the last allocation that it asks
 //! for, and none from then on. A test that starts threads passes whichever thread is refused, too,
 //! and prints whether that is what it saw.
-use crate::fixture::tree;
-use crate::setup::SETUP;
+use crate::fixture::{SETUP, tree};
 use crate::texts::{are_short, has_output, serve_texts, serve_texts_in_rounds};
-use acl_names::Directory;
-use acl_service::{ErrorOutput, OneFault, OpenGate, Report, ServeFault, run, run_one, run_texts};
-use acl_setup::{SetupError, read_setup};
+use acl_service::{ErrorOutput, OpenGate, Report, ServeFault, run_texts};
 use std::alloc::Global;
-use std::io;
 use std::sync::Wait;
 use std::test::Fail;
 use std::thread::Threads;
 use std::time::Clock;
-use tests_common::{Refusals, directory};
-use tests_files::Shelf;
 
 /// How a command ended.
 #[derive(Clone, Copy, Debug, PartialEq, Eq)]
@@ -32,56 +26,6 @@ enum Ending {
     Thread,
     /// In any other way.
     Other,
-}
-
-/// Long lists of both styles, on a file whose path has more than the 16 bytes that take no memory,
-/// and answers that show them.
-const SESSION: &str =
-    "create dir /d alice 755\nset /d default u::rwx,u:1:r,u:2:r,u:3:r,u:4:r,u:5:r,u:6:r,g::r,m::r,o::-\ncreate file /d/longer-than-16 carol 640\nget /d/longer-than-16\ntranslate /d/longer-than-16\nset /d/longer-than-16 nfs4 A::1:r,A::2:r,A::3:r,A::4:r,A::5:r,A::6:r,A::7:r,A::8:r,A::9:r,A::10:r,A::11:r,A::12:r,A::13:r,A::14:r,A::15:r,A::16:r,A::17:r\ncheck /d/longer-than-16 bob r\nx\n";
-
-const LAST_ANSWERS: &str = "6 ok\n7 denied\n8 error 1 syntax\n";
-
-/// A session on a tree of its own, into a writer that takes no memory.
-fn run_session(alloc: Global, names: &Directory) -> Ending {
-    let Some(tree) = tree(alloc) else {
-        return Ending::Memory;
-    };
-    let mut lines = [0; 1024];
-    let mut out = lines.as_mut_slice();
-    let ran = run_one(alloc, names, tree, SESSION.as_bytes(), &mut out);
-    let room = out.len();
-    let written = &lines[..1024usize.saturating_sub(room)];
-    match ran {
-        Ok(_) if written.ends_with(LAST_ANSWERS.as_bytes()) => Ending::Answered,
-        Err(OneFault::Memory) if room == 1024 => Ending::Memory,
-        _ => Ending::Other,
-    }
-}
-
-/// The directory of the examples, at the second attempt if the first is refused.
-fn names(alloc: Global, refusals: &mut Refusals) -> Option<Directory> {
-    refusals.again(|| directory(alloc))
-}
-
-/// How the session ended, at the second attempt if the first is refused, and how many refusals
-/// there were.
-fn run_again(alloc: Global) -> Option<(Ending, u32)> {
-    let mut refusals = Refusals::new();
-    let names = names(alloc, &mut refusals)?;
-    let mut ended = run_session(alloc, &names);
-    if ended == Ending::Memory {
-        refusals.one_more();
-        ended = run_session(alloc, &names);
-    }
-    Some((ended, refusals.told()))
-}
-
-#[test]
-fn run_one_under_a_refused_growth(rt: HostRuntime) -> Result<(), Fail> {
-    let (ended, refusals) = run_again(rt.alloc()).ok_or("refused without cause")?;
-    assert_eq!(rt; ended, Ending::Answered);
-    println!(rt; "refusals: {refusals}")?;
-    Ok(())
 }
 
 /// Sessions that create, set a long list and show it, and one with a faulty line.
@@ -156,30 +100,6 @@ fn serve_under_a_refused_growth(rt: HostRuntime) -> Result<(), Fail> {
     assert_eq!(rt; ended, Ending::Answered);
     println!(rt; "refusals: {}", u32::from(refused != Ending::Answered))?;
     println!(rt; "threads: {}", u32::from(refused == Ending::Thread))?;
-    Ok(())
-}
-
-/// How reading the examples' setup ended.
-fn open_setup(alloc: Global) -> Ending {
-    match read_setup(alloc, SETUP.as_bytes()) {
-        Ok((directory, tree)) if directory.domain() == "example.org" && tree.len() == 1 => {
-            Ending::Answered
-        }
-        Err(SetupError::Memory) => Ending::Memory,
-        _ => Ending::Other,
-    }
-}
-
-#[test]
-fn read_setup_under_a_refused_growth(rt: HostRuntime) -> Result<(), Fail> {
-    let mut refusals = 0;
-    let mut ended = open_setup(rt.alloc());
-    if ended == Ending::Memory {
-        refusals = 1;
-        ended = open_setup(rt.alloc());
-    }
-    assert_eq!(rt; ended, Ending::Answered);
-    println!(rt; "refusals: {refusals}")?;
     Ok(())
 }
 
@@ -264,39 +184,6 @@ fn print_twice<R: Threads + Wait + Clock + Sync>(rt: &R, alloc: Global) -> Optio
 #[test]
 fn run_texts_under_a_refused_growth(rt: HostRuntime) -> Result<(), Fail> {
     let [refused, ended] = print_twice(&rt, rt.alloc()).ok_or("refused without cause")?;
-    assert_eq!(rt; ended, Ending::Answered);
-    println!(rt; "refusals: {}", u32::from(refused != Ending::Answered))?;
-    println!(rt; "threads: {}", u32::from(refused == Ending::Thread))?;
-    Ok(())
-}
-
-/// The examples' setup, and a session.
-const FILES: &[(&str, &str)] = &[("setup", SETUP), ("session", "get /\nx\n")];
-
-/// The same session in a file, where both writers have room enough without any memory of their own.
-fn run_files<R: Threads + Wait + Clock + Sync>(rt: &R, alloc: Global) -> Ending {
-    let words = ["run", "--setup", "setup", "--journal", "session"];
-    let mut lines = [0; 1024];
-    let mut faults = [0; 64];
-    let mut out = lines.as_mut_slice();
-    let mut err = faults.as_mut_slice();
-    let status = run(
-        rt,
-        alloc,
-        &Shelf::new(FILES),
-        words.as_slice(),
-        &mut io::empty(),
-        &mut out,
-        &mut ErrorOutput::new(&mut err),
-    );
-    let (room, fault_room) = (out.len(), err.len());
-    ending_of_status(status, &lines, room, &faults, fault_room)
-}
-
-#[test]
-fn run_under_a_refused_growth(rt: HostRuntime) -> Result<(), Fail> {
-    let refused = run_files(&rt, rt.alloc());
-    let ended = again(refused, || run_files(&rt, rt.alloc()));
     assert_eq!(rt; ended, Ending::Answered);
     println!(rt; "refusals: {}", u32::from(refused != Ending::Answered))?;
     println!(rt; "threads: {}", u32::from(refused == Ending::Thread))?;

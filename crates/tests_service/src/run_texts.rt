@@ -1,34 +1,12 @@
 //! Runs of texts: what goes to the output and to standard error.
+use crate::fixture::SETUP;
 use crate::gates::AfterAnswer;
-use crate::setup::SETUP;
 use crate::texts::are_short;
 use acl_service::{ErrorOutput, Gate, OpenGate, run_texts};
 use std::alloc::Global;
-use std::io::{self, Write};
 use std::sync::Wait;
 use std::thread::Threads;
 use std::time::Clock;
-
-/// Takes at most so many bytes a write, and fails after so many writes.
-#[derive(Drop)]
-struct Failing {
-    bytes: usize,
-    writes: u32,
-}
-
-impl Write for Failing {
-    fn write(&mut self, buffer: &[u8]) -> io::Result<usize> {
-        if self.writes == 0 {
-            return Err(io::Error::from(io::ErrorKind::BrokenPipe));
-        }
-        self.writes = self.writes.saturating_sub(1);
-        Ok(buffer.len().min(self.bytes))
-    }
-
-    fn flush(&mut self) -> io::Result<()> {
-        Ok(())
-    }
-}
 
 /// Lets all through but a session's one request.
 #[derive(Clone, Copy)]
@@ -45,60 +23,9 @@ impl Gate for Closed {
     fn answered(&self, _session: u32, _nth: u32) {}
 }
 
-const CREATE_AND_GET: &str = "create file /a alice 666\nget /a\n";
-
 const P: &str = "create dir /p alice 755\ncreate file /p/f alice 600\nget /p/f\n";
 
 const Q: &str = "create dir /q bob 755\ncreate file /q/f bob 600\nget /q/f\n";
-
-/// Runs over the examples' setup that go well: a name, the texts, whether the journal is asked for,
-/// how many errors end a session, and what is printed.
-const RUNS: [(&str, &[&str], bool, Option<u32>, &str); 4] = [
-    (
-        "journal of one session",
-        &[CREATE_AND_GET],
-        true,
-        None,
-        "1 ok\n2 get /a file alice staff 644 posix\nuser::rw-\ngroup::r--\nother::r--\njournal\n0 1\n0 2\n",
-    ),
-    (
-        "one session alone",
-        &[CREATE_AND_GET],
-        false,
-        None,
-        "1 ok\n2 get /a file alice staff 644 posix\nuser::rw-\ngroup::r--\nother::r--\n",
-    ),
-    (
-        "output of two sessions",
-        &[P, Q],
-        false,
-        None,
-        "session 0\n1 ok\n2 ok\n3 get /p/f file alice staff 600 posix\nuser::rw-\ngroup::---\nother::---\nsession 1\n1 ok\n2 ok\n3 get /q/f file bob staff 600 posix\nuser::rw-\ngroup::---\nother::---\n",
-    ),
-    (
-        "most errors allowed",
-        &["get /x\nget /\nnope\nget /\n"],
-        true,
-        Some(2),
-        "1 error 20 no-such-path\n2 get / dir root root 755 posix\nuser::rwx\ngroup::r-x\nother::r-x\n3 error 1 syntax\njournal\n0 1\n0 2\n0 3\n",
-    ),
-];
-
-/// What stands after the examples' setup, and what is said of it.
-const SETUPS: [(&str, &str); 3] = [
-    (
-        "[[user]]\nname = \"dave\"\nuid = 1000\ngroups = []\n",
-        "aclctl: setup: repeated id\n",
-    ),
-    (
-        "[[user]]\nname = \"dave\"\nuid = 7\ngroups = [\"wheel\"]\n",
-        "aclctl: setup: unknown group\n",
-    ),
-    (
-        "[[user]]\nname = \"dave\"\nuid = 7\ngroups = [\"g1\", \"g2\", \"g3\", \"g4\", \"g5\", \"g6\", \"g7\", \"g8\", \"g9\", \"g10\", \"g11\", \"g12\", \"g13\", \"g14\", \"g15\", \"g16\", \"g17\", \"g18\", \"g19\", \"g20\", \"g21\", \"g22\", \"g23\", \"g24\", \"g25\", \"g26\", \"g27\", \"g28\", \"g29\", \"g30\", \"g31\", \"g32\", \"g33\"]\n",
-        "aclctl: setup: too many\n",
-    ),
-];
 
 /// The texts' bytes.
 fn texts_of(alloc: Global, given: &[&str]) -> Option<Vec<Vec<u8>>> {
@@ -122,11 +49,10 @@ fn ends_with<R: Threads + Wait + Clock + Sync, G: Gate>(
     setup: &str,
     given: &[&str],
     journal: bool,
-    max_errors: Option<u32>,
     ending: Ending<'_>,
 ) -> Option<bool> {
     let texts = texts_of(alloc, given)?;
-    if texts.is_empty() || !are_short(&texts) || max_errors == Some(0) {
+    if texts.is_empty() || !are_short(&texts) {
         return None;
     }
     let mut out = Vec::new(alloc);
@@ -140,7 +66,7 @@ fn ends_with<R: Threads + Wait + Clock + Sync, G: Gate>(
         setup,
         texts,
         journal,
-        max_errors,
+        None,
         &mut out,
         &mut ErrorOutput::new(&mut err),
     );
@@ -148,24 +74,6 @@ fn ends_with<R: Threads + Wait + Clock + Sync, G: Gate>(
     Some(
         status == wanted && out.as_slice() == text.as_bytes() && err.as_slice() == fault.as_bytes(),
     )
-}
-
-#[test]
-fn runs(rt: HostRuntime) {
-    for (name, texts, journal, max_errors, text) in RUNS {
-        let ending = (0, text, "");
-        let ended = ends_with(
-            &rt,
-            rt.alloc(),
-            &OpenGate,
-            SETUP,
-            texts,
-            journal,
-            max_errors,
-            ending,
-        );
-        assert_eq!(rt; ended, Some(true), "{name}");
-    }
 }
 
 /// How many requests each of two sessions has: more than are taken in a turn, which are 64.
@@ -218,7 +126,7 @@ fn prints_both<R: Threads + Wait + Clock + Sync>(rt: &R, alloc: Global) -> Optio
     let gate = AfterAnswer::new(1, 1, MANY);
     let given = [change.as_str(), check.as_str()];
     let ending = (0, text.as_str(), "");
-    ends_with(rt, alloc, &gate, SETUP, &given, true, None, ending)
+    ends_with(rt, alloc, &gate, SETUP, &given, true, ending)
 }
 
 #[test]
@@ -231,7 +139,7 @@ fn stopped_by_the_gate(rt: HostRuntime) {
     let alloc = rt.alloc();
     let gate = Closed { session: 0, nth: 2 };
     let ending = (3, "", "aclctl: run: stopped\n");
-    let ended = ends_with(&rt, alloc, &gate, SETUP, &[P, Q], false, None, ending);
+    let ended = ends_with(&rt, alloc, &gate, SETUP, &[P, Q], false, ending);
     assert_eq!(rt; ended, Some(true));
 }
 
@@ -244,37 +152,8 @@ fn one_session_alone_asks_no_gate(rt: HostRuntime) {
         (false, (0, "1 error 1 syntax\n", "")),
         (true, (3, "", "aclctl: run: stopped\n")),
     ] {
-        let ended = ends_with(&rt, rt.alloc(), &gate, SETUP, &["x"], journal, None, ending);
+        let ended = ends_with(&rt, rt.alloc(), &gate, SETUP, &["x"], journal, ending);
         assert_eq!(rt; ended, Some(true));
-    }
-}
-
-/// Whether a run over the setup of the examples, with more after it, ends with this line.
-fn refuses_more<R: Threads + Wait + Clock + Sync>(
-    rt: &R,
-    alloc: Global,
-    more: &str,
-    line: &str,
-) -> Option<bool> {
-    let setup = format!(in alloc; "{SETUP}{more}").ok()?;
-    let setup = setup.as_str();
-    ends_with(
-        rt,
-        alloc,
-        &OpenGate,
-        setup,
-        &[P, Q],
-        true,
-        None,
-        (1, "", line),
-    )
-}
-
-#[test]
-fn setups_that_are_refused(rt: HostRuntime) {
-    for (more, line) in SETUPS {
-        let refuses = refuses_more(&rt, rt.alloc(), more, line);
-        assert_eq!(rt; refuses, Some(true), "with {more}");
     }
 }
 
@@ -286,47 +165,7 @@ fn more_than_64_texts_come_before_the_setup(rt: HostRuntime) {
         ([P; 64].as_slice(), 1, "aclctl: setup: not toml\n"),
     ] {
         let ending = (status, "", line);
-        let ended = ends_with(&rt, alloc, &OpenGate, "[[", texts, false, None, ending);
+        let ended = ends_with(&rt, alloc, &OpenGate, "[[", texts, false, ending);
         assert_eq!(rt; ended, Some(true), "with {status}");
-    }
-}
-
-/// Whether a run of these texts ends with this line where only so many writes of 8 bytes each
-/// succeed.
-fn fails_at<R: Threads + Wait + Clock + Sync>(
-    rt: &R,
-    alloc: Global,
-    given: &[&str],
-    writes: u32,
-    line: &str,
-) -> Option<bool> {
-    let texts = texts_of(alloc, given)?;
-    if texts.is_empty() || !are_short(&texts) {
-        return None;
-    }
-    let mut out = Failing { bytes: 8, writes };
-    let mut err = Vec::new(alloc);
-    let setup = SETUP.as_bytes();
-    let texts = texts.as_slice();
-    let status = run_texts(
-        rt,
-        alloc,
-        &OpenGate,
-        setup,
-        texts,
-        false,
-        None,
-        &mut out,
-        &mut ErrorOutput::new(&mut err),
-    );
-    Some(status == 3 && err.as_slice() == line.as_bytes())
-}
-
-#[test]
-fn writers_that_fail(rt: HostRuntime) {
-    let line = "aclctl: run: output\n";
-    for (texts, writes) in [([CREATE_AND_GET].as_slice(), 0), ([P, Q].as_slice(), 1)] {
-        let fails = fails_at(&rt, rt.alloc(), texts, writes, line);
-        assert_eq!(rt; fails, Some(true), "after {writes} writes");
     }
 }

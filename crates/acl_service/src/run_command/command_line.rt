@@ -1,16 +1,13 @@
 //! The command line of `run`, and its fields.
-ghost use Rattle.std.specs.Prelude.{◌≡◌, ◌≢◌, Some, false, map};
-ghost use Rattle.clap.specs.Words.{found_of, rows_of, rule_of};
-ghost use Rattle.acl_service.specs.RunLine.{limit_option, session_words};
+ghost use Rattle.std.specs.Prelude.{◌≡◌, ◌≢◌, Some, map};
+ghost use Rattle.clap.specs.Words.{found_of, rows_of};
 ghost use Rattle.acl_service.specs.RunWords.{HasLimit, IsLimit, sessions_in};
 
-use acl_cli::CommandLine;
 use acl_cli::fields::text_field;
-use acl_cli::options::{flag, optional_option, required_word, setup_option};
+use acl_cli::options::SETUP;
 use acl_cli::session_files::names_field;
-use clap::builder::ValueParser;
-use clap::{Arg, ArgMatches, Command};
-use std::alloc::{AllocError, Global};
+use acl_cli::{CommandLine, Given, Line, Word};
+use clap::ArgMatches;
 
 /// What a setup and a session look like.
 const FILES: &str = "A setup is a TOML file:
@@ -29,6 +26,32 @@ The commands are get, set, chmod, create, check, check4 and translate.";
 #[derive(Clone, Copy)]
 pub struct RunLine;
 
+/// The words that name the sessions' files, one or more.
+pub const SESSION_WORDS: Word<'static> = Word {
+    given: Given::Words,
+    name: "session",
+    value: "SESSION",
+    help: "A file with a session's commands, or - for standard input; at most 64",
+};
+
+/// What stands in the line, in the order of help.
+const WORDS: [Word<'static>; 4] = [
+    SETUP,
+    Word {
+        given: Given::Flag,
+        name: "journal",
+        value: "",
+        help: "Prints the order in which the commands took effect: session and line of each",
+    },
+    Word {
+        given: Given::CountOption(65_535),
+        name: "max-errors",
+        value: "K",
+        help: "Ends a session at its error of this number, 1 to 65535",
+    },
+    SESSION_WORDS,
+];
+
 impl CommandLine for RunLine {
     ghost use Rattle.acl_service.specs.RunLine.{run_line, run_line-free, run_line-simple};
 
@@ -38,37 +61,15 @@ impl CommandLine for RunLine {
 
     ghost line_free = { run_line-free };
 
-    fn command<'a>(alloc: Global) -> Result<Command<'a>, AllocError> {
-        Command::new(alloc, "run")
-            .bin_name("aclctl run")?
-            .about("Lets sessions work on one tree at the same time, and prints their answers.")
-            .after_help(FILES)
-            .arg(setup_option(alloc))?
-            .arg(flag(
-                alloc,
-                "journal",
-                "Prints the order in which the commands took effect: session and line of each",
-            ))?
-            .arg(limit_option(alloc))?
-            .arg(session_words(alloc))
+    #[tactic(auto, unfolding(crate::specs::RunLine::run_line))]
+    fn line() -> Line<'static> {
+        Line {
+            name: "run",
+            about: "Lets sessions work on one tree at the same time, and prints their answers.",
+            after_help: FILES,
+            words: &WORDS,
+        }
     }
-}
-
-fn limit_option<'a>(alloc: Global) -> Arg<'a>
-    ensures rule { rule_of result ≡ limit_option }
-    ensures local { result.global ≡ false }
-{
-    let help = "Ends a session at its error of this number, 1 to 65535";
-    optional_option(alloc, "max-errors", "K", help).value_parser(ValueParser::Unsigned(1, 65_535))
-}
-
-/// The words that name the sessions' files, one or more.
-pub fn session_words<'a>(alloc: Global) -> Arg<'a>
-    ensures rule { rule_of result ≡ session_words }
-    ensures local { result.global ≡ false }
-{
-    let help = "A file with a session's commands, or - for standard input; at most 64";
-    required_word(alloc, "session", "SESSION", help).num_args(1usize..)
 }
 
 /// The names of the sessions' files. There is one at least: the parser of command lines lets

@@ -13,13 +13,12 @@ ghost use Rattle.acl_service.specs.Runs.{session_text};
 
 use super::failure::failure_of_serve;
 use super::printing::{print_journal, write_outputs};
-use crate::run_one;
 use crate::sessions::{RunInPrint, serve_in_print};
+use crate::{open_setup, run_one};
 use acl_broker::SESSIONS;
-use acl_cli::{Failure, write_text};
+use acl_cli::{Failure, Misuse, write_text};
 use acl_names::Directory;
 use acl_runs::Gate;
-use acl_setup::read_setup;
 use acl_tree::Tree;
 use std::alloc::Global;
 use std::io::Write;
@@ -139,9 +138,9 @@ pub(super) fn print_texts<'n, R: Threads + Wait + Clock + Sync, G: Gate, W: Writ
     ensures refused { IfErr result (IsTextsFailure setup.now (length texts.now)) }
 {
     if texts.len() > SESSIONS as usize {
-        return Err(Failure::TooManySessions);
+        return Err(Failure::Misuse(Misuse::TooManySessions));
     }
-    let (directory, tree) = read_setup(alloc, setup)?;
+    let (directory, tree) = open_setup(alloc, setup)?;
     match texts {
         [text] if !options.journal && options.max_errors.is_none() => {
             print_session(alloc, &directory, tree, text.as_slice(), out)

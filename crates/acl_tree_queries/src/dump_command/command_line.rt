@@ -1,10 +1,8 @@
 //! The command line of `dump`.
 
 use super::Dump;
-use acl_cli::CommandLine;
-use acl_cli::options::{optional_word, setup_option};
-use clap::Command;
-use std::alloc::{AllocError, Global};
+use acl_cli::options::SETUP;
+use acl_cli::{CommandLine, Given, Line, Word};
 
 /// What is reported, and what the exit statuses are.
 const ANSWERS: &str = "The session closes the root, creates each file in the order of the paths, and
@@ -15,6 +13,17 @@ Exit status: 0 with an answer; 1 if a file can't be read or a line would be too
 long; 2 if the words are wrong; 3 if memory runs out or the answer can't be
 written.";
 
+/// What stands in the line, in the order of help.
+const WORDS: [Word<'static>; 2] = [
+    SETUP,
+    Word {
+        given: Given::Word,
+        name: "session",
+        value: "SESSION",
+        help: "A file with a session's commands, which come first, or - for standard input",
+    },
+];
+
 impl CommandLine for Dump {
     ghost use Rattle.acl_tree_queries.specs.DumpLine.{dump_line, dump_line-free, dump_line-simple};
 
@@ -24,17 +33,13 @@ impl CommandLine for Dump {
 
     ghost line_free = { dump_line-free };
 
-    fn command<'a>(alloc: Global) -> Result<Command<'a>, AllocError> {
-        Command::new(alloc, "dump")
-            .bin_name("aclctl dump")?
-            .about("Prints a tree as a session that makes it again.")
-            .after_help(ANSWERS)
-            .arg(setup_option(alloc))?
-            .arg(optional_word(
-                alloc,
-                "session",
-                "SESSION",
-                "A file with a session's commands, which come first, or - for standard input",
-            ))
+    #[tactic(auto, unfolding(crate::specs::DumpLine::dump_line))]
+    fn line() -> Line<'static> {
+        Line {
+            name: "dump",
+            about: "Prints a tree as a session that makes it again.",
+            after_help: ANSWERS,
+            words: &WORDS,
+        }
     }
 }

@@ -7,10 +7,10 @@ ghost use Rattle.acl_tree.specs.declared.request.Request.TheVariants.{SetDefault
 ghost use Rattle.acl_audit.specs.Dump.{creation, no_mode, set_default, set_lists};
 ghost use Rattle.acl_lang.specs.CommandText.{command_text};
 ghost use Rattle.acl_lang.specs.declared.limits.TheConstants.{MAX_LINE_LEN};
-ghost use Rattle.acl_tree_queries.specs.TreeQuestions.{IsAnswerFailure};
+ghost use Rattle.acl_tree_queries.specs.TreeMeaning.{IsAnswerFailure};
 ghost use Rattle.acl_tree_queries.specs.DumpText.{AddsLines, HasLongLine, SaysAgain};
 
-use acl_cli::Failure;
+use acl_cli::{Failure, Refusal};
 use acl_lang::MAX_LINE_LEN;
 use acl_names::{Uid, push_decimal};
 use acl_nfs4::{Acl4, Kind};
@@ -26,7 +26,7 @@ fn end_line<'n>(start: usize, out: &mut Vec<u8>) -> Result<(), Failure<'n>>
     ensures refused { IfErr result (IsAnswerFailure (start + MAX_LINE_LEN < length out.old.items)) }
 {
     if out.len() - start > MAX_LINE_LEN {
-        return Err(Failure::LineTooLong);
+        return Err(Failure::Refused(Refusal::as_a_whole("dump", "line too long")));
     }
     out.extend_from_slice(b"\n")?;
     Ok(())

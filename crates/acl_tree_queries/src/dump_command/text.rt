@@ -6,7 +6,7 @@ ghost use Rattle.std.specs.Map.Iter.{deref_pair};
 ghost use Rattle.acl_names.specs.Bytes.{newline};
 ghost use Rattle.acl_tree.specs.declared.node.Node.{Node as NodeValue};
 ghost use Rattle.acl_audit.specs.Dump.{creation, make_commands, set_commands};
-ghost use Rattle.acl_tree_queries.specs.TreeQuestions.{IsAnswerFailure};
+ghost use Rattle.acl_tree_queries.specs.TreeMeaning.{IsAnswerFailure};
 ghost use Rattle.acl_tree_queries.specs.DumpText.{AddsLines, HasLongLine, closing_line};
 
 use super::lines::{push_creation, push_lists};

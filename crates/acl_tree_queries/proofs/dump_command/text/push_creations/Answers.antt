@@ -4,7 +4,7 @@ use Rattle.std.specs.Map.Iter.{deref_pair}
 use Rattle.std.proofs.lemmas.Result.{err_from_is_err_and}
 use Rattle.acl_tree.specs.declared.node.Node.{Node}
 use Rattle.acl_audit.specs.Dump.{creation}
-use Rattle.acl_tree_queries.specs.TreeQuestions.{IsAnswerFailure}
+use Rattle.acl_tree_queries.specs.TreeMeaning.{IsAnswerFailure}
 use Rattle.acl_tree_queries.specs.DumpText.{HasLongLine}
 use Rattle.acl_tree_queries.proofs.DumpLemmas.{fault_weaker, long_within, next_lines, of_fault}
 use Rattle.acl_tree_queries.proofs.dump_command.text.push_creations.Goals as goal

@@ -7,7 +7,7 @@ use Rattle.acl_names.specs.Bytes.{newline}
 use Rattle.acl_tree.specs.Entries.{Entry}
 use Rattle.acl_tree.specs.declared.node.Node.{Node}
 use Rattle.acl_audit.specs.Dump.{creation, make_commands, set_commands}
-use Rattle.acl_tree_queries.specs.TreeQuestions.{IsAnswerFailure}
+use Rattle.acl_tree_queries.specs.TreeMeaning.{IsAnswerFailure}
 use Rattle.acl_tree_queries.specs.DumpText.{AddsLines, HasLongLine, closing_line}
 use Rattle.acl_tree_queries.proofs.DumpLemmas.{fault_weaker, long_before, long_behind, more_lines, of_fault, refused_weaker}
 use Rattle.acl_tree_queries.proofs.dump_command.text.push_dump.Goals as goal
