@@ -1,8 +1,14 @@
+pub mod OneOfLemmas
+pub mod RootLemmas
+pub mod BeginningLemmas
 pub mod WaysLemmas
 pub mod AnswersLemmas
 pub mod LinesLemmas
 pub mod ReachSteps
+pub mod InsideLemmas
+pub mod PartLemmas
 pub mod WayLawLemmas
+pub mod AllAboveLemmas
 pub mod WhyWayLemmas
 pub mod WhySeekLemmas
 pub mod WhyPartLemmas

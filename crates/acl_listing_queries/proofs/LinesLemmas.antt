@@ -4,9 +4,11 @@ use Rattle.std.specs.Prelude.{Vec, slice_get}
 use Rattle.std.specs.List.{enumerate_from, flat_map}
 use Rattle.std.specs.declared.alloc.Global.{Global}
 use Rattle.acl_names.specs.Requester.{Identity}
+use Rattle.acl_access.specs.Deletes.{deletes}
 use Rattle.acl_access.specs.Marks.{is_set, places_from}
 use Rattle.acl_access.specs.Letters.{effective, granted_mask, mask_text}
 use Rattle.acl_access.specs.Reach.{reaches}
+use Rattle.acl_access.specs.Standings.{places_of_takers, standing_of, takes_each}
 use Rattle.acl_access.specs.Who.{may_line}
 use Rattle.acl_nfs4.specs.Mask.{mask_bits}
 use Rattle.acl_nfs4.specs.declared.mask.Mask.{Mask}
@@ -15,9 +17,11 @@ use Rattle.acl_posix.specs.PermsText.{perms_text}
 use Rattle.acl_posix.specs.declared.perms.Perms.{Perms}
 use Rattle.acl_bridge.specs.Files.{File, may}
 use Rattle.acl_access.proofs.ReachLemmas.{at_place}
-use Rattle.acl_listing_answers.specs.Asked.{persons_of}
+use Rattle.acl_access.proofs.StandingLemmas.{places_of_pairs}
+use Rattle.acl_people.specs.Asked.{persons_of}
+use Rattle.acl_people.specs.Person.{Person}
 use Rattle.acl_listing_queries.specs.WhoSteps.{IsGranted, letters_line_at, letters_lines, may_line_at, may_line_of, may_lines}
-use Rattle.acl_listing_queries.specs.WhoText.{AllLetters, Asked, Request, ThreeLetters, letters_line_if, person_line, person_line_if, who_text}
+use Rattle.acl_listing_queries.specs.WhoText.{AllLetters, Asked, Request, ThreeLetters, deletion_text, letters_line_if, person_line, who_text}
 use Rattle.acl_listing_queries.specs.declared.who.answers.Granted.TheVariants.{Letters, Masks, Those}
 
 -- what stands behind some items
@@ -74,9 +78,9 @@ module _ (way : List File) (path : List ℕ) (file : File) where
 
   -- of those who may
 
-  module _ (perms : ℕ) where
-    abbrev test : Identity → Bool
-    test who = may file who perms
+  module _ (test : Identity → Bool) where
+    abbrev one_of_those : Person → List ℕ
+    one_of_those person = cond (test person.who && reaches way person.who) (may_line path person.name) []
 
     abbrev line : List (List ℕ) → List Identity → ℕ → List ℕ
     line names whos place = may_line_at path names (reach whos) place
@@ -120,18 +124,18 @@ module _ (way : List File) (path : List ℕ) (file : File) where
 
     lines_behind : (names before_names after_names : List (List ℕ)) (whos before after : List Identity) (place : ℕ)
         → names ≡ before_names ++ after_names → place ≡ length before_names → whos ≡ before ++ after → place ≡ length before
-        → flat_map (line names whos) (places_from test place after) ≡ flat_map (person_line_if way path file perms) (persons_of after_names after)
+        → flat_map (line names whos) (places_from test place after) ≡ flat_map one_of_those (persons_of after_names after)
     lines_behind names before_names [] whos before after place names_are at is there = no_names names before_names whos after place names_are at
     lines_behind names before_names (name ∷ after_names) whos before [] place names_are at is there = refl
     lines_behind names before_names (name ∷ after_names) whos before (who ∷ after) place names_are at is there =
         let next_name : place + 1 ≡ length (before_names ++ name ∷ []) = simp length-append (omega (arith, at)) in
         let next : place + 1 ≡ length (before ++ who ∷ []) = simp length-append (omega (arith, there)) in
-        let rest : flat_map (line names whos) (places_from test (place + 1) after) ≡ flat_map (person_line_if way path file perms) (persons_of after_names after) =
+        let rest : flat_map (line names whos) (places_from test (place + 1) after) ≡ flat_map one_of_those (persons_of after_names after) =
         lines_behind names (before_names ++ name ∷ []) after_names whos (before ++ who ∷ []) after (place + 1)
         (names_are ∙ sym (append_assoc before_names (name ∷ []) after_names)) next_name (is ∙ sym (append_assoc before (who ∷ []) after)) next in
         let here = one_line names before_names after_names whos before after name who place names_are at is there in
         elim (test who) as (λ b. flat_map (line names whos) (cond b (place ∷ places_from test (place + 1) after) (places_from test (place + 1) after))
-        ≡ cond (b && reaches way who) (may_line path name) [] ++ flat_map (person_line_if way path file perms) (persons_of after_names after)) [
+        ≡ cond (b && reaches way who) (may_line path name) [] ++ flat_map one_of_those (persons_of after_names after)) [
           | true ↦ ap (λ first. first ++ flat_map (line names whos) (places_from test (place + 1) after)) here
               ∙ ap (λ lines. cond (reaches way who) (may_line path name) [] ++ lines) rest
           | false ↦ rest
@@ -164,7 +168,15 @@ module _ (names : List (List ℕ)) (whos : List Identity) (way : List File) (pat
   those_text (Request perms) places is =
       ap (λ marks. may_lines path names places.items marks) marks_are
       ∙ ap (λ places. may_lines path names places (map (reaches way) whos)) is
-      ∙ lines_behind way path file perms names [] names whos [] whos 0 refl refl refl refl
+      ∙ lines_behind way path file (λ who. may file who perms) names [] names whos [] whos 0 refl refl refl refl
+
+-- of those who may delete it, by how they stand to it and its folder
+pub takers_text : (names : List (List ℕ)) (whos : List Identity) (sticky own : Bool) (folder : File) (above : List File) (path : List ℕ) (file : File) (marks : List Bool) → marks ≡ map (reaches (folder ∷ above)) whos
+    → may_lines path names (places_of_takers (map (standing_of sticky folder) whos) (map (standing_of own file) whos)) marks ≡ deletion_text (persons_of names whos) sticky folder above path file
+takers_text names whos sticky own folder above path file marks marks_are =
+    ap (λ marks. may_lines path names (places_of_takers (map (standing_of sticky folder) whos) (map (standing_of own file) whos)) marks) marks_are
+    ∙ ap (λ places. may_lines path names places (map (reaches (folder ∷ above)) whos)) (places_of_pairs takes_each (standing_of sticky folder) (standing_of own file) whos)
+    ∙ lines_behind (folder ∷ above) path file (λ who. deletes sticky folder file who) names [] names whos [] whos 0 refl refl refl refl
 
 -- the name at a place, as a list of bytes
 pub name_at : (names : List (Vec ℕ Global)) (at : ℕ) (name : Vec ℕ Global) → get_or names at name ≡ name → get_or (map (λ name. name.items) names) at name.items ≡ name.items

@@ -1,35 +1,43 @@
 -- How the way to a file goes on from block to block.
-use Rattle.std.proofs.Common.{◌≡◌, ◌∙◌, ◌&&◌, ◌||◌, ℕ, Bool, true, false, cond, List, [], ◌∷◌, Option, Some, None, Ok, Err, Result, ap, map, refl, subst, sym}
+use Rattle.std.proofs.Common.{◌≡◌, ◌∙◌, ◌++◌, ◌&&◌, ◌||◌, ℕ, Bool, true, false, cond, List, [], ◌∷◌, Option, Some, None, Ok, Err, Result, ap, map, refl, subst, sym}
 use Rattle.std.specs.Prelude.{is_none, Vec}
 use Rattle.std.specs.List.{filter, fold, list_all, list_any}
+use Rattle.std.proofs.Math.Bool.{or-false}
 use Rattle.std.proofs.lemmas.Bool.{or_parts}
+use Rattle.std.proofs.lemmas.Grind.{fold-append}
+use Rattle.std.proofs.lemmas.List.{map-append}
+use Rattle.std.proofs.lemmas.List.Folds.{list_any-append}
+use Rattle.acl_names.specs.Names.{Names}
 use Rattle.acl_names.specs.Requester.{Identity}
 use Rattle.acl_access.specs.Marks.{both}
 use Rattle.acl_access.specs.Reach.{reaches}
 use Rattle.acl_access.proofs.ReachLemmas.{both_are}
 use Rattle.acl_listings.specs.Block.{FileValue, file_by, path_of}
+use Rattle.acl_listings.specs.Faults.{IsFaultOf}
 use Rattle.acl_listings.specs.declared.fault.BlockFault.{BlockFault}
 use Rattle.acl_listings.proofs.PathLemmas.{path_of-file}
 use Rattle.acl_bridge.specs.Files.{File, may}
 use Rattle.acl_listings.specs.declared.fault.FileFault.{FileFault}
 use Rattle.acl_listings.specs.declared.fault.FileFault.TheVariants as file
-use Rattle.acl_listing_answers.specs.Files.{file_of}
-use Rattle.acl_listing_answers.specs.Listed.{Part}
-use Rattle.acl_listing_answers.specs.Telling.{IsPart}
+use Rattle.acl_reports.specs.Files.{file_of}
+use Rattle.acl_reports.specs.Telling.{IsPart, UnlessMemory}
 use Rattle.acl_listing_queries.specs.Readings.{Reading, reading_of}
-use Rattle.acl_listing_queries.specs.Ways.{folder_of, holds, known_way, may_be_above, those_above, way_of, way_on, with_folder}
-use Rattle.acl_listing_queries.specs.WhoPart.{Asking, part_by, way_for, who_part}
-use Rattle.acl_listing_queries.specs.WhoText.{who_text}
+use Rattle.acl_listing_queries.specs.RootSteps.{IsBegun}
+use Rattle.acl_listing_queries.specs.Ways.{begins_apart, chain_to, folder_of, holds, is_sticky, known_way, may_be_above, those_above, way_of, way_on, with_folder}
+use Rattle.acl_listing_queries.specs.WhoPart.{Asking, Deletion, Question, What, part_by, part_on, way_for, who_part}
+use Rattle.acl_listing_queries.specs.WhoText.{AllLetters, Request, ThreeLetters}
 use Rattle.acl_listing_queries.specs.declared.who.reach.ReachTeller.{ReachTeller}
 use Rattle.std.specs.declared.alloc.Global.{Global}
 use Rattle.std.proofs.lemmas.Option.{none-some}
-use Rattle.acl_listing_queries.specs.WhoSteps.{AreAnswersOf, AreFolders, AreRight, IsAnsweredAt, IsBehind, IsChain, IsCome, IsEveryone, IsFolderAt, IsOnWay, IsPlacedAt, IsSearch, asking_of, folders_to, readings_of, kept_at, lacks_path, marks_of, names_by, whos_of}
+use Rattle.acl_listing_queries.specs.WhoSteps.{AreAnswersOf, AreFolders, AreRight, IsAnswered, IsBehind, IsChain, IsCome, IsEveryone, IsOnWay, IsPlacedAt, IsSearch, asking_of, folders_to, kept_at, lacks_path, marks_of, names_by, question_by, readings_of, standings_for, standings_kept, whos_of}
 use Rattle.acl_listing_queries.specs.declared.who.answers.Answers.{Answers}
+use Rattle.acl_listing_queries.specs.declared.who.answers.Granted.{Granted}
+use Rattle.acl_listing_queries.specs.declared.who.answers.Granted.TheVariants.{Letters, Masks, Standings, Those}
 use Rattle.acl_listing_queries.specs.declared.who.answers.Kept.{Kept}
 use Rattle.acl_listing_queries.specs.declared.who.answers.Users.{Users}
 use Rattle.acl_listing_queries.specs.declared.who.reach.Before.{Before}
 use Rattle.acl_listing_queries.specs.declared.who.way.Folder.{Folder}
-use Rattle.acl_listing_queries.proofs.WhyWayLemmas.{none_with}
+use Rattle.acl_listing_queries.proofs.WhyWayLemmas.{none_either, none_with}
 
 -- ---- what is on a way
 
@@ -122,7 +130,7 @@ lost_on way (here ∷ seen) lost =
         after true = refl
         after false = lost
 
-pub lost_none : (way : List Reading) → list_any lacks_path way ≡ true → (here : Reading) → known_way way here ≡ None
+pub lost_none : (way : List Reading) → list_any lacks_path way ≡ true → (here : Reading) → chain_to way here ≡ None
 lost_none [] lost here = cc
 lost_none (folder ∷ above) lost here = by folder.path refl (λ lost. lost_none above lost folder)
   where
@@ -130,54 +138,72 @@ lost_none (folder ∷ above) lost here = by folder.path refl (λ lost. lost_none
     none true = none_with (folder_of folder)
     none false = refl
 
-    by : (path : Option (List ℕ)) → folder.path ≡ path → (list_any lacks_path above ≡ true → known_way above folder ≡ None)
-        → cond (holds folder.path here.path) (with_folder (folder_of folder) (known_way above folder)) None ≡ None
-    by None is rest = ap (λ path. cond (holds path here.path) (with_folder (folder_of folder) (known_way above folder)) None) is
+    by : (path : Option (List ℕ)) → folder.path ≡ path → (list_any lacks_path above ≡ true → chain_to above folder ≡ None)
+        → cond (holds folder.path here.path) (with_folder (folder_of folder) (chain_to above folder)) None ≡ None
+    by None is rest = ap (λ path. cond (holds path here.path) (with_folder (folder_of folder) (chain_to above folder)) None) is
     by (Some path) is rest =
         let behind : list_any lacks_path above ≡ true = ap (λ path. is_none path || list_any lacks_path above) (sym is) ∙ lost in
         ap (λ way. cond (holds folder.path here.path) (with_folder (folder_of folder) way) None) (rest behind) ∙ none (holds folder.path here.path)
 
 -- where a path was lost, no way is known
-pub way_lost : (seen : List Reading) → list_any lacks_path seen ≡ true → (next here : Reading) → known_way (way_of seen next) here ≡ None
+pub way_lost : (seen : List Reading) → list_any lacks_path seen ≡ true → (next here : Reading) → chain_to (way_of seen next) here ≡ None
 way_lost seen lost next here = lost_none (way_of seen next) (lost_left next (fold way_on [] seen) (lost_on [] seen lost)) here
+
+pub known_if_lost : (seen : List Reading) (here : Reading) → list_any lacks_path seen ≡ true → known_way seen here ≡ None
+known_if_lost seen here lost = none_either (begins_apart seen here) (chain_to (way_of seen here) here) (way_lost seen lost here here)
 
 -- ---- the block before
 
-pub record StandsAt (who : List Identity) (answers : Answers) (before : Before) (folders : List Folder) (stack : List Reading) : Type 0 where
+pub record StandsAt (answers : Answers) (before : Before) (folders : List Folder) (stack : List Reading) : Type 0 where
   pub block : Reading
   pub way : List Reading
   pub stack_is : stack ≡ block ∷ way
   pub path : block.path ≡ Some before.path.items
-  pub placed : IsPlacedAt who answers before.place block (known_way way block)
-  pub are : AreFolders who folders way
+  pub placed : IsPlacedAt answers before.place block
+  pub are : AreFolders answers.users folders way
 
-pub stands : (who : List Identity) (answers : Answers) (before : Before) (folders : List Folder) (found : Option Before) (stack : List Reading) → found ≡ Some before
-    → IsBehind who answers found folders stack → StandsAt who answers before folders stack
-stands who answers before folders found stack is behind = by stack (subst (λ found. IsBehind who answers found folders stack) is behind)
+pub stands : (answers : Answers) (before : Before) (folders : List Folder) (found : Option Before) (stack : List Reading) → found ≡ Some before
+    → IsBehind answers found folders stack → StandsAt answers before folders stack
+stands answers before folders found stack is behind = by stack (subst (λ found. IsBehind answers found folders stack) is behind)
   where
-    by : (stack : List Reading) → IsBehind who answers (Some before) folders stack → StandsAt who answers before folders stack
+    by : (stack : List Reading) → IsBehind answers (Some before) folders stack → StandsAt answers before folders stack
     by [] behind = absurd behind
     by (block ∷ way) (path, placed, are) = record { block = block; way = way; stack_is = refl; path = path; placed = placed; are = are }
 
 -- ---- what is told
 
--- a block without a path doesn't read, whatever the way
-pub pathless : (asking : Asking) (text : List ℕ) → path_of text ≡ None → (way other : Option (List File))
-    → part_by asking (file_by asking.names text) way ≡ part_by asking (file_by asking.names text) other
-pathless asking text none way other = by (file_by asking.names text) refl
-  where
-    by : (said : Result FileValue BlockFault) → file_by asking.names text ≡ said → part_by asking said way ≡ part_by asking said other
-    by (Ok file) is = absurd (none-some _ (sym none ∙ path_of-file asking.names text file is))
-    by (Err fault) is = refl
+-- a block without a path doesn't read
+pub pathless : (names : Names) (text : List ℕ) (file : FileValue) → path_of text ≡ None → file_by names text ≡ Ok file → ⊥
+pathless names text file none is = none-some _ (sym none ∙ path_of-file names text file is)
 
--- a call that is refused is refused so whatever it would have returned
-pub refused : (A B : Type 0) (part : Part) (fault : FileFault) (old new : List ℕ) → IsPart {A = A} part (Err fault) old new → IsPart {A = B} part (Err fault) old new
-refused A B part (file.Block fault) old new is = is
-refused A B part file.Memory old new is = tt
+-- of a block that doesn't read its fault, whatever the way
+pub faulty_part : (A : Type 0) (asking : Asking) (earlier : List (List ℕ)) (text : List ℕ) (fault : FileFault) (old : List ℕ) → IsFaultOf (file_by asking.names text) fault
+    → IsPart {A = A} (who_part asking earlier text) (Err fault) old old
+faulty_part A asking earlier text (file.Block fault) old is =
+    let here = reading_of asking.names text in
+    let before = map (reading_of asking.names) earlier in
+    (ap (λ said. part_by asking (is_sticky (way_of before here)) said (way_for asking.reach before here)) is, refl)
+faulty_part A asking earlier text file.Memory old is = tt
+
+-- of one that reads what its way tells
+pub known_part : {A : Type 0} (users one : Users) (earlier : List (List ℕ)) (text : List ℕ) (file : FileValue) (result : Result A FileFault) (old new : List ℕ) → one ≡ users → users.reach ≡ true
+    → file_by (names_by users) text ≡ Ok file
+    → IsPart (part_on (asking_of one) (is_sticky (way_of (readings_of users earlier) (reading_of (names_by users) text))) file
+    (cond (begins_apart (readings_of users earlier) (reading_of (names_by users) text)) (chain_to (way_of (readings_of users earlier) (reading_of (names_by users) text)) (reading_of (names_by one) text)) None)) result old new
+    → IsPart (who_part (asking_of users) earlier text) result old new
+known_part users one earlier text file result old new same reach reads told =
+    let asking = asking_of users in
+    let before = readings_of users earlier in
+    let here = reading_of (names_by users) text in
+    let way = way_of before here in
+    let apart = begins_apart before here in
+    let own = subst (λ (one : Users). IsPart (part_on (asking_of one) (is_sticky way) file (cond apart (chain_to way (reading_of (names_by one) text)) None)) result old new) same told in
+    subst (λ b. IsPart (part_by asking (is_sticky way) (file_by (names_by users) text) (way_for b before here)) result old new) (sym reach)
+    (subst (λ said. IsPart (part_by asking (is_sticky way) said (known_way before here)) result old new) (sym reads) own)
 
 -- ---- where a block's answers are kept
 
-some_way : (who : List Identity) (way : Option (List File)) (marks : List Bool) → Some marks ≡ marks_of who way → (above : List File) × (way ≡ Some above) × (marks ≡ map (reaches above) who)
+pub some_way : (who : List Identity) (way : Option (List File)) (marks : List Bool) → Some marks ≡ marks_of who way → (above : List File) × (way ≡ Some above) × (marks ≡ map (reaches above) who)
 some_way who (Some above) marks is = (above, refl, by is)
   where
     by : Some marks ≡ Some (map (reaches above) who) → marks ≡ map (reaches above) who
@@ -187,70 +213,83 @@ some_way who None marks is = cc
 abbrev folder_said : Option (List ℕ) → Result FileValue BlockFault → Option File
 folder_said path said = folder_of (record { path = path; file = said })
 
-searched : (users one : Users) (file : FileValue) (kept : Kept) → one ≡ users → users.reach ≡ true → AreAnswersOf one file kept
+pub no_folders_to : (block : Reading) (way : List Reading) (fault : BlockFault) → block.file ≡ Err fault → folders_to block way ≡ None
+no_folders_to block way fault is = ap (λ said. with_folder (folder_said block.path said) (chain_to way block)) is
+
+searched : (users : Users) (file : FileValue) (kept : Kept) → users.reach ≡ true → AreAnswersOf users file kept
     → kept.search.items ≡ map (λ user. may (file_of file) user 1) (whos_of users)
-searched users one file kept same asks are =
-    subst (λ asks. IsSearch (whos_of users) asks (file_of file) kept.search.items) asks (subst (λ users. AreAnswersOf users file kept) same are).search
+searched users file kept asks are =
+    (subst (λ asks. IsSearch (whos_of users) asks (file_of file) kept.search.items) asks are.search)
 
-pub folder_at : (users : Users) (answers : Answers) (place : ℕ) (text : List ℕ) (way : Option (List File)) (marks : List Bool) (file : FileValue) → users.reach ≡ true → answers.users ≡ users
-    → file_by (names_by users) text ≡ Ok file → IsAnsweredAt answers place file → Some marks ≡ marks_of (whos_of users) way
-    → IsFolderAt (whos_of users) answers place (reading_of (names_by users) text) way
-folder_at users answers place text way marks file asks same reads at shown =
-    let known = some_way (whos_of users) way marks shown in
-    let kept = at.kept in
-    record {
-      folder = file_of file;
-      is = ap (folder_said (path_of text)) reads;
-      above = known.0;
-      known = known.1;
-      search = record { kept = kept; there = at.there; search = searched users answers.users file kept same asks at.are };
-    }
+-- how users stand to a file, as it is kept
+pub standings_are : (whos : List Identity) (question : Question) (file : FileValue) (granted : Granted) → IsAnswered whos question file.flags.sticky (file_of file) granted
+    → standings_kept granted ≡ standings_for question whos (Ok file)
+standings_are whos (What asked) file (Letters letters) is = refl
+standings_are whos (What asked) file (Masks masks) is = refl
+standings_are whos (What asked) file (Those places) is = refl
+standings_are whos (What ThreeLetters) file (Standings standings) is = absurd is
+standings_are whos (What AllLetters) file (Standings standings) is = absurd is
+standings_are whos (What (Request perms)) file (Standings standings) is = absurd is
+standings_are whos Deletion file (Letters letters) is = absurd is
+standings_are whos Deletion file (Masks masks) is = absurd is
+standings_are whos Deletion file (Those places) is = absurd is
+standings_are whos Deletion file (Standings standings) is = is
 
--- what is told of a file on a way of which these marks are
-pub told_on_way : (asking : Asking) (whos : List Identity) (text : List ℕ) (way : Option (List File)) (marks : List Bool) (file : FileValue) → file_by asking.names text ≡ Ok file
-    → Some marks ≡ marks_of whos way → (above : List File) × (marks ≡ map (reaches above) whos)
-    × (part_by asking (file_by asking.names text) way ≡ Ok (who_text asking.persons asking.asked above file.path (file_of file)))
-told_on_way asking whos text way marks file reads shown =
-    let known = some_way whos way marks shown in
-    (known.0, known.2, ap (λ said. part_by asking said way) reads ∙ ap (part_by asking (Ok file)) known.1)
+-- and if it doesn't read
+pub no_standings : (whos : List Identity) (question : Question) (said : Result FileValue BlockFault) (fault : BlockFault) → said ≡ Err fault → [] ≡ standings_for question whos said
+no_standings whos (What asked) said fault is = refl
+no_standings whos Deletion said fault is = ap (standings_for Deletion whos) (sym is)
 
--- ---- who reaches what is in a folder
+-- ---- what is known of a folder
 
-module _ (who : List Identity) (answers : Answers) (place : ℕ) (block : Reading) (way : List Reading) (at : IsFolderAt who answers place block (known_way way block)) where
-  abbrev above : Option (List File)
-  above = known_way way block
-
-  pub below_reach : (kept : Kept) (marks made : List Bool) → Some kept ≡ kept_at answers.kept.items place → Some marks ≡ marks_of who above → made ≡ both kept.search.items marks
-      → Some made ≡ marks_of who (folders_to block way)
-  below_reach kept marks made there shown is =
-      let found : Some kept ≡ Some at.search.kept = there ∙ at.search.there in
-      let same : kept ≡ at.search.kept = cc in
-      let reach : Some marks ≡ Some (map (reaches at.above) who) = shown ∙ ap (marks_of who) at.known in
-      let marks_are : marks ≡ map (reaches at.above) who = cc in
-      let all : made ≡ map (reaches (at.folder ∷ at.above)) who =
-      is ∙ ap (λ kept. both kept.search.items marks) same ∙ ap (λ search. both search marks) at.search.search
-      ∙ ap (both (map (λ user. may at.folder user 1) who)) marks_are ∙ both_are (λ user. may at.folder user 1) (reaches at.above) who in
-      ap (λ (marks : List Bool). Some marks) all
-      ∙ sym (ap (λ way. marks_of who (with_folder (folder_of block) way)) at.known ∙ ap (λ folder. marks_of who (with_folder folder (Some at.above))) at.is)
+module _ (answers : Answers) (place : ℕ) (block : Reading) (at : IsPlacedAt answers (Some place) block) where
+  abbrev users : Users
+  users = answers.users
 
   pub kept_there : kept_at answers.kept.items place ≡ None → ⊥
-  kept_there none = by (sym none ∙ at.search.there)
+  kept_there none = by (sym none ∙ at.2.there)
     where
       by : {kept : Kept} → None ≡ Some kept → ⊥
       by is = cc
 
-  pub way_there : None ≡ marks_of who above → ⊥
-  way_there none = by (none ∙ ap (marks_of who) at.known)
+  same_kept : (kept : Kept) → Some kept ≡ kept_at answers.kept.items place → kept ≡ at.2.kept
+  same_kept kept there = by (there ∙ at.2.there)
     where
-      by : {marks : List Bool} → None ≡ Some marks → ⊥
+      by : {other : Kept} → Some kept ≡ Some other → kept ≡ other
       by is = cc
+
+  pub standings_there : (kept : Kept) → Some kept ≡ kept_at answers.kept.items place → standings_kept kept.granted ≡ standings_for (question_by users) (whos_of users) block.file
+  standings_there kept there =
+      ap (λ (kept : Kept). standings_kept kept.granted) (same_kept kept there)
+      ∙ standings_are (whos_of users) (question_by users) at.0 at.2.kept.granted at.2.are.granted
+      ∙ ap (standings_for (question_by users) (whos_of users)) (sym at.1)
+
+  module _ (way : List Reading) where
+    pub below_reach : users.reach ≡ true → (kept : Kept) (marks made : List Bool) → Some kept ≡ kept_at answers.kept.items place → Some marks ≡ marks_of (whos_of users) (chain_to way block)
+        → made ≡ both kept.search.items marks → Some made ≡ marks_of (whos_of users) (folders_to block way)
+    below_reach asks kept marks made there shown is =
+        let who = whos_of users in
+        let folder = file_of at.0 in
+        let known = some_way who (chain_to way block) marks shown in
+        let all : made ≡ map (reaches (folder ∷ known.0)) who =
+        is ∙ ap (λ (kept : Kept). both kept.search.items marks) (same_kept kept there) ∙ ap (λ search. both search marks) (searched users at.0 at.2.kept asks at.2.are)
+        ∙ ap (both (map (λ user. may folder user 1) who)) known.2 ∙ both_are (λ user. may folder user 1) (reaches known.0) who in
+        ap (λ (marks : List Bool). Some marks) all
+        ∙ sym (ap (λ said. marks_of who (with_folder (folder_said block.path said) (chain_to way block))) at.1 ∙ ap (λ way. marks_of who (with_folder (Some folder) way)) known.1)
+
+    pub no_reach_below : None ≡ marks_of (whos_of users) (chain_to way block) → None ≡ marks_of (whos_of users) (folders_to block way)
+    no_reach_below none = by (chain_to way block) none
+      where
+        by : (known : Option (List File)) → None ≡ marks_of (whos_of users) known → None ≡ marks_of (whos_of users) (with_folder (folder_of block) known)
+        by (Some above) none = cc
+        by None none = sym (ap (marks_of (whos_of users)) (none_with (folder_of block)))
 
 -- ---- the next block
 
 -- the way has come to it
 pub come_here : (was mid : ReachTeller) (earlier : List (List ℕ)) (text path : List ℕ) → mid.answers ≡ was.answers → mid.everyone ≡ was.everyone → mid.lost ≡ was.lost
-    → ((who : List Identity) (seen : List Reading) (here : Reading) → here.path ≡ Some path → list_any lacks_path seen ≡ false → IsEveryone who was.everyone.items
-    → IsBehind who was.answers was.before was.folders.items (fold way_on [] seen) → AreFolders who mid.folders.items (way_of seen here))
+    → ((seen : List Reading) (here : Reading) → was.answers.users.reach ≡ true → here.path ≡ Some path → list_any lacks_path seen ≡ false → IsEveryone (whos_of was.answers.users) was.everyone.items
+    → IsBehind was.answers was.before was.folders.items (fold way_on [] seen) → AreFolders was.answers.users mid.folders.items (way_of seen here))
     → IsOnWay was earlier → path_of text ≡ Some path
     → IsCome mid (way_of (readings_of was.answers.users earlier) (reading_of (names_by was.answers.users) text))
 come_here was mid earlier text path answers everyone lost folders on path_is =
@@ -262,19 +301,50 @@ come_here was mid earlier text path answers everyone lost folders on path_is =
       right = subst AreRight (sym answers) on.right;
       everyone = ap (λ (marks : Vec Bool Global). marks.items) everyone ∙ on.everyone ∙ ap (λ (answers : Answers). map (reaches []) (whos_of answers.users)) (sym answers);
       lost = λ is next. way_lost readings (sym on.lost ∙ sym lost ∙ is) here next;
-      folders = λ found. subst (λ (answers : Answers). AreFolders (whos_of answers.users) mid.folders.items (way_of readings here)) (sym answers)
-          (folders (whos_of users) readings here path_is (sym on.lost ∙ sym lost ∙ found) on.everyone (on.behind (sym lost ∙ found)));
+      folders = λ found. subst (λ (answers : Answers). AreFolders answers.users mid.folders.items (way_of readings here)) (sym answers)
+          (folders readings here on.reach path_is (sym on.lost ∙ sym lost ∙ found) on.everyone (on.behind (sym lost ∙ found)));
     }
 
--- what is told of it
-pub next_part : {A : Type 0} (was mid : ReachTeller) (earlier : List (List ℕ)) (text : List ℕ) (result : Result A FileFault) (old new : List ℕ) → mid.answers ≡ was.answers → was.answers.users.reach ≡ true
-    → IsPart (part_by (asking_of mid.answers.users) (file_by (names_by mid.answers.users) text)
-    (known_way (way_of (readings_of was.answers.users earlier) (reading_of (names_by was.answers.users) text)) (reading_of (names_by mid.answers.users) text))) result old new
-    → IsPart (who_part (asking_of was.answers.users) earlier text) result old new
-next_part was mid earlier text result old new answers reach told =
-    let users = was.answers.users in
-    let readings = readings_of users earlier in
+-- it is read
+pub come_on : (mid : ReachTeller) (answers : Answers) (way : List Reading) → answers.users ≡ mid.answers.users → AreRight answers → IsCome mid way → IsCome (record mid { answers = answers }) way
+come_on mid answers way same right come = record {
+  reach = ap (λ (users : Users). users.reach) same ∙ come.reach;
+  right = right;
+  everyone = come.everyone ∙ ap (λ (users : Users). map (reaches []) (whos_of users)) (sym same);
+  lost = come.lost;
+  folders = λ found. subst (λ (users : Users). AreFolders users mid.folders.items way) (sym same) (come.folders found);
+}
+
+pub unless_memory : {A : Type 0} (result : Result A FileFault) (P : Type 0) → P → UnlessMemory result P
+unless_memory (Ok value) P holds = holds
+unless_memory (Err (file.Block fault)) P holds = holds
+unless_memory (Err file.Memory) P holds = tt
+
+-- and stands behind it
+pub on_behind : (was mid new : ReachTeller) (earlier : List (List ℕ)) (text path : List ℕ) (before : Before) → IsOnWay was earlier → mid.lost ≡ was.lost → mid.answers.users ≡ was.answers.users
+    → IsCome mid (way_of (readings_of was.answers.users earlier) (reading_of (names_by was.answers.users) text)) → path_of text ≡ Some path → before.path.items ≡ path
+    → IsPlacedAt mid.answers before.place (reading_of (names_by mid.answers.users) text) → new ≡ record mid { before = Some before }
+    → (mid.lost ≡ false → IsBegun mid.beginning (readings_of was.answers.users earlier ++ reading_of (names_by was.answers.users) text ∷ []))
+    → IsOnWay new (earlier ++ text ∷ [])
+on_behind was mid new earlier text path before on lost same come path_is there placed is begun =
+    let users = mid.answers.users in
     let here = reading_of (names_by users) text in
-    let way = way_of readings here in
-    subst (λ b. IsPart (part_by (asking_of users) (file_by (names_by users) text) (way_for b readings here)) result old new) (sym reach)
-    (subst (λ (answers : Answers). IsPart (part_by (asking_of answers.users) (file_by (names_by answers.users) text) (known_way way (reading_of (names_by answers.users) text))) result old new) answers told)
+    let readings = readings_of users earlier in
+    let more : readings_of users (earlier ++ text ∷ []) ≡ readings ++ here ∷ [] = map-append (reading_of (names_by users)) earlier (text ∷ []) in
+    let here_come : IsCome mid (way_of readings here) = subst (λ (users : Users). IsCome mid (way_of (readings_of users earlier) (reading_of (names_by users) text))) (sym same) come in
+    let none : list_any lacks_path (readings ++ here ∷ []) ≡ list_any lacks_path readings =
+    list_any-append lacks_path readings (here ∷ []) ∙ ap (λ path. list_any lacks_path readings || (is_none path || false)) path_is ∙ or-false (list_any lacks_path readings) in
+    let stack : fold way_on [] (readings ++ here ∷ []) ≡ here ∷ way_of readings here = fold-append way_on [] readings (here ∷ []) in
+    let behind : mid.lost ≡ false → IsBehind mid.answers (Some before) mid.folders.items (here ∷ way_of readings here) =
+    λ found. (path_is ∙ ap (λ path. Some path) (sym there), placed, here_come.folders found) in
+    let stands : IsOnWay (record mid { before = Some before }) (earlier ++ text ∷ []) = record {
+      reach = come.reach;
+      right = come.right;
+      everyone = come.everyone;
+      lost = lost ∙ on.lost ∙ ap (λ (users : Users). list_any lacks_path (readings_of users earlier)) (sym same) ∙ sym none ∙ ap (list_any lacks_path) (sym more);
+      begun = λ found. subst (IsBegun mid.beginning) (sym more)
+          (subst (λ (users : Users). IsBegun mid.beginning (readings_of users earlier ++ reading_of (names_by users) text ∷ [])) (sym same) (begun found));
+      behind = λ found. subst (λ readings. IsBehind mid.answers (Some before) mid.folders.items (fold way_on [] readings)) (sym more)
+          (subst (IsBehind mid.answers (Some before) mid.folders.items) (sym stack) (behind found));
+    } in
+    subst (λ (state : ReachTeller). IsOnWay state (earlier ++ text ∷ [])) (sym is) stands

@@ -4,14 +4,14 @@ use Rattle.std.specs.Prelude.{slice_get, is_none}
 use Rattle.std.specs.List.{filter, list_all, list_any}
 use Rattle.std.proofs.lemmas.Bool.{or_parts}
 use Rattle.std.proofs.lemmas.List.{reverse-append}
-use Rattle.acl_names.specs.Requester.{Identity}
 use Rattle.acl_access.specs.Reach.{reaches}
 use Rattle.acl_listings.specs.Way.{is_above, is_folder_of}
 use Rattle.acl_listings.proofs.WayLemmas.{is_above-trans}
 use Rattle.acl_bridge.specs.Files.{File}
 use Rattle.acl_listing_queries.specs.Readings.{Reading}
-use Rattle.acl_listing_queries.specs.Ways.{holds, known_way, may_be_above, those_above}
-use Rattle.acl_listing_queries.specs.WhoSteps.{AreFolders, IsChain, folders_to, lacks_path, levels, marks_of, shown_folder}
+use Rattle.acl_listing_queries.specs.Ways.{holds, chain_to, may_be_above, those_above}
+use Rattle.acl_listing_queries.specs.WhoSteps.{AreFolders, IsChain, folders_to, lacks_path, level_of, levels, marks_of, question_by, shown_folder, standings_for, whos_of}
+use Rattle.acl_listing_queries.specs.declared.who.answers.Users.{Users}
 use Rattle.acl_listing_queries.specs.declared.who.way.Folder.{Folder}
 
 -- ---- the last of a list
@@ -42,8 +42,8 @@ no_last (first ∷ next ∷ items) is =
 
 -- ---- what is kept of a way
 
-module _ (who : List Identity) where
-  pub no_folders : (way : List Reading) → AreFolders who [] way → way ≡ []
+module _ (users : Users) where
+  pub no_folders : (way : List Reading) → AreFolders users [] way → way ≡ []
   no_folders [] are = refl
   no_folders (folder ∷ above) are = cc
 
@@ -53,10 +53,11 @@ module _ (who : List Identity) where
     pub above : List Reading
     pub way_is : way ≡ nearest ∷ above
     pub path : nearest.path ≡ Some top.path.items
-    pub reach : marks_of who (folders_to nearest above) ≡ option_map (λ marks. marks.items) top.reach
-    pub others : AreFolders who front above
+    pub reach : marks_of (whos_of users) (folders_to nearest above) ≡ option_map (λ marks. marks.items) top.reach
+    pub standings : standings_for (question_by users) (whos_of users) nearest.file ≡ top.standings.items
+    pub others : AreFolders users front above
 
-  top_of : (front : List Folder) (top : Folder) (way : List Reading) → shown_folder top ∷ map shown_folder (reverse front) ≡ levels who way → IsOnTop front top way
+  top_of : (front : List Folder) (top : Folder) (way : List Reading) → shown_folder top ∷ map shown_folder (reverse front) ≡ levels users way → IsOnTop front top way
   top_of front top [] are = absurd (by are)
     where
       by : shown_folder top ∷ map shown_folder (reverse front) ≡ [] → ⊥
@@ -67,28 +68,30 @@ module _ (who : List Identity) where
     way_is = refl;
     path = ap (λ level. level.0) (sym (first_is are));
     reach = ap (λ level. level.1) (sym (first_is are));
+    standings = ap (λ level. level.2) (sym (first_is are));
     others = rest_is are;
   }
     where
-      first_is : shown_folder top ∷ map shown_folder (reverse front) ≡ (folder.path, marks_of who (folders_to folder above)) ∷ levels who above
-          → shown_folder top ≡ (folder.path, marks_of who (folders_to folder above))
+      first_is : shown_folder top ∷ map shown_folder (reverse front) ≡ level_of users folder above ∷ levels users above
+          → shown_folder top ≡ level_of users folder above
       first_is are = cc
 
-      rest_is : shown_folder top ∷ map shown_folder (reverse front) ≡ (folder.path, marks_of who (folders_to folder above)) ∷ levels who above
-          → map shown_folder (reverse front) ≡ levels who above
+      rest_is : shown_folder top ∷ map shown_folder (reverse front) ≡ level_of users folder above ∷ levels users above
+          → map shown_folder (reverse front) ≡ levels users above
       rest_is are = cc
 
-  pub on_top : (folders front : List Folder) (top : Folder) (way : List Reading) → folders ≡ front ++ top ∷ [] → AreFolders who folders way → IsOnTop front top way
+  pub on_top : (folders front : List Folder) (top : Folder) (way : List Reading) → folders ≡ front ++ top ∷ [] → AreFolders users folders way → IsOnTop front top way
   on_top folders front top way is are =
       top_of front top way (ap (map shown_folder) (sym (ap reverse is ∙ reverse-append front (top ∷ []))) ∙ are)
 
   -- one more folder
-  pub one_folder_more : (folders : List Folder) (top : Folder) (folder : Reading) (way : List Reading) → AreFolders who folders way → folder.path ≡ Some top.path.items
-      → option_map (λ marks. marks.items) top.reach ≡ marks_of who (folders_to folder way) → AreFolders who (folders ++ top ∷ []) (folder ∷ way)
-  one_folder_more folders top folder way are path reach =
+  pub one_folder_more : (folders : List Folder) (top : Folder) (folder : Reading) (way : List Reading) → AreFolders users folders way → folder.path ≡ Some top.path.items
+      → option_map (λ marks. marks.items) top.reach ≡ marks_of (whos_of users) (folders_to folder way) → top.standings.items ≡ standings_for (question_by users) (whos_of users) folder.file
+      → AreFolders users (folders ++ top ∷ []) (folder ∷ way)
+  one_folder_more folders top folder way are path reach standings =
       ap (map shown_folder) (reverse-append folders (top ∷ []))
-      ∙ ap (λ first. first ∷ map shown_folder (reverse folders)) (λ i. (sym path i, reach i))
-      ∙ ap (λ rest. (folder.path, marks_of who (folders_to folder way)) ∷ rest) are
+      ∙ ap (λ first. first ∷ map shown_folder (reverse folders)) (λ i. (sym path i, reach i, standings i))
+      ∙ ap (λ rest. level_of users folder way ∷ rest) are
 
 -- ---- which folders are left
 
@@ -137,7 +140,7 @@ module _ (here folder : Reading) (path : List ℕ) (is : here.path ≡ Some path
 
 -- ---- a folder on top, and a path
 
-module _ (who : List Identity) (folders : List Folder) (here : Reading) (path : List ℕ) (is : here.path ≡ Some path) where
+module _ (users : Users) (folders : List Folder) (here : Reading) (path : List ℕ) (is : here.path ≡ Some path) where
   module _ (top : Folder) (last : slice_get folders (length folders - 1) ≡ Some top) where
     abbrev front : List Folder
     front = take (length folders - 1) folders
@@ -149,9 +152,9 @@ module _ (who : List Identity) (folders : List Folder) (here : Reading) (path : 
     may_be nearest path_is = ap (λ found. may_be_above found here.path) path_is ∙ ap (may_be_above (Some top.path.items)) is
 
     -- a folder above it stays, and all that are above that
-    pub stays : is_above top.path.items path ≡ true → (left : List Reading) → IsChain left → list_any lacks_path left ≡ false → AreFolders who folders left → those_above here left ≡ left
+    pub stays : is_above top.path.items path ≡ true → (left : List Reading) → IsChain left → list_any lacks_path left ≡ false → AreFolders users folders left → those_above here left ≡ left
     stays above left chain known are =
-        let on : IsOnTop who front top left = on_top who folders front top left whole are in
+        let on : IsOnTop users front top left = on_top users folders front top left whole are in
         let nearest : Reading = on.nearest in
         let way_is : left ≡ nearest ∷ on.above = on.way_is in
         let all : IsChain (nearest ∷ on.above) = subst IsChain way_is chain in
@@ -161,10 +164,10 @@ module _ (who : List Identity) (folders : List Folder) (here : Reading) (path : 
         ap (those_above here) way_is ∙ ap (λ b. cond b (nearest ∷ those_above here on.above) (those_above here on.above)) above_here ∙ ap (λ more. nearest ∷ more) rest ∙ sym way_is
 
     -- another goes
-    pub goes : is_above top.path.items path ≡ false → (left : List Reading) → IsChain left → list_any lacks_path left ≡ false → AreFolders who folders left
-        → (fewer : List Reading) × AreFolders who front fewer × IsChain fewer × (list_any lacks_path fewer ≡ false) × (those_above here fewer ≡ those_above here left)
+    pub goes : is_above top.path.items path ≡ false → (left : List Reading) → IsChain left → list_any lacks_path left ≡ false → AreFolders users folders left
+        → (fewer : List Reading) × AreFolders users front fewer × IsChain fewer × (list_any lacks_path fewer ≡ false) × (those_above here fewer ≡ those_above here left)
     goes above left chain known are =
-        let on : IsOnTop who front top left = on_top who folders front top left whole are in
+        let on : IsOnTop users front top left = on_top users folders front top left whole are in
         let nearest : Reading = on.nearest in
         let way_is : left ≡ nearest ∷ on.above = on.way_is in
         let all : IsChain (nearest ∷ on.above) = subst IsChain way_is chain in
@@ -178,27 +181,27 @@ module _ (who : List Identity) (folders : List Folder) (here : Reading) (path : 
         )
 
     -- who reaches what it holds
-    pub reached_through : (b : Bool) → is_folder_of top.path.items path ≡ b → (way : List Reading) → AreFolders who folders way
-        → marks_of who (known_way way here) ≡ cond b (option_map (λ marks. marks.items) top.reach) None
+    pub reached_through : (b : Bool) → is_folder_of top.path.items path ≡ b → (way : List Reading) → AreFolders users folders way
+        → marks_of (whos_of users) (chain_to way here) ≡ cond b (option_map (λ marks. marks.items) top.reach) None
     reached_through b holds_it way are =
-        let on : IsOnTop who front top way = on_top who folders front top way whole are in
+        let on : IsOnTop users front top way = on_top users folders front top way whole are in
         let nearest : Reading = on.nearest in
         let holds_is : holds nearest.path here.path ≡ b = ap (λ found. holds found here.path) on.path ∙ ap (holds (Some top.path.items)) is ∙ holds_it in
-        ap (λ way. marks_of who (known_way way here)) on.way_is ∙ ap (λ b. marks_of who (cond b (folders_to nearest on.above) None)) holds_is ∙ by b (folders_to nearest on.above) on.reach
+        ap (λ way. marks_of (whos_of users) (chain_to way here)) on.way_is ∙ ap (λ b. marks_of (whos_of users) (cond b (folders_to nearest on.above) None)) holds_is ∙ by b (folders_to nearest on.above) on.reach
       where
-        by : (b : Bool) (known : Option (List File)) → marks_of who known ≡ option_map (λ marks. marks.items) top.reach
-            → marks_of who (cond b known None) ≡ cond b (option_map (λ marks. marks.items) top.reach) None
+        by : (b : Bool) (known : Option (List File)) → marks_of (whos_of users) known ≡ option_map (λ marks. marks.items) top.reach
+            → marks_of (whos_of users) (cond b known None) ≡ cond b (option_map (λ marks. marks.items) top.reach) None
         by true known reach = reach
         by false known reach = refl
 
   -- and what is in none
   module _ (none : slice_get folders (length folders - 1) ≡ None) where
-    pub none_left : (left : List Reading) → AreFolders who folders left → those_above here left ≡ left
+    pub none_left : (left : List Reading) → AreFolders users folders left → those_above here left ≡ left
     none_left left are =
-        let empty : left ≡ [] = no_folders who left (subst (λ folders. AreFolders who folders left) (no_last folders none) are) in
+        let empty : left ≡ [] = no_folders users left (subst (λ folders. AreFolders users folders left) (no_last folders none) are) in
         ap (those_above here) empty ∙ sym empty
 
-    pub reached_by_all : (way : List Reading) → AreFolders who folders way → marks_of who (known_way way here) ≡ Some (map (reaches []) who)
+    pub reached_by_all : (way : List Reading) → AreFolders users folders way → marks_of (whos_of users) (chain_to way here) ≡ Some (map (reaches []) (whos_of users))
     reached_by_all way are =
-        let empty : way ≡ [] = no_folders who way (subst (λ folders. AreFolders who folders way) (no_last folders none) are) in
-        ap (λ way. marks_of who (known_way way here)) empty
+        let empty : way ≡ [] = no_folders users way (subst (λ folders. AreFolders users folders way) (no_last folders none) are) in
+        ap (λ way. marks_of (whos_of users) (chain_to way here)) empty

@@ -1,5 +1,5 @@
 -- What `why` tells of a block, by what it says and by the folders on the way to it.
-use Rattle.std.proofs.Common.{◌≡◌, ◌∙◌, List, None, Some, Ok, Err, Option, ap, subst, sym, ℕ}
+use Rattle.std.proofs.Common.{◌≡◌, ◌∙◌, true, cond, List, None, Some, Ok, Err, Option, ap, subst, sym, ℕ}
 use Rattle.acl_listings.specs.Block.{FileValue, file_by, path_of}
 use Rattle.acl_listings.specs.Faults.{IsFaultOf}
 use Rattle.acl_listings.specs.declared.fault.FileFault.{FileFault}
@@ -7,7 +7,7 @@ use Rattle.acl_listings.specs.declared.fault.FileFault.TheVariants as file
 use Rattle.acl_listings.proofs.PathLemmas.{path_of-file}
 use Rattle.acl_bridge.specs.Files.{File}
 use Rattle.acl_listing_queries.specs.Readings.{Reading, reading_of}
-use Rattle.acl_listing_queries.specs.Ways.{known_way, way_of}
+use Rattle.acl_listing_queries.specs.Ways.{begins_apart, chain_to, known_way, way_of}
 use Rattle.acl_listing_queries.specs.WhySteps.{IsUnknown, IsWayTo}
 use Rattle.acl_listing_queries.specs.WhyText.{WhyAsking, why_by, why_part, why_text}
 use Rattle.acl_listing_queries.specs.declared.why.way.Way.{Way}
@@ -20,17 +20,17 @@ module _ (asking : WhyAsking) (earlier : List Reading) (text : List ℕ) where
   way_here = way_of earlier here
 
   module _ (said : FileValue) (reads : file_by asking.names text ≡ Ok said) where
-    by_nodes : (files : Option (List File)) → known_way way_here here ≡ files → why_part asking earlier text ≡ why_by asking way_here (Ok said) files
-    by_nodes files known = ap (λ said. why_by asking way_here said (known_way way_here here)) reads ∙ ap (why_by asking way_here (Ok said)) known
+    by_nodes : (files : Option (List File)) → known_way earlier here ≡ files → why_part asking earlier text ≡ why_by asking way_here (Ok said) files
+    by_nodes files known = ap (λ said. why_by asking way_here said (known_way earlier here)) reads ∙ ap (why_by asking way_here (Ok said)) known
 
     -- one to which no way is known
-    pub part_unknown : (fault : FileFault) → IsUnknown (known_way way_here here) fault → IsFaultOf (why_part asking earlier text) fault
+    pub part_unknown : (fault : FileFault) → IsUnknown (known_way earlier here) fault → IsFaultOf (why_part asking earlier text) fault
     part_unknown (file.Block fault) (unknown, is) = by_nodes None unknown ∙ ap Err (sym is)
     part_unknown file.Memory unknown = tt
 
     -- and any other
-    pub part_known : (files : List File) → known_way way_here here ≡ Some files → why_part asking earlier text ≡ Ok (why_text asking files way_here said)
-    part_known files known = by_nodes (Some files) known
+    pub part_known : (files : List File) → begins_apart earlier here ≡ true → chain_to way_here here ≡ Some files → why_part asking earlier text ≡ Ok (why_text asking files way_here said)
+    part_known files apart known = by_nodes (Some files) (ap (λ b. cond b (chain_to way_here here) None) apart ∙ known)
 
     -- the way to its path is kept
     pub way_to_it : (path : List ℕ) (way : Way) → path_of text ≡ Some path → IsWayTo asking.names path earlier way → IsWayTo asking.names said.path earlier way

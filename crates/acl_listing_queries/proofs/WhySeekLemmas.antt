@@ -9,14 +9,14 @@ use Rattle.acl_cli.specs.Commands.{Answer}
 use Rattle.acl_listings.specs.Cursor.{HandsOut}
 use Rattle.acl_listings.specs.Listing.{Block}
 use Rattle.acl_names.specs.Names.{Names}
-use Rattle.acl_listing_answers.specs.Paths.{has_path}
-use Rattle.acl_listing_answers.specs.Seen.{Splits}
+use Rattle.acl_reports.specs.Paths.{has_path}
+use Rattle.acl_reports.specs.Seen.{Splits}
 use Rattle.acl_listing_queries.specs.Readings.{Reading, reading_of}
 use Rattle.acl_listing_queries.specs.WhyMeaning.{AnswersPath, IsWhyAnswer, readings}
 use Rattle.acl_listing_queries.specs.WhySteps.{IsSought, IsWayTo}
 use Rattle.acl_listing_queries.specs.WhyText.{WhyAsking}
 use Rattle.acl_listing_queries.specs.declared.why.way.Way.{Way}
-use Rattle.acl_listing_answers.proofs.SeenLemmas.{splits_begun, splits_on}
+use Rattle.acl_reports.proofs.SeenLemmas.{splits_begun, splits_on}
 
 -- ---- a block that has the path
 

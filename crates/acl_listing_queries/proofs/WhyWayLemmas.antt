@@ -16,7 +16,8 @@ use Rattle.acl_names.specs.Names.{Names}
 use Rattle.acl_names.specs.Requester.{Identity}
 use Rattle.acl_accounts.proofs.SortLemmas.{map-filter}
 use Rattle.acl_listing_queries.specs.Readings.{Reading, reading_of}
-use Rattle.acl_listing_queries.specs.Ways.{folder_of, known_way, may_be_above, those_above, way_of, way_on, with_folder}
+use Rattle.acl_listing_queries.specs.RootSteps.{IsBegun}
+use Rattle.acl_listing_queries.specs.Ways.{folder_of, chain_to, may_be_above, those_above, way_of, way_on, with_folder}
 use Rattle.acl_listing_queries.specs.WhoSteps.{lacks_path}
 use Rattle.acl_listing_queries.specs.WhySteps.{IsUnknown, IsWayTo, is_held, known_folders, readings_of}
 use Rattle.acl_listing_queries.specs.WhyText.{folder_text}
@@ -75,7 +76,8 @@ way-more here next seen =
 -- what is kept of it goes on so
 module _ (names : Names) (path : List ℕ) (earlier : List Reading) (way way' : Way) (next : Reading) (own : List ℕ) (was : IsWayTo names path earlier way) (still : way.lost ≡ false)
     (still' : way'.lost ≡ false) (is : next.path ≡ Some own)
-    (more : readings_of names way'.folders.items ≡ those_above next (readings_of names way.folders.items) ++ cond (is_above own path) (next ∷ []) []) where
+    (more : readings_of names way'.folders.items ≡ those_above next (readings_of names way.folders.items) ++ cond (is_above own path) (next ∷ []) [])
+    (begun : IsBegun way'.beginning (earlier ++ next ∷ [])) where
   lost_as_before : list_any lacks_path (earlier ++ next ∷ []) ≡ false
   lost_as_before =
       list_any-append lacks_path earlier (next ∷ []) ∙ ap (λ b. b || (is_none next.path || false)) (sym was.lost ∙ still) ∙ ap (λ found. is_none found || false) is
@@ -87,6 +89,7 @@ module _ (names : Names) (path : List ℕ) (earlier : List Reading) (way way' : 
         more ∙ ap (λ way. those_above next way ++ cond (is_above own path) (next ∷ []) []) (was.folders still here here_is)
         ∙ ap (λ b. those_above next (reverse (way_of earlier here)) ++ cond b (next ∷ []) []) (sym (ap (λ found. may_be_above found here.path) is ∙ ap (may_be_above (Some own)) here_is))
         ∙ sym (way-more here next earlier);
+    begun = λ known. begun;
   }
 
 -- those that are left of the folders
@@ -98,21 +101,21 @@ readings-left names own next folders is =
 
 -- ---- folders that are known
 
-pub known_way-held : (way : List Reading) (here : Reading) → known_way way here ≡ cond (is_held way here.path) (known_folders way) None
-known_way-held [] here = refl
-known_way-held (folder ∷ above) here = refl
+pub chain_to-held : (way : List Reading) (here : Reading) → chain_to way here ≡ cond (is_held way here.path) (known_folders way) None
+chain_to-held [] here = refl
+chain_to-held (folder ∷ above) here = refl
 
 pub known-more : (way : List Reading) (folder : Reading) (acl : File) (files : List File) → known_folders way ≡ Some files → is_held way folder.path ≡ true → folder_of folder ≡ Some acl
     → known_folders (folder ∷ way) ≡ Some (acl ∷ files)
 known-more way folder acl files known held reads =
-    ap (with_folder (folder_of folder)) (known_way-held way folder ∙ ap (λ b. cond b (known_folders way) None) held ∙ known) ∙ ap (λ found. with_folder found (Some files)) reads
+    ap (with_folder (folder_of folder)) (chain_to-held way folder ∙ ap (λ b. cond b (known_folders way) None) held ∙ known) ∙ ap (λ found. with_folder found (Some files)) reads
 
 -- what no folder is added to
 pub none_with : (found : Option File) → with_folder found None ≡ None
 none_with None = refl
 none_with (Some folder) = refl
 
-none_either : (b : Bool) (known : Option (List File)) → known ≡ None → cond b known None ≡ None
+pub none_either : (b : Bool) (known : Option (List File)) → known ≡ None → cond b known None ≡ None
 none_either true known none = none
 none_either false known none = refl
 
@@ -120,12 +123,12 @@ none_either false known none = refl
 unknown_on : (more way : List Reading) → known_folders way ≡ None → known_folders (more ++ way) ≡ None
 unknown_on [] way unknown = unknown
 unknown_on (folder ∷ more) way unknown =
-    ap (with_folder (folder_of folder)) (known_way-held (more ++ way) folder ∙ none_either (is_held (more ++ way) folder.path) (known_folders (more ++ way)) (unknown_on more way unknown))
+    ap (with_folder (folder_of folder)) (chain_to-held (more ++ way) folder ∙ none_either (is_held (more ++ way) folder.path) (known_folders (more ++ way)) (unknown_on more way unknown))
     ∙ none_with (folder_of folder)
 
-pub way_unknown : (more way : List Reading) (here : Reading) → known_folders way ≡ None → known_way (more ++ way) here ≡ None
+pub way_unknown : (more way : List Reading) (here : Reading) → known_folders way ≡ None → chain_to (more ++ way) here ≡ None
 way_unknown more way here unknown =
-    known_way-held (more ++ way) here ∙ none_either (is_held (more ++ way) here.path) (known_folders (more ++ way)) (unknown_on more way unknown)
+    chain_to-held (more ++ way) here ∙ none_either (is_held (more ++ way) here.path) (known_folders (more ++ way)) (unknown_on more way unknown)
 
 -- ---- folders that are told
 
@@ -151,12 +154,12 @@ way-next names texts place text more =
 -- where the folders up to a place aren't known, the way isn't
 pub way_unknown_behind : (names : Names) (texts : List (Vec ℕ Global)) (place : ℕ) (text : Vec ℕ Global) (here : Reading) → take (place + 1) texts ≡ take place texts ++ text ∷ []
     → (fault : FileFault) → IsUnknown (known_folders (reading_of names text.items ∷ reverse (readings_of names (take place texts)))) fault
-    → IsUnknown (known_way (reverse (readings_of names texts)) here) fault
+    → IsUnknown (chain_to (reverse (readings_of names texts)) here) fault
 way_unknown_behind names texts place text here more (file.Block fault) (unknown, is) =
     let front : List Reading = readings_of names (take (place + 1) texts) in
     let rest : List Reading = readings_of names (drop (place + 1) texts) in
     let parts : reverse (readings_of names texts) ≡ reverse rest ++ reverse front =
     ap (λ texts. reverse (readings_of names texts)) (sym (take-append-drop (place + 1) texts))
     ∙ ap reverse (map-append (λ text. reading_of names text.items) (take (place + 1) texts) (drop (place + 1) texts)) ∙ reverse-append front rest in
-    (ap (λ way. known_way way here) parts ∙ way_unknown (reverse rest) (reverse front) here (ap known_folders (way-next names texts place text more) ∙ unknown), is)
+    (ap (λ way. chain_to way here) parts ∙ way_unknown (reverse rest) (reverse front) here (ap known_folders (way-next names texts place text more) ∙ unknown), is)
 way_unknown_behind names texts place text here more file.Memory unknown = tt

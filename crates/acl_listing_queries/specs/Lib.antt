@@ -1,8 +1,10 @@
 pub mod Readings
 pub mod Ways
+pub mod RootSteps
 pub mod WhoText
 pub mod WhoPart
 pub mod WhoSteps
+pub mod WhoLine
 pub mod WhoMeaning
 pub mod WayLaws
 pub mod WhyText

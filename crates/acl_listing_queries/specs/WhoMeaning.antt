@@ -1,38 +1,51 @@
 -- What the fields of `who` mean, of a listing.
-use Rattle.std.specs.Prelude.{◌≡◌, ◌⊎◌, ℕ, List, Option, Result, Ok, Err}
-use Rattle.std.specs.Prelude.{codes, is_some, if◌then◌else◌}
+use Rattle.std.specs.Prelude.{◌≡◌, ◌⊎◌, ℕ, Bool, List, Option, Result, Ok, Err, IsOk}
+use Rattle.std.specs.Prelude.{codes, is_some, ◌||◌, if◌then◌else◌}
 use Rattle.clap.specs.Words.{Row, Text, first_of}
 use Rattle.acl_names.specs.Names.{Names}
 use Rattle.acl_cli.specs.Commands.{Answer, Meaning}
-use Rattle.acl_cli.specs.Failures.{Explains}
 use Rattle.acl_cli.specs.Fields.{flag_in, optional_perms_in}
 use Rattle.acl_cli.specs.declared.failure.Failure.{Failure}
-use Rattle.acl_cli.specs.declared.failure.Failure.TheVariants.{Field, Mismatch}
-use Rattle.acl_cli.specs.declared.field_fault.FieldFault.{FieldFault}
-use Rattle.acl_cli.specs.declared.mismatch.Mismatch.TheVariants.{LettersAndPerms}
-use Rattle.acl_listing_answers.specs.Host.{IsHost, names_of_host}
-use Rattle.acl_listing_answers.specs.HostFailures.{IsHostFailure}
-use Rattle.acl_listing_answers.specs.Listed.{AnswersListing, BeginsListing, Part}
-use Rattle.acl_listing_answers.specs.ListingMeaning.{FailsForListing, bytes_named, inputs_of}
-use Rattle.acl_listing_answers.specs.ListingMeaning.{listing_in}
-use Rattle.acl_listing_answers.specs.People.{asked_in}
-use Rattle.acl_listing_answers.specs.Person.{Person}
-use Rattle.acl_listing_answers.specs.declared.host.Host.{Host}
-use Rattle.acl_listing_queries.specs.WhoPart.{who_part}
-use Rattle.acl_listing_queries.specs.WhoText.{AllLetters, Asked, asked_by}
+use Rattle.acl_cli.specs.declared.failure.Failure.TheVariants.{Malformed, Misuse}
+use Rattle.acl_cli.specs.Faults.{Malformed as MalformedField}
+use Rattle.acl_cli.specs.declared.misuse.Misuse.TheVariants.{DeleteAndOthers, LettersAndPerms}
+use Rattle.acl_people.specs.Host.{Host, IsHost, names_of_host}
+use Rattle.acl_people.specs.HostFailures.{IsHostFailure}
+use Rattle.acl_reports.specs.Listed.{AnswersListing, BeginsListing, Part}
+use Rattle.acl_reports.specs.ListingMeaning.{FailsForListing, bytes_named, inputs_of}
+use Rattle.acl_reports.specs.ListingMeaning.{listing_in}
+use Rattle.acl_people.specs.People.{IsAskedFailure, asked_in}
+use Rattle.acl_people.specs.Person.{Person}
+use Rattle.acl_listing_queries.specs.WhoPart.{Deletion, Question, What, who_part}
+use Rattle.acl_listing_queries.specs.WhoText.{AllLetters, asked_by}
 
 -- what is asked for by permissions, if the words tell, else by letters
-abbrev pub asked_for : Result (Option ℕ) FieldFault → Result Asked Failure
-asked_for (Ok perms) = Ok (asked_by perms)
-asked_for (Err fault) = Err (Field fault)
+abbrev pub asked_for : Result (Option ℕ) MalformedField → Result Question Failure
+asked_for (Ok perms) = Ok (What (asked_by perms))
+asked_for (Err malformed) = Err (Malformed malformed)
 
--- what the words ask for; all letters and permissions exclude each other
-abbrev pub what_in : List Row → Result Asked Failure
+-- what users may do; all letters and permissions exclude each other
+abbrev pub what_in : List Row → Result Question Failure
 what_in rows =
     if flag_in (codes "letters") rows
-    then (if is_some (first_of (codes "perms") rows) then Err (Mismatch LettersAndPerms)
-    else Ok AllLetters)
+    then (if is_some (first_of (codes "perms") rows) then Err (Misuse LettersAndPerms)
+    else Ok (What AllLetters))
     else asked_for (optional_perms_in rows)
+
+-- both exclude the question who may delete
+abbrev pub asks_what : List Row → Bool
+asks_what rows = flag_in (codes "letters") rows || is_some (first_of (codes "perms") rows)
+
+-- what the words ask
+abbrev pub question_in : List Row → Result Question Failure
+question_in rows =
+    if flag_in (codes "delete") rows
+    then (if asks_what rows then Err (Misuse DeleteAndOthers) else Ok Deletion)
+    else what_in rows
+
+-- whether only those count who may search each folder above a file: whoever deletes has to
+abbrev pub reach_in : List Row → Bool
+reach_in rows = flag_in (codes "reach") rows || flag_in (codes "delete") rows
 
 -- the files say who there is, the words whom and what they ask about, and the answer is what
 -- follows from it
@@ -43,23 +56,26 @@ pub record WhoAnswers (Is : Text → Names → (List (List ℕ) → List ℕ →
   pub host_is : IsHost bytes_of rows host
   pub persons : List Person
   pub persons_are : asked_in host rows ≡ Ok persons
-  pub asked : Asked
-  pub asked_is : what_in rows ≡ Ok asked
+  pub question : Question
+  pub question_is : question_in rows ≡ Ok question
   pub is : Is (listing_in rows) (names_of_host host)
       (who_part (record {
         names = names_of_host host;
         persons = persons;
-        asked = asked;
-        reach = flag_in (codes "reach") rows;
+        question = question;
+        reach = reach_in rows;
       })) (bytes_named bytes_of input (listing_in rows)) answer
 
--- the words don't say what is asked for, the files don't say who there is, nobody is asked about,
--- or the listing fails
+-- the files don't say who there is, nobody is asked about, or the listing fails
+abbrev pub FailsForFiles : (Text → Option (List ℕ)) → List Row → Failure → Type 0
+FailsForFiles bytes_of rows failure = IsHostFailure bytes_of rows failure
+    ⊎ (((host : Host) × IsHost bytes_of rows host × IsAskedFailure (asked_in host rows) failure)
+    ⊎ FailsForListing (listing_in rows) failure)
+
+-- the words don't say what is asked for; or they do, and it is the files that fail
 abbrev pub FailsForWho : (Text → Option (List ℕ)) → List Row → Failure → Type 0
-FailsForWho bytes_of rows failure = (what_in rows ≡ Err failure)
-    ⊎ (IsHostFailure bytes_of rows failure
-    ⊎ (((host : Host) × IsHost bytes_of rows host × Explains (asked_in host rows) failure)
-    ⊎ FailsForListing (listing_in rows) failure))
+FailsForWho bytes_of rows failure = (question_in rows ≡ Err failure)
+    ⊎ (IsOk (question_in rows) × FailsForFiles bytes_of rows failure)
 
 abbrev pub who_meaning : (Text → Option (List ℕ)) → Option (List ℕ) → List Row → Meaning
 who_meaning bytes_of input rows = record {

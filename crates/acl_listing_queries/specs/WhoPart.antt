@@ -1,44 +1,58 @@
 -- What `who` tells of a block of a listing.
-use Rattle.std.specs.Prelude.{ℕ, Bool, true, false, List, [], Option, Some, None, Result, Ok, Err}
-use Rattle.std.specs.Prelude.{map}
+use Rattle.std.specs.Prelude.{ℕ, Bool, true, false, List, [], ◌∷◌, Option, Some, None, Result, Ok}
+use Rattle.std.specs.Prelude.{Err, map}
 use Rattle.acl_names.specs.Names.{Names}
 use Rattle.acl_listings.specs.Block.{FileValue}
 use Rattle.acl_listings.specs.declared.fault.BlockFault.{BlockFault}
 use Rattle.acl_listings.specs.declared.fault.BlockFault.TheVariants.{UnknownWay}
 use Rattle.acl_bridge.specs.Files.{File}
-use Rattle.acl_listing_answers.specs.Files.{file_of}
-use Rattle.acl_listing_answers.specs.Listed.{Part}
-use Rattle.acl_listing_answers.specs.Person.{Person}
+use Rattle.acl_reports.specs.Files.{file_of}
+use Rattle.acl_reports.specs.Listed.{Part}
+use Rattle.acl_people.specs.Person.{Person}
 use Rattle.acl_listing_queries.specs.Readings.{Reading, reading_of}
-use Rattle.acl_listing_queries.specs.Ways.{known_way, way_of}
-use Rattle.acl_listing_queries.specs.WhoText.{Asked, who_text}
+use Rattle.acl_listing_queries.specs.Ways.{is_sticky, known_way, way_of}
+use Rattle.acl_listing_queries.specs.WhoText.{Asked, deletion_text, who_text}
 
--- by which names blocks are read, who is asked about, what is asked for, and whether only those
--- count who may search each folder above
+-- what is asked about a file: what may be done with it, or who may delete it
+pub data Question : Type 0 where
+  What : Asked → Question
+  Deletion : Question
+
+-- by which names blocks are read, who is asked about, what is asked, and whether only those count
+-- who may search each folder above
 pub record Asking : Type 0 where
   pub names : Names
   pub persons : List Person
-  pub asked : Asked
+  pub question : Question
   pub reach : Bool
 
--- what is reported of a file on this way, if it is known
-abbrev pub part_on : Asking → FileValue → Option (List File) → Part
-part_on asking file (Some way) =
-    Ok (who_text asking.persons asking.asked way file.path (file_of file))
-part_on asking file None = Err UnknownWay
+-- What is reported of a file at this path on this way, of which the nearest folder has the sticky
+-- bit or not: who may delete it isn't known without that folder.
+abbrev pub part_of : List Person → Question → Bool → List File → List ℕ → File → Part
+part_of persons (What asked) sticky way path file = Ok (who_text persons asked way path file)
+part_of persons Deletion sticky [] path file = Err UnknownWay
+part_of persons Deletion sticky (folder ∷ above) path file =
+    Ok (deletion_text persons sticky folder above path file)
+
+-- if the way is known
+abbrev pub part_on : Asking → Bool → FileValue → Option (List File) → Part
+part_on asking sticky file (Some way) =
+    part_of asking.persons asking.question sticky way file.path (file_of file)
+part_on asking sticky file None = Err UnknownWay
 
 -- of a block that says this
-abbrev pub part_by : Asking → Result FileValue BlockFault → Option (List File) → Part
-part_by asking (Ok file) way = part_on asking file way
-part_by asking (Err fault) way = Err fault
+abbrev pub part_by : Asking → Bool → Result FileValue BlockFault → Option (List File) → Part
+part_by asking sticky (Ok file) way = part_on asking sticky file way
+part_by asking sticky (Err fault) way = Err fault
 
 -- the way that counts to a block behind these
 abbrev pub way_for : Bool → List Reading → Reading → Option (List File)
 way_for false earlier here = Some []
-way_for true earlier here = known_way (way_of earlier here) here
+way_for true earlier here = known_way earlier here
 
 -- what `who` tells of a block, by its text and those before it
 abbrev pub who_part : Asking → List (List ℕ) → List ℕ → Part
 who_part asking earlier text =
     let here = reading_of asking.names text in
-    part_by asking here.file (way_for asking.reach (map (reading_of asking.names) earlier) here)
+    let before = map (reading_of asking.names) earlier in
+    part_by asking (is_sticky (way_of before here)) here.file (way_for asking.reach before here)

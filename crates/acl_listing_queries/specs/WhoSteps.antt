@@ -8,27 +8,29 @@ use Rattle.acl_names.specs.Requester.{Identity}
 use Rattle.acl_access.specs.Letters.{effective, granted_mask}
 use Rattle.acl_access.specs.Marks.{is_set, letters_at, places_from}
 use Rattle.acl_access.specs.Reach.{reaches}
+use Rattle.acl_access.specs.Standings.{standing_of}
 use Rattle.acl_access.specs.Who.{may_line}
+use Rattle.acl_access.specs.declared.standing.Standing.{Standing}
 use Rattle.acl_listings.specs.Block.{FileValue, file_by}
 use Rattle.acl_listings.specs.Lines.{after_line}
-use Rattle.acl_listings.specs.declared.fault.FileFault.{FileFault}
-use Rattle.acl_listings.specs.declared.fault.FileFault.TheVariants as file
+use Rattle.acl_listings.specs.declared.fault.BlockFault.{BlockFault}
 use Rattle.acl_nfs4.specs.Mask.{mask_bits}
 use Rattle.acl_posix.specs.Perms.{bits_of}
 use Rattle.acl_bridge.specs.Files.{File, may}
-use Rattle.acl_listing_answers.specs.Asked.{names_of_people, persons_of}
-use Rattle.acl_listing_answers.specs.Files.{file_of}
-use Rattle.acl_listing_answers.specs.Host.{names_of_host}
+use Rattle.acl_people.specs.Asked.{names_of_people, persons_of}
+use Rattle.acl_reports.specs.Files.{file_of}
+use Rattle.acl_people.specs.Host.{names_of_host}
 use Rattle.acl_listing_queries.specs.Readings.{Reading, reading_of}
-use Rattle.acl_listing_queries.specs.Ways.{folder_of, known_way, may_be_above, way_on}
+use Rattle.acl_listing_queries.specs.RootSteps.{IsBegun}
+use Rattle.acl_listing_queries.specs.Ways.{chain_to, folder_of, may_be_above, way_on}
 use Rattle.acl_listing_queries.specs.Ways.{with_folder}
-use Rattle.acl_listing_queries.specs.WhoPart.{Asking}
+use Rattle.acl_listing_queries.specs.WhoPart.{Asking, Deletion, Question, What}
 use Rattle.acl_listing_queries.specs.WhoText.{AllLetters, Asked, Request, ThreeLetters}
 use Rattle.acl_listing_queries.specs.WhoText.{letters_line_if}
 use Rattle.acl_listing_queries.specs.declared.who.answers.Answers.{Answers}
 use Rattle.acl_listing_queries.specs.declared.who.answers.Granted.{Granted}
 use Rattle.acl_listing_queries.specs.declared.who.answers.Granted.TheVariants.{Letters, Masks}
-use Rattle.acl_listing_queries.specs.declared.who.answers.Granted.TheVariants.{Those}
+use Rattle.acl_listing_queries.specs.declared.who.answers.Granted.TheVariants.{Standings, Those}
 use Rattle.acl_listing_queries.specs.declared.who.answers.Kept.{Kept}
 use Rattle.acl_listing_queries.specs.declared.who.answers.TheConstants.{PLACES}
 use Rattle.acl_listing_queries.specs.declared.who.answers.Users.{Users}
@@ -38,6 +40,7 @@ use Rattle.acl_listing_queries.specs.declared.who.listed.ListedTeller.{ListedTel
 use Rattle.acl_listing_queries.specs.declared.who.reach.Before.{Before}
 use Rattle.acl_listing_queries.specs.declared.who.reach.ReachTeller.{ReachTeller}
 use Rattle.acl_listing_queries.specs.declared.who.way.Folder.{Folder}
+use Rattle.acl_listing_queries.specs.declared.who.way.Inside.{Inside}
 
 -- ---- who is asked about, and what for
 
@@ -47,16 +50,20 @@ whos_of users = users.people.now.requesters.items
 abbrev pub names_by : Users → Names
 names_by users = names_of_host users.host.now
 
-abbrev pub asked_of : AskedValue → Asked
-asked_of asked.Letters = ThreeLetters
-asked_of asked.AllLetters = AllLetters
-asked_of (asked.Perms perms) = Request (bits_of perms)
+abbrev pub question_of : AskedValue → Question
+question_of asked.Letters = What ThreeLetters
+question_of asked.AllLetters = What AllLetters
+question_of (asked.Perms perms) = What (Request (bits_of perms))
+question_of asked.Deletion = Deletion
+
+abbrev pub question_by : Users → Question
+question_by users = question_of users.asked
 
 abbrev pub asking_of : Users → Asking
 asking_of users = record {
   names = names_by users;
   persons = persons_of (names_of_people users.people.now) (whos_of users);
-  asked = asked_of users.asked;
+  question = question_by users;
   reach = users.reach;
 }
 
@@ -96,13 +103,21 @@ IsGranted whos (Request perms) file (Those places) =
     places.items ≡ places_from (λ who. may file who perms) 0 whos
 IsGranted whos _ file _ = ⊥
 
+-- or how each of them stands to it, with the sticky bit or not
+abbrev pub IsAnswered : List Identity → Question → Bool → File → Granted → Type 0
+IsAnswered whos (What asked) sticky file granted = IsGranted whos asked file granted
+IsAnswered whos Deletion sticky file (Standings standings) =
+    standings.items ≡ map (standing_of sticky file) whos
+IsAnswered whos Deletion sticky file _ = ⊥
+
 -- and, if it is asked, of each whether the file may be searched
 abbrev pub IsSearch : List Identity → Bool → File → List Bool → Type 0
 IsSearch whos false file marks = ⊤
 IsSearch whos true file marks = marks ≡ map (λ who. may file who 1) whos
 
 pub record AreAnswersOf (users : Users) (file : FileValue) (kept : Kept) : Type 0 where
-  pub granted : IsGranted (whos_of users) (asked_of users.asked) (file_of file) kept.granted
+  pub granted : IsAnswered (whos_of users) (question_by users) file.flags.sticky (file_of file)
+      kept.granted
   pub search : IsSearch (whos_of users) users.reach (file_of file) kept.search.items
 
 -- the answers are those of the file of a block with these lines behind its first
@@ -130,24 +145,68 @@ pub record IsAnsweredAt (answers : Answers) (place : ℕ) (file : FileValue) : T
 -- ---- the way
 
 abbrev pub folders_to : Reading → List Reading → Option (List File)
-folders_to folder above = with_folder (folder_of folder) (known_way above folder)
+folders_to folder above = with_folder (folder_of folder) (chain_to above folder)
 
 -- of each of these whether each folder of a known way may be searched
 abbrev pub marks_of : List Identity → Option (List File) → Option (List Bool)
 marks_of who way = option_map (λ way. map (reaches way) who) way
 
--- a way's folders, the nearest first: the path of each, and who reaches what is in it
-abbrev pub levels : List Identity → List Reading → List (Option (List ℕ) × Option (List Bool))
-levels who [] = []
-levels who (folder ∷ above) =
-    (folder.path, marks_of who (folders_to folder above)) ∷ levels who above
+-- how users stand to a file, as far as it is kept
+abbrev pub standings_kept : Granted → List Standing
+standings_kept (Standings standings) = standings.items
+standings_kept granted = []
 
-abbrev pub shown_folder : Folder → Option (List ℕ) × Option (List Bool)
-shown_folder folder = (Some folder.path.items, option_map (λ marks. marks.items) folder.reach)
+-- if that is asked, how each of these stands to a folder of which this is said
+abbrev pub standings_for : Question → List Identity → Result FileValue BlockFault → List Standing
+standings_for (What asked) who said = []
+standings_for Deletion who (Ok file) = map (standing_of file.flags.sticky (file_of file)) who
+standings_for Deletion who (Err fault) = []
+
+-- what is kept of a folder: its path, who reaches what is in it, and how users stand to it
+abbrev pub Level : Type 0
+Level = Option (List ℕ) × Option (List Bool) × List Standing
+
+abbrev pub level_of : Users → Reading → List Reading → Level
+level_of users folder above = (
+  folder.path,
+  marks_of (whos_of users) (folders_to folder above),
+  standings_for (question_by users) (whos_of users) folder.file,
+)
+
+-- of a way's folders, the nearest first
+abbrev pub levels : Users → List Reading → List Level
+levels users [] = []
+levels users (folder ∷ above) = level_of users folder above ∷ levels users above
+
+abbrev pub shown_folder : Folder → Level
+shown_folder folder = (
+  Some folder.path.items,
+  option_map (λ marks. marks.items) folder.reach,
+  folder.standings.items,
+)
 
 -- these are kept of the way
-abbrev pub AreFolders : List Identity → List Folder → List Reading → Type 0
-AreFolders who folders way = map shown_folder (reverse folders) ≡ levels who way
+abbrev pub AreFolders : Users → List Folder → List Reading → Type 0
+AreFolders users folders way = map shown_folder (reverse folders) ≡ levels users way
+
+-- where a file lies: who reaches it, and, if it is asked, how these stand to its folder
+abbrev pub IsFolder : Question → List Identity → Bool → List File → Option (List Standing) → Type 0
+IsFolder (What asked) who sticky way found = ⊤
+IsFolder Deletion who sticky [] found = found ≡ None
+IsFolder Deletion who sticky (folder ∷ above) found =
+    found ≡ Some (map (standing_of sticky folder) who)
+
+pub record IsInside (users : Users) (sticky : Bool) (way : List File) (inside : Inside) : Type 0
+  where
+    pub reach : inside.reach.now ≡ map (reaches way) (whos_of users)
+    pub folder : IsFolder (question_by users) (whos_of users) sticky way
+        (option_map (λ standings. standings.now) inside.folder)
+
+-- if it is known
+abbrev pub IsInsideOf : Users → Bool → Option (List File) → Option Inside → Type 0
+IsInsideOf users sticky way None = way ≡ None
+IsInsideOf users sticky way (Some inside) =
+    (above : List File) × (way ≡ Some above) × IsInside users sticky above inside
 
 abbrev pub lacks_path : Reading → Bool
 lacks_path reading = is_none reading.path
@@ -158,41 +217,20 @@ IsChain [] = ⊤
 IsChain (folder ∷ above) =
     (list_all (λ other. may_be_above other.path folder.path) above ≡ true) × IsChain above
 
--- Where the answers of a folder are kept, of these users.
-pub record IsSearchAt (who : List Identity) (answers : Answers) (place : ℕ) (folder : File)
-    : Type 0 where
-  pub kept : Kept
-  pub there : kept_at answers.kept.items place ≡ Some kept
-  pub search : kept.search.items ≡ map (λ user. may folder user 1) who
-
--- a block on a known way reads, and its answers are kept there
-pub record IsFolderAt (who : List Identity) (answers : Answers) (place : ℕ) (block : Reading)
-    (way : Option (List File)) : Type 0 where
-  pub folder : File
-  pub is : folder_of block ≡ Some folder
-  pub above : List File
-  pub known : way ≡ Some above
-  pub search : IsSearchAt who answers place folder
-
-abbrev pub IsPlacedAt : List Identity → Answers → Option ℕ → Reading → Option (List File) → Type 0
-IsPlacedAt who answers None block way = with_folder (folder_of block) way ≡ None
-IsPlacedAt who answers (Some place) block way = IsFolderAt who answers place block way
-
--- by what a call returned of it; out of memory says nothing
-abbrev pub IsPlacedBy : List Identity → Answers → Result ℕ FileFault → Reading
-    → Option (List File) → Type 0
-IsPlacedBy who answers (Ok place) block way = IsPlacedAt who answers (Some place) block way
-IsPlacedBy who answers (Err (file.Block fault)) block way = IsPlacedAt who answers None block way
-IsPlacedBy who answers (Err file.Memory) block way = ⊤
+-- a block that reads, whose answers are kept there
+abbrev pub IsPlacedAt : Answers → Option ℕ → Reading → Type 0
+IsPlacedAt answers None block = (fault : BlockFault) × (block.file ≡ Err fault)
+IsPlacedAt answers (Some place) block =
+    (file : FileValue) × (block.file ≡ Ok file) × IsAnsweredAt answers place file
 
 -- the block before and the folders above it are kept, where the way stands so
-abbrev pub IsBehind : List Identity → Answers → Option Before → List Folder → List Reading → Type 0
-IsBehind who answers None folders [] = folders ≡ []
-IsBehind who answers (Some before) folders (block ∷ way) =
+abbrev pub IsBehind : Answers → Option Before → List Folder → List Reading → Type 0
+IsBehind answers None folders [] = folders ≡ []
+IsBehind answers (Some before) folders (block ∷ way) =
     (block.path ≡ Some before.path.items)
-    × IsPlacedAt who answers before.place block (known_way way block)
-    × AreFolders who folders way
-IsBehind who answers _ folders _ = ⊥
+    × IsPlacedAt answers before.place block
+    × AreFolders answers.users folders way
+IsBehind answers _ folders _ = ⊥
 
 -- ---- where tellers stand
 
@@ -214,8 +252,9 @@ pub record IsOnWay (state : ReachTeller) (earlier : List (List ℕ)) : Type 0 wh
   pub right : AreRight state.answers
   pub everyone : IsEveryone (whos_of state.answers.users) state.everyone.items
   pub lost : state.lost ≡ list_any lacks_path (readings_of state.answers.users earlier)
-  pub behind : state.lost ≡ false → IsBehind (whos_of state.answers.users) state.answers
-      state.before state.folders.items
+  pub begun : state.lost ≡ false
+      → IsBegun state.beginning (readings_of state.answers.users earlier)
+  pub behind : state.lost ≡ false → IsBehind state.answers state.before state.folders.items
       (fold way_on [] (readings_of state.answers.users earlier))
 
 -- it has brought a block to which this is the way
@@ -223,6 +262,6 @@ pub record IsCome (state : ReachTeller) (way : List Reading) : Type 0 where
   pub reach : state.answers.users.reach ≡ true
   pub right : AreRight state.answers
   pub everyone : IsEveryone (whos_of state.answers.users) state.everyone.items
-  pub lost : state.lost ≡ true → (here : Reading) → known_way way here ≡ None
+  pub lost : state.lost ≡ true → (here : Reading) → chain_to way here ≡ None
   pub folders : state.lost ≡ false
-      → AreFolders (whos_of state.answers.users) state.folders.items way
+      → AreFolders state.answers.users state.folders.items way

@@ -1,13 +1,15 @@
 -- Who may do what with a file, line by line.
-use Rattle.std.specs.Prelude.{ℕ, ◌==◌, ◌&&◌, List, [], Option, Some, None, if◌then◌else◌}
+use Rattle.std.specs.Prelude.{ℕ, ◌==◌, ◌&&◌, Bool, List, [], ◌∷◌, Option, Some, None}
+use Rattle.std.specs.Prelude.{if◌then◌else◌}
 use Rattle.std.specs.List.{flat_map}
 use Rattle.acl_names.specs.Requester.{Identity}
+use Rattle.acl_access.specs.Deletes.{deletes}
 use Rattle.acl_access.specs.Letters.{effective, granted_mask, mask_text}
 use Rattle.acl_access.specs.Reach.{reaches}
 use Rattle.acl_access.specs.Who.{may_line, written_line}
 use Rattle.acl_posix.specs.PermsText.{perms_text}
 use Rattle.acl_bridge.specs.Files.{File, may}
-use Rattle.acl_listing_answers.specs.Person.{Person}
+use Rattle.acl_people.specs.Person.{Person}
 
 -- what is asked for: the letters r, w and x, all fourteen letters of a mask, or who may do all of
 -- this at once
@@ -47,3 +49,14 @@ who_text persons AllLetters way path file =
     flat_map (person_line mask_text granted_mask way path file) persons
 who_text persons (Request perms) way path file =
     flat_map (person_line_if way path file perms) persons
+
+-- `NAME PATH`, of somebody who may delete the file from its folder, with the sticky bit or not, and
+-- who reaches it by this folder and those above
+abbrev pub deletion_line : Bool → File → List File → List ℕ → File → Person → List ℕ
+deletion_line sticky folder above path file person =
+    if deletes sticky folder file person.who && reaches (folder ∷ above) person.who
+    then may_line path person.name else []
+
+abbrev pub deletion_text : List Person → Bool → File → List File → List ℕ → File → List ℕ
+deletion_text persons sticky folder above path file =
+    flat_map (deletion_line sticky folder above path file) persons

@@ -4,10 +4,10 @@ use Rattle.clap.specs.Words.{App, is_simple, is_simple_and_free, new_app, with_r
 use Rattle.clap.proofs.OnLiterals.{clap_on_literals}
 use Rattle.acl_cli.specs.CommandLine.{optional_option, required_option, required_word}
 
--- `why [--accounts FILE] [--setup FILE] --user NAME --perms P LISTING PATH`
+-- `why [--accounts FILE] [--domain DOMAIN] --user NAME --perms P LISTING PATH`
 unfoldable pub why_line : App
 why_line = fold with_rule (new_app (codes "why"))
-    (optional_option (codes "accounts") ∷ optional_option (codes "setup")
+    (optional_option (codes "accounts") ∷ optional_option (codes "domain")
     ∷ required_option (codes "user") ∷ required_option (codes "perms")
     ∷ required_word (codes "listing") ∷ required_word (codes "path") ∷ [])
 

@@ -1,6 +1,6 @@
 -- What the fields of `why` mean.
 use Rattle.std.specs.Prelude.{◌≡◌, ◌⊎◌, ℕ, true, false, List, [], ◌∷◌, ◌++◌, Option, Result}
-use Rattle.std.specs.Prelude.{Ok, Err, IfSome, codes, map, unwrap_or}
+use Rattle.std.specs.Prelude.{Ok, Err, IfSome, IsOk, codes, map, unwrap_or}
 use Rattle.clap.specs.Words.{Row, Text, first_of}
 use Rattle.acl_cli.specs.Commands.{Answer, Meaning}
 use Rattle.acl_cli.specs.Failures.{Explains}
@@ -8,21 +8,21 @@ use Rattle.acl_cli.specs.Fields.{perms_in}
 use Rattle.acl_cli.specs.declared.command.Ending.{Ending}
 use Rattle.acl_cli.specs.declared.command.Ending.TheVariants.{Answered, InPart}
 use Rattle.acl_cli.specs.declared.failure.Failure.{Failure}
-use Rattle.acl_cli.specs.declared.failure.Failure.TheVariants.{NoFile}
-use Rattle.acl_cli.specs.declared.field_fault.FieldFault.{FieldFault}
+use Rattle.acl_cli.specs.declared.failure.Failure.TheVariants.{Refused}
+use Rattle.acl_cli.specs.Faults.{Malformed}
+use Rattle.acl_cli.specs.Refusals.{for_text}
 use Rattle.acl_listings.specs.Cursor.{blocks_to_come}
 use Rattle.acl_listings.specs.Listing.{Block}
 use Rattle.acl_names.specs.Names.{Names}
-use Rattle.acl_listing_answers.specs.Host.{IsHost, names_of_host}
-use Rattle.acl_listing_answers.specs.HostFailures.{IsHostFailure}
-use Rattle.acl_listing_answers.specs.Listed.{IsSaid, Part, told_of}
-use Rattle.acl_listing_answers.specs.Paths.{has_path, is_among}
-use Rattle.acl_listing_answers.specs.People.{person_asked}
-use Rattle.acl_listing_answers.specs.Person.{Person}
-use Rattle.acl_listing_answers.specs.Placed.{Placed}
-use Rattle.acl_listing_answers.specs.ListingMeaning.{FailsForListing, bytes_named, inputs_of}
-use Rattle.acl_listing_answers.specs.ListingMeaning.{listing_in}
-use Rattle.acl_listing_answers.specs.declared.host.Host.{Host}
+use Rattle.acl_people.specs.Host.{Host, IsHost, names_of_host}
+use Rattle.acl_people.specs.HostFailures.{IsHostFailure}
+use Rattle.acl_reports.specs.Listed.{IsSaid, Part, told_of}
+use Rattle.acl_reports.specs.Paths.{has_path, is_among}
+use Rattle.acl_people.specs.People.{person_in}
+use Rattle.acl_people.specs.Person.{Person}
+use Rattle.acl_reports.specs.Placed.{Placed}
+use Rattle.acl_reports.specs.ListingMeaning.{FailsForListing, bytes_named, inputs_of}
+use Rattle.acl_reports.specs.ListingMeaning.{listing_in}
 use Rattle.acl_listing_queries.specs.Readings.{Reading, reading_of}
 use Rattle.acl_listing_queries.specs.WhyText.{WhyAsking, why_part}
 
@@ -31,8 +31,8 @@ abbrev pub path_in : List Row → Text
 path_in rows = unwrap_or (first_of (codes "path") rows) []
 
 -- the one whom `--user` names
-abbrev pub user_in : Host → List Row → Result Person FieldFault
-user_in host rows = person_asked host (unwrap_or (first_of (codes "user") rows) [])
+abbrev pub user_in : Host → List Row → Result Person Malformed
+user_in host rows = person_in host (unwrap_or (first_of (codes "user") rows) [])
 
 -- the first block of a path, and those before it
 pub record IsFirstOf (path : List ℕ) (blocks : List Block) (placed : Placed Block) : Type 0 where
@@ -67,7 +67,8 @@ AnswersPath asking name path coming answer = IfSome coming (λ blocks. (placed :
 
 -- no block has the path; or the listing fails
 abbrev pub FailsForPath : Text → Text → Option (List Block) → Failure → Type 0
-FailsForPath name path coming (NoFile listing file) = (listing.now ≡ name) × (file.now ≡ path)
+FailsForPath name path coming (Refused refusal) =
+    (refusal ≡ for_text name (codes "no such file") path)
     × IfSome coming (λ blocks. is_among path blocks ≡ false)
 FailsForPath name path coming failure = FailsForListing name failure
 
@@ -99,14 +100,14 @@ pub record WhyAnswers (bytes_of : Text → Option (List ℕ)) (input : Option (L
       (record { names = names_of_host host; who = person.who; perms = perms }) (listing_in rows)
       (path_in rows) (blocks_named bytes_of input (listing_in rows)) answer
 
--- a field is malformed, the files don't say who there is, nobody is asked about, no block has the
--- path, or the listing fails
+-- the permissions are malformed; or they aren't, and the files don't say who there is, nobody is
+-- asked about, no block has the path, or the listing fails
 abbrev pub FailsForWhy : (Text → Option (List ℕ)) → Option (List ℕ) → List Row → Failure → Type 0
 FailsForWhy bytes_of input rows failure = Explains (perms_in rows) failure
-    ⊎ (IsHostFailure bytes_of rows failure
+    ⊎ (IsOk (perms_in rows) × (IsHostFailure bytes_of rows failure
     ⊎ (((host : Host) × IsHost bytes_of rows host × Explains (user_in host rows) failure)
     ⊎ FailsForPath (listing_in rows) (path_in rows)
-    (blocks_named bytes_of input (listing_in rows)) failure))
+    (blocks_named bytes_of input (listing_in rows)) failure)))
 
 abbrev pub why_meaning : (Text → Option (List ℕ)) → Option (List ℕ) → List Row → Meaning
 why_meaning bytes_of input rows = record {

@@ -13,11 +13,12 @@ use Rattle.acl_listings.specs.declared.fault.FileFault.TheVariants as file
 use Rattle.acl_names.specs.Names.{Names}
 use Rattle.acl_posix.specs.Perms.{bits_of}
 use Rattle.acl_bridge.specs.Files.{File}
-use Rattle.acl_listing_answers.specs.Host.{names_of_host}
-use Rattle.acl_listing_answers.specs.Paths.{is_among}
-use Rattle.acl_listing_answers.specs.Seen.{Splits}
+use Rattle.acl_people.specs.Host.{names_of_host}
+use Rattle.acl_reports.specs.Paths.{is_among}
+use Rattle.acl_reports.specs.Seen.{Splits}
 use Rattle.acl_listing_queries.specs.Readings.{Reading, reading_of}
-use Rattle.acl_listing_queries.specs.Ways.{folder_of, holds, known_way, way_of, with_folder}
+use Rattle.acl_listing_queries.specs.RootSteps.{IsBegun}
+use Rattle.acl_listing_queries.specs.Ways.{chain_to, folder_of, holds, way_of, with_folder}
 use Rattle.acl_listing_queries.specs.WhoSteps.{lacks_path}
 use Rattle.acl_listing_queries.specs.WhyMeaning.{readings}
 use Rattle.acl_listing_queries.specs.WhyText.{WhyAsking, folder_text}
@@ -43,11 +44,12 @@ pub record IsWayTo (names : Names) (path : List ℕ) (earlier : List Reading) (w
     pub lost : way.lost ≡ list_any lacks_path earlier
     pub folders : way.lost ≡ false → (here : Reading) → here.path ≡ Some path
         → readings_of names way.folders.items ≡ reverse (way_of earlier here)
+    pub begun : way.lost ≡ false → IsBegun way.beginning earlier
 
 -- the folders of a way, the nearest first, if they are known
 abbrev pub known_folders : List Reading → Option (List File)
 known_folders [] = Some []
-known_folders (folder ∷ above) = with_folder (folder_of folder) (known_way above folder)
+known_folders (folder ∷ above) = with_folder (folder_of folder) (chain_to above folder)
 
 -- the nearest of them, if there is one, holds what has this path
 abbrev pub is_held : List Reading → Option (List ℕ) → Bool
@@ -72,7 +74,7 @@ pub record AreTold (asking : WhyAsking) (way : List Reading) (folders : Folders)
 pub record IsWayTold (asking : WhyAsking) (way : List Reading) (here : Reading) (folders : Folders)
     : Type 0 where
   pub files : List File
-  pub known : known_way way here ≡ Some files
+  pub known : chain_to way here ≡ Some files
   pub reach : folders.reach ≡ reaches files asking.who
   pub text : folders.text.items ≡ flat_map (folder_text asking.who) (reverse way)
 

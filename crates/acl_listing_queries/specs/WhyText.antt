@@ -12,8 +12,8 @@ use Rattle.acl_queries.specs.AclText.{nobody}
 use Rattle.acl_queries.specs.DecideAnswer.{answer_line}
 use Rattle.acl_queries.specs.Reasons.{reasons}
 use Rattle.acl_bridge.specs.Files.{File, may}
-use Rattle.acl_listing_answers.specs.Files.{file_of}
-use Rattle.acl_listing_answers.specs.Listed.{Part}
+use Rattle.acl_reports.specs.Files.{file_of}
+use Rattle.acl_reports.specs.Listed.{Part}
 use Rattle.acl_listing_queries.specs.Readings.{Reading, reading_of}
 use Rattle.acl_listing_queries.specs.Ways.{known_way, way_of}
 
@@ -68,5 +68,4 @@ why_by asking way (Err fault) folders = Err fault
 abbrev pub why_part : WhyAsking → List Reading → List ℕ → Part
 why_part asking earlier text =
     let here = reading_of asking.names text in
-    let way = way_of earlier here in
-    why_by asking way here.file (known_way way here)
+    why_by asking (way_of earlier here) here.file (known_way earlier here)

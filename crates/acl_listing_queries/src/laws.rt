@@ -1,9 +1,19 @@
-//! The law of the way to a file, over the definitions alone.
-ghost use Rattle.acl_listing_queries.specs.WayLaws.{WaysAreAllAbove};
+//! The law of the way to a file, over the definitions alone, and how much is kept.
+ghost use Rattle.std.specs.Prelude.{◌≡◌};
+ghost use Rattle.acl_listing_queries.specs.WayLaws.{WaysAreAllAbove, WaysHaveAllAbove};
+ghost use Rattle.acl_listing_queries.specs.declared.who.answers.TheConstants.{PLACES};
 
 /// In a listing where a folder stands before what is in it, and all of that before anything else,
-/// the way to a file is all the blocks whose paths are above its path, the nearest first. There is
-/// nothing to run here: a proof cites the contract.
+/// the way to a file is all the blocks whose paths are above its path, the nearest first. Whatever
+/// the order, if the way to each block is known, it has every folder that the listing has above the
+/// block. There is nothing to run here: a proof cites the contract.
 pub fn way_laws()
     ensures above { WaysAreAllAbove }
+    ensures any_order { WaysHaveAllAbove }
+{}
+
+/// Of how many files with different lines the answers are kept at once, as a number. There is
+/// nothing to run here: a proof cites the contract.
+pub fn limits_in_numbers()
+    ensures places { PLACES ≡ 256 }
 {}

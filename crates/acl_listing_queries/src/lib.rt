@@ -1,12 +1,14 @@
-//! Who may do what with the files of a listing, and why: of the users of a host, with no setup, in
+//! Who may do what with the files of a listing, and why: of the users of a host, in
 //! answers that scripts can trust.
 #![tactic(auto)]
 
 mod above;
+mod beginning;
 mod laws;
+mod roots;
 mod who;
 mod why;
 
-pub use laws::way_laws;
-pub use who::{push_who, who_of_listing};
+pub use laws::{limits_in_numbers, way_laws};
+pub use who::Who;
 pub use why::Why;

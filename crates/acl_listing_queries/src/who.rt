@@ -2,12 +2,10 @@
 
 mod answers;
 mod asked;
+mod command;
 mod lines;
 mod listed;
-mod of_listing;
-mod push;
 mod reach;
 mod way;
 
-pub use of_listing::who_of_listing;
-pub use push::push_who;
+pub use command::Who;

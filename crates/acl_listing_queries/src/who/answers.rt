@@ -1,26 +1,32 @@
 //! What is answered of the files of a listing, kept for files whose blocks have the same lines.
-ghost use Rattle.std.specs.Prelude.{◌≡◌, ◌++◌, ◌<◌, IfErr, IfOk, List, OnOk, bytes_eq, false, map};
-ghost use Rattle.std.specs.Prelude.{Ok, option_map};
+ghost use Rattle.std.specs.Prelude.{◌≡◌, ◌<◌, Bool, IfErr, IfOk, List, bytes_eq, false, Ok};
+ghost use Rattle.std.specs.Prelude.{option_map};
 ghost use Rattle.std.specs.Option.{option_map_or};
-ghost use Rattle.acl_access.specs.Reach.{reaches};
 ghost use Rattle.acl_bridge.specs.Files.{File, view_acl};
 ghost use Rattle.acl_listings.specs.Block.{FileValue, file_by};
 ghost use Rattle.acl_listings.specs.Faults.{IsFaultOf};
 ghost use Rattle.acl_listings.specs.Lines.{after_line};
-ghost use Rattle.acl_listing_answers.specs.Files.{file_of};
-ghost use Rattle.acl_listing_queries.specs.WhoSteps.{AreAnswersOf, AreRight, IsAnsweredAt};
-ghost use Rattle.acl_listing_queries.specs.WhoSteps.{IsGranted, IsSearch, asked_of, asking_of};
-ghost use Rattle.acl_listing_queries.specs.WhoSteps.{kept_at, names_by, whos_of};
-ghost use Rattle.acl_listing_queries.specs.WhoText.{who_text};
+ghost use Rattle.acl_reports.specs.Files.{file_of};
+ghost use Rattle.acl_reports.specs.Telling.{IsPart};
+ghost use Rattle.acl_listing_queries.specs.WhoPart.{part_of};
+ghost use Rattle.acl_listing_queries.specs.WhoSteps.{AreAnswersOf, AreRight, IsAnswered};
+ghost use Rattle.acl_listing_queries.specs.WhoSteps.{IsAnsweredAt, IsInside, IsSearch, asking_of};
+ghost use Rattle.acl_listing_queries.specs.WhoSteps.{kept_at, names_by, question_by};
+ghost use Rattle.acl_listing_queries.specs.WhoSteps.{standings_kept, whos_of};
 
 use super::asked::Asked;
 use super::lines::{push_letters_lines, push_may_lines};
-use acl_access::{letters_of_each, places_of_those_who_may, which_may};
+use super::way::Inside;
+use acl_access::{
+    Standing, letters_of_each, places_of_takers, places_of_those_who_may, standings_of_each,
+    which_may,
+};
 use acl_bridge::FileAcl;
-use acl_listing_answers::{Host, People, owners_and_list};
-use acl_listings::{FileFault, MAX_BLOCK, path_and_lines, path_of, read_file};
+use acl_listings::{BlockFault, FileFault, MAX_BLOCK, path_and_lines, path_of, read_file};
 use acl_nfs4::Mask;
+use acl_people::{Host, People};
 use acl_posix::Perms;
+use acl_reports::owners_and_list;
 use std::alloc::{AllocError, Global};
 
 /// Of how many files with different lines the answers are kept at once.
@@ -38,6 +44,8 @@ pub(super) enum Granted {
     Masks(Vec<Mask>),
     /// The places of those users who are granted what is asked.
     Those(Vec<usize>),
+    /// How each user stands to the file.
+    Standings(Vec<Standing>),
 }
 
 /// What was answered of a file.
@@ -56,6 +64,16 @@ impl Kept {
         ensures { result.now ≡ self.now.search.items }
     {
         self.search.as_slice()
+    }
+
+    /// How each user stands to the file, if that is asked.
+    pub fn standings(&self) -> &[Standing]
+        ensures { result.now ≡ standings_kept self.now.granted }
+    {
+        match &self.granted {
+            Granted::Standings(standings) => standings.as_slice(),
+            _ => &[],
+        }
     }
 }
 
@@ -88,9 +106,15 @@ pub(super) struct Users<'t> {
 }
 
 impl<'t> Users<'t> {
-    /// What the file grants the users. It fails only if memory runs out.
-    fn granted(&self, alloc: Global, file: &FileAcl<'_>) -> Result<Granted, AllocError>
-        ensures { IfOk result (IsGranted (whos_of self.now) (asked_of self.now.asked)
+    /// What the file, which has the sticky bit or not, grants the users. It fails only if memory
+    /// runs out.
+    fn granted(
+        &self,
+        alloc: Global,
+        sticky: bool,
+        file: &FileAcl<'_>,
+    ) -> Result<Granted, AllocError>
+        ensures { IfOk result (IsAnswered (whos_of self.now) (question_by self.now) sticky
             (view_acl file.now)) }
     {
         let requesters = self.people.requesters.as_slice();
@@ -100,6 +124,10 @@ impl<'t> Users<'t> {
             Asked::Perms(perms) => {
                 let places = places_of_those_who_may(alloc, requesters, file, perms)?;
                 Ok(Granted::Those(places))
+            }
+            Asked::Deletion => {
+                let standings = standings_of_each(alloc, requesters, sticky, file)?;
+                Ok(Granted::Standings(standings))
             }
         }
     }
@@ -132,12 +160,13 @@ impl<'t> Users<'t> {
         ensures refused { IfErr result (IsFaultOf (file_by (names_by self.now) text.now)) }
     {
         let file = read_file(alloc, text, self.host)?;
+        let sticky = file.flags.sticky;
         let (owners, list) = owners_and_list(alloc, file)?;
         let acl = FileAcl {
             owners,
             list: list.as_ref(),
         };
-        let granted = self.granted(alloc, &acl)?;
+        let granted = self.granted(alloc, sticky, &acl)?;
         let search = self.search(alloc, &acl)?;
         let lines = Vec::from_slice(alloc, lines)?;
         Ok(Kept {
@@ -147,29 +176,42 @@ impl<'t> Users<'t> {
         })
     }
 
-    /// Appends what is reported of a file at the path, whose answers these are.
+    /// Appends what is reported of a file at the path, which lies there, and whose answers these
+    /// are.
     fn push(
         &self,
+        alloc: Global,
         kept: &Kept,
-        reach: &[bool],
+        inside: Inside<'_>,
         path: &[u8],
         out: &mut Vec<u8>,
-    ) -> Result<(), AllocError>
-        ensures { (file : FileValue) (way : List File) → AreAnswersOf self.now file kept.now
-            → reach.now ≡ map (reaches way) (whos_of self.now)
-            → OnOk result (out.new.items ≡ out.old.items ++ who_text (asking_of self.now).persons
-            (asking_of self.now).asked way path.now (file_of file)) }
+    ) -> Result<(), FileFault>
+        ensures { (file : FileValue) (sticky : Bool) (way : List File)
+            → AreAnswersOf self.now file kept.now → IsInside self.now sticky way inside.entry
+            → IsPart (part_of (asking_of self.now).persons (question_by self.now) sticky way
+            path.now (file_of file)) result out.old.items out.new.items }
     {
         let names = self.people.names.as_slice();
+        let reach = inside.reach;
         match &kept.granted {
             Granted::Letters(letters) => {
-                push_letters_lines(names, letters.as_slice(), reach, path, out)
+                push_letters_lines(names, letters.as_slice(), reach, path, out)?;
             }
             Granted::Masks(masks) => {
-                push_letters_lines(names, masks.as_slice(), reach, path, out)
+                push_letters_lines(names, masks.as_slice(), reach, path, out)?;
             }
-            Granted::Those(places) => push_may_lines(names, places.as_slice(), reach, path, out),
+            Granted::Those(places) => {
+                push_may_lines(names, places.as_slice(), reach, path, out)?;
+            }
+            Granted::Standings(standings) => {
+                let Some(folder) = inside.folder else {
+                    return Err(FileFault::Block(BlockFault::UnknownWay));
+                };
+                let places = places_of_takers(alloc, folder, standings.as_slice())?;
+                push_may_lines(names, places.as_slice(), reach, path, out)?;
+            }
         }
+        Ok(())
     }
 }
 
@@ -236,24 +278,24 @@ impl<'t> Answers<'t> {
         Ok(place)
     }
 
-    /// Appends what is reported of the file of the block, whose answers are kept at the place.
+    /// Appends what is reported of the file of the block, which lies there, and whose answers are
+    /// kept at the place.
     pub fn push_at(
         &self,
+        alloc: Global,
         place: usize,
-        reach: &[bool],
+        inside: Inside<'_>,
         text: &[u8],
         out: &mut Vec<u8>,
-    ) -> Result<(), AllocError>
-        ensures { (file : FileValue) (way : List File)
+    ) -> Result<(), FileFault>
+        ensures { (file : FileValue) (sticky : Bool) (way : List File)
             → file_by (names_by self.now.users) text.now ≡ Ok file
-            → IsAnsweredAt self.now place file
-            → reach.now ≡ map (reaches way) (whos_of self.now.users)
-            → OnOk result (out.new.items ≡ out.old.items
-            ++ who_text (asking_of self.now.users).persons (asking_of self.now.users).asked way
-            file.path (file_of file)) }
+            → IsAnsweredAt self.now place file → IsInside self.now.users sticky way inside.entry
+            → IsPart (part_of (asking_of self.now.users).persons (question_by self.now.users) sticky
+            way file.path (file_of file)) result out.old.items out.new.items }
     {
         match (self.at(place), path_of(text)) {
-            (Some(kept), Some(path)) => self.users.push(kept, reach, path, out),
+            (Some(kept), Some(path)) => self.users.push(alloc, kept, inside, path, out),
             _ => Ok(()),
         }
     }

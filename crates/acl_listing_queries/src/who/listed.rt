@@ -3,8 +3,9 @@ ghost use Rattle.std.specs.Prelude.{◌≡◌, [], false};
 ghost use Rattle.acl_listing_queries.specs.WhoSteps.{AreRight, IsEveryone, IsListing, whos_of};
 
 use super::answers::Answers;
-use acl_listing_answers::BlockTeller;
+use super::way::Inside;
 use acl_listings::FileFault;
+use acl_reports::BlockTeller;
 use std::alloc::Global;
 
 /// Tells which letters each user has; or, with permissions, who is granted these.
@@ -36,8 +37,10 @@ impl<'t> BlockTeller for ListedTeller<'t> {
 
     fn push(&mut self, alloc: Global, text: &[u8], out: &mut Vec<u8>) -> Result<(), FileFault> {
         let place = self.answers.find(alloc, text)?;
-        self.answers
-            .push_at(place, self.everyone.as_slice(), text, out)?;
-        Ok(())
+        let inside = Inside {
+            reach: self.everyone.as_slice(),
+            folder: None,
+        };
+        self.answers.push_at(alloc, place, inside, text, out)
     }
 }

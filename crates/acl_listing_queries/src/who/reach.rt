@@ -1,33 +1,33 @@
 //! What `who` tells of a block of a listing, if only those count who reach its file.
-ghost use Rattle.std.specs.Prelude.{◌≡◌, ◌++◌, ◌∷◌, [], false, true, IfOk, List, OnOk, Option, ℕ};
-ghost use Rattle.std.specs.Prelude.{None, Some, option_map};
+ghost use Rattle.std.specs.Prelude.{◌≡◌, ◌++◌, ◌∷◌, [], Bool, false, true, IfOk, List, OnOk, ℕ};
+ghost use Rattle.std.specs.Prelude.{None, Ok, Some, if◌then◌else◌, option_map};
 ghost use Rattle.std.specs.List.{fold, list_any};
-ghost use Rattle.acl_listings.specs.Block.{file_by, path_of};
-ghost use Rattle.acl_names.specs.Requester.{Identity};
-ghost use Rattle.acl_bridge.specs.Files.{File};
-ghost use Rattle.acl_listing_answers.specs.Telling.{IsPart, UnlessMemory};
+ghost use Rattle.acl_listings.specs.Block.{FileValue, file_by, path_of};
+ghost use Rattle.acl_reports.specs.Telling.{IsPart, UnlessMemory};
 ghost use Rattle.acl_listing_queries.specs.Readings.{Reading, reading_of};
-ghost use Rattle.acl_listing_queries.specs.Ways.{known_way, way_of, way_on};
-ghost use Rattle.acl_listing_queries.specs.WhoPart.{part_by, who_part};
-ghost use Rattle.acl_listing_queries.specs.WhoSteps.{AreFolders, AreRight, IsBehind, IsCome};
-ghost use Rattle.acl_listing_queries.specs.WhoSteps.{IsEveryone, IsOnWay, IsPlacedAt, IsPlacedBy};
-ghost use Rattle.acl_listing_queries.specs.WhoSteps.{asking_of, folders_to, lacks_path, marks_of};
-ghost use Rattle.acl_listing_queries.specs.WhoSteps.{names_by, whos_of};
+ghost use Rattle.acl_listing_queries.specs.Ways.{chain_to, is_sticky, way_of, way_on};
+ghost use Rattle.acl_listing_queries.specs.WhoPart.{part_on, who_part};
+ghost use Rattle.acl_listing_queries.specs.WhoSteps.{AreFolders, AreRight, IsAnsweredAt};
+ghost use Rattle.acl_listing_queries.specs.WhoSteps.{IsBehind, IsCome, IsEveryone, IsOnWay};
+ghost use Rattle.acl_listing_queries.specs.WhoSteps.{IsPlacedAt, asking_of, folders_to};
+ghost use Rattle.acl_listing_queries.specs.WhoSteps.{lacks_path, marks_of, names_by, question_by};
+ghost use Rattle.acl_listing_queries.specs.WhoSteps.{standings_for, whos_of};
 ghost use Rattle.acl_listing_queries.specs.declared.who.reach.Before.{Before as BeforeValue};
 
 use super::answers::Answers;
-use super::way::{Folder, leave, reach_of};
+use super::way::{Folder, inside_of, leave, reach_of};
 use crate::above::is_above;
-use acl_access::both;
-use acl_listing_answers::BlockTeller;
+use crate::beginning::Beginning;
+use acl_access::{Standing, both};
 use acl_listings::{BlockFault, FileFault, path_of};
+use acl_reports::BlockTeller;
 use std::alloc::{AllocError, Global};
 
 /// The block before.
 #[derive(Drop)]
 pub(super) struct Before {
     path: Vec<u8>,
-    /// Where its file's answers are kept, if the block and each folder above it read.
+    /// Where its file's answers are kept, if the block reads.
     place: Option<usize>,
 }
 
@@ -38,42 +38,13 @@ pub(super) struct ReachTeller<'t> {
     answers: Answers<'t>,
     /// Every user's place is set.
     everyone: Vec<bool>,
+    /// Where the way to the block before begins.
+    beginning: Beginning,
     /// The folders above the block before.
     folders: Vec<Folder>,
     before: Option<Before>,
     /// Whether a block's path didn't read, which may be above all that comes after it.
     lost: bool,
-}
-
-/// Appends what is reported of the block, where these reach it; none if that isn't known. It
-/// returns where the answers of its file are kept.
-fn push_block<'t>(
-    alloc: Global,
-    answers: &mut Answers<'t>,
-    reach: Option<&[bool]>,
-    text: &[u8],
-    out: &mut Vec<u8>,
-) -> Result<usize, FileFault>
-    ensures users { answers.new.users ≡ answers.old.users }
-    ensures right { AreRight answers.old → AreRight answers.new }
-    ensures told { (way : Option (List File)) → AreRight answers.old
-        → option_map (λ marks. marks.now) reach.entry ≡ marks_of (whos_of answers.old.users) way
-        → IsPart (part_by (asking_of answers.old.users)
-        (file_by (names_by answers.old.users) text.now) way) result out.old.items out.new.items }
-    ensures placed { (way : Option (List File)) → AreRight answers.old
-        → answers.old.users.reach ≡ true
-        → option_map (λ marks. marks.now) reach.entry ≡ marks_of (whos_of answers.old.users) way
-        → IsPlacedBy (whos_of answers.old.users) answers.new result
-        (reading_of (names_by answers.old.users) text.now) way }
-{
-    let place = answers.find(alloc, text)?;
-    match reach {
-        Some(reach) => {
-            answers.push_at(place, reach, text, out)?;
-            Ok(place)
-        }
-        None => Err(FileFault::Block(BlockFault::UnknownWay)),
-    }
 }
 
 impl<'t> ReachTeller<'t> {
@@ -86,6 +57,7 @@ impl<'t> ReachTeller<'t> {
         ReachTeller {
             answers,
             everyone,
+            beginning: Beginning::new(alloc),
             folders: Vec::new(alloc),
             before: None,
             lost: false,
@@ -95,13 +67,14 @@ impl<'t> ReachTeller<'t> {
     /// Of each user whether the block before and each folder above it may be searched; none if that
     /// isn't known.
     fn reach_below(&self, alloc: Global, before: &Before) -> Result<Option<Vec<bool>>, AllocError>
-        ensures { (who : List Identity) (block : Reading) (way : List Reading)
+        ensures { (block : Reading) (way : List Reading)
+            → self.now.answers.users.reach ≡ true
             → block.path ≡ Some before.now.path.items
-            → IsPlacedAt who self.now.answers before.now.place block (known_way way block)
-            → IsEveryone who self.now.everyone.items
-            → AreFolders who self.now.folders.items way
+            → IsPlacedAt self.now.answers before.now.place block
+            → IsEveryone (whos_of self.now.answers.users) self.now.everyone.items
+            → AreFolders self.now.answers.users self.now.folders.items way
             → IfOk result (λ reach. option_map (λ marks. marks.items) reach
-            ≡ marks_of who (folders_to block way)) }
+            ≡ marks_of (whos_of self.now.answers.users) (folders_to block way)) }
     {
         let Some(place) = before.place else {
             return Ok(None);
@@ -114,26 +87,46 @@ impl<'t> ReachTeller<'t> {
         }
     }
 
+    /// How each user stands to the block before, if that is asked.
+    fn standings(&self, alloc: Global, before: &Before) -> Result<Vec<Standing>, AllocError>
+        ensures { (block : Reading) → IsPlacedAt self.now.answers before.now.place block
+            → IfOk result (λ standings. standings.items
+            ≡ standings_for (question_by self.now.answers.users) (whos_of self.now.answers.users)
+            block.file) }
+    {
+        let Some(place) = before.place else {
+            return Ok(Vec::new(alloc));
+        };
+        match self.answers.at(place) {
+            Some(kept) => Vec::from_slice(alloc, kept.standings()),
+            None => Ok(Vec::new(alloc)),
+        }
+    }
+
     /// Goes on from the block before to the path.
     fn come_to(&mut self, alloc: Global, path: &[u8]) -> Result<(), AllocError>
         ensures answers { self.new.answers ≡ self.old.answers }
         ensures everyone { self.new.everyone ≡ self.old.everyone }
+        ensures beginning { self.new.beginning ≡ self.old.beginning }
         ensures lost { self.new.lost ≡ self.old.lost }
-        ensures folders { (who : List Identity) (seen : List Reading) (here : Reading)
+        ensures folders { (seen : List Reading) (here : Reading)
+            → self.old.answers.users.reach ≡ true
             → here.path ≡ Some path.now → list_any lacks_path seen ≡ false
-            → IsEveryone who self.old.everyone.items
-            → IsBehind who self.old.answers self.old.before self.old.folders.items
-            (fold way_on [] seen)
-            → OnOk result (AreFolders who self.new.folders.items (way_of seen here)) }
+            → IsEveryone (whos_of self.old.answers.users) self.old.everyone.items
+            → IsBehind self.old.answers self.old.before self.old.folders.items (fold way_on [] seen)
+            → OnOk result (AreFolders self.old.answers.users self.new.folders.items
+            (way_of seen here)) }
     {
         let Some(before) = self.before.take() else {
             return Ok(());
         };
         if is_above(before.path.as_slice(), path) {
             let reach = self.reach_below(alloc, &before)?;
+            let standings = self.standings(alloc, &before)?;
             self.folders.push(Folder {
                 path: before.path,
                 reach,
+                standings,
             })?;
         } else {
             leave(&mut self.folders, path);
@@ -141,35 +134,37 @@ impl<'t> ReachTeller<'t> {
         Ok(())
     }
 
-    /// Appends what is reported of the block, to whose path the way has come, and returns where the
-    /// answers of its file are kept.
+    /// Appends what is reported of the file of the block, to whose path the way has come, which
+    /// begins apart from the others or not, and whose answers are kept at the place.
     fn push_here(
-        &mut self,
+        &self,
         alloc: Global,
+        apart: bool,
+        place: usize,
         path: &[u8],
         text: &[u8],
         out: &mut Vec<u8>,
-    ) -> Result<usize, FileFault>
-        ensures state { self.new ≡ record self.old { answers = self.new.answers } }
-        ensures users { self.new.answers.users ≡ self.old.answers.users }
-        ensures right { AreRight self.old.answers → AreRight self.new.answers }
-        ensures told { (way : List Reading) → IsCome self.old way
+    ) -> Result<(), FileFault>
+        ensures { (way : List Reading) (begins_apart : Bool) (file : FileValue)
+            → IsCome self.now way → (self.now.lost ≡ false → apart ≡ begins_apart)
             → path_of text.now ≡ Some path.now
-            → IsPart (part_by (asking_of self.old.answers.users)
-            (file_by (names_by self.old.answers.users) text.now)
-            (known_way way (reading_of (names_by self.old.answers.users) text.now))) result
-            out.old.items out.new.items }
-        ensures placed { (way : List Reading) → IsCome self.old way
-            → path_of text.now ≡ Some path.now
-            → IsPlacedBy (whos_of self.old.answers.users) self.new.answers result
-            (reading_of (names_by self.old.answers.users) text.now)
-            (known_way way (reading_of (names_by self.old.answers.users) text.now)) }
+            → file_by (names_by self.now.answers.users) text.now ≡ Ok file
+            → IsAnsweredAt self.now.answers place file
+            → IsPart (part_on (asking_of self.now.answers.users) (is_sticky way) file
+            (if begins_apart
+            then chain_to way (reading_of (names_by self.now.answers.users) text.now) else None))
+            result out.old.items out.new.items }
     {
         if self.lost {
-            return push_block(alloc, &mut self.answers, None, text, out);
+            return Err(FileFault::Block(BlockFault::UnknownWay));
         }
-        let reach = reach_of(self.folders.as_slice(), self.everyone.as_slice(), path);
-        push_block(alloc, &mut self.answers, reach, text, out)
+        if !apart {
+            return Err(FileFault::Block(BlockFault::UnknownWay));
+        }
+        match inside_of(self.folders.as_slice(), self.everyone.as_slice(), path) {
+            Some(inside) => self.answers.push_at(alloc, place, inside, text, out),
+            None => Err(FileFault::Block(BlockFault::UnknownWay)),
+        }
     }
 
     /// Stands behind a block with this path, whose answers are kept there.
@@ -206,11 +201,13 @@ impl<'t> ReachTeller<'t> {
             → IsPart (who_part (asking_of self.old.answers.users) earlier text.now) result
             out.old.items out.new.items }
     {
+        let apart = self.beginning.come_to(alloc, path)?;
         self.come_to(alloc, path)?;
-        match self.push_here(alloc, path, text, out) {
+        match self.answers.find(alloc, text) {
             Ok(place) => {
+                let told = self.push_here(alloc, apart, place, path, text, out);
                 self.stand_at(alloc, path, Some(place))?;
-                Ok(())
+                told
             }
             Err(FileFault::Block(fault)) => {
                 self.stand_at(alloc, path, None)?;
@@ -220,20 +217,20 @@ impl<'t> ReachTeller<'t> {
         }
     }
 
-    /// Appends what is reported of a block without a path, behind which no way is known.
-    fn push_lost(&mut self, alloc: Global, text: &[u8], out: &mut Vec<u8>) -> Result<(), FileFault>
+    /// Reads a block without a path, behind which no way is known.
+    fn push_lost(&mut self, alloc: Global, text: &[u8]) -> Result<(), FileFault>
         ensures users { self.new.answers.users ≡ self.old.answers.users }
         ensures stands { (earlier : List (List ℕ)) → IsOnWay self.old earlier
             → path_of text.now ≡ None
             → UnlessMemory result (IsOnWay self.new (earlier ++ text.now ∷ [])) }
         ensures told { (earlier : List (List ℕ)) → IsOnWay self.old earlier
             → path_of text.now ≡ None
-            → IsPart (who_part (asking_of self.old.answers.users) earlier text.now) result
-            out.old.items out.new.items }
+            → (old : List ℕ) → IsPart (who_part (asking_of self.old.answers.users) earlier text.now)
+            result old old }
     {
         self.lost = true;
-        match push_block(alloc, &mut self.answers, None, text, out) {
-            Ok(_) => Ok(()),
+        match self.answers.find(alloc, text) {
+            Ok(_) => Err(FileFault::Block(BlockFault::UnknownWay)),
             Err(fault) => Err(fault),
         }
     }
@@ -250,7 +247,7 @@ impl<'t> BlockTeller for ReachTeller<'t> {
     fn push(&mut self, alloc: Global, text: &[u8], out: &mut Vec<u8>) -> Result<(), FileFault> {
         match path_of(text) {
             Some(path) => self.push_at(alloc, path, text, out),
-            None => self.push_lost(alloc, text, out),
+            None => self.push_lost(alloc, text),
         }
     }
 }

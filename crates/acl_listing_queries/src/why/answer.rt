@@ -3,7 +3,7 @@ ghost use Rattle.std.specs.Prelude.{◌≡◌, ℕ, IfErr, IfOk, List, Ok, Some}
 ghost use Rattle.acl_listings.specs.Block.{path_of};
 ghost use Rattle.acl_listings.specs.Faults.{IsFaultOf};
 ghost use Rattle.acl_listings.specs.Listing.{Block};
-ghost use Rattle.acl_listing_answers.specs.Telling.{IsListingFailure};
+ghost use Rattle.acl_reports.specs.Telling.{IsListingFailure};
 ghost use Rattle.acl_listing_queries.specs.Readings.{Reading};
 ghost use Rattle.acl_listing_queries.specs.WhyMeaning.{IsWhyAnswer, readings};
 ghost use Rattle.acl_listing_queries.specs.WhySteps.{IsWayTo, asked_by};
@@ -14,9 +14,9 @@ use super::text::push_decision;
 use super::way::Way;
 use acl_bridge::FileAcl;
 use acl_cli::{Ending, Failure, RunFault};
-use acl_listing_answers::{owners_and_list, push_fault};
 use acl_listings::{FileFault, read_file};
 use acl_queries::answer_line;
+use acl_reports::{owners_and_list, push_fault};
 use std::alloc::Global;
 use std::marker::Model;
 
@@ -46,14 +46,14 @@ impl Model for Made {
 fn tell_block(
     alloc: Global,
     question: &Question<'_>,
-    way: &Way,
+    way: &mut Way,
     text: &[u8],
 ) -> Result<Vec<u8>, FileFault>
     ensures told { (path : List ℕ) (earlier : List Reading) → path_of text.now ≡ Some path
-        → IsWayTo (asked_by question.now).names path earlier way.now
+        → IsWayTo (asked_by question.now).names path earlier way.old
         → IfOk result (λ told. why_part (asked_by question.now) earlier text.now ≡ Ok told.items) }
     ensures refused { (path : List ℕ) (earlier : List Reading) → path_of text.now ≡ Some path
-        → IsWayTo (asked_by question.now).names path earlier way.now
+        → IsWayTo (asked_by question.now).names path earlier way.old
         → IfErr result (IsFaultOf (why_part (asked_by question.now) earlier text.now)) }
 {
     let file = read_file(alloc, text, question.host)?;
@@ -63,7 +63,7 @@ fn tell_block(
         owners,
         list: list.as_ref(),
     };
-    let folders = way.tell(alloc, question, path)?;
+    let folders = way.come_to(alloc, question, path)?;
     let (requester, perms) = (question.requester, question.perms);
     let granted = acl.may(requester, perms) && folders.reach;
     let mut told = Vec::new(alloc);
@@ -79,13 +79,13 @@ pub(super) fn answer_block<'n>(
     alloc: Global,
     name: &'n str,
     question: &Question<'_>,
-    way: &Way,
+    way: &mut Way,
     line: u64,
     text: &[u8],
 ) -> Result<Made, Failure<'n>>
     ensures made { (path : List ℕ) (earlier : List Block) → path_of text.now ≡ Some path
         → IsWayTo (asked_by question.now).names path
-        (readings (asked_by question.now).names earlier) way.now → IfOk result
+        (readings (asked_by question.now).names earlier) way.old → IfOk result
         (IsWhyAnswer (asked_by question.now) name.entry.now (record {
           earlier = earlier;
           here = record { line = line; text = text.now };

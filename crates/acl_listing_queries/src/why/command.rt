@@ -10,15 +10,17 @@ use super::answer::Made;
 use super::question::Question;
 use super::search::seek_named;
 use acl_cli::fields::text_field;
-use acl_cli::options::{perms_option, required_option, required_word};
+use acl_cli::options::PERMS;
 use acl_cli::{
-    Command as CliCommand, CommandLine, Ending, ErrorOutput, Failure, OpenFiles, perms_field,
-    write_text,
+    Command as CliCommand, CommandLine, Ending, ErrorOutput, Failure, Given, Line, OpenFiles, Word,
+    perms_field, write_text,
 };
-use acl_listing_answers::options::{accounts_option, listing_word, setup_option};
-use acl_listing_answers::{Host, Person, ReadPerson, listing_field, read_host};
-use clap::{ArgMatches, Command};
-use std::alloc::{AllocError, Global};
+use acl_people::options::{ACCOUNTS, DOMAIN};
+use acl_people::{Host, Person, read_host};
+use acl_reports::listing_field;
+use acl_reports::options::LISTING;
+use clap::ArgMatches;
+use std::alloc::Global;
 use std::io::{Read, Write};
 
 /// What is reported, and what the exit statuses are.
@@ -43,6 +45,26 @@ as standard error tells.";
 #[derive(Clone, Copy)]
 pub struct Why;
 
+/// What stands in the line, in the order of help.
+const WORDS: [Word<'static>; 6] = [
+    ACCOUNTS,
+    DOMAIN,
+    Word {
+        given: Given::RequiredOption,
+        name: "user",
+        value: "NAME",
+        help: "The user to ask about, by name or uid",
+    },
+    PERMS,
+    LISTING,
+    Word {
+        given: Given::RequiredWord,
+        name: "path",
+        value: "PATH",
+        help: "The file's path, as the listing writes it",
+    },
+];
+
 impl CommandLine for Why {
     ghost use Rattle.acl_listing_queries.specs.WhyLine.{why_line, why_line-free, why_line-simple};
 
@@ -52,27 +74,14 @@ impl CommandLine for Why {
 
     ghost line_free = { why_line-free };
 
-    fn command<'a>(alloc: Global) -> Result<Command<'a>, AllocError> {
-        Command::new(alloc, "why")
-            .bin_name("aclctl why")?
-            .about("Tells why a user may do something with a file of a listing, or may not.")
-            .after_help(ANSWERS)
-            .arg(accounts_option(alloc))?
-            .arg(setup_option(alloc))?
-            .arg(required_option(
-                alloc,
-                "user",
-                "NAME",
-                "The user to ask about, by name or uid",
-            ))?
-            .arg(perms_option(alloc))?
-            .arg(listing_word(alloc))?
-            .arg(required_word(
-                alloc,
-                "path",
-                "PATH",
-                "The file's path, as the listing writes it",
-            ))
+    #[tactic(auto, unfolding(crate::specs::WhyLine::why_line))]
+    fn line() -> Line<'static> {
+        Line {
+            name: "why",
+            about: "Tells why a user may do something with a file of a listing, or may not.",
+            after_help: ANSWERS,
+            words: &WORDS,
+        }
     }
 }
 

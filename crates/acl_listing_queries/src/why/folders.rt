@@ -2,7 +2,7 @@
 ghost use Rattle.std.specs.Prelude.{◌≡◌, ◌∷◌, [], IfErr, IfOk, List, OnOk, Some, option_map};
 ghost use Rattle.std.specs.Prelude.{reverse};
 ghost use Rattle.acl_listing_queries.specs.Readings.{Reading, reading_of};
-ghost use Rattle.acl_listing_queries.specs.Ways.{known_way};
+ghost use Rattle.acl_listing_queries.specs.Ways.{chain_to};
 ghost use Rattle.acl_listing_queries.specs.WhySteps.{AreTold, IsNearest, IsUnknown, IsWayTold};
 ghost use Rattle.acl_listing_queries.specs.WhySteps.{asked_by, is_held, known_folders};
 ghost use Rattle.acl_listing_queries.specs.WhySteps.{readings_of};
@@ -12,9 +12,9 @@ use super::question::Question;
 use super::text::push_decision;
 use crate::above::holds;
 use acl_bridge::FileAcl;
-use acl_listing_answers::owners_and_list;
 use acl_listings::{BlockFault, FileFault, path_of, read_file};
 use acl_posix::Perms;
+use acl_reports::owners_and_list;
 use std::alloc::Global;
 
 /// What is reported of folders, the outermost first.
@@ -102,7 +102,7 @@ pub(super) fn tell_folders<'t>(
         (IsWayTold asking (reverse (readings_of asking.names texts.entry.now)) here) }
     ensures refused { let asking = asked_by question.now in (here : Reading)
         → here.path ≡ Some path.now → IfErr result
-        (IsUnknown (known_way (reverse (readings_of asking.names texts.entry.now)) here)) }
+        (IsUnknown (chain_to (reverse (readings_of asking.names texts.entry.now)) here)) }
 {
     let mut folders = Folders::new(alloc);
     for text in texts {

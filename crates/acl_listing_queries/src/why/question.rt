@@ -1,7 +1,7 @@
 //! What is asked about a file.
 
-use acl_listing_answers::Host;
 use acl_names::Requester;
+use acl_people::Host;
 use acl_posix::Perms;
 
 /// By whose names blocks are read, who asks, and for which permissions.

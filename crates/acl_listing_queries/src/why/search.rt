@@ -3,16 +3,16 @@ ghost use Rattle.std.specs.Prelude.{◌≡◌, bytes_eq, false, IfErr, IfOk};
 ghost use Rattle.std.specs.Option.{option_map_or};
 ghost use Rattle.acl_listings.specs.Block.{path_of};
 ghost use Rattle.acl_listings.specs.Cursor.{blocks_to_come};
-ghost use Rattle.acl_listing_answers.specs.ListingMeaning.{inputs_of};
+ghost use Rattle.acl_reports.specs.ListingMeaning.{inputs_of};
 ghost use Rattle.acl_listing_queries.specs.WhyMeaning.{AnswersPath, FailsForPath, blocks_named};
 ghost use Rattle.acl_listing_queries.specs.WhySteps.{asked_by};
 
 use super::answer::{Made, answer_block};
 use super::question::Question;
 use super::way::Way;
-use acl_cli::{Failure, OpenFiles, Reason};
-use acl_listing_answers::{INPUT, advance};
+use acl_cli::{Failure, OpenFiles, Reason, Refusal};
 use acl_listings::{Blocks, path_of};
+use acl_reports::{INPUT, advance};
 use std::alloc::Global;
 use std::io::Read;
 
@@ -43,11 +43,12 @@ fn seek<'n, R: Read + Drop>(
     let mut way = Way::new(alloc);
     for _ in 0..u64::MAX {
         if !advance(name, blocks)? {
-            return Err(Failure::NoFile(name, path));
+            let text = Vec::from_slice(alloc, path.as_bytes())?;
+            return Err(Failure::Refused(Refusal::for_text(name, "no such file", text)));
         }
         let text = blocks.text();
         if has_path(text, path.as_bytes()) {
-            return answer_block(alloc, name, question, &way, blocks.line(), text);
+            return answer_block(alloc, name, question, &mut way, blocks.line(), text);
         }
         way.go_on(alloc, path.as_bytes(), text)?;
     }

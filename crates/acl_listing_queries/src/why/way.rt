@@ -1,13 +1,14 @@
 //! The way to a path, as far as a listing was read.
-ghost use Rattle.std.specs.Prelude.{◌≡◌, ◌++◌, ◌∷◌, [], ℕ, IfErr, IfOk, List, OnOk, Some};
+ghost use Rattle.std.specs.Prelude.{◌≡◌, ◌++◌, ◌∷◌, [], ℕ, true, IfErr, IfOk, List, OnOk, Some};
 ghost use Rattle.acl_names.specs.Names.{Names};
 ghost use Rattle.acl_listing_queries.specs.Readings.{Reading, reading_of};
-ghost use Rattle.acl_listing_queries.specs.Ways.{known_way, way_of};
+ghost use Rattle.acl_listing_queries.specs.Ways.{begins_apart, known_way, way_of};
 ghost use Rattle.acl_listing_queries.specs.WhySteps.{IsUnknown, IsWayTo, IsWayTold, asked_by};
 
 use super::folders::{Folders, tell_folders};
 use super::question::Question;
 use crate::above::{is_above, may_be_above};
+use crate::beginning::Beginning;
 use acl_listings::{BlockFault, FileFault, path_of};
 use std::alloc::{AllocError, Global};
 
@@ -16,6 +17,8 @@ use std::alloc::{AllocError, Global};
 pub(super) struct Way {
     /// The blocks of the folders above it, the outermost first.
     folders: Vec<Vec<u8>>,
+    /// Where the way to the block before begins.
+    beginning: Beginning,
     /// Whether a block's path didn't read, which may be above all that comes after it.
     lost: bool,
 }
@@ -27,6 +30,7 @@ impl Way {
     {
         Way {
             folders: Vec::new(alloc),
+            beginning: Beginning::new(alloc),
             lost: false,
         }
     }
@@ -45,6 +49,7 @@ impl Way {
             self.lost = true;
             return Ok(());
         };
+        self.beginning.come_to(alloc, here)?;
         self.folders
             .retain(|folder| may_be_above(folder.as_slice(), here));
         if is_above(here, path) {
@@ -54,23 +59,30 @@ impl Way {
         Ok(())
     }
 
-    /// What is reported of the folders on the way to the path, if they are known.
-    pub fn tell(
-        &self,
+    /// Comes to the path: what is reported of the folders on the way to it, if they are known.
+    pub fn come_to(
+        &mut self,
         alloc: Global,
         question: &Question<'_>,
         path: &[u8],
     ) -> Result<Folders<'_>, FileFault>
         ensures told { (earlier : List Reading) (here : Reading)
-            → IsWayTo (asked_by question.now).names path.now earlier self.now
+            → IsWayTo (asked_by question.now).names path.now earlier self.old
             → here.path ≡ Some path.now
             → IfOk result (IsWayTold (asked_by question.now) (way_of earlier here) here) }
-        ensures refused { (earlier : List Reading) (here : Reading)
-            → IsWayTo (asked_by question.now).names path.now earlier self.now
+        ensures apart { (earlier : List Reading) (here : Reading)
+            → IsWayTo (asked_by question.now).names path.now earlier self.old
             → here.path ≡ Some path.now
-            → IfErr result (IsUnknown (known_way (way_of earlier here) here)) }
+            → IfOk result (λ folders. begins_apart earlier here ≡ true) }
+        ensures refused { (earlier : List Reading) (here : Reading)
+            → IsWayTo (asked_by question.now).names path.now earlier self.old
+            → here.path ≡ Some path.now
+            → IfErr result (IsUnknown (known_way earlier here)) }
     {
         if self.lost {
+            return Err(FileFault::Block(BlockFault::UnknownWay));
+        }
+        if !self.beginning.come_to(alloc, path)? {
             return Err(FileFault::Block(BlockFault::UnknownWay));
         }
         tell_folders(alloc, question, self.folders.as_slice(), path)

@@ -3,7 +3,7 @@ use Rattle.acl_listings.specs.Listing.{Block}
 use Rattle.acl_listings.specs.Faults.{IsFaultOf}
 use Rattle.acl_listings.specs.declared.fault.BlockFault.{BlockFault}
 use Rattle.acl_listings.specs.declared.fault.FileFault.{FileFault}
-use Rattle.acl_listing_answers.specs.Listed.{IsFaultLine, IsSaid, Part, told_of}
+use Rattle.acl_reports.specs.Listed.{IsFaultLine, IsSaid, Part, told_of}
 use Rattle.acl_listing_queries.specs.WhyMeaning.{part_ending, readings}
 use Rattle.acl_listing_queries.specs.WhySteps.{asked_by}
 use Rattle.acl_listing_queries.specs.WhyText.{WhyAsking, why_part}

@@ -1,4 +1,4 @@
-use Rattle.std.proofs.Common.{rules, ◌≡◌, ◌∙◌, ◌++◌, ◌&&◌, ℕ, Err, IfErr, List, Ok, Result, Vec, ap, codes, subst, sym}
+use Rattle.std.proofs.Common.{rules, ◌≡◌, ◌∙◌, ◌++◌, ◌&&◌, ℕ, true, Err, IfErr, List, Ok, Result, Vec, ap, codes, subst, sym}
 use Rattle.std.specs.declared.alloc.Global.{Global}
 use Rattle.acl_access.specs.Reach.{reaches}
 use Rattle.acl_listings.specs.Block.{FileValue, file_by}
@@ -8,9 +8,9 @@ use Rattle.acl_listings.specs.declared.fault.FileFault.{FileFault}
 use Rattle.acl_listings.proofs.PathLemmas.{path_of-file}
 use Rattle.acl_queries.specs.DecideAnswer.{answer_line}
 use Rattle.acl_bridge.specs.Files.{File, may}
-use Rattle.acl_listing_answers.specs.Files.{file_of}
+use Rattle.acl_reports.specs.Files.{file_of}
 use Rattle.acl_listing_queries.specs.Readings.{Reading, reading_of}
-use Rattle.acl_listing_queries.specs.Ways.{known_way, way_of}
+use Rattle.acl_listing_queries.specs.Ways.{begins_apart, known_way, way_of}
 use Rattle.acl_listing_queries.specs.WhySteps.{IsUnknown, IsWayTold, asked_by}
 use Rattle.acl_listing_queries.specs.WhyText.{WhyAsking, decision_text, why_part}
 use Rattle.acl_listing_queries.specs.declared.why.folders.Folders.{Folders}
@@ -27,7 +27,7 @@ returns-in_err-folders-clause-refused c = λ path earlier is kept.
     let here : Reading = reading_of asking.names text in
     let fault : FileFault = c.in_err-folders.field-0.0 in
     let same : c.from_residual-in_err-folders.result ≡ Err fault = search rules in
-    let unknown : IsUnknown (known_way (way_of earlier here) here) fault =
+    let unknown : IsUnknown (known_way earlier here) fault =
     c.in_err-folders.ensures.refused earlier here (way_to_it asking earlier text file reads path c.args.way.now is kept) (path_of-file asking.names text file reads) in
     subst (λ (result : Result (Vec ℕ Global) FileFault). IfErr result (IsFaultOf (why_part asking earlier text))) (sym same) (part_unknown asking earlier text file reads fault unknown)
 
@@ -42,6 +42,8 @@ returns-clause-told c = λ path earlier is kept.
     let folders : Folders = c.in_ok-folders.folders in
     let at : IsWayTold asking (way_of earlier here) here folders =
     c.in_ok-folders.ensures.told earlier here (way_to_it asking earlier text file reads path c.args.way.now is kept) (path_of-file asking.names text file reads) in
+    let apart : begins_apart earlier here ≡ true =
+    c.in_ok-folders.ensures.apart earlier here (way_to_it asking earlier text file reads path c.args.way.now is kept) (path_of-file asking.names text file reads) in
     let granted : c.may.result ≡ may acl asking.who asking.perms = search rules in
     let both : c.if-may.granted ≡ (c.may.result && folders.reach) =
     elim c.if-may.branch [
@@ -52,6 +54,6 @@ returns-clause-told c = λ path earlier is kept.
     let told : c.push_decision.new.out.items ≡ answer_line c.if-may.granted ++ folders.text.items ++ file_text = search rules in
     let all : c.if-may.granted ≡ (may acl asking.who asking.perms && reaches at.files asking.who) =
     both ∙ ap (λ b. b && folders.reach) granted ∙ ap (λ b. may acl asking.who asking.perms && b) at.reach in
-    part_known asking earlier text file reads at.files at.known
+    part_known asking earlier text file reads at.files apart at.known
     ∙ ap Ok (sym (told ∙ ap (λ b. answer_line b ++ folders.text.items ++ file_text) all
     ∙ ap (λ (folders_text : List ℕ). answer_line (may acl asking.who asking.perms && reaches at.files asking.who) ++ folders_text ++ file_text) at.text))

@@ -2,7 +2,7 @@ use Rattle.std.proofs.Common.{rules, ◌≡◌, ◌+◌, ◌++◌, ◌∷◌, []
 use Rattle.std.specs.declared.alloc.Global.{Global}
 use Rattle.acl_listings.specs.declared.fault.FileFault.{FileFault}
 use Rattle.acl_listing_queries.specs.Readings.{Reading, reading_of}
-use Rattle.acl_listing_queries.specs.Ways.{known_way}
+use Rattle.acl_listing_queries.specs.Ways.{chain_to}
 use Rattle.acl_listing_queries.specs.WhySteps.{AreTold, IsUnknown, asked_by, known_folders, readings_of}
 use Rattle.acl_listing_queries.specs.WhyText.{WhyAsking}
 use Rattle.acl_listing_queries.specs.declared.why.folders.Folders.{Folders}
@@ -21,7 +21,7 @@ returns-in_err-push-clause-refused c = λ here path.
     let is : c.from_residual.result ≡ Err fault = search rules in
     let unknown : IsUnknown (known_folders (reading_of asking.names text.items ∷ way)) fault =
     subst (λ (text : List ℕ). IsUnknown (known_folders (reading_of asking.names text ∷ way)) fault) c.as_slice.ensures.value (c.in_err-push.ensures.refused way c.loop-text.invariant) in
-    subst (λ (result : Result Folders FileFault). IfErr result (IsUnknown (known_way (reverse (readings_of asking.names texts)) here))) (sym is)
+    subst (λ (result : Result Folders FileFault). IfErr result (IsUnknown (chain_to (reverse (readings_of asking.names texts)) here))) (sym is)
     (way_unknown_behind asking.names texts place text here more fault unknown)
 
 pub loop-text-preserved : goal.loop-text-preserved

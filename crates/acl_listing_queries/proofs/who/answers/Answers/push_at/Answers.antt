@@ -1,12 +1,13 @@
-use Rattle.std.proofs.Common.{rules, ◌≡◌, ◌∙◌, ◌++◌, List, ℕ, OnOk, Some, subst, sym}
+use Rattle.std.proofs.Common.{rules, ◌≡◌, ◌∙◌, List, ℕ, Some, subst, sym}
 use Rattle.acl_listings.proofs.PathLemmas.{path_of-file}
-use Rattle.acl_listing_answers.specs.Files.{file_of}
-use Rattle.acl_listing_queries.specs.WhoText.{who_text}
-use Rattle.acl_listing_queries.specs.WhoSteps.{AreAnswersOf, asking_of, kept_at, names_by}
+use Rattle.acl_reports.specs.Files.{file_of}
+use Rattle.acl_reports.specs.Telling.{IsPart}
+use Rattle.acl_listing_queries.specs.WhoPart.{part_of}
+use Rattle.acl_listing_queries.specs.WhoSteps.{AreAnswersOf, asking_of, kept_at, names_by, question_by}
 use Rattle.acl_listing_queries.proofs.who.answers.Answers.push_at.Goals as goal
 
 pub returns-in-Some-Some : goal.returns-in-Some-Some
-returns-in-Some-Some c = λ file way reads at reach.
+returns-in-Some-Some c = λ file sticky way reads at inside.
     let users = c.args.self.now.users in
     let found : Some c.in-Some-Some.kept.now ≡ kept_at c.args.self.now.kept.items c.args.place = search rules in
     let there : Some c.in-Some-Some.kept.now ≡ Some at.kept = found ∙ at.there in
@@ -14,5 +15,5 @@ returns-in-Some-Some c = λ file way reads at reach.
     let shown : Some c.in-Some-Some.path.now ≡ Some file.path = search (rules, path_of-file (names_by users) c.args.text.now file reads) in
     let path : c.in-Some-Some.path.now ≡ file.path = cc in
     let are : AreAnswersOf users file c.in-Some-Some.kept.now = subst (AreAnswersOf users file) (sym kept) at.are in
-    subst (λ (path : List ℕ). OnOk c.push.result (c.push.new.out.items ≡ c.args.out.now.items ++ who_text (asking_of users).persons (asking_of users).asked way path (file_of file))) path
-    (c.push.ensures file way are reach)
+    subst (λ (path : List ℕ). IsPart (part_of (asking_of users).persons (question_by users) sticky way path (file_of file)) c.push.result c.args.out.now.items c.push.new.out.items) path
+    (c.push.ensures file sticky way are inside)

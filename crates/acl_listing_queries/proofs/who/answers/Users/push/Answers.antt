@@ -1,54 +1,80 @@
-use Rattle.std.proofs.Common.{rules, ◌≡◌, ◌∙◌, ◌++◌, ap, map, subst}
-use Rattle.std.proofs.lemmas.Result.{on_ok_weaker}
+use Rattle.std.proofs.Common.{rules, ◌≡◌, ◌∙◌, ◌++◌, Some, ap, map, option_map, subst}
 use Rattle.acl_access.specs.Letters.{mask_text}
+use Rattle.acl_access.specs.Standings.{places_of_takers}
 use Rattle.acl_nfs4.specs.Mask.{mask_bits}
 use Rattle.acl_posix.specs.Perms.{bits_of}
 use Rattle.acl_posix.specs.PermsText.{perms_text}
-use Rattle.acl_listing_answers.specs.Files.{file_of}
-use Rattle.acl_listing_answers.specs.Asked.{names_of_people}
-use Rattle.acl_listing_queries.specs.WhoSteps.{IsGranted, asked_of, letters_lines, may_lines, whos_of}
-use Rattle.acl_listing_queries.specs.declared.who.answers.Granted.TheVariants.{Letters, Masks, Those}
-use Rattle.acl_listing_queries.proofs.LinesLemmas.{letters_text, masks_text, those_text}
+use Rattle.acl_reports.specs.Files.{file_of}
+use Rattle.acl_people.specs.Asked.{names_of_people}
+use Rattle.acl_listing_queries.specs.WhoSteps.{IsAnswered, IsFolder, letters_lines, may_lines, question_by, whos_of}
+use Rattle.acl_listing_queries.specs.declared.who.answers.Granted.TheVariants.{Letters, Masks, Standings, Those}
+use Rattle.acl_listing_queries.proofs.PartLemmas.{letters_part, masks_part, standings_part, those_part}
 use Rattle.acl_listing_queries.proofs.who.answers.Users.push.Goals as goal
 
-pub returns-in-Letters : goal.returns-in-Letters
-returns-in-Letters c = λ file way are reach.
+pub returns-in_ok-push_letters_lines-in-Letters : goal.returns-in_ok-push_letters_lines-in-Letters
+returns-in_ok-push_letters_lines-in-Letters c = λ file sticky way are inside.
     let users = c.args.self.now in
-    let whos = whos_of users in
-    let asked = asked_of users.asked in
+    let names = names_of_people users.people.now in
     let path = c.args.path.now in
+    let marks = c.args.inside.reach.now in
     let is : c.args.kept.now.granted ≡ Letters c.in-Letters.letters = search rules in
-    let granted : IsGranted whos asked (file_of file) (Letters c.in-Letters.letters) = subst (IsGranted whos asked (file_of file)) is are.granted in
-    let same =
-    ap (λ names. letters_lines perms_text path (map (λ name. name.items) names) (map bits_of c.as_slice.result.now) c.args.reach.now) c.as_slice-names.ensures.value
-    ∙ ap (λ letters. letters_lines perms_text path (names_of_people users.people.now) (map bits_of letters) c.args.reach.now) c.as_slice.ensures.value
-    ∙ letters_text (names_of_people users.people.now) whos way path (file_of file) c.args.reach.now reach asked c.in-Letters.letters granted in
-    on_ok_weaker c.push_letters_lines.result (λ told. told ∙ ap (λ text. c.args.out.now.items ++ text) same) c.push_letters_lines.ensures
+    let granted : IsAnswered (whos_of users) (question_by users) file.flags.sticky (file_of file) (Letters c.in-Letters.letters) =
+    subst (IsAnswered (whos_of users) (question_by users) file.flags.sticky (file_of file)) is are.granted in (
+      letters_lines perms_text path names (map bits_of c.in-Letters.letters.items) marks,
+      letters_part names (whos_of users) sticky file.flags.sticky way path (file_of file) marks inside.reach (question_by users) c.in-Letters.letters granted,
+      c.in_ok-push_letters_lines-in-Letters.ensures
+          ∙ ap (λ names. c.args.out.now.items ++ letters_lines perms_text path (map (λ name. name.items) names) (map bits_of c.as_slice.result.now) marks) c.as_slice-names.ensures.value
+          ∙ ap (λ letters. c.args.out.now.items ++ letters_lines perms_text path names (map bits_of letters) marks) c.as_slice.ensures.value,
+    )
 
-pub returns-in-Masks : goal.returns-in-Masks
-returns-in-Masks c = λ file way are reach.
+pub returns-in_ok-push_letters_lines-in-Masks : goal.returns-in_ok-push_letters_lines-in-Masks
+returns-in_ok-push_letters_lines-in-Masks c = λ file sticky way are inside.
     let users = c.args.self.now in
-    let whos = whos_of users in
-    let asked = asked_of users.asked in
+    let names = names_of_people users.people.now in
     let path = c.args.path.now in
+    let marks = c.args.inside.reach.now in
     let is : c.args.kept.now.granted ≡ Masks c.in-Masks.masks = search rules in
-    let granted : IsGranted whos asked (file_of file) (Masks c.in-Masks.masks) = subst (IsGranted whos asked (file_of file)) is are.granted in
-    let same =
-    ap (λ names. letters_lines mask_text path (map (λ name. name.items) names) (map mask_bits c.as_slice-in-Masks.result.now) c.args.reach.now) c.as_slice-names.ensures.value
-    ∙ ap (λ masks. letters_lines mask_text path (names_of_people users.people.now) (map mask_bits masks) c.args.reach.now) c.as_slice-in-Masks.ensures.value
-    ∙ masks_text (names_of_people users.people.now) whos way path (file_of file) c.args.reach.now reach asked c.in-Masks.masks granted in
-    on_ok_weaker c.push_letters_lines-in-Masks.result (λ told. told ∙ ap (λ text. c.args.out.now.items ++ text) same) c.push_letters_lines-in-Masks.ensures
+    let granted : IsAnswered (whos_of users) (question_by users) file.flags.sticky (file_of file) (Masks c.in-Masks.masks) =
+    subst (IsAnswered (whos_of users) (question_by users) file.flags.sticky (file_of file)) is are.granted in (
+      letters_lines mask_text path names (map mask_bits c.in-Masks.masks.items) marks,
+      masks_part names (whos_of users) sticky file.flags.sticky way path (file_of file) marks inside.reach (question_by users) c.in-Masks.masks granted,
+      c.in_ok-push_letters_lines-in-Masks.ensures
+          ∙ ap (λ names. c.args.out.now.items ++ letters_lines mask_text path (map (λ name. name.items) names) (map mask_bits c.as_slice-in-Masks.result.now) marks) c.as_slice-names.ensures.value
+          ∙ ap (λ masks. c.args.out.now.items ++ letters_lines mask_text path names (map mask_bits masks) marks) c.as_slice-in-Masks.ensures.value,
+    )
 
-pub returns-in-Those : goal.returns-in-Those
-returns-in-Those c = λ file way are reach.
+pub returns-in_ok-push_may_lines-in-Those : goal.returns-in_ok-push_may_lines-in-Those
+returns-in_ok-push_may_lines-in-Those c = λ file sticky way are inside.
     let users = c.args.self.now in
-    let whos = whos_of users in
-    let asked = asked_of users.asked in
+    let names = names_of_people users.people.now in
     let path = c.args.path.now in
+    let marks = c.args.inside.reach.now in
     let is : c.args.kept.now.granted ≡ Those c.in-Those.places = search rules in
-    let granted : IsGranted whos asked (file_of file) (Those c.in-Those.places) = subst (IsGranted whos asked (file_of file)) is are.granted in
-    let same =
-    ap (λ names. may_lines path (map (λ name. name.items) names) c.as_slice-in-Those.result.now c.args.reach.now) c.as_slice-names.ensures.value
-    ∙ ap (λ places. may_lines path (names_of_people users.people.now) places c.args.reach.now) c.as_slice-in-Those.ensures.value
-    ∙ those_text (names_of_people users.people.now) whos way path (file_of file) c.args.reach.now reach asked c.in-Those.places granted in
-    on_ok_weaker c.push_may_lines.result (λ told. told ∙ ap (λ text. c.args.out.now.items ++ text) same) c.push_may_lines.ensures
+    let granted : IsAnswered (whos_of users) (question_by users) file.flags.sticky (file_of file) (Those c.in-Those.places) =
+    subst (IsAnswered (whos_of users) (question_by users) file.flags.sticky (file_of file)) is are.granted in (
+      may_lines path names c.in-Those.places.items marks,
+      those_part names (whos_of users) sticky file.flags.sticky way path (file_of file) marks inside.reach (question_by users) c.in-Those.places granted,
+      c.in_ok-push_may_lines-in-Those.ensures
+          ∙ ap (λ names. c.args.out.now.items ++ may_lines path (map (λ name. name.items) names) c.as_slice-in-Those.result.now marks) c.as_slice-names.ensures.value
+          ∙ ap (λ places. c.args.out.now.items ++ may_lines path names places marks) c.as_slice-in-Those.ensures.value,
+    )
+
+pub returns-in_ok-push_may_lines-in-Standings : goal.returns-in_ok-push_may_lines-in-Standings
+returns-in_ok-push_may_lines-in-Standings c = λ file sticky way are inside.
+    let users = c.args.self.now in
+    let names = names_of_people users.people.now in
+    let path = c.args.path.now in
+    let marks = c.args.inside.reach.now in
+    let folder = c.in-Some.folder.now in
+    let is : c.args.kept.now.granted ≡ Standings c.in-Standings.standings = search rules in
+    let granted : IsAnswered (whos_of users) (question_by users) file.flags.sticky (file_of file) (Standings c.in-Standings.standings) =
+    subst (IsAnswered (whos_of users) (question_by users) file.flags.sticky (file_of file)) is are.granted in
+    let lies : IsFolder (question_by users) (whos_of users) sticky way (Some folder) =
+    subst (λ found. IsFolder (question_by users) (whos_of users) sticky way (option_map (λ standings. standings.now) found)) c.in-Some.is inside.folder in (
+      may_lines path names (places_of_takers folder c.in-Standings.standings.items) marks,
+      standings_part names (whos_of users) sticky file.flags.sticky way path (file_of file) marks inside.reach (question_by users) c.in-Standings.standings folder granted lies,
+      c.in_ok-push_may_lines-in-Standings.ensures
+          ∙ ap (λ names. c.args.out.now.items ++ may_lines path (map (λ name. name.items) names) c.as_slice-in-Standings-2.result.now marks) c.as_slice-names.ensures.value
+          ∙ ap (λ places. c.args.out.now.items ++ may_lines path names places marks) (c.as_slice-in-Standings-2.ensures.value ∙ c.in_ok-places-in-Standings.ensures)
+          ∙ ap (λ own. c.args.out.now.items ++ may_lines path names (places_of_takers folder own) marks) c.as_slice-in-Standings.ensures.value,
+    )

@@ -1,12 +1,15 @@
-use Rattle.std.proofs.Common.{◌≡◌, ◌∙◌, ◌++◌, [], Ok, Some, ap, map, sym}
+use Rattle.std.proofs.Common.{◌≡◌, ◌∙◌, [], None, Ok, Some, ap, map, subst, sym}
 use Rattle.acl_access.specs.Reach.{reaches}
 use Rattle.acl_listings.specs.Block.{file_by}
-use Rattle.acl_listing_answers.specs.Files.{file_of}
+use Rattle.acl_reports.specs.Files.{file_of}
+use Rattle.acl_reports.specs.Telling.{IsPart}
 use Rattle.acl_listing_queries.specs.Readings.{reading_of}
-use Rattle.acl_listing_queries.specs.WhoPart.{part_by, way_for}
-use Rattle.acl_listing_queries.specs.WhoSteps.{asking_of, names_by, whos_of}
-use Rattle.acl_listing_queries.specs.WhoText.{who_text}
+use Rattle.acl_listing_queries.specs.Ways.{is_sticky, way_of}
+use Rattle.acl_listing_queries.specs.WhoPart.{part_by, part_of, way_for}
+use Rattle.acl_listing_queries.specs.WhoSteps.{IsInside, asking_of, names_by, question_by, whos_of}
 use Rattle.acl_listing_queries.specs.declared.who.answers.Users.{Users}
+use Rattle.acl_listing_queries.specs.declared.who.way.Inside.{Inside}
+use Rattle.acl_listing_queries.proofs.InsideLemmas.{no_folder}
 use Rattle.acl_listing_queries.proofs.who.listed.ListedTellerBlockTeller.push.Goals as goal
 
 pub returns-clause-part : goal.returns-clause-part
@@ -20,9 +23,12 @@ returns-clause-part c = λ earlier stands.
     let reads : file_by (names_by c.find.new.self.users) text ≡ Ok file = ap (λ (users : Users). file_by (names_by users) text) now ∙ found.1 in
     let marks : c.as_slice.result.now ≡ map (reaches []) (whos_of c.find.new.self.users) =
     c.as_slice.ensures.value ∙ stands.everyone ∙ ap (λ (users : Users). map (reaches []) (whos_of users)) (sym now) in
-    let readings = map (reading_of asking.names) earlier in (
-      who_text asking.persons asking.asked [] file.path (file_of file),
-      ap (λ b. part_by asking (file_by asking.names text) (way_for b readings (reading_of asking.names text))) stands.reach ∙ ap (λ said. part_by asking said (Some [])) found.1,
-      c.in_ok-push_at.ensures file [] reads found.2 marks
-          ∙ ap (λ (users : Users). c.args.out.now.items ++ who_text (asking_of users).persons (asking_of users).asked [] file.path (file_of file)) now,
-    )
+    let before = map (reading_of asking.names) earlier in
+    let here = reading_of asking.names text in
+    let sticky = is_sticky (way_of before here) in
+    let lies : Inside = record { reach = c.as_slice.result; folder = None } in
+    let inside : IsInside c.find.new.self.users sticky [] lies = record { reach = marks; folder = no_folder (question_by c.find.new.self.users) (whos_of c.find.new.self.users) sticky } in
+    let told = subst (λ (users : Users). IsPart (part_of (asking_of users).persons (question_by users) sticky [] file.path (file_of file)) c.push_at.result c.args.out.now.items c.push_at.new.out.items) now
+    (c.push_at.ensures file sticky [] reads found.2 inside) in
+    subst (λ b. IsPart (part_by asking sticky (file_by asking.names text) (way_for b before here)) c.push_at.result c.args.out.now.items c.push_at.new.out.items) (sym stands.reach)
+    (subst (λ said. IsPart (part_by asking sticky said (Some [])) c.push_at.result c.args.out.now.items c.push_at.new.out.items) (sym found.1) told)

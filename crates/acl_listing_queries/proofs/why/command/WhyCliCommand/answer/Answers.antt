@@ -1,10 +1,10 @@
-use Rattle.std.proofs.Common.{◌≡◌, ◌∙◌, List, ℕ, ap, inr, subst}
+use Rattle.std.proofs.Common.{◌≡◌, ◌∙◌, List, ℕ, Err, ap, inl, inr, refl, rules, subst}
 use Rattle.clap.specs.Words.{Row, found_of, rows_of}
-use Rattle.acl_cli.proofs.CommandsLemmas.{Comes-as}
+use Rattle.acl_cli.proofs.CommandsLemmas.{Comes-as, Comes-failed}
 use Rattle.acl_posix.specs.Perms.{bits_of}
-use Rattle.acl_listing_answers.specs.Host.{names_of_host}
-use Rattle.acl_listing_answers.specs.Person.{Person}
-use Rattle.acl_listing_answers.specs.ListingMeaning.{inputs_of}
+use Rattle.acl_people.specs.Host.{names_of_host}
+use Rattle.acl_people.specs.Person.{Person}
+use Rattle.acl_reports.specs.ListingMeaning.{inputs_of}
 use Rattle.acl_listing_queries.specs.WhyMeaning.{AnswersPath, FailsForPath, blocks_named, path_in, path_meaning, why_meaning}
 use Rattle.acl_listing_queries.specs.WhyText.{WhyAsking}
 use Rattle.acl_listing_queries.proofs.why.command.WhyCliCommand.answer.Goals as goal
@@ -47,7 +47,20 @@ returns g c =
           (subst (λ (path : List ℕ). AnswersPath asked name path (blocks_named files input name) answer) path_is
           (subst (λ (asking : WhyAsking). AnswersPath asking name path (blocks_named files input name) answer) same is));
     })
-    (λ failure fails. inr (inr (inr (subst (λ (name : List ℕ). FailsForPath name (path_in rows) (blocks_named files input name) failure) name_is
-    (subst (λ (path : List ℕ). FailsForPath name path (blocks_named files input name) failure) path_is fails)))))
+    (λ failure fails. inr (
+      rw c.in_ok-perms.ensures.read refl,
+      inr (inr (subst (λ (name : List ℕ). FailsForPath name (path_in rows) (blocks_named files input name) failure) name_is
+          (subst (λ (path : List ℕ). FailsForPath name path (blocks_named files input name) failure) path_is fails))),
+    ))
     (λ none. ap inputs_of name_is ∙ none)
     c.tell_why.ensures
+
+pub returns-in_err-person : goal.returns-in_err-person
+returns-in_err-person g c =
+    let files = g.F.OpenFiles.bytes_of c.args.files.now in
+    let input = g.I.Read.remaining c.args.input.now in
+    let rows : List Row = rows_of (found_of c.args.matches.now) in
+    let failure = c.in_err-person.field-0.0 in
+    let is : c.from_residual-in_err-person.result ≡ Err failure = search rules in
+    rw is (Comes-failed (why_meaning files input rows) failure _ _ _
+    (inr (rw c.in_ok-perms.ensures.read refl, inr (inl (c.in_ok-host.host, c.in_ok-host.ensures.opened, c.in_err-person.ensures.refused)))))

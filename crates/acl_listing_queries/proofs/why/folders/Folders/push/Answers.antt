@@ -3,7 +3,7 @@ use Rattle.std.specs.List.{flat_map}
 use Rattle.acl_listings.specs.Block.{FileValue, file_by, path_of}
 use Rattle.acl_listings.specs.Views.{view_file}
 use Rattle.acl_bridge.specs.Files.{File, may}
-use Rattle.acl_listing_answers.specs.Files.{file_of}
+use Rattle.acl_reports.specs.Files.{file_of}
 use Rattle.acl_listing_queries.specs.Readings.{Reading, reading_of}
 use Rattle.acl_listing_queries.specs.Ways.{folder_of}
 use Rattle.acl_listing_queries.specs.WhySteps.{asked_by, is_held}

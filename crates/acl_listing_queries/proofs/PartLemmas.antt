@@ -1,0 +1,53 @@
+-- What is told of a file, by what is kept of it and of its folder.
+use Rattle.std.proofs.Common.{◌≡◌, ◌∙◌, Bool, List, [], ◌∷◌, ℕ, Ok, Some, ap, map, sym}
+use Rattle.std.specs.Prelude.{Vec}
+use Rattle.std.specs.declared.alloc.Global.{Global}
+use Rattle.acl_names.specs.Requester.{Identity}
+use Rattle.acl_access.specs.Letters.{mask_text}
+use Rattle.acl_access.specs.Reach.{reaches}
+use Rattle.acl_access.specs.Standings.{places_of_takers, standing_of}
+use Rattle.acl_access.specs.declared.standing.Standing.{Standing}
+use Rattle.acl_nfs4.specs.Mask.{mask_bits}
+use Rattle.acl_nfs4.specs.declared.mask.Mask.{Mask}
+use Rattle.acl_posix.specs.Perms.{bits_of}
+use Rattle.acl_posix.specs.PermsText.{perms_text}
+use Rattle.acl_posix.specs.declared.perms.Perms.{Perms}
+use Rattle.acl_bridge.specs.Files.{File}
+use Rattle.acl_people.specs.Asked.{persons_of}
+use Rattle.acl_listing_queries.specs.WhoPart.{Deletion, Question, What, part_of}
+use Rattle.acl_listing_queries.specs.WhoSteps.{IsAnswered, IsFolder, letters_lines, may_lines}
+use Rattle.acl_listing_queries.specs.WhoText.{AllLetters, Request, ThreeLetters}
+use Rattle.acl_listing_queries.specs.declared.who.answers.Granted.TheVariants.{Letters, Masks, Standings, Those}
+use Rattle.acl_listing_queries.proofs.LinesLemmas.{letters_text, masks_text, takers_text, those_text}
+
+module _ (names : List (List ℕ)) (whos : List Identity) (sticky own : Bool) (way : List File) (path : List ℕ) (file : File) (marks : List Bool) (are : marks ≡ map (reaches way) whos) where
+  pub letters_part : (question : Question) (letters : Vec Perms Global) → IsAnswered whos question own file (Letters letters)
+      → part_of (persons_of names whos) question sticky way path file ≡ Ok (letters_lines perms_text path names (map bits_of letters.items) marks)
+  letters_part (What asked) letters is = ap (λ text. Ok text) (sym (letters_text names whos way path file marks are asked letters is))
+  letters_part Deletion letters is = absurd is
+
+  pub masks_part : (question : Question) (masks : Vec Mask Global) → IsAnswered whos question own file (Masks masks)
+      → part_of (persons_of names whos) question sticky way path file ≡ Ok (letters_lines mask_text path names (map mask_bits masks.items) marks)
+  masks_part (What asked) masks is = ap (λ text. Ok text) (sym (masks_text names whos way path file marks are asked masks is))
+  masks_part Deletion masks is = absurd is
+
+  pub those_part : (question : Question) (places : Vec ℕ Global) → IsAnswered whos question own file (Those places)
+      → part_of (persons_of names whos) question sticky way path file ≡ Ok (may_lines path names places.items marks)
+  those_part (What asked) places is = ap (λ text. Ok text) (sym (those_text names whos way path file marks are asked places is))
+  those_part Deletion places is = absurd is
+
+-- of those who may delete it
+pub standings_part : (names : List (List ℕ)) (whos : List Identity) (sticky own : Bool) (way : List File) (path : List ℕ) (file : File) (marks : List Bool) → marks ≡ map (reaches way) whos
+    → (question : Question) (standings : Vec Standing Global) (folder : List Standing) → IsAnswered whos question own file (Standings standings) → IsFolder question whos sticky way (Some folder)
+    → part_of (persons_of names whos) question sticky way path file ≡ Ok (may_lines path names (places_of_takers folder standings.items) marks)
+standings_part names whos sticky own way path file marks are (What ThreeLetters) standings folder is lies = absurd is
+standings_part names whos sticky own way path file marks are (What AllLetters) standings folder is lies = absurd is
+standings_part names whos sticky own way path file marks are (What (Request perms)) standings folder is lies = absurd is
+standings_part names whos sticky own [] path file marks are Deletion standings folder is lies = cc
+standings_part names whos sticky own (top ∷ above) path file marks are Deletion standings folder is lies =
+    let folder_is : folder ≡ map (standing_of sticky top) whos = cc in
+    ap (λ text. Ok text)
+    (sym
+    (ap (λ folder. may_lines path names (places_of_takers folder standings.items) marks) folder_is
+    ∙ ap (λ own. may_lines path names (places_of_takers (map (standing_of sticky top) whos) own) marks) is
+    ∙ takers_text names whos sticky own top above path file marks are))

@@ -1,0 +1,65 @@
+//! Where the way to a block begins.
+ghost use Rattle.std.specs.Prelude.{◌≡◌, ◌++◌, ◌∷◌, [], false, IfOk, List, OnOk, Some};
+ghost use Rattle.std.specs.List.{list_any};
+ghost use Rattle.acl_listing_queries.specs.Readings.{Reading};
+ghost use Rattle.acl_listing_queries.specs.RootSteps.{IsBegun, is_begun_above};
+ghost use Rattle.acl_listing_queries.specs.Ways.{begins_apart};
+ghost use Rattle.acl_listing_queries.specs.WhoSteps.{lacks_path};
+
+use crate::above::is_above;
+use crate::roots::Roots;
+use std::alloc::{AllocError, Global};
+
+/// With which block the way to the last block begins. A way begins with the block that all others
+/// on it are below, so it is enough to look at that one.
+#[derive(Drop)]
+pub(crate) struct Beginning {
+    /// The path of that block, if there was a block.
+    path: Option<Vec<u8>>,
+    /// Whether it is apart from those with which other ways begin.
+    apart: bool,
+    roots: Roots,
+}
+
+impl Beginning {
+    /// Behind no block.
+    pub fn new(alloc: Global) -> Beginning
+        ensures { IsBegun result [] }
+    {
+        Beginning {
+            path: None,
+            apart: true,
+            roots: Roots::new(alloc),
+        }
+    }
+
+    /// Whether what has the path is below the block with which the last way began.
+    fn is_above(&self, path: &[u8]) -> bool
+        ensures { result ≡ is_begun_above self.now.path path.now }
+    {
+        match &self.path {
+            Some(outermost) => is_above(outermost.as_slice(), path),
+            None => false,
+        }
+    }
+
+    /// Goes on to a block with this path, and returns whether its way begins apart from the others.
+    /// It fails only if memory runs out.
+    pub fn come_to(&mut self, alloc: Global, path: &[u8]) -> Result<bool, AllocError>
+        ensures apart { (earlier : List Reading) (here : Reading) → IsBegun self.old earlier
+            → list_any lacks_path earlier ≡ false → here.path ≡ Some path.now
+            → IfOk result (λ apart. apart ≡ begins_apart earlier here) }
+        ensures begun { (earlier : List Reading) (here : Reading) → IsBegun self.old earlier
+            → list_any lacks_path earlier ≡ false → here.path ≡ Some path.now
+            → OnOk result (IsBegun self.new (earlier ++ here ∷ [])) }
+    {
+        if self.is_above(path) {
+            return Ok(self.apart);
+        }
+        let apart = self.roots.add(alloc, path)?;
+        let outermost = Vec::from_slice(alloc, path)?;
+        self.apart = apart;
+        self.path = Some(outermost);
+        Ok(apart)
+    }
+}

@@ -1,0 +1,185 @@
+//! The command `who`.
+ghost use Rattle.std.specs.Prelude.{◌≡◌, IfOk};
+ghost use Rattle.clap.specs.Words.{found_of, rows_of};
+ghost use Rattle.acl_cli.specs.Commands.{Comes};
+ghost use Rattle.acl_reports.specs.ListingMeaning.{listing_meaning};
+ghost use Rattle.acl_listing_queries.specs.WhoMeaning.{reach_in};
+ghost use Rattle.acl_listing_queries.specs.WhoPart.{who_part};
+ghost use Rattle.acl_listing_queries.specs.WhoSteps.{IsEveryone, asking_of};
+
+use super::answers::{Answers, Users};
+use super::asked::asked_field;
+use super::listed::ListedTeller;
+use super::reach::ReachTeller;
+use acl_cli::fields::flag_field;
+use acl_cli::options::OPTIONAL_PERMS;
+use acl_cli::{
+    Command as CliCommand, CommandLine, Ending, ErrorOutput, Failure, Given, Line, OpenFiles, Word,
+};
+use acl_names::Requester;
+use acl_people::options::{ACCOUNTS, DOMAIN, USERS};
+use acl_people::{read_host, read_people};
+use acl_reports::options::LISTING;
+use acl_reports::{listing_field, tell_named};
+use clap::ArgMatches;
+use std::alloc::{AllocError, Global};
+use std::io::{Read, Write};
+
+/// What is reported, and what the exit statuses are.
+const ANSWERS: &str = "For example:
+  getfacl -Rn /srv/share | aclctl who --reach --perms w -
+
+A line for each file and each user who may do something with it:
+LETTERS NAME PATH, where - is a letter that is denied by itself. With --letters
+they are all fourteen; of a POSIX list w is w and p there. With --perms P only
+NAME PATH, of those who are granted all of P at once. With --delete also, of
+those who reach the file and may delete, rename or replace it. What isn't
+answered is said on standard error: aclctl: LISTING:LINE: WORD: TEXT. uid 0
+isn't asked about: it may do nearly everything.
+
+Exit status: 0 if every file was answered; 1 if a field is malformed or a file
+can't be read; 2 if the words are wrong; 3 if memory runs out, the listing
+fails while it is read, or the answer can't be written; 4 if there are files
+that weren't answered, or none at all.";
+
+/// Tells who may do what with each file of a listing: `who [--accounts FILE] [--domain DOMAIN]
+/// [--perms P | --letters | --delete] [--reach] [--user NAME].. LISTING`.
+///
+/// LISTING is read as it comes: of `-` what `input` has, else a file of `files`, which leaves
+/// `input` as it is. To `out` goes a line for each file and each user who may do something with it,
+/// in pieces of some 64 KiB; to `err` one for each block of which that isn't known, and at the end
+/// how many these are. The answer is one in part if there is such a block, or none at all.
+///
+/// Fails if the words don't go together, P is malformed, a file can't be read or is malformed, or
+/// nobody has a NAME: then nothing was written. Fails also if memory runs out, the listing can't be
+/// read on, or `out` can't be written: then nothing or a prefix of the answer was.
+#[derive(Clone, Copy)]
+pub struct Who;
+
+/// What stands in the line, in the order of help.
+const WORDS: [Word<'static>; 8] = [
+    ACCOUNTS,
+    DOMAIN,
+    OPTIONAL_PERMS,
+    Word {
+        given: Given::Flag,
+        name: "letters",
+        value: "",
+        help: "All fourteen letters of an NFSv4 list, rwxpdDaARWcCos, in place of r, w and x",
+    },
+    Word {
+        given: Given::Flag,
+        name: "delete",
+        value: "",
+        help: "Who may delete, rename or replace it, in the folder in which it is",
+    },
+    Word {
+        given: Given::Flag,
+        name: "reach",
+        value: "",
+        help: "Counts something only if the user may also search each folder above",
+    },
+    USERS,
+    LISTING,
+];
+
+impl CommandLine for Who {
+    ghost use Rattle.acl_listing_queries.specs.WhoLine.{who_line, who_line-free, who_line-simple};
+
+    ghost line = { who_line };
+
+    ghost line_simple = { who_line-simple };
+
+    ghost line_free = { who_line-free };
+
+    #[tactic(auto, unfolding(crate::specs::WhoLine::who_line))]
+    fn line() -> Line<'static> {
+        Line {
+            name: "who",
+            about: "Tells who may do what with each file of a listing, as getfacl -R prints it.",
+            after_help: ANSWERS,
+            words: &WORDS,
+        }
+    }
+}
+
+/// Of each of the requesters that it is set.
+fn everyone(alloc: Global, requesters: &[Requester]) -> Result<Vec<bool>, AllocError>
+    ensures { IfOk result (λ marks. IsEveryone requesters.now marks.items) }
+{
+    let mut marks = Vec::with_capacity(alloc, requesters.len())?;
+    for _requester in requesters {
+        marks.push(true)?;
+    }
+    Ok(marks)
+}
+
+/// Whether only those count who may search each folder above a file.
+fn reach_field(matches: &ArgMatches<'_>) -> bool
+    ensures { result ≡ reach_in (rows_of (found_of matches.now)) }
+{
+    flag_field(matches, "reach") || flag_field(matches, "delete")
+}
+
+/// Writes what is reported of each block of the listing of this name.
+fn tell_who<'n, F, I, W, E>(
+    alloc: Global,
+    files: &F,
+    name: &'n str,
+    users: Users<'_>,
+    input: &mut I,
+    out: &mut W,
+    err: &mut ErrorOutput<E>,
+) -> Result<Ending, Failure<'n>>
+where
+    F: OpenFiles,
+    I: Read,
+    W: Write,
+    E: Write + Drop,
+    ensures { Comes (listing_meaning (F.bytes_of files.now) (I.remaining input.old) name.entry.now
+        (asking_of users.entry).names (who_part (asking_of users.entry))) result
+        (W.contents out.old) (W.contents out.new) err.old err.new input.old input.new }
+{
+    let answers = Answers::new(alloc, users)?;
+    let everyone = everyone(alloc, users.people.requesters.as_slice())?;
+    if users.reach {
+        let teller = ReachTeller::new(alloc, answers, everyone);
+        return tell_named(alloc, files, name, users.host, teller, input, out, err);
+    }
+    let teller = ListedTeller::new(answers, everyone);
+    tell_named(alloc, files, name, users.host, teller, input, out, err)
+}
+
+impl CliCommand for Who {
+    ghost use Rattle.std.specs.Prelude.{true};
+    ghost use Rattle.acl_listing_queries.specs.WhoMeaning.{who_meaning};
+
+    ghost meaning = { who_meaning };
+
+    ghost helps = { true };
+
+    fn answers_help() -> bool {
+        true
+    }
+
+    fn answer<'a, F: OpenFiles, I: Read, W: Write, E: Write + Drop>(
+        &self,
+        alloc: Global,
+        files: &F,
+        matches: &ArgMatches<'a>,
+        input: &mut I,
+        out: &mut W,
+        err: &mut ErrorOutput<E>,
+    ) -> Result<Ending, Failure<'a>> {
+        let asked = asked_field(matches)?;
+        let host = read_host(alloc, files, matches)?;
+        let people = read_people(alloc, &host, matches)?;
+        let users = Users {
+            host: &host,
+            people: &people,
+            asked,
+            reach: reach_field(matches),
+        };
+        tell_who(alloc, files, listing_field(matches), users, input, out, err)
+    }
+}
