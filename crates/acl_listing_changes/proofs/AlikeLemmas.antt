@@ -12,8 +12,8 @@ use Rattle.acl_cli.specs.Telling.{is_empty}
 use Rattle.acl_bridge.specs.Files.{File, may}
 use Rattle.acl_listings.specs.Block.{FileValue, file_by}
 use Rattle.acl_listings.specs.declared.fault.BlockFault.{BlockFault}
-use Rattle.acl_listing_answers.specs.Files.{file_of}
-use Rattle.acl_listing_answers.specs.Person.{Person}
+use Rattle.acl_reports.specs.Files.{file_of}
+use Rattle.acl_people.specs.Person.{Person}
 use Rattle.acl_listing_changes.specs.ImpactSteps.{TellsRead}
 use Rattle.acl_listing_changes.specs.Impacting.{Concern, ImpactAsking, Tells, TellsAnybody, TellsChange, TellsFirst, TellsImpact, TellsPerson, TellsPersons, TellsThose, fault_of}
 use Rattle.acl_listing_changes.specs.WrittenChanges.{IsChanged, changed_text}
@@ -34,16 +34,16 @@ module _ (before after : File) (path : List ℕ) (alike : IsAlikeToAll before af
   none_of_those true persons = none_of_all persons
   none_of_those false persons = none_first persons
 
-  nobody_else : (asked : Bool) → TellsAnybody asked before after path []
-  nobody_else true = (None, alike, refl)
-  nobody_else false = refl
+  nobody_else : (asked : Bool) (known : List Identity) → TellsAnybody asked known before after path []
+  nobody_else true known = (None, λ requester unknown. alike requester, refl)
+  nobody_else false known = refl
 
   pub nobody : (concern : Concern) → TellsImpact concern before after path []
   nobody concern = record {
     lines = [];
     lines_are = none_of_those concern.each concern.persons;
     other = [];
-    other_is = nobody_else (concern.somebody && true);
+    other_is = nobody_else (concern.somebody && true) concern.known;
     text_is = refl;
   }
 
@@ -73,16 +73,16 @@ module _ (before after : File) (path : List ℕ) (alike : IsAlikeToAll before af
   nothing_of_those true persons text is = nothing_of_all persons text is
   nothing_of_those false persons text is = nothing_first persons text is
 
-  nothing_else : (asked : Bool) (text : List ℕ) → TellsAnybody asked before after path text → text ≡ []
-  nothing_else false text is = is
-  nothing_else true text (None, found, is) = is
-  nothing_else true text (Some difference, found, is) = absurd (unlike (identity_of difference.asker) (change_of difference) found)
+  nothing_else : (asked : Bool) (known : List Identity) (text : List ℕ) → TellsAnybody asked known before after path text → text ≡ []
+  nothing_else false known text is = is
+  nothing_else true known text (None, found, is) = is
+  nothing_else true known text (Some difference, found, is) = absurd (unlike (identity_of difference.asker) (change_of difference) found.change)
 
   pub tells_nothing : (concern : Concern) (text : List ℕ) → TellsImpact concern before after path text ↔ (text ≡ [])
   tells_nothing concern text = (
     λ tells. tells.text_is
         ∙ ap₂ (λ (a b : List ℕ). a ++ b) (nothing_of_those concern.each concern.persons tells.lines tells.lines_are)
-        (nothing_else (concern.somebody && is_empty tells.lines) tells.other tells.other_is),
+        (nothing_else (concern.somebody && is_empty tells.lines) concern.known tells.other tells.other_is),
     λ none. subst (TellsImpact concern before after path) (sym none) (nobody concern),
   )
 

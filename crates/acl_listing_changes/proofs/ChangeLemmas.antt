@@ -15,10 +15,10 @@ use Rattle.acl_listings.specs.Block.{path_of}
 use Rattle.acl_listings.specs.Cursor.{HandsOut, IsOver, blocks_to_come}
 use Rattle.acl_listings.specs.Listing.{Block}
 use Rattle.acl_listings.specs.declared.fault.BlockFault.{BlockFault}
-use Rattle.acl_listing_answers.specs.Listed.{closing, ending_of, fault_in, no_blocks, with_item}
-use Rattle.acl_listing_answers.specs.Paths.{block_for, first_path, lists, or_first}
-use Rattle.acl_listing_answers.specs.Placed.{Placed, in_places, in_places_after}
-use Rattle.acl_listing_answers.specs.declared.tally.Tally.{Tally}
+use Rattle.acl_reports.specs.Listed.{closing, ending_of, fault_in, no_blocks, with_item}
+use Rattle.acl_reports.specs.Paths.{block_for, first_path, lists, or_first}
+use Rattle.acl_reports.specs.Placed.{Placed, in_places, in_places_after}
+use Rattle.acl_reports.specs.declared.tally.Tally.{Tally}
 use Rattle.acl_listing_changes.specs.ChangeSteps.{Appended, AreMet, BeginsLeft, Closing, EndsLeft, HandsOn, Here, IsLast, IsOpening, IsStep, Left, Missing, Opening, SeenValue, TellsLeft, TellsMissing, TellsTold, Told, counted, fault_here, final_tally, left_to_tell, missing_from, nothing_seen, seen_on, told_from}
 use Rattle.acl_listing_changes.specs.Changes.{After, Before, Gone, IsChangeAnswer, IsChangeBegun, Named, Next, OfAfter, Step, TellsEach, TellsIf, TellsNextBy, TellsStep, Wording, apart_by, ending_of_both, fault_after, fault_before, item_of, items_after, items_before, items_of, part_of, steps_of, tally_of, unless_repeated, with_difference}
 use Rattle.acl_listing_changes.specs.Kept.{place_of}

@@ -3,7 +3,7 @@ use Rattle.std.proofs.Common.{◌≡◌, ◌∙◌, ◌++◌, ℕ, List, [], ◌
 use Rattle.std.proofs.lemmas.List.{take-append-drop}
 use Rattle.acl_listings.specs.Block.{path_of}
 use Rattle.acl_listings.specs.Listing.{Block}
-use Rattle.acl_listing_answers.specs.Paths.{first_path, or_first}
+use Rattle.acl_reports.specs.Paths.{first_path, or_first}
 
 or_first_more : (first second third : Option (List ℕ)) → or_first (or_first first second) third ≡ or_first first (or_first second third)
 or_first_more None second third = refl

@@ -9,9 +9,9 @@ use Rattle.acl_bridge.specs.Files.{File}
 use Rattle.acl_listings.specs.Block.{FileValue, file_by}
 use Rattle.acl_listings.specs.declared.fault.BlockFault.{BlockFault}
 use Rattle.acl_cli.specs.Telling.{is_empty}
-use Rattle.acl_listing_answers.specs.Files.{file_of}
-use Rattle.acl_listing_answers.specs.Person.{Person}
-use Rattle.acl_listing_answers.specs.Asked.{persons_of}
+use Rattle.acl_reports.specs.Files.{file_of}
+use Rattle.acl_people.specs.Person.{Person}
+use Rattle.acl_people.specs.Asked.{persons_of}
 use Rattle.acl_listing_changes.specs.ChangeSteps.{Appended}
 use Rattle.acl_listing_changes.specs.Changes.{TellsIf, TellsOld}
 use Rattle.acl_listing_changes.specs.ImpactSteps.{TellsAt, TellsBy, TellsRead, line_at}
@@ -154,7 +154,7 @@ same_length out (byte ∷ lines) = by (nat_eq (length (out ++ byte ∷ lines)) (
         absurd (omega (arith, same, length-append out (byte ∷ lines)))
 
 pub impact_told : (concern : Concern) (before after : File) (path out mid out' : List ℕ) → Tells (TellsThose concern.each before after path concern.persons) out mid
-    → (asked : Bool) → asked ≡ (concern.somebody && nat_eq (length mid) (length out)) → Tells (TellsAnybody asked before after path) mid out' → Tells (TellsImpact concern before after path) out out'
+    → (asked : Bool) → asked ≡ (concern.somebody && nat_eq (length mid) (length out)) → Tells (TellsAnybody asked concern.known before after path) mid out' → Tells (TellsImpact concern before after path) out out'
 impact_told concern before after path out mid out' those asked asked_is other =
     let empty : nat_eq (length mid) (length out) ≡ is_empty those.text = ap (λ text. nat_eq (length text) (length out)) those.out_is ∙ same_length out those.text in
     let is : asked ≡ (concern.somebody && is_empty those.text) = asked_is ∙ ap (λ b. concern.somebody && b) empty in
@@ -164,7 +164,7 @@ impact_told concern before after path out mid out' those asked asked_is other =
         lines = those.text;
         lines_are = those.is;
         other = other.text;
-        other_is = subst (λ b. TellsAnybody b before after path other.text) is other.is;
+        other_is = subst (λ b. TellsAnybody b concern.known before after path other.text) is other.is;
         text_is = refl;
       };
       out_is = other.out_is ∙ ap (λ text. text ++ other.text) those.out_is ∙ append_assoc out those.text other.text;

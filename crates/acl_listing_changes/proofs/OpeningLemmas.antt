@@ -6,8 +6,8 @@ use Rattle.std.proofs.lemmas.List.{get_or-append-add, get_or_append_left, get_or
 use Rattle.acl_names.specs.Names.{Names}
 use Rattle.acl_listings.specs.Listing.{Block}
 use Rattle.acl_listings.specs.declared.fault.BlockFault.{BlockFault}
-use Rattle.acl_listing_answers.specs.Listed.{AreSaid, IsSaid, Item, first_guess, is_fault, is_unread}
-use Rattle.acl_listing_answers.specs.declared.tally.Tally.{Tally}
+use Rattle.acl_reports.specs.Listed.{AreSaid, IsSaid, Item, first_guess, is_fault, is_unread}
+use Rattle.acl_reports.specs.declared.tally.Tally.{Tally}
 use Rattle.acl_listing_changes.specs.ChangeSteps.{AreRead, IsOpenedTo, counted}
 use Rattle.acl_listing_changes.specs.Changes.{Wording, fault_before, item_of, items_of, part_of, tally_of, unless_repeated}
 use Rattle.acl_listing_changes.specs.Kept.{is_earlier, place_of}

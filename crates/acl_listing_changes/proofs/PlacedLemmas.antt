@@ -1,6 +1,6 @@
 -- Things in their places in a list.
 use Rattle.std.proofs.Common.{◌≡◌, ◌∙◌, ◌++◌, List, [], ◌∷◌, ap, append_assoc, append-nil, sym}
-use Rattle.acl_listing_answers.specs.Placed.{Placed, in_places, in_places_after}
+use Rattle.acl_reports.specs.Placed.{Placed, in_places, in_places_after}
 
 module _ {A : Type 0} where
   abbrev pub put : List A → A → Placed A

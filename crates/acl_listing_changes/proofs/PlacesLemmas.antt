@@ -17,7 +17,7 @@ use Rattle.std.proofs.lemmas.Slice.Eq.{bytes_eq-Decides}
 use Rattle.acl_names.proofs.AnyLemmas.{list_any-agree}
 use Rattle.acl_listings.specs.Block.{path_of}
 use Rattle.acl_listings.specs.Listing.{Block}
-use Rattle.acl_listing_answers.specs.Paths.{block_for, has_path, is_among, lists}
+use Rattle.acl_reports.specs.Paths.{block_for, has_path, is_among, lists}
 use Rattle.acl_listing_changes.specs.ChangeSteps.{AreMet, is_marked, is_met, is_place, with_mark}
 use Rattle.acl_listing_changes.specs.Kept.{first_place, is_earlier, place_of}
 

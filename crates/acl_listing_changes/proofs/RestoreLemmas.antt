@@ -8,8 +8,8 @@ use Rattle.std.proofs.lemmas.Slice.Eq.{bytes_eq-Decides}
 use Rattle.acl_listings.specs.Block.{path_of}
 use Rattle.acl_listings.specs.Listing.{Block}
 use Rattle.acl_listings.specs.declared.fault.BlockFault.{BlockFault}
-use Rattle.acl_listing_answers.specs.Paths.{block_for, has_path, is_among, lists}
-use Rattle.acl_listing_answers.specs.Placed.{Placed, in_places_after}
+use Rattle.acl_reports.specs.Paths.{block_for, has_path, is_among, lists}
+use Rattle.acl_reports.specs.Placed.{Placed, in_places_after}
 use Rattle.acl_listing_changes.specs.Changes.{TellsIf, TellsNextBy, fault_after, unless_repeated}
 use Rattle.acl_listing_changes.specs.RestoreLaws.{BringsBack, PrintsBlocks, other_text, other_unless, printed_text, text_has, text_restored}
 use Rattle.acl_listing_changes.specs.Restoring.{block_text, restore_fault, restored_text, restoring}

@@ -5,8 +5,8 @@ use Rattle.std.proofs.Math.Bool.{and-true}
 use Rattle.acl_listings.specs.Listing.{Block}
 use Rattle.acl_listings.specs.declared.fault.BlockFault.{BlockFault}
 use Rattle.acl_listings.specs.declared.fault.BlockFault.TheVariants.{TooLong, BadHeader}
-use Rattle.acl_listing_answers.specs.Listed.{IsSaid}
-use Rattle.acl_listing_answers.specs.Paths.{lists}
+use Rattle.acl_reports.specs.Listed.{IsSaid}
+use Rattle.acl_reports.specs.Paths.{lists}
 use Rattle.acl_listing_changes.specs.ChangeSteps.{Appended, TellsMissing}
 use Rattle.acl_listing_changes.specs.Changes.{TellsIf, TellsNextBy, Wording, fault_before, part_of, unless_repeated}
 use Rattle.acl_listing_changes.specs.Kept.{is_earlier, place_of}

@@ -4,9 +4,10 @@ use Rattle.clap.specs.Words.{Row, Text, first_of}
 use Rattle.acl_cli.specs.Commands.{Meaning}
 use Rattle.acl_cli.specs.Failures.{failed_write}
 use Rattle.acl_cli.specs.declared.failure.Failure.{Failure}
-use Rattle.acl_cli.specs.declared.failure.Failure.TheVariants.{CannotRead, InputTwice}
-use Rattle.acl_listing_answers.specs.Telling.{IsListingFailure}
-use Rattle.acl_listing_answers.specs.ListingMeaning.{bytes_named, inputs_of, is_input}
+use Rattle.acl_cli.specs.declared.failure.Failure.TheVariants.{CannotRead, Misuse}
+use Rattle.acl_cli.specs.declared.misuse.Misuse.TheVariants.{InputTwice}
+use Rattle.acl_reports.specs.Telling.{IsListingFailure}
+use Rattle.acl_reports.specs.ListingMeaning.{bytes_named, inputs_of, is_input}
 use Rattle.acl_listing_changes.specs.Changes.{IsChangeAnswer, IsChangeBegun, OfListings, Wording}
 
 -- the names of the listings, where `-` is standard input
@@ -24,7 +25,7 @@ IsUnopened name _ = ⊥
 -- both are standard input; one can't be opened, or fails while it is read; or something lacks
 abbrev pub FailsForListings : Text → Text → Failure → Type 0
 FailsForListings before after failure =
-    ((failure ≡ InputTwice) × (is_input before ≡ true) × (is_input after ≡ true))
+    ((failure ≡ Misuse InputTwice) × (is_input before ≡ true) × (is_input after ≡ true))
     ⊎ ((IsUnopened before failure ⊎ IsUnopened after failure)
     ⊎ (IsListingFailure before failure ⊎ (IsListingFailure after failure
     ⊎ (failure ≡ failed_write))))

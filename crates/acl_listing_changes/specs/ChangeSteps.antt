@@ -9,10 +9,10 @@ use Rattle.acl_cli.specs.declared.command.Ending.{Ending}
 use Rattle.acl_listings.specs.Block.{path_of}
 use Rattle.acl_listings.specs.Listing.{Block}
 use Rattle.acl_listings.specs.declared.fault.BlockFault.{BlockFault}
-use Rattle.acl_listing_answers.specs.Listed.{AreSaid, closing, ending_of, first_guess}
-use Rattle.acl_listing_answers.specs.Listed.{is_fault, is_unread, no_blocks}
-use Rattle.acl_listing_answers.specs.Paths.{block_for, first_path, or_first}
-use Rattle.acl_listing_answers.specs.declared.tally.Tally.{Tally}
+use Rattle.acl_reports.specs.Listed.{AreSaid, closing, ending_of, first_guess}
+use Rattle.acl_reports.specs.Listed.{is_fault, is_unread, no_blocks}
+use Rattle.acl_reports.specs.Paths.{block_for, first_path, or_first}
+use Rattle.acl_reports.specs.declared.tally.Tally.{Tally}
 use Rattle.acl_listing_changes.specs.Changes.{Named, TellsEach, TellsIf, TellsNextBy, Wording}
 use Rattle.acl_listing_changes.specs.Changes.{apart_by, fault_before, items_before, items_of}
 use Rattle.acl_listing_changes.specs.Changes.{tally_of, unless_repeated}

@@ -12,11 +12,11 @@ use Rattle.acl_listings.specs.Listing.{Block}
 use Rattle.acl_listings.specs.declared.fault.BlockFault.{BlockFault}
 use Rattle.acl_listings.specs.declared.fault.BlockFault.TheVariants.{TooLong, BadHeader}
 use Rattle.acl_listings.specs.declared.fault.BlockFault.TheVariants.{RepeatedPath}
-use Rattle.acl_listing_answers.specs.Listed.{AreSaid, IsFaultLine, Item, Part, closing, ending_of}
-use Rattle.acl_listing_answers.specs.Listed.{no_blocks, tally_with}
-use Rattle.acl_listing_answers.specs.Paths.{block_for, first_path, lists}
-use Rattle.acl_listing_answers.specs.Placed.{Placed, in_places}
-use Rattle.acl_listing_answers.specs.declared.tally.Tally.{Tally}
+use Rattle.acl_reports.specs.Listed.{AreSaid, IsFaultLine, Item, Part, closing, ending_of}
+use Rattle.acl_reports.specs.Listed.{no_blocks, tally_with}
+use Rattle.acl_reports.specs.Paths.{block_for, first_path, lists}
+use Rattle.acl_reports.specs.Placed.{Placed, in_places}
+use Rattle.acl_reports.specs.declared.tally.Tally.{Tally}
 
 -- How changes are reported: each relation is of blocks' texts, of what is reported on standard
 -- output, and of what is said on standard error.

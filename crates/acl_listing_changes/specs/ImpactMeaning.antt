@@ -1,17 +1,17 @@
 -- What the fields of `impact` mean, of two listings.
-use Rattle.std.specs.Prelude.{◌≡◌, ◌⊎◌, ◌||◌, ◌+◌, ℕ, Bool, not, List, Option, Ok, codes}
-use Rattle.std.specs.Prelude.{is_some}
+use Rattle.std.specs.Prelude.{◌≡◌, ◌⊎◌, ◌&&◌, ◌||◌, ◌+◌, ℕ, Bool, true, false, not, List, Option}
+use Rattle.std.specs.Prelude.{Ok, codes, is_some, map}
 use Rattle.clap.specs.Words.{Row, Text, all_of}
 use Rattle.acl_cli.specs.Commands.{Answer, Meaning}
-use Rattle.acl_cli.specs.Failures.{Explains}
 use Rattle.acl_cli.specs.Fields.{flag_in}
 use Rattle.acl_cli.specs.declared.failure.Failure.{Failure}
-use Rattle.acl_listing_answers.specs.Host.{IsHost, names_of_host}
-use Rattle.acl_listing_answers.specs.HostFailures.{IsHostFailure}
-use Rattle.acl_listing_answers.specs.People.{asked_in}
-use Rattle.acl_listing_answers.specs.Person.{Person}
-use Rattle.acl_listing_answers.specs.ListingMeaning.{bytes_named, inputs_of}
-use Rattle.acl_listing_answers.specs.declared.host.Host.{Host}
+use Rattle.acl_cli.specs.declared.failure.Failure.TheVariants.{Misuse}
+use Rattle.acl_cli.specs.declared.misuse.Misuse.TheVariants.{InputTwice}
+use Rattle.acl_people.specs.Host.{Host, IsHost, names_of_host}
+use Rattle.acl_people.specs.HostFailures.{IsHostFailure}
+use Rattle.acl_people.specs.People.{IsAskedFailure, asked_in}
+use Rattle.acl_people.specs.Person.{Person}
+use Rattle.acl_reports.specs.ListingMeaning.{bytes_named, inputs_of, is_input}
 use Rattle.acl_listing_changes.specs.ChangeMeaning.{FailsForListings, after_in, before_in}
 use Rattle.acl_listing_changes.specs.Changes.{IsChangeAnswer, IsChangeBegun, Named, OfListings}
 use Rattle.acl_listing_changes.specs.Changes.{Wording}
@@ -26,6 +26,7 @@ names_users rows = is_some (all_of (codes "user") rows)
 abbrev pub concern_in : List Person → List Row → Concern
 concern_in persons rows = record {
   persons = persons;
+  known = map (λ person. person.who) persons;
   each = flag_in (codes "all") rows || names_users rows;
   somebody = not (names_users rows);
 }
@@ -50,11 +51,19 @@ pub record ImpactAnswers (Is : Wording → Named → Named → Answer → Type 0
       (bytes_named bytes_of input (before_in rows)) (after_in rows)
       (bytes_named bytes_of input (after_in rows)) answer
 
--- the files don't say who there is, nobody is asked about, or the listings fail
+-- both listings are standard input
+abbrev pub is_input_twice : List Row → Bool
+is_input_twice rows = is_input (before_in rows) && is_input (after_in rows)
+
+-- both are; or they aren't, and the files don't say who there is, nobody is asked about, or the
+-- listings fail
 abbrev pub FailsForImpact : (Text → Option (List ℕ)) → List Row → Failure → Type 0
-FailsForImpact bytes_of rows failure = IsHostFailure bytes_of rows failure
-    ⊎ (((host : Host) × IsHost bytes_of rows host × Explains (asked_in host rows) failure)
-    ⊎ FailsForListings (before_in rows) (after_in rows) failure)
+FailsForImpact bytes_of rows failure =
+    ((failure ≡ Misuse InputTwice) × (is_input_twice rows ≡ true))
+    ⊎ ((is_input_twice rows ≡ false)
+    × (IsHostFailure bytes_of rows failure
+    ⊎ (((host : Host) × IsHost bytes_of rows host × IsAskedFailure (asked_in host rows) failure)
+    ⊎ FailsForListings (before_in rows) (after_in rows) failure)))
 
 abbrev pub impact_meaning : (Text → Option (List ℕ)) → Option (List ℕ) → List Row → Meaning
 impact_meaning bytes_of input rows = record {

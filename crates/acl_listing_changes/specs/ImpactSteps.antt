@@ -8,8 +8,8 @@ use Rattle.acl_access.specs.Changes.{IsAlikeTo, IsChangeFor}
 use Rattle.acl_access.specs.declared.changes.Change.{Change}
 use Rattle.acl_listings.specs.Block.{FileValue}
 use Rattle.acl_listings.specs.declared.fault.BlockFault.{BlockFault}
-use Rattle.acl_listing_answers.specs.Host.{names_of_host}
-use Rattle.acl_listing_answers.specs.Person.{Person}
+use Rattle.acl_people.specs.Host.{names_of_host}
+use Rattle.acl_people.specs.Person.{Person}
 use Rattle.acl_listing_changes.specs.ImpactText.{person_text}
 use Rattle.acl_listing_changes.specs.Concerns.{concern_by}
 use Rattle.acl_listing_changes.specs.Impacting.{ImpactAsking, TellsChange}

@@ -5,7 +5,7 @@ use Rattle.acl_names.specs.Bytes.{comma}
 use Rattle.acl_nfs4.specs.Mask.{mask_bits}
 use Rattle.acl_nfs4.specs.declared.comparison.Difference.{Difference}
 use Rattle.acl_queries.specs.Differences.{bits_text, gids_text}
-use Rattle.acl_listing_answers.specs.Person.{Person}
+use Rattle.acl_people.specs.Person.{Person}
 
 -- the gids of a user, between commas (44); - if there is none
 abbrev pub all_gids_text : List ℕ → List ℕ

@@ -4,6 +4,7 @@ use Rattle.std.specs.Prelude.{Option, Some, None, Result, Ok, Err, IfOk, codes}
 use Rattle.std.specs.Prelude.{if◌then◌else◌}
 use Rattle.std.specs.List.{flat_map}
 use Rattle.acl_names.specs.Names.{Names}
+use Rattle.acl_names.specs.Requester.{Identity}
 use Rattle.acl_nfs4.specs.Mask.{mask_bits}
 use Rattle.acl_nfs4.specs.declared.comparison.Difference.{Difference}
 use Rattle.acl_bridge.specs.Comparison.{mask_for}
@@ -15,16 +16,17 @@ use Rattle.acl_cli.specs.ErrorOutput.{line_of_words}
 use Rattle.acl_cli.specs.Telling.{is_empty}
 use Rattle.acl_listings.specs.Block.{FileValue, file_by}
 use Rattle.acl_listings.specs.declared.fault.BlockFault.{BlockFault}
-use Rattle.acl_listing_answers.specs.Files.{file_of}
-use Rattle.acl_listing_answers.specs.Person.{Person}
+use Rattle.acl_reports.specs.Files.{file_of}
+use Rattle.acl_people.specs.Person.{Person}
 use Rattle.acl_listing_changes.specs.Changes.{Wording}
 use Rattle.acl_listing_changes.specs.ImpactText.{path_text, person_text, somebody_text}
 use Rattle.acl_listing_changes.specs.WrittenChanges.{TellsWritten}
 
--- who is asked about; whether each of these has a line, or only the first whom a change concerns;
--- and whether somebody else has one, if it concerns none of them
+-- who is asked about, by name and without; whether each of these has a line, or only the first whom
+-- a change concerns; and whether somebody else has one, if it concerns none of them
 pub record Concern : Type 0 where
   pub persons : List Person
+  pub known : List Identity
   pub each : Bool
   pub somebody : Bool
 
@@ -71,11 +73,11 @@ abbrev pub found_text : List ℕ → Option Difference → List ℕ
 found_text path None = []
 found_text path (Some found) = somebody_text found path
 
--- anybody else is asked about
-abbrev pub TellsAnybody : Bool → File → File → List ℕ → List ℕ → Type 0
-TellsAnybody false before after path text = text ≡ []
-TellsAnybody true before after path text = (found : Option Difference)
-    × FindsAnybody before after found
+-- anybody else is asked about: somebody who is neither uid 0 nor one of those who are known
+abbrev pub TellsAnybody : Bool → List Identity → File → File → List ℕ → List ℕ → Type 0
+TellsAnybody false known before after path text = text ≡ []
+TellsAnybody true known before after path text = (found : Option Difference)
+    × FindsAnybody known before after found
     × (text ≡ found_text path found)
 
 -- what is reported of a file at a path that became another
@@ -83,7 +85,8 @@ pub record TellsImpact (concern : Concern) (before after : File) (path text : Li
   pub lines : List ℕ
   pub lines_are : TellsThose concern.each before after path concern.persons lines
   pub other : List ℕ
-  pub other_is : TellsAnybody (concern.somebody && is_empty lines) before after path other
+  pub other_is : TellsAnybody (concern.somebody && is_empty lines) concern.known before after path
+      other
   pub text_is : text ≡ lines ++ other
 
 -- and what is reported of two blocks of one path

@@ -4,7 +4,7 @@ use Rattle.std.specs.Prelude.{IfSome, if◌then◌else◌, nat_lt, option_map}
 use Rattle.std.specs.Option.{option_and_then, option_map_or}
 use Rattle.acl_listings.specs.Block.{path_of}
 use Rattle.acl_listings.specs.Listing.{Block}
-use Rattle.acl_listing_answers.specs.Paths.{has_path}
+use Rattle.acl_reports.specs.Paths.{has_path}
 use Rattle.acl_listing_changes.specs.declared.between.kept.KeptBlock.{KeptBlock}
 
 abbrev pub block_of : KeptBlock → Block

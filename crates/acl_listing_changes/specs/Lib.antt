@@ -11,5 +11,6 @@ pub mod WrittenChanges
 pub mod Impacting
 pub mod Concerns
 pub mod ImpactSteps
+pub mod ImpactLine
 pub mod ImpactMeaning
 pub mod AlikeLaws

@@ -6,8 +6,8 @@ use Rattle.std.specs.Option.{option_map_or}
 use Rattle.acl_listings.specs.Block.{path_of}
 use Rattle.acl_listings.specs.Listing.{Block}
 use Rattle.acl_listings.specs.declared.fault.BlockFault.{BlockFault}
-use Rattle.acl_listing_answers.specs.Paths.{block_for, has_path}
-use Rattle.acl_listing_answers.specs.Placed.{Placed, in_places}
+use Rattle.acl_reports.specs.Paths.{block_for, has_path}
+use Rattle.acl_reports.specs.Placed.{Placed, in_places}
 use Rattle.acl_listing_changes.specs.Changes.{TellsNext, fault_after}
 use Rattle.acl_listing_changes.specs.Restoring.{block_text, restore_fault, restoring}
 

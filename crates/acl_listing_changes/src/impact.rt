@@ -2,9 +2,8 @@
 
 mod asked;
 mod changed;
+mod command;
 mod concerned;
-mod of_listings;
 mod teller;
 
-pub use concerned::Concerned;
-pub use of_listings::{each_has_a_line, impact_of_listings, names_users};
+pub use command::Impact;

@@ -8,6 +8,6 @@ mod impact_lines;
 mod laws;
 mod restore;
 
-pub use impact::{Concerned, each_has_a_line, impact_of_listings, names_users};
+pub use impact::Impact;
 pub use laws::alike_laws;
 pub use restore::{Restore, restore_brings_back};

@@ -15,9 +15,8 @@ use Rattle.acl_listings.specs.declared.fault.BlockFault.TheVariants.{Acl, TooLon
 use Rattle.acl_listings.specs.declared.limits.TheConstants.{MAX_BLOCK}
 use Rattle.acl_listings.proofs.AceForms.{IsAceForm, freebsd_form, nfs4_form}
 use Rattle.acl_listings.proofs.Nfs4Lemmas.{block_again}
-use Rattle.acl_listing_answers.specs.Host.{names_of_host}
-use Rattle.acl_listing_answers.specs.Listed.{Part}
-use Rattle.acl_listing_answers.specs.declared.host.Host.{Host}
+use Rattle.acl_people.specs.Host.{Host, names_of_host}
+use Rattle.acl_reports.specs.Listed.{Part}
 use Rattle.acl_listing_translation.specs.TranslateLaws.{IsTold, with_told}
 use Rattle.acl_listing_translation.specs.Translated.{aces_of, as_list, entry_in, if_short, told_as}
 use Rattle.acl_listing_translation.specs.declared.form.AceForm.{AceForm}

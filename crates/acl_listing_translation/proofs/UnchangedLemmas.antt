@@ -15,9 +15,8 @@ use Rattle.acl_listings.specs.declared.file_flags.FileFlags.{FileFlags}
 use Rattle.acl_listings.specs.declared.lists.Lists.{Lists}
 use Rattle.acl_listings.specs.declared.lists.Lists.TheVariants.{Nfs4, Posix}
 use Rattle.acl_listings.proofs.ValidLemmas.{HasValidAccess, file_valid}
-use Rattle.acl_listing_answers.specs.Files.{deciding_list, file_of}
-use Rattle.acl_listing_answers.specs.Host.{names_of_host}
-use Rattle.acl_listing_answers.specs.declared.host.Host.{Host}
+use Rattle.acl_reports.specs.Files.{deciding_list, file_of}
+use Rattle.acl_people.specs.Host.{Host, names_of_host}
 use Rattle.acl_listing_changes.specs.Impacting.{ImpactAsking, TellsChange}
 use Rattle.acl_listing_changes.specs.WrittenChanges.{TellsWritten, changed_text}
 use Rattle.acl_listing_changes.proofs.AlikeLemmas.{alike_itself, is_unchanged, nobody, tells_nothing, unchanged}

@@ -7,8 +7,7 @@ use Rattle.acl_nfs4.specs.PrintedText.{HaveIds}
 use Rattle.acl_bridge.specs.Files.{File}
 use Rattle.acl_listings.specs.Block.{FileValue, file_by}
 use Rattle.acl_listings.specs.declared.lists.Lists.TheVariants.{Nfs4}
-use Rattle.acl_listing_answers.specs.Host.{names_of_host}
-use Rattle.acl_listing_answers.specs.declared.host.Host.{Host}
+use Rattle.acl_people.specs.Host.{Host, names_of_host}
 use Rattle.acl_listing_changes.specs.Impacting.{Concern, ImpactAsking, TellsImpact, impacting}
 use Rattle.acl_listing_translation.specs.Translated.{aces_of, translated}
 use Rattle.acl_listing_translation.specs.declared.form.AceForm.{AceForm}

@@ -4,10 +4,10 @@ use Rattle.clap.specs.Words.{App, is_simple, is_simple_and_free, new_app, with_r
 use Rattle.clap.proofs.OnLiterals.{clap_on_literals}
 use Rattle.acl_cli.specs.CommandLine.{flag, optional_option, required_word}
 
--- `translate [--accounts FILE] [--setup FILE] [--form F] [--attributes] [--print0] LISTING`
+-- `translate [--accounts FILE] [--domain DOMAIN] [--form F] [--attributes] [--print0] LISTING`
 unfoldable pub translate_line : App
 translate_line = fold with_rule (new_app (codes "translate"))
-    (optional_option (codes "accounts") ∷ optional_option (codes "setup")
+    (optional_option (codes "accounts") ∷ optional_option (codes "domain")
     ∷ optional_option (codes "form") ∷ flag (codes "attributes") ∷ flag (codes "print0")
     ∷ required_word (codes "listing") ∷ [])
 

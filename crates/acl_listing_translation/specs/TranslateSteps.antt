@@ -1,5 +1,5 @@
 -- Private steps of `translate`, which no public clause cites.
-use Rattle.acl_listing_answers.specs.Host.{names_of_host}
+use Rattle.acl_people.specs.Host.{names_of_host}
 use Rattle.acl_listing_translation.specs.Translated.{Translating}
 use Rattle.acl_listing_translation.specs.declared.teller.TranslateTeller.{TranslateTeller}
 

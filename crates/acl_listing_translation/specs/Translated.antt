@@ -24,7 +24,7 @@ use Rattle.acl_listings.specs.declared.fault.BlockFault.TheVariants.{Acl, TooLon
 use Rattle.acl_listings.specs.declared.limits.TheConstants.{MAX_BLOCK}
 use Rattle.acl_listings.specs.declared.lists.Lists.{Lists}
 use Rattle.acl_listings.specs.declared.lists.Lists.TheVariants.{Posix, Nfs4}
-use Rattle.acl_listing_answers.specs.Listed.{Part}
+use Rattle.acl_reports.specs.Listed.{Part}
 use Rattle.acl_listing_translation.specs.declared.form.AceForm.{AceForm}
 use Rattle.acl_listing_translation.specs.declared.form.AceForm.TheVariants as form
 use Rattle.acl_listing_translation.specs.declared.lists.TheConstants.{ATTRIBUTES}

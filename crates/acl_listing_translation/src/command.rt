@@ -3,12 +3,15 @@
 use crate::form::form_field;
 use crate::teller::TranslateTeller;
 use acl_cli::fields::flag_field;
-use acl_cli::options::{flag, optional_option};
-use acl_cli::{Command as CliCommand, CommandLine, Ending, ErrorOutput, Failure, OpenFiles};
-use acl_listing_answers::options::{accounts_option, listing_word, setup_option};
-use acl_listing_answers::{listing_field, read_host, tell_named};
-use clap::{ArgMatches, Command};
-use std::alloc::{AllocError, Global};
+use acl_cli::{
+    Command as CliCommand, CommandLine, Ending, ErrorOutput, Failure, Given, Line, OpenFiles, Word,
+};
+use acl_people::options::{ACCOUNTS, DOMAIN};
+use acl_people::read_host;
+use acl_reports::options::LISTING;
+use acl_reports::{listing_field, tell_named};
+use clap::ArgMatches;
+use std::alloc::Global;
 use std::io::{Read, Write};
 
 /// What is reported, and what the exit statuses are.
@@ -29,6 +32,31 @@ that weren't answered, or none at all.";
 #[derive(Clone, Copy)]
 pub struct Translate;
 
+/// What stands in the line, in the order of help.
+const WORDS: [Word<'static>; 6] = [
+    ACCOUNTS,
+    DOMAIN,
+    Word {
+        given: Given::Option,
+        name: "form",
+        value: "FORM",
+        help: "How entries are written: nfs4, as nfs4_getfacl prints them, or freebsd; else nfs4",
+    },
+    Word {
+        given: Given::Flag,
+        name: "attributes",
+        value: "",
+        help: "Adds what servers check besides: A::OWNER@:tTnNcCoy and A::EVERYONE@:tncy",
+    },
+    Word {
+        given: Given::Flag,
+        name: "print0",
+        value: "",
+        help: "Tells entries between commas and the path, with a byte of 0 behind each",
+    },
+    LISTING,
+];
+
 impl CommandLine for Translate {
     ghost use Rattle.acl_listing_translation.specs.TranslateLine.{translate_line};
     ghost use Rattle.acl_listing_translation.specs.TranslateLine.{translate_line-free};
@@ -40,30 +68,14 @@ impl CommandLine for Translate {
 
     ghost line_free = { translate_line-free };
 
-    fn command<'a>(alloc: Global) -> Result<Command<'a>, AllocError> {
-        Command::new(alloc, "translate")
-            .bin_name("aclctl translate")?
-            .about("Tells each file of a listing, as getfacl -R prints it, as an NFSv4 one.")
-            .after_help(ANSWERS)
-            .arg(accounts_option(alloc))?
-            .arg(setup_option(alloc))?
-            .arg(optional_option(
-                alloc,
-                "form",
-                "FORM",
-                "How entries are written: nfs4, as nfs4_getfacl prints them, or freebsd; else nfs4",
-            ))?
-            .arg(flag(
-                alloc,
-                "attributes",
-                "Adds what servers check besides: A::OWNER@:tTnNcCoy and A::EVERYONE@:tncy",
-            ))?
-            .arg(flag(
-                alloc,
-                "print0",
-                "Tells entries between commas and the path, with a byte of 0 behind each",
-            ))?
-            .arg(listing_word(alloc))
+    #[tactic(auto, unfolding(crate::specs::TranslateLine::translate_line))]
+    fn line() -> Line<'static> {
+        Line {
+            name: "translate",
+            about: "Tells each file of a listing, as getfacl -R prints it, as an NFSv4 one.",
+            after_help: ANSWERS,
+            words: &WORDS,
+        }
     }
 }
 

@@ -1,10 +1,10 @@
 //! The form in which entries are reported.
-ghost use Rattle.std.specs.Prelude.{◌≡◌, IfErr, IfOk, Ok, Err, Some};
+ghost use Rattle.std.specs.Prelude.{◌≡◌, Err, IfErr, IfOk, Ok, option_map};
 ghost use Rattle.clap.specs.Words.{found_of, rows_of};
 ghost use Rattle.acl_listing_translation.specs.TranslateMeaning.{form_in, form_of};
 
-use acl_cli::FieldFault;
 use acl_cli::fields::text_field;
+use acl_cli::{FieldFault, Malformed, Place};
 use clap::ArgMatches;
 
 /// A form of NFSv4 entries.
@@ -17,21 +17,25 @@ pub(crate) enum AceForm {
 }
 
 /// The form that the words name; if they name none, it is that of nfs4.
-pub(crate) fn form_field(matches: &ArgMatches<'_>) -> Result<AceForm, FieldFault>
+pub(crate) fn form_field<'a>(matches: &ArgMatches<'a>) -> Result<AceForm, Malformed<'a>>
     ensures read { IfOk result (λ form. form_in (rows_of (found_of matches.now)) ≡ Ok form) }
-    ensures refused { IfErr result (λ fault. form_in (rows_of (found_of matches.now))
-        ≡ Err fault) }
+    ensures refused { IfErr result (λ malformed. form_in (rows_of (found_of matches.now))
+        ≡ Err malformed) }
 {
-    match text_field(matches, "form") {
-        None => Ok(AceForm::Nfs4),
-        Some(text) => read_form(text),
+    let word = text_field(matches, "form");
+    match form_given(word) {
+        Ok(form) => Ok(form),
+        Err(fault) => Err(Malformed::new(Place::Option("form"), word, fault)),
     }
 }
 
-/// The form of this name.
-fn read_form(text: &str) -> Result<AceForm, FieldFault>
-    ensures { result ≡ form_of (Some text.now) }
+/// The form that a word names.
+fn form_given(word: Option<&str>) -> Result<AceForm, FieldFault>
+    ensures { result ≡ form_of (option_map (λ text. text.now) word.entry) }
 {
+    let Some(text) = word else {
+        return Ok(AceForm::Nfs4);
+    };
     if text == "nfs4" {
         return Ok(AceForm::Nfs4);
     }

@@ -9,13 +9,14 @@ ghost use Rattle.acl_bridge.specs.TranslationLaws.{DecideAlike};
 ghost use Rattle.acl_access.specs.Changes.{IsAlikeToAll};
 ghost use Rattle.acl_listings.specs.Block.{FileValue, file_by};
 ghost use Rattle.acl_listings.specs.declared.lists.Lists.TheVariants.{Posix};
-ghost use Rattle.acl_listing_answers.specs.Files.{file_of};
-ghost use Rattle.acl_listing_answers.specs.Host.{names_of_host};
-ghost use Rattle.acl_listing_answers.specs.declared.host.Host.{Host as HostValue};
+ghost use Rattle.acl_reports.specs.Files.{file_of};
+ghost use Rattle.acl_people.specs.Host.{Host as HostValue, names_of_host};
 ghost use Rattle.acl_listing_translation.specs.TranslateLaws.{IsTold, TellsNothing, TellsNothingOf};
 ghost use Rattle.acl_listing_translation.specs.TranslateLaws.{with_told};
 ghost use Rattle.acl_listing_translation.specs.Translated.{aces_of};
 ghost use Rattle.acl_listing_translation.specs.declared.form.AceForm.{AceForm as FormValue};
+ghost use Rattle.acl_listing_translation.specs.declared.lists.TheConstants.{ATTRIBUTES};
+ghost use Rattle.acl_listing_translation.specs.declared.lists.TheConstants.{OWNER_ATTRIBUTES};
 
 /// A block that is reported, in either form, is read again, by the names by which its block was
 /// read: as the same file, with the NFSv4 list that was reported. There is nothing to run here: a
@@ -51,4 +52,11 @@ pub fn translations_change_nothing()
         (text told : List ℕ) (file : FileValue) → IsTold host form attributes text file told
         → (block : List ℕ) × (told ≡ block ++ newline ∷ newline ∷ [])
         × TellsNothingOf (names_of_host host) text block }
+{}
+
+/// What servers check of an owner besides, `tTnNcCoy`, and of everybody, `tncy`, as numbers. There
+/// is nothing to run here: a proof cites the contract.
+pub fn attributes_in_numbers()
+    ensures owner { OWNER_ATTRIBUTES ≡ 0x1e0198 }
+    ensures everyone { ATTRIBUTES ≡ 0x120088 }
 {}

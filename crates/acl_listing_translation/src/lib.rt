@@ -11,5 +11,6 @@ mod teller;
 
 pub use command::Translate;
 pub use laws::{
-    translations_are_read_again, translations_change_nothing, translations_decide_alike,
+    attributes_in_numbers, translations_are_read_again, translations_change_nothing,
+    translations_decide_alike,
 };

@@ -5,7 +5,7 @@ ghost use Rattle.acl_names.specs.Bytes.{comma, newline};
 ghost use Rattle.acl_listings.specs.Guess.{begins};
 ghost use Rattle.acl_listings.specs.Nfs4Block.{aces_lines, ended_line, flags_line, front_of};
 ghost use Rattle.acl_listings.specs.Nfs4Block.{nfs4_block};
-ghost use Rattle.acl_listing_answers.specs.Telling.{IsPart};
+ghost use Rattle.acl_reports.specs.Telling.{IsPart};
 ghost use Rattle.acl_listing_translation.specs.Translated.{entry_in, if_short, pair_in, spec_in};
 
 use crate::escapes::push_unescaped;

@@ -1,13 +1,14 @@
 //! What `translate` tells of a block of a listing.
-ghost use Rattle.acl_listing_answers.specs.Telling.{IsPart};
+ghost use Rattle.acl_reports.specs.Telling.{IsPart};
 ghost use Rattle.acl_listing_translation.specs.Translated.{told_as};
 
 use crate::form::AceForm;
 use crate::lists::nfs4_list;
 use crate::printing::{push_block, push_pair};
-use acl_listing_answers::{BlockTeller, Host};
 use acl_listings::{FileFault, read_file};
 use acl_nfs4::Ace;
+use acl_people::Host;
+use acl_reports::BlockTeller;
 use std::alloc::Global;
 
 /// Tells of each block its file's NFSv4 list.

@@ -2,7 +2,7 @@
 ghost use Rattle.std.specs.Prelude.{◌≡◌, ◌&&◌, ◌⊎◌, IfErr, IfOk, OnErr};
 ghost use Rattle.acl_cli.specs.Commands.{FrontWentOut, NothingWentOut, WentOut};
 ghost use Rattle.acl_cli.specs.Failures.{failed_write};
-ghost use Rattle.acl_listing_answers.specs.Telling.{IsListingFailure};
+ghost use Rattle.acl_reports.specs.Telling.{IsListingFailure};
 ghost use Rattle.acl_listing_changes.specs.Changes.{IsChangeAnswer, IsChangeBegun, OfAfter};
 ghost use Rattle.acl_listing_changes.specs.Changes.{OfListings, ending_of_both, with_difference};
 
@@ -25,7 +25,7 @@ struct Changes<'n, 't, C: ChangeTeller, A: Read + Drop> {
 }
 
 impl<'n, 't, C: ChangeTeller, A: Read + Drop> Telling<'n> for Changes<'n, 't, C, A> {
-    ghost use Rattle.acl_listing_answers.specs.Telling.{IsListingFailure};
+    ghost use Rattle.acl_reports.specs.Telling.{IsListingFailure};
     ghost use Rattle.acl_listing_changes.specs.ChangeSteps.{BeginsLeft, EndsLeft, TellsLeft};
 
     ghost Tells = { λ changes. TellsLeft (C.wording changes.sides.teller.now)

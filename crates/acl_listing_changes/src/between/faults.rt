@@ -1,13 +1,13 @@
 //! What is wrong with a block of one of two listings, and how that is said.
 ghost use Rattle.std.specs.Prelude.{◌≡◌, ◌++◌, ℕ, IfErr, IfOk, List, OnOk};
-ghost use Rattle.acl_listing_answers.specs.Listed.{IsFaultLine, IsSaid};
-ghost use Rattle.acl_listing_answers.specs.Telling.{IsListingFailure};
+ghost use Rattle.acl_reports.specs.Listed.{IsFaultLine, IsSaid};
+ghost use Rattle.acl_reports.specs.Telling.{IsListingFailure};
 ghost use Rattle.acl_listing_changes.specs.Changes.{part_of, unless_repeated};
 
 use super::teller::ChangeTeller;
 use acl_cli::Failure;
-use acl_listing_answers::push_fault_at;
 use acl_listings::BlockFault;
+use acl_reports::push_fault_at;
 use std::alloc::Global;
 
 /// What is wrong with a block, whose path a block before it may have.

@@ -4,14 +4,14 @@ ghost use Rattle.std.specs.Prelude.{bytes_eq, length, map, option_map, slice_get
 ghost use Rattle.std.specs.HashMap.{get_by};
 ghost use Rattle.std.specs.Option.{option_and_then};
 ghost use Rattle.acl_listings.specs.Cursor.{blocks_to_come};
-ghost use Rattle.acl_listing_answers.specs.Paths.{first_path, has_path};
-ghost use Rattle.acl_listing_answers.specs.Telling.{IsListingFailure};
+ghost use Rattle.acl_reports.specs.Paths.{first_path, has_path};
+ghost use Rattle.acl_reports.specs.Telling.{IsListingFailure};
 ghost use Rattle.acl_listing_changes.specs.Kept.{AreAll, block_of, first_place, is_earlier};
 ghost use Rattle.acl_listing_changes.specs.Kept.{place_of};
 
 use acl_cli::Failure;
-use acl_listing_answers::advance;
 use acl_listings::{Blocks, path_of};
+use acl_reports::advance;
 use std::alloc::{AllocError, Global};
 use std::collections::HashMap;
 use std::io::Read;
@@ -100,7 +100,7 @@ impl<'t> Model for KeptListing<'t> {
     ghost use Rattle.std.specs.Prelude.{◌≡◌, ℕ, List, bytes_eq, map};
     ghost use Rattle.std.specs.HashMap.{get_by};
     ghost use Rattle.acl_listings.specs.Listing.{Block};
-    ghost use Rattle.acl_listing_answers.specs.Paths.{has_path};
+    ghost use Rattle.acl_reports.specs.Paths.{has_path};
     ghost use Rattle.acl_listing_changes.specs.Kept.{block_of, first_place};
 
     ghost Value = { List Block };

@@ -8,8 +8,8 @@ ghost use Rattle.acl_listing_changes.specs.ChangeMeaning.{change_meaning};
 use super::changes::tell_both;
 use super::teller::ChangeTeller;
 use acl_cli::fields::text_field;
-use acl_cli::{Ending, ErrorOutput, Failure, OpenFiles, Reason};
-use acl_listing_answers::INPUT;
+use acl_cli::{Ending, ErrorOutput, Failure, Misuse, OpenFiles, Reason};
+use acl_reports::INPUT;
 use clap::ArgMatches;
 use std::alloc::Global;
 use std::io::{Read, Write};
@@ -64,7 +64,7 @@ where
 {
     if before == INPUT {
         if after == INPUT {
-            return Err(Failure::InputTwice);
+            return Err(Failure::Misuse(Misuse::InputTwice));
         }
         let later = open(files, after)?;
         return tell_both(alloc, teller, (before, input), (after, later), out, err);

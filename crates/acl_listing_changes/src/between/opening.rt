@@ -1,13 +1,13 @@
 //! What is said of the listing before.
 ghost use Rattle.std.specs.Prelude.{◌≡◌, ◌<◌, ◌+◌, IfErr, IfOk, OnOk, length};
-ghost use Rattle.acl_listing_answers.specs.Telling.{IsListingFailure};
+ghost use Rattle.acl_reports.specs.Telling.{IsListingFailure};
 ghost use Rattle.acl_listing_changes.specs.ChangeSteps.{AreRead, IsOpenedTo, IsOpening};
 
 use super::faults::say_block;
 use super::kept::KeptListing;
 use super::teller::ChangeTeller;
 use acl_cli::Failure;
-use acl_listing_answers::Tally;
+use acl_reports::Tally;
 use std::alloc::Global;
 
 /// What is said of the listing before, how many of its blocks are malformed, and which are not.

@@ -2,7 +2,7 @@
 ghost use Rattle.std.specs.Prelude.{◌≡◌, IfErr, IfOk, OnOk};
 ghost use Rattle.std.specs.Bool.{MatchBool};
 ghost use Rattle.acl_listings.specs.Cursor.{HandsOut, IsOver};
-ghost use Rattle.acl_listing_answers.specs.Telling.{IsListingFailure};
+ghost use Rattle.acl_reports.specs.Telling.{IsListingFailure};
 ghost use Rattle.acl_listing_changes.specs.ChangeSteps.{Appended, Here, IsLast, IsStep};
 ghost use Rattle.acl_listing_changes.specs.ChangeSteps.{TellsTold, seen_on};
 
@@ -10,8 +10,8 @@ use super::seen::Seen;
 use super::sides::Sides;
 use super::teller::ChangeTeller;
 use acl_cli::{Failure, RunFault};
-use acl_listing_answers::Tally;
 use acl_listings::{Blocks, ReadFault};
+use acl_reports::Tally;
 use std::alloc::{AllocError, Global};
 use std::io::Read;
 use std::marker::Model;

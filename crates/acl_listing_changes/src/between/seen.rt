@@ -1,14 +1,14 @@
 //! What was seen of the listing after.
 ghost use Rattle.std.specs.Prelude.{◌≡◌, IfErr, IfOk, OnOk, option_map};
 ghost use Rattle.acl_listings.specs.Block.{path_of};
-ghost use Rattle.acl_listing_answers.specs.Paths.{or_first};
-ghost use Rattle.acl_listing_answers.specs.Telling.{IsListingFailure};
+ghost use Rattle.acl_reports.specs.Paths.{or_first};
+ghost use Rattle.acl_reports.specs.Telling.{IsListingFailure};
 ghost use Rattle.acl_listing_changes.specs.ChangeSteps.{is_marked, nothing_seen, with_seen};
 
 use super::marks::{is_marked, mark};
 use acl_cli::Failure;
-use acl_listing_answers::Tally;
 use acl_listings::{BlockFault, path_of};
+use acl_reports::Tally;
 use std::alloc::{AllocError, Global};
 use std::marker::Model;
 

@@ -1,8 +1,8 @@
 //! Two listings, of which the one before is in memory.
 ghost use Rattle.std.specs.Prelude.{◌≡◌, ◌++◌, IfErr, IfOk, OnOk, is_none};
-ghost use Rattle.acl_listing_answers.specs.Listed.{closing};
-ghost use Rattle.acl_listing_answers.specs.Paths.{block_for, first_path};
-ghost use Rattle.acl_listing_answers.specs.Telling.{IsListingFailure};
+ghost use Rattle.acl_reports.specs.Listed.{closing};
+ghost use Rattle.acl_reports.specs.Paths.{block_for, first_path};
+ghost use Rattle.acl_reports.specs.Telling.{IsListingFailure};
 ghost use Rattle.acl_listing_changes.specs.ChangeSteps.{Appended, AreRead, TellsMissing, TellsTold};
 ghost use Rattle.acl_listing_changes.specs.ChangeSteps.{Here, fault_here};
 ghost use Rattle.acl_listing_changes.specs.Changes.{TellsIf, TellsNextBy, TellsSince, apart_by};

@@ -2,7 +2,7 @@
 ghost use Rattle.std.specs.Prelude.{◌≡◌, ◌++◌, IfOk, OnOk, map, option_map, slice_get};
 ghost use Rattle.std.specs.List.{flat_map};
 ghost use Rattle.acl_bridge.specs.Files.{view_acl};
-ghost use Rattle.acl_listing_answers.specs.Asked.{persons_in};
+ghost use Rattle.acl_people.specs.Asked.{persons_in};
 ghost use Rattle.acl_listing_changes.specs.ImpactSteps.{TellsAt, TellsBy, line_at, view_one};
 ghost use Rattle.acl_listing_changes.specs.Impacting.{Tells, TellsAnybody, TellsFirst};
 ghost use Rattle.acl_listing_changes.specs.Impacting.{TellsPersons, TellsThose, lines_if};
@@ -12,9 +12,9 @@ use crate::impact_lines::{push_person, push_somebody};
 use acl_access::{change_for, change_for_anybody, effective};
 use acl_bridge::FileAcl;
 use acl_bridge::bits::mask_for;
-use acl_listing_answers::People;
 use acl_names::Requester;
 use acl_nfs4::Mask;
+use acl_people::People;
 use bitflags::Flags;
 use std::alloc::{AllocError, Global};
 
@@ -158,23 +158,24 @@ pub(super) fn push_those(
     }
 }
 
-/// Appends the line of somebody whom it concerns that a file became another, if anybody is asked
-/// about.
+/// Appends the line of somebody whom it concerns that a file became another, and who is neither uid
+/// 0 nor one of these, if anybody else is asked about.
 pub(super) fn push_anybody(
     alloc: Global,
     asked: bool,
+    known: &[Requester],
     before: &FileAcl<'_>,
     after: &FileAcl<'_>,
     path: &[u8],
     out: &mut Vec<u8>,
 ) -> Result<(), AllocError>
-    ensures { OnOk result (Tells (TellsAnybody asked (view_acl before.now) (view_acl after.now)
-        path.now) out.old.items out.new.items) }
+    ensures { OnOk result (Tells (TellsAnybody asked known.now (view_acl before.now)
+        (view_acl after.now) path.now) out.old.items out.new.items) }
 {
     if !asked {
         return Ok(());
     }
-    match change_for_anybody(alloc, before, after) {
+    match change_for_anybody(alloc, before, after, known) {
         Ok(Some(found)) => push_somebody(found.asker, found.lost, found.gained, path, out),
         Ok(None) => Ok(()),
         Err(refused) => Err(refused),

@@ -8,12 +8,12 @@ use super::asked::{push_all_who_may, push_anybody, push_those};
 use crate::impact_lines::push_path;
 use acl_access::is_same_file;
 use acl_bridge::FileAcl;
-use acl_listing_answers::People;
+use acl_people::People;
 use std::alloc::{AllocError, Global};
 
 /// Whom changes concern.
 #[derive(Clone, Copy)]
-pub struct Concerned<'t> {
+pub(super) struct Concerned<'t> {
     /// Who is asked about.
     pub people: &'t People,
     /// Whether each of these people has a line, and not only the first.
@@ -32,7 +32,7 @@ fn nothing_yet(somebody: bool, kept: usize, now: usize) -> bool
 impl<'t> Concerned<'t> {
     /// Appends the lines of those whom it concerns that a file at this path became another. Fails
     /// only if memory runs out.
-    pub fn push_impact(
+    pub(super) fn push_impact(
         &self,
         alloc: Global,
         before: &FileAcl<'_>,
@@ -51,12 +51,13 @@ impl<'t> Concerned<'t> {
         push_those(self.each, before, after, self.people, path, out)?;
         let now = out.len();
         let asked = nothing_yet(self.somebody, kept, now);
-        push_anybody(alloc, asked, before, after, path, out)
+        let known = self.people.requesters.as_slice();
+        push_anybody(alloc, asked, known, before, after, path, out)
     }
 
     /// Appends the line of a path whose file is gone, or else new, and, if each has a line, those
     /// of who might do something with it, or may. Fails only if memory runs out.
-    pub fn push_path(
+    pub(super) fn push_path(
         &self,
         gone: bool,
         file: &FileAcl<'_>,

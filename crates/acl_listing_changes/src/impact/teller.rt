@@ -11,8 +11,9 @@ use super::concerned::Concerned;
 use crate::between::ChangeTeller;
 use crate::impact_lines::push_apart;
 use acl_bridge::FileAcl;
-use acl_listing_answers::{Host, People, owners_and_list};
 use acl_listings::{BlockFault, File, FileFault, faulty_line, read_file};
+use acl_people::{Host, People};
+use acl_reports::owners_and_list;
 use std::alloc::{AllocError, Global};
 
 /// Tells whom changes concern.

@@ -1,10 +1,12 @@
 //! The command `restore`.
 use super::teller::RestoreTeller;
 use crate::between::{after_field, before_field, tell_between};
-use acl_cli::{Command as CliCommand, CommandLine, Ending, ErrorOutput, Failure, OpenFiles};
-use acl_listing_answers::options::{after_word, before_word};
-use clap::{ArgMatches, Command};
-use std::alloc::{AllocError, Global};
+use acl_cli::{
+    Command as CliCommand, CommandLine, Ending, ErrorOutput, Failure, Line, OpenFiles, Word,
+};
+use acl_reports::options::{AFTER, BEFORE};
+use clap::ArgMatches;
+use std::alloc::Global;
 use std::io::{Read, Write};
 
 /// What is reported, and what the exit statuses are.
@@ -27,6 +29,9 @@ compared, or a listing has none at all.";
 #[derive(Clone, Copy)]
 pub struct Restore;
 
+/// What stands in the line, in the order of help.
+const WORDS: [Word<'static>; 2] = [BEFORE, AFTER];
+
 impl CommandLine for Restore {
     ghost use Rattle.acl_listing_changes.specs.RestoreLine.{restore_line, restore_line-free};
     ghost use Rattle.acl_listing_changes.specs.RestoreLine.{restore_line-simple};
@@ -37,13 +42,14 @@ impl CommandLine for Restore {
 
     ghost line_free = { restore_line-free };
 
-    fn command<'a>(alloc: Global) -> Result<Command<'a>, AllocError> {
-        Command::new(alloc, "restore")
-            .bin_name("aclctl restore")?
-            .about("Prints what brings back the lists of files as a listing had them.")
-            .after_help(ANSWERS)
-            .arg(before_word(alloc))?
-            .arg(after_word(alloc))
+    #[tactic(auto, unfolding(crate::specs::RestoreLine::restore_line))]
+    fn line() -> Line<'static> {
+        Line {
+            name: "restore",
+            about: "Prints what brings back the lists of files as a listing had them.",
+            after_help: ANSWERS,
+            words: &WORDS,
+        }
     }
 }
 

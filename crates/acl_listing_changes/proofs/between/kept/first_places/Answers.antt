@@ -7,7 +7,7 @@ use Rattle.std.proofs.lemmas.List.{get_or-map, length-map, take_more}
 use Rattle.std.proofs.lemmas.Map.Text.{hash_map_updates_str}
 use Rattle.acl_listings.specs.Block.{path_of}
 use Rattle.acl_listings.specs.Listing.{Block}
-use Rattle.acl_listing_answers.specs.Paths.{has_path}
+use Rattle.acl_reports.specs.Paths.{has_path}
 use Rattle.acl_listing_changes.specs.Kept.{block_of, first_place}
 use Rattle.acl_listing_changes.proofs.PlacesLemmas.{known_path, none_found, new_path, no_path}
 use Rattle.acl_listing_changes.proofs.between.kept.first_places.Goals as goal

@@ -1,6 +1,6 @@
 use Rattle.std.proofs.Common.{◌≡◌, ℕ, List, bytes_eq, map, take}
 use Rattle.std.specs.HashMap.{get_by}
-use Rattle.acl_listing_answers.specs.Paths.{has_path}
+use Rattle.acl_reports.specs.Paths.{has_path}
 use Rattle.acl_listing_changes.specs.Kept.{block_of, first_place}
 use Rattle.acl_listing_changes.proofs.between.kept.first_places.Given as goal
 

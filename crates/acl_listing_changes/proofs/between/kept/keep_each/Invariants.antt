@@ -1,5 +1,5 @@
 use Rattle.std.proofs.Common.{map}
-use Rattle.acl_listing_answers.specs.Seen.{Splits}
+use Rattle.acl_reports.specs.Seen.{Splits}
 use Rattle.acl_listing_changes.specs.Kept.{block_of}
 use Rattle.acl_listing_changes.proofs.between.kept.keep_each.Given as goal
 

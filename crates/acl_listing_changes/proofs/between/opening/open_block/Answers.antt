@@ -1,7 +1,7 @@
 use Rattle.std.proofs.Common.{rules, ◌≡◌, ◌∙◌, ◌+◌, ◌++◌, ◌∷◌, [], List, ℕ, Some, ap, arith, is_none, length, length-append, option_map, subst, sym}
 use Rattle.std.specs.Prelude.{slice_get}
 use Rattle.acl_listings.specs.Listing.{Block}
-use Rattle.acl_listing_answers.specs.Listed.{IsSaid}
+use Rattle.acl_reports.specs.Listed.{IsSaid}
 use Rattle.acl_listing_changes.specs.ChangeSteps.{AreRead, counted}
 use Rattle.acl_listing_changes.specs.Changes.{part_of, unless_repeated}
 use Rattle.acl_listing_changes.specs.Kept.{block_of, is_earlier, place_of}

@@ -1,7 +1,7 @@
 use Rattle.std.proofs.Common.{rules, ◌≡◌, ◌∙◌, None, Option, Some, ap, map, option_map, sym, List, ℕ}
 use Rattle.std.specs.Prelude.{slice_get}
 use Rattle.acl_names.specs.Requester.{Identity}
-use Rattle.acl_listing_answers.specs.Asked.{names_of_people}
+use Rattle.acl_people.specs.Asked.{names_of_people}
 use Rattle.acl_listing_changes.proofs.ImpactLemmas.{both_of, none_right, person_at}
 use Rattle.acl_listing_changes.proofs.impact.asked.one_at.Goals as goal
 

@@ -1,6 +1,6 @@
 use Rattle.std.proofs.Common.{◌≤◌, arith, length}
 use Rattle.acl_bridge.specs.Files.{view_acl}
-use Rattle.acl_listing_answers.specs.Asked.{names_of_people, persons_in}
+use Rattle.acl_people.specs.Asked.{names_of_people, persons_in}
 use Rattle.acl_listing_changes.proofs.ImpactLemmas.{each_all, each_more, each_none}
 use Rattle.acl_listing_changes.proofs.impact.asked.push_each.Goals as goal
 

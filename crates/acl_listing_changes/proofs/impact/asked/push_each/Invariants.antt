@@ -1,5 +1,5 @@
 use Rattle.acl_bridge.specs.Files.{view_acl}
-use Rattle.acl_listing_answers.specs.Asked.{persons_in}
+use Rattle.acl_people.specs.Asked.{persons_in}
 use Rattle.acl_listing_changes.proofs.ImpactLemmas.{IsEachTo}
 use Rattle.acl_listing_changes.proofs.impact.asked.push_each.Given as goal
 

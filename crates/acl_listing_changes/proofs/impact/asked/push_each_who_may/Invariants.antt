@@ -1,7 +1,7 @@
 use Rattle.std.proofs.Common.{◌≡◌, ◌++◌, take}
 use Rattle.std.specs.List.{flat_map}
 use Rattle.acl_bridge.specs.Files.{view_acl}
-use Rattle.acl_listing_answers.specs.Asked.{persons_in}
+use Rattle.acl_people.specs.Asked.{persons_in}
 use Rattle.acl_listing_changes.specs.Impacting.{may_line}
 use Rattle.acl_listing_changes.proofs.impact.asked.push_each_who_may.Given as goal
 

@@ -1,7 +1,7 @@
 use Rattle.std.proofs.Common.{rules, ◌≡◌, ◌≤◌, Bool, true, false, arith, length, subst}
 use Rattle.std.specs.Prelude.{slice_get}
 use Rattle.acl_bridge.specs.Files.{view_acl}
-use Rattle.acl_listing_answers.specs.Asked.{names_of_people, persons_in}
+use Rattle.acl_people.specs.Asked.{names_of_people, persons_in}
 use Rattle.acl_listing_changes.specs.Impacting.{Tells}
 use Rattle.acl_listing_changes.specs.ImpactSteps.{TellsAt}
 use Rattle.acl_listing_changes.proofs.ImpactLemmas.{first_all, first_found, first_more, first_none}

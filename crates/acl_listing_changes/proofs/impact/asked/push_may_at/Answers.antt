@@ -1,8 +1,8 @@
 use Rattle.std.proofs.Common.{rules, ◌≡◌, ◌∙◌, ◌++◌, None, Option, Some, OnOk, ap, append-nil, option_map, subst, sym}
 use Rattle.std.specs.Prelude.{slice_get}
 use Rattle.acl_bridge.specs.Files.{view_acl}
-use Rattle.acl_listing_answers.specs.Asked.{persons_in}
-use Rattle.acl_listing_answers.specs.Person.{Person}
+use Rattle.acl_people.specs.Asked.{persons_in}
+use Rattle.acl_people.specs.Person.{Person}
 use Rattle.acl_listing_changes.specs.ImpactSteps.{line_at, view_one}
 use Rattle.acl_listing_changes.specs.Impacting.{may_line}
 use Rattle.acl_listing_changes.proofs.impact.asked.push_may_at.Goals as goal

@@ -1,10 +1,10 @@
-use Rattle.std.proofs.Common.{◌≡◌, ◌∙◌, List, ℕ, ap, ap₂, codes, inr, subst}
+use Rattle.std.proofs.Common.{◌≡◌, ◌∙◌, List, ℕ, ap, ap₂, codes, inr, subst, refl}
 use Rattle.clap.specs.Words.{Row, found_of, rows_of}
 use Rattle.acl_cli.specs.Fields.{flag_in}
 use Rattle.acl_cli.proofs.CommandsLemmas.{Comes-as}
-use Rattle.acl_listing_answers.specs.Host.{names_of_host}
-use Rattle.acl_listing_answers.specs.Listed.{AnswersListing, BeginsListing}
-use Rattle.acl_listing_answers.specs.ListingMeaning.{FailsForListing, bytes_named, inputs_of, listing_meaning}
+use Rattle.acl_people.specs.Host.{names_of_host}
+use Rattle.acl_reports.specs.Listed.{AnswersListing, BeginsListing}
+use Rattle.acl_reports.specs.ListingMeaning.{FailsForListing, bytes_named, inputs_of, listing_meaning}
 use Rattle.acl_listing_translation.specs.Translated.{Translating, translate_part}
 use Rattle.acl_listing_translation.specs.TranslateMeaning.{translate_meaning}
 use Rattle.acl_listing_translation.proofs.command.TranslateCliCommand.answer.Goals as goal
@@ -39,6 +39,6 @@ returns g c =
       is = subst (λ (name : List ℕ). BeginsListing name (names_of_host host) (translate_part asked) (bytes_named files input name) answer) name_is
           (subst (λ (asking : Translating). BeginsListing c.listing_field.result.now (names_of_host host) (translate_part asking) (bytes_named files input c.listing_field.result.now) answer) same is);
     })
-    (λ failure fails. inr (inr (subst (λ (name : List ℕ). FailsForListing name failure) name_is fails)))
+    (λ failure fails. inr (rw c.in_ok-form.ensures.read refl, inr (subst (λ (name : List ℕ). FailsForListing name failure) name_is fails)))
     (λ none. ap inputs_of name_is ∙ none)
     c.tell_named.ensures

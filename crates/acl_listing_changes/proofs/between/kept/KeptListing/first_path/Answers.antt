@@ -2,7 +2,7 @@ use Rattle.std.proofs.Common.{rules, ◌≡◌, ◌∙◌, ◌<◌, ◌+◌, ◌
 use Rattle.std.proofs.lemmas.List.{get_or-map, length-map, take_more}
 use Rattle.acl_listings.specs.Block.{path_of}
 use Rattle.acl_listings.specs.Listing.{Block}
-use Rattle.acl_listing_answers.specs.Paths.{first_path}
+use Rattle.acl_reports.specs.Paths.{first_path}
 use Rattle.acl_listing_changes.specs.Kept.{block_of}
 use Rattle.acl_listing_changes.proofs.FirstPathLemmas.{first_there, none_so_far}
 use Rattle.acl_listing_changes.proofs.between.kept.KeptListing.first_path.Goals as goal

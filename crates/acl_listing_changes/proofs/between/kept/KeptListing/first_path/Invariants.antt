@@ -1,5 +1,5 @@
 use Rattle.std.proofs.Common.{◌≡◌, None, take}
-use Rattle.acl_listing_answers.specs.Paths.{first_path}
+use Rattle.acl_reports.specs.Paths.{first_path}
 use Rattle.acl_listing_changes.proofs.between.kept.KeptListing.first_path.Given as goal
 
 -- the first blocks have no path

@@ -1,7 +1,7 @@
 use Rattle.std.proofs.Common.{rules, ◌≡◌, ◌∙◌, None, Option, Some, ap, is_none, option_and_then, option_map, subst, sym, IfOk, List, ℕ}
 use Rattle.std.specs.Prelude.{slice_get}
 use Rattle.acl_listings.specs.Listing.{Block}
-use Rattle.acl_listing_answers.specs.Paths.{block_for}
+use Rattle.acl_reports.specs.Paths.{block_for}
 use Rattle.acl_listing_changes.specs.ChangeSteps.{Appended}
 use Rattle.acl_listing_changes.specs.Changes.{TellsIf, TellsOld, TellsSince}
 use Rattle.acl_listing_changes.specs.Kept.{block_of}

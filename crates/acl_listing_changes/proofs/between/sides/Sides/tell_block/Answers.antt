@@ -1,6 +1,6 @@
 use Rattle.std.proofs.Common.{◌≡◌, ◌∙◌, true, false, ap, is_none, subst, sym}
 use Rattle.acl_listings.specs.Listing.{Block}
-use Rattle.acl_listing_answers.specs.Paths.{block_for}
+use Rattle.acl_reports.specs.Paths.{block_for}
 use Rattle.acl_listing_changes.specs.ChangeSteps.{Appended, fault_here, is_marked}
 use Rattle.acl_listing_changes.specs.Changes.{TellsNextBy, unless_repeated}
 use Rattle.acl_listing_changes.specs.Kept.{place_of}

@@ -1,8 +1,10 @@
-use Rattle.std.proofs.Common.{rules, ◌≡◌, ◌∙◌, ◌&&◌, ap, length, refl}
+use Rattle.std.proofs.Common.{rules, ◌≡◌, ◌∙◌, ◌&&◌, List, OnOk, ap, length, refl, subst}
 use Rattle.std.specs.Prelude.{nat_eq}
 use Rattle.std.proofs.lemmas.Result.{on_ok_weaker}
+use Rattle.acl_names.specs.Requester.{Identity}
 use Rattle.acl_bridge.specs.Files.{view_acl}
 use Rattle.acl_listing_changes.specs.Concerns.{concern_of}
+use Rattle.acl_listing_changes.specs.Impacting.{Tells, TellsAnybody}
 use Rattle.acl_listing_changes.proofs.AlikeLemmas.{nobody_told}
 use Rattle.acl_listing_changes.proofs.ImpactLemmas.{impact_told}
 use Rattle.acl_listing_changes.proofs.impact.concerned.Concerned.push_impact.Goals as goal
@@ -20,4 +22,6 @@ returns c =
     on_ok_weaker c.push_anybody.result
     (impact_told (concern_of concerned) (view_acl c.args.before.now) (view_acl c.args.after.now) c.args.path.now c.args.out.now.items c.push_those.new.out.items c.push_anybody.new.out.items
     c.in_ok-push_those.ensures c.nothing_yet-asked.result asked)
-    c.push_anybody.ensures
+    (subst (λ (known : List Identity). OnOk c.push_anybody.result (Tells (TellsAnybody c.nothing_yet-asked.result known (view_acl c.args.before.now)
+    (view_acl c.args.after.now) c.args.path.now) c.push_those.new.out.items c.push_anybody.new.out.items))
+    c.as_slice-known.ensures.value c.push_anybody.ensures)

@@ -2,7 +2,7 @@ use Rattle.std.proofs.Common.{◌≡◌, ◌∙◌, ap, subst}
 use Rattle.std.proofs.lemmas.Result.{on_ok_weaker}
 use Rattle.acl_bridge.specs.Files.{File, file_with, view_list}
 use Rattle.acl_listings.specs.Views.{view_file}
-use Rattle.acl_listing_answers.specs.Files.{file_of}
+use Rattle.acl_reports.specs.Files.{file_of}
 use Rattle.acl_listing_changes.specs.ImpactSteps.{asking_by}
 use Rattle.acl_listing_changes.specs.Impacting.{Concern, Tells, TellsImpact}
 use Rattle.acl_listing_changes.proofs.ImpactLemmas.{change_told}

@@ -1,5 +1,5 @@
 use Rattle.std.proofs.Common.{◌≡◌, ◌∙◌, Option, Some, None, ap, is_some, option_map, refl}
-use Rattle.acl_listing_changes.proofs.impact.of_listings.names_users.Goals as goal
+use Rattle.acl_listing_changes.proofs.impact.command.names_users.Goals as goal
 
 some_shown : {X Y : Type 0} (f : X → Y) (found : Option X) → is_some found ≡ is_some (option_map f found)
 some_shown f None = refl
