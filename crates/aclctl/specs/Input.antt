@@ -2,8 +2,8 @@
 use Rattle.std.specs.Prelude.{◌≡◌, ◌<◌, ◌≤◌, ⊤, ℕ, List, length, IsUtf8, codes}
 use Rattle.acl_names.specs.Pieces.{lines_of}
 use Rattle.acl_cli.specs.declared.failure.Failure.{Failure}
-use Rattle.acl_cli.specs.declared.failure.Failure.TheVariants.{CannotRead, BadWords, Lacks}
-use Rattle.acl_cli.specs.declared.failure.Failure.TheVariants.{TooManyWords}
+use Rattle.acl_cli.specs.declared.failure.Failure.TheVariants.{CannotRead, Lacks, Misuse}
+use Rattle.acl_cli.specs.declared.misuse.Misuse.TheVariants.{BadWords, TooManyWords}
 use Rattle.acl_cli.specs.declared.reason.Reason.TheVariants.{Unknown}
 use Rattle.acl_cli.specs.declared.run_fault.RunFault.TheVariants.{Memory}
 
@@ -20,7 +20,7 @@ pub record AreWordsOf (bytes : List ℕ) (words : List (List ℕ)) : Type 0 wher
 -- nothing of them
 abbrev pub IsInputFailure : Failure → List ℕ → Type 0
 IsInputFailure (CannotRead name reason) bytes = (name.now ≡ codes "-") × (reason ≡ Unknown)
-IsInputFailure TooManyWords bytes = max_bytes < length bytes
-IsInputFailure BadWords bytes = ¬ IsUtf8 bytes
+IsInputFailure (Misuse TooManyWords) bytes = max_bytes < length bytes
+IsInputFailure (Misuse BadWords) bytes = ¬ IsUtf8 bytes
 IsInputFailure (Lacks lack) bytes = lack ≡ Memory
 IsInputFailure _ bytes = ⊥

@@ -1,4 +1,5 @@
 pub mod Names
 pub mod Input
 pub mod HelpOf
+pub mod HelpText
 pub mod Program

@@ -7,7 +7,8 @@ use Rattle.aclctl.specs.declared.named.Asked.TheVariants.{Command, HelpOf, Nothi
 use Rattle.aclctl.specs.declared.named.Named.{Named}
 use Rattle.aclctl.specs.declared.named.Named.TheVariants.{Decide, Explain, Compare, Run, Who}
 use Rattle.aclctl.specs.declared.named.Named.TheVariants.{Why, Impact, Restore, Translate}
-use Rattle.aclctl.specs.declared.named.Named.TheVariants.{Dump, Lint, Help, Version}
+use Rattle.aclctl.specs.declared.named.Named.TheVariants.{List as ListTree, Dump, Lint}
+use Rattle.aclctl.specs.declared.named.Named.TheVariants.{Help, Version}
 
 -- the command of this name
 abbrev pub named : Text → Option Named
@@ -21,6 +22,7 @@ named word =
     else if bytes_eq word (codes "impact") then Some Impact
     else if bytes_eq word (codes "restore") then Some Restore
     else if bytes_eq word (codes "translate") then Some Translate
+    else if bytes_eq word (codes "list") then Some ListTree
     else if bytes_eq word (codes "dump") then Some Dump
     else if bytes_eq word (codes "lint") then Some Lint
     else if bytes_eq word (codes "help") then Some Help
@@ -39,6 +41,7 @@ name_of Why = codes "why"
 name_of Impact = codes "impact"
 name_of Restore = codes "restore"
 name_of Translate = codes "translate"
+name_of ListTree = codes "list"
 name_of Dump = codes "dump"
 name_of Lint = codes "lint"
 name_of Help = codes "--help"

@@ -9,11 +9,16 @@ use Rattle.acl_cli.specs.ErrorOutput.{ErrorText, Tells, line_of_words}
 use Rattle.acl_cli.specs.Failures.{failed_write, line_of, status_of}
 use Rattle.acl_cli.specs.declared.command.Ending.TheVariants.{Answered}
 use Rattle.acl_cli.specs.declared.failure.Failure.{Failure}
-use Rattle.acl_cli.specs.declared.failure.Failure.TheVariants.{NoCommand}
+use Rattle.acl_cli.specs.declared.failure.Failure.TheVariants.{Misuse}
+use Rattle.acl_cli.specs.declared.misuse.Misuse.TheVariants.{NoCommand}
 use Rattle.acl_lint.specs.LintAnswer.{lint_meaning}
 use Rattle.acl_lint.specs.LintLine.{lint_line}
+use Rattle.acl_listing_queries.specs.WhoLine.{who_line}
+use Rattle.acl_listing_queries.specs.WhoMeaning.{who_meaning}
 use Rattle.acl_listing_queries.specs.WhyLine.{why_line}
 use Rattle.acl_listing_queries.specs.WhyMeaning.{why_meaning}
+use Rattle.acl_listing_changes.specs.ImpactLine.{impact_line}
+use Rattle.acl_listing_changes.specs.ImpactMeaning.{impact_meaning}
 use Rattle.acl_listing_changes.specs.RestoreLine.{restore_line}
 use Rattle.acl_listing_changes.specs.RestoreMeaning.{restore_meaning}
 use Rattle.acl_listing_translation.specs.TranslateLine.{translate_line}
@@ -28,20 +33,19 @@ use Rattle.acl_service.specs.RunLine.{run_line}
 use Rattle.acl_service.specs.RunMeaning.{run_meaning}
 use Rattle.acl_tree_queries.specs.DumpAnswer.{dump_meaning}
 use Rattle.acl_tree_queries.specs.DumpLine.{dump_line}
-use Rattle.acl_tree_queries.specs.ImpactLine.{impact_line}
-use Rattle.acl_tree_queries.specs.ImpactMeaning.{impact_meaning}
-use Rattle.acl_tree_queries.specs.WhoLine.{who_line}
-use Rattle.acl_tree_queries.specs.WhoMeaning.{who_meaning}
+use Rattle.acl_tree_queries.specs.ListAnswer.{list_meaning}
+use Rattle.acl_tree_queries.specs.ListLine.{list_line}
 use Rattle.aclctl.specs.HelpOf.{no_fields}
+use Rattle.aclctl.specs.HelpText.{help_text}
 use Rattle.aclctl.specs.Input.{AreWordsOf, IsInputFailure}
 use Rattle.aclctl.specs.Names.{asked, name_of}
-use Rattle.aclctl.specs.declared.help.TheConstants.{HELP}
 use Rattle.aclctl.specs.declared.named.Asked.{Asked}
 use Rattle.aclctl.specs.declared.named.Asked.TheVariants.{Command, HelpOf, Nothing}
 use Rattle.aclctl.specs.declared.named.Named.{Named}
 use Rattle.aclctl.specs.declared.named.Named.TheVariants.{Decide, Explain, Compare, Run, Who}
 use Rattle.aclctl.specs.declared.named.Named.TheVariants.{Why, Impact, Restore, Translate}
-use Rattle.aclctl.specs.declared.named.Named.TheVariants.{Dump, Lint, Help, Version}
+use Rattle.aclctl.specs.declared.named.Named.TheVariants.{List as ListTree, Dump, Lint}
+use Rattle.aclctl.specs.declared.named.Named.TheVariants.{Help, Version}
 
 -- what is reported of each file, by its name
 abbrev pub Files : Type 0
@@ -77,9 +81,11 @@ command_meaning files input Restore words =
     of_words restore_line true (restore_meaning files input) words
 command_meaning files input Translate words =
     of_words translate_line true (translate_meaning files input) words
+command_meaning files input ListTree words =
+    of_words list_line true (list_meaning files input) words
 command_meaning files input Dump words = of_words dump_line true (dump_meaning files input) words
 command_meaning files input Lint words = of_words lint_line true (lint_meaning files input) words
-command_meaning files input Help words = text_meaning HELP.now
+command_meaning files input Help words = text_meaning help_text
 command_meaning files input Version words = text_meaning version_text
 
 -- what the help of a command of this name and this line means
@@ -96,20 +102,21 @@ help_meaning Why = help_by (name_of Why) why_line
 help_meaning Impact = help_by (name_of Impact) impact_line
 help_meaning Restore = help_by (name_of Restore) restore_line
 help_meaning Translate = help_by (name_of Translate) translate_line
+help_meaning ListTree = help_by (name_of ListTree) list_line
 help_meaning Dump = help_by (name_of Dump) dump_line
 help_meaning Lint = help_by (name_of Lint) lint_line
-help_meaning Help = text_meaning HELP.now
-help_meaning Version = text_meaning HELP.now
+help_meaning Help = text_meaning help_text
+help_meaning Version = text_meaning help_text
 
 module _ {I : Type 0} (status : ℕ) (out out' : Option (List ℕ)) (err err' : ErrorText)
     (stdin stdin' : I) where
   -- no command is named: nothing is answered, and the line is reported with a text for people
   -- behind it
   pub record EndsUnnamed : Type 0 where
-    pub is_status : status ≡ status_of NoCommand
+    pub is_status : status ≡ status_of (Misuse NoCommand)
     pub silent : Keeps out out'
     pub more : List ℕ
-    pub told : IfSome (line_of NoCommand) (λ line. Tells (line ++ more) err err')
+    pub told : IfSome (line_of (Misuse NoCommand)) (λ line. Tells (line ++ more) err err')
     pub unread : stdin' ≡ stdin
 
   -- what the program results in that is asked for such a thing by these words

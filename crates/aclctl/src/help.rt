@@ -3,11 +3,12 @@ ghost use Rattle.std.specs.Prelude.{◌≡◌, ◌++◌, ℕ, IfSome, List};
 ghost use Rattle.acl_cli.specs.Commands.{Ends};
 ghost use Rattle.acl_cli.specs.ErrorOutput.{Tells};
 ghost use Rattle.acl_cli.specs.Failures.{line_of, status_of};
-ghost use Rattle.acl_cli.specs.declared.failure.Failure.TheVariants.{NoCommand};
+ghost use Rattle.acl_cli.specs.declared.failure.Failure.TheVariants as failure;
+ghost use Rattle.acl_cli.specs.declared.misuse.Misuse.TheVariants.{NoCommand};
+ghost use Rattle.aclctl.specs.HelpText.{help_text};
 ghost use Rattle.aclctl.specs.Program.{text_meaning, version_text};
-ghost use Rattle.aclctl.specs.declared.help.TheConstants.{HELP};
 
-use acl_cli::{ErrorOutput, Failure, RunFault, write_text};
+use acl_cli::{ErrorOutput, Failure, Misuse, RunFault, write_text};
 use std::alloc::Global;
 use std::io::{Read, Write};
 
@@ -15,15 +16,16 @@ use std::io::{Read, Write};
 pub const HELP: &str = "usage: aclctl COMMAND [OPTION].. [WORD]..
 
 commands:
-  who        tells who may do what with each file of a listing, or of a tree
+  who        tells who may do what with each file of a listing
   why        tells why a user may do something with a file of a listing, or not
-  impact     tells who gains or loses what between two listings, or by a session
+  impact     tells who gains or loses what between two listings
   restore    prints what brings back the lists of files as a listing had them
   translate  prints a listing with an NFSv4 list for each file
   decide     tells whether an access control list grants a request
   explain    tells why it does: which entries decide
   compare    tells whether anybody gains or loses access between two lists
   run        lets sessions work on one tree at the same time, and prints their answers
+  list       prints a tree as a listing, which the other commands read
   dump       prints a tree as a session that makes it again
   lint       tells what is wrong with a setup or with sessions, and where
   help       prints this, and help COMMAND the options of a command
@@ -70,12 +72,13 @@ fn print<I: Read, W: Write, E: Write + Drop>(
 }
 
 /// Prints what the program's commands are.
+#[tactic(auto, unfolding(crate::specs::HelpText::help_text))]
 pub fn print_help<I: Read, W: Write, E: Write + Drop>(
     input: &mut I,
     out: &mut W,
     err: &mut ErrorOutput<E>,
 ) -> u8
-    ensures { Ends (text_meaning HELP.now) result (W.contents out.old) (W.contents out.new) err.old
+    ensures { Ends (text_meaning help_text) result (W.contents out.old) (W.contents out.new) err.old
         err.new input.old input.new }
 {
     print(HELP, input, out, err)
@@ -100,16 +103,16 @@ pub fn report_no_command<E: Write + Drop>(
     word: Option<&str>,
     err: &mut ErrorOutput<E>,
 ) -> u8
-    ensures status { result ≡ status_of NoCommand }
+    ensures status { result ≡ status_of (failure.Misuse NoCommand) }
     ensures told { (more : List ℕ)
-        × IfSome (line_of NoCommand) (λ line. Tells (line ++ more) err.old err.new) }
+        × IfSome (line_of (failure.Misuse NoCommand)) (λ line. Tells (line ++ more) err.old err.new) }
 {
-    Failure::NoCommand.tell(err);
+    Failure::Misuse(Misuse::NoCommand).tell(err);
     let named = named_by(alloc, word).unwrap_or(String::new(alloc));
     err.write_text(named.as_bytes());
     err.write_text(b"\n");
     err.write_text(HELP.as_bytes());
-    Failure::NoCommand.status()
+    Failure::Misuse(Misuse::NoCommand).status()
 }
 
 /// What is said of a short word that names no command. None if memory runs out.

@@ -1,8 +1,10 @@
 //! The help of a command, where it alone is asked for.
 
-use acl_cli::{Command as CliCommand, CommandLine, Ending, ErrorOutput, Failure, OpenFiles};
-use clap::{ArgMatches, Command};
-use std::alloc::{AllocError, Global};
+use acl_cli::{
+    Command as CliCommand, CommandLine, Ending, ErrorOutput, Failure, Line, Misuse, OpenFiles,
+};
+use clap::ArgMatches;
+use std::alloc::Global;
 use std::io::{Read, Write};
 
 /// A command of which help is asked for. Its line is the command's, and help is an answer, on
@@ -19,8 +21,8 @@ impl<'c, C: CommandLine> CommandLine for HelpOf<'c, C> {
 
     ghost line_free = { C.line_free };
 
-    fn command<'a>(alloc: Global) -> Result<Command<'a>, AllocError> {
-        C::command(alloc)
+    fn line() -> Line<'static> {
+        C::line()
     }
 }
 
@@ -46,6 +48,6 @@ impl<'c, C: CommandLine> CliCommand for HelpOf<'c, C> {
         _out: &mut W,
         _err: &mut ErrorOutput<E>,
     ) -> Result<Ending, Failure<'a>> {
-        Err(Failure::NoCommand)
+        Err(Failure::Misuse(Misuse::NoCommand))
     }
 }

@@ -3,7 +3,7 @@ ghost use Rattle.std.specs.Prelude.{◌≡◌, ◌≢◌, [], map, IfErr, IfOk, 
 ghost use Rattle.std.specs.String.{string_bytes};
 ghost use Rattle.aclctl.specs.Input.{AreWordsOf, IsInputFailure};
 
-use acl_cli::{CapFault, Failure, Reason, RunFault, WordsFault, read_capped, words_of};
+use acl_cli::{CapFault, Failure, Misuse, Reason, RunFault, WordsFault, read_capped, words_of};
 use std::alloc::Global;
 use std::io::Read;
 
@@ -22,11 +22,11 @@ fn read_words<'n, R: Read>(alloc: Global, reader: &mut R) -> Result<Vec<String>,
     match read_capped(alloc, reader, MAX_BYTES) {
         Ok(bytes) => match words_of(alloc, bytes.as_slice()) {
             Ok(words) => Ok(words),
-            Err(WordsFault::BadWords) => Err(Failure::BadWords),
+            Err(WordsFault::BadWords) => Err(Failure::Misuse(Misuse::BadWords)),
             Err(WordsFault::Memory) => Err(Failure::Lacks(RunFault::Memory)),
         },
         Err(CapFault::Read) => Err(Failure::CannotRead("-", Reason::Unknown)),
-        Err(CapFault::TooLong) => Err(Failure::TooManyWords),
+        Err(CapFault::TooLong) => Err(Failure::Misuse(Misuse::TooManyWords)),
         Err(CapFault::Memory) => Err(Failure::Lacks(RunFault::Memory)),
     }
 }

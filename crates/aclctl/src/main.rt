@@ -8,7 +8,7 @@ mod named;
 mod output;
 mod program;
 
-use acl_cli::{ErrorOutput, Failure, OpenFiles, RunFault};
+use acl_cli::{ErrorOutput, Failure, Misuse, OpenFiles, RunFault};
 use output::{Faults, Output};
 use std::cell::Cell;
 use std::fs::File;
@@ -44,7 +44,7 @@ fn given_words<'n>(rt: &HostRuntime) -> Result<Vec<String>, Failure<'n>> {
         Err(error) if error.kind() == io::ErrorKind::OutOfMemory => {
             Err(Failure::Lacks(RunFault::Memory))
         }
-        Err(_) => Err(Failure::BadWords),
+        Err(_) => Err(Failure::Misuse(Misuse::BadWords)),
     }
 }
 
