@@ -7,25 +7,25 @@ _aclctl_options() {
         explain) echo --owner --group --uid --gids --perms --help ;;
         compare) echo --owner --group --help ;;
         run) echo --setup --journal --max-errors --help ;;
-        who) echo --accounts --setup --perms --letters --reach --user --session --help ;;
-        why) echo --accounts --setup --user --perms --help ;;
-        impact) echo --accounts --setup --all --user --text --exit-code --before --session --help ;;
+        who) echo --accounts --domain --perms --letters --delete --reach --user --help ;;
+        why) echo --accounts --domain --user --perms --help ;;
+        impact) echo --accounts --domain --all --user --text --exit-code --help ;;
         restore) echo --help ;;
-        translate) echo --accounts --setup --form --attributes --print0 --help ;;
-        dump) echo --setup --help ;;
+        translate) echo --accounts --domain --form --attributes --print0 --help ;;
+        list | dump) echo --setup --help ;;
         lint) echo --setup --help ;;
     esac
 }
 
 # The commands.
-_aclctl_commands='who why impact restore translate decide explain compare run dump lint help --version'
+_aclctl_commands='who why impact restore translate decide explain compare run list dump lint help --version'
 
 # What stands at a place of a command, from 0, options not counted: a style, a file, a command, or else
 # a text.
 _aclctl_kind() {
     case $1:$2 in
         explain:0 | compare:[02]) echo style ;;
-        run:* | lint:* | who:0 | why:0 | impact:[01] | restore:[01] | translate:0 | dump:0) echo file ;;
+        run:* | lint:* | who:0 | why:0 | impact:[01] | restore:[01] | translate:0 | list:0 | dump:0) echo file ;;
         help:0) echo command ;;
     esac
 }

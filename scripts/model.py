@@ -155,10 +155,10 @@ def is_alike(first, second, requesters=REQUESTERS):
 
 def requesters_about(*files):
     """The universe of files with POSIX lists: whom they name, and somebody whom none names, in up to three of the groups that they
-    name. Whoever asks is decided about as one of these is, if two groups are enough to tell two files apart."""
+    name; the root isn't among them but if they name it. Whoever asks is decided about as one of these is, if two groups are enough to tell two files apart."""
     uids = {it.owner for it in files} | {name for it in files for tag, name, _ in it.entries if tag == "u" and name != ""}
     gids = {it.group for it in files} | {name for it in files for tag, name, _ in it.entries if tag == "g" and name != ""}
-    stranger = next(it for it in itertools.count() if it not in uids)
+    stranger = next(it for it in itertools.count(1) if it not in uids)
     return [(uid, them) for uid in (*uids, stranger) for count in range(4) for them in itertools.combinations(sorted(gids), count)]
 
 
@@ -171,19 +171,20 @@ def differ_line(name, uid, gids, change, path):
 def is_told(line, path, before, after, users, requesters=REQUESTERS):
     """Whether a line of `impact`, or none, tells what became of a path, where there are these users, in the order of their names:
     (name, uid, gids). The first of them who is decided about otherwise has a line of exactly these words. If it is none of them it
-    may be anybody in at most two groups, who has to lose and gain what is told; and where nobody in the universe does there is no
-    line."""
+    may be anybody in at most two groups who is neither the root nor has the uid of a user, and who has to lose and gain what is
+    told; and where nobody such in the universe does there is no line."""
     if before is None:
         return line == f"new {path}"
+    known = {0, *(uid for _, uid, _ in users)}
     for name, uid, gids in users:
         change = change_for(before, after, uid, gids)
         if change != ("", ""):
             return line == differ_line(name, uid, gids, change, path)
-    if is_alike(before, after, requesters):
+    if is_alike(before, after, [it for it in requesters if it[0] not in known]):
         return line is None
     said = re.match(r"differ - ([0-9]+) (-|[0-9]+(?:,[0-9]+)?) ", line or "")
     if not said:
         return False
     uid, gids = int(said[1]), tuple(map(int, said[2].split(","))) if said[2] != "-" else ()
     change = change_for(before, after, uid, gids)
-    return change != ("", "") and line == differ_line("-", uid, gids, change, path)
+    return uid not in known and change != ("", "") and line == differ_line("-", uid, gids, change, path)

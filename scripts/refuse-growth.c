@@ -1,8 +1,9 @@
 /*
- * Refuses one growth of memory, or one thread. Preloaded into a program of tests by scripts/refused-growths, it counts the
- * calls that take memory and those that start a thread, and lets the one fail whose number is in the environment as
- * REFUSED_GROWTH or REFUSED_THREAD (none, if it is 0). How many growths there were, the bytes that the largest asked for,
- * and how many threads are written at the end to the file GROWTHS_FILE, if that is set.
+ * Refuses one growth of memory, or one thread. Preloaded into a program of tests by scripts/refused-growths, or into the
+ * program itself by scripts/try-cases, it counts the calls that take memory and those that start a thread, and lets the one
+ * fail whose number is in the environment as REFUSED_GROWTH or REFUSED_THREAD (none, if it is 0). How many growths there
+ * were, the bytes that the largest asked for, and how many threads are written at the end to the file GROWTHS_FILE, if that
+ * is set.
  */
 #define _GNU_SOURCE
 #include <dlfcn.h>

@@ -41,13 +41,15 @@ class SetupNames:
 
 
 class AccountNames:
-    """Ids by the names of accounts, as getfacl writes both: two backslashes are one, and one with three octal digits is that byte."""
+    """Ids by the names of accounts, as getfacl writes both: two backslashes are one, and one with three octal digits is that byte. If
+    there is a domain, what stands in it is what stands before it."""
 
-    def __init__(self, ids):
-        self.ids = ids
+    def __init__(self, ids, domain=None):
+        self.ids, self.domain = ids, domain
 
     def read(self, text):
         """The id that a text writes: S if it is neither a decimal nor a name, and U if the name is unknown."""
+        text = text.removesuffix(b"@" + self.domain) if self.domain else text
         if re.fullmatch(rb"[0-9]*", text):
             return int(text) if 1 <= len(text) <= 10 and int(text) <= 4294967294 else "S"
         name = re.sub(rb"\\(\\|[0-3][0-7]{2})", lambda it: b"\\" if it[1] == b"\\" else bytes([int(it[1], 8)]), text)
@@ -122,20 +124,29 @@ def is_folder_of(folder, path):
     return is_above(folder, path) and len(steps_of(folder)[1]) + 1 == len(steps_of(path)[1])
 
 
+def are_apart(one, other):
+    """Whether both paths begin alike, and neither is above the other."""
+    return one.startswith(b"/") == other.startswith(b"/") and not is_above(one, other) and not is_above(other, one)
+
+
 class Ways:
-    """The folders above each block of a listing in turn, the nearest first: (path, what was read of it)."""
+    """The folders above each block of a listing in turn, the nearest first: (path, what was read of it). Where a way begins
+    nothing may be above that the listing has elsewhere, nor what is elsewhere begin otherwise."""
 
     def __init__(self):
-        self.folders = []
+        self.folders, self.roots, self.begins_apart = [], [], True
 
     def to(self, path, read):
         """What was read of each folder above the path; None if that isn't known. The block itself comes onto the way then. Above a
         path that isn't told may be anything, and it may be above anything."""
         self.folders = [it for it in self.folders if None in (path, it[0]) or is_above(it[0], path)]
+        if not self.folders:
+            self.begins_apart = path is not None and all(are_apart(it, path) for it in self.roots)
+            self.roots += [path] * self.begins_apart
         steps = [path, *(it[0] for it in self.folders)]
         pairs = zip(steps, steps[1:])
         is_known = all(None not in it and is_folder_of(it[1], it[0]) for it in pairs) and all(it[1] for it in self.folders)
-        way = [it[1] for it in self.folders] if is_known else None
+        way = [it[1] for it in self.folders] if is_known and self.begins_apart else None
         self.folders.insert(0, (path, read))
         return way
 

@@ -1,6 +1,6 @@
 #!/usr/bin/env python3
-"""Times the questions of a whole tree, by the built program: `who` of 4096 nodes by 1024 users, and `impact` of a session that
-gives 40 of the nodes other lists, and `dump`, beside the runs of the sessions alone.
+"""Times the questions of a whole tree, by the built program: `list` and `dump` of 4096 nodes, `who` of that listing by 1024 users,
+and `impact` of what becomes of it if a session gives 40 of the nodes other lists, beside the runs of the sessions alone.
 
     bench/audit/run.py [TIMES]
 
@@ -35,6 +35,14 @@ def setup_lines():
         yield f'[[group]]\nname = "g{group}"\ngid = {100 + group}'
 
 
+def accounts_lines():
+    for user in range(USERS):
+        yield f"u{user}:x:{1000 + user}:{100 + user % 32}:::"
+    for group in range(48):
+        members = [f"u{user}" for user in range(USERS) if 32 + user % 16 == group]
+        yield f"g{group}:x:{100 + group}:{','.join(members)}"
+
+
 def path_of(place):
     return f"/d{place // FILES}/f{place % FILES}"
 
@@ -56,6 +64,20 @@ def change_lines():
         yield f"set {path_of(number * 100)} access u::r,g::r,g:g{number % 48}:r,m::r,o::-"
 
 
+def count_with_letters():
+    """Of how many nodes and users who may do something with the node: everybody with the root, a directory and a file that has an
+    NFSv4 list; with any other file its owner, whom its list names, and who is in its group, which is the owner's first, or in the
+    group that its list names."""
+    count = (1 + DIRECTORIES) * USERS
+    for place in range(DIRECTORIES * FILES):
+        owner, named, groups = place % USERS, place % 97, {place % USERS % 32, place % 48}
+        if place % 4 == 3:
+            count += USERS
+        else:
+            count += sum(user in (owner, named) or not groups.isdisjoint((user % 32, 32 + user % 16)) for user in range(USERS))
+    return count
+
+
 def run(*words):
     ran = subprocess.run([PROGRAM, *words], stdin=subprocess.DEVNULL, capture_output=True)
     if ran.returncode != 0 or ran.stderr:
@@ -74,20 +96,23 @@ def main():
     with tempfile.TemporaryDirectory() as folder:
         setup, session = write(f"{folder}/setup.toml", setup_lines()), write(f"{folder}/session", session_lines())
         change, both = write(f"{folder}/change", change_lines()), write(f"{folder}/both", [*session_lines(), *change_lines()])
+        accounts = write(f"{folder}/accounts", accounts_lines())
+        listing, later = (write(f"{folder}/{name}.listing", run("list", "--setup", setup, it).decode().splitlines()) for name, it in (("before", session), ("after", both)))
         works = {
             "run of the session": ("run", "--setup", setup, session),
-            "who of it, letters": ("who", "--setup", setup, session),
-            "who of it, --perms w": ("who", "--setup", setup, "--perms", "w", session),
+            "list of it": ("list", "--setup", setup, session),
+            "who of it, letters": ("who", "--accounts", accounts, listing),
+            "who of it, --perms w": ("who", "--accounts", accounts, "--perms", "w", listing),
             "dump of it": ("dump", "--setup", setup, session),
             "run of both sessions": ("run", "--setup", setup, both),
-            "impact of the second": ("impact", "--setup", setup, "--before", session, change),
-            "impact of nothing": ("impact", "--setup", setup, "--before", session, "/dev/null"),
+            "impact of the second": ("impact", "--accounts", accounts, listing, later),
+            "impact of nothing": ("impact", "--accounts", accounts, listing, listing),
         }
         nodes = 1 + DIRECTORIES + DIRECTORIES * FILES
         told = run(*works["impact of the second"]).decode().splitlines()
         changed = {path_of(number * 100) for number in range(CHANGED)}
         counts = (run(*works["who of it, letters"]).count(b"\n"), {it.rpartition(" ")[2] for it in told}, run(*works["impact of nothing"]))
-        if counts != (nodes * USERS, changed, b""):
+        if counts != (count_with_letters(), changed, b""):
             sys.exit(f"bench/audit: other answers: {counts[0]} lines of who, {len(counts[1])} nodes of impact")
         taken = {name: [] for name in works}
         for _ in range(times):

@@ -22,11 +22,6 @@ PROGRAM = f"{TOP}/crates/aclctl/out/aclctl"
 FILES_OF_FOLDER = 50
 # Of how many files one is changed.
 FILES_OF_CHANGE = 1000
-HEAD = """\
-domain = "example.org"
-umask = "022"
-root = { owner = "u1000", group = "g50", mode = "755", style = "posix" }
-"""
 # How many users there are at the most, and how many groups, of which each user is in two.
 USERS, GROUPS = 1000, 64
 # What entries grant.
@@ -42,11 +37,13 @@ def gids_of(place):
     return 50 + place % GROUPS, 50 + (place + 13) % GROUPS
 
 
-def setup_of(users):
-    """Who there is, and a root that no question here asks about."""
-    groups = "".join(f'[[group]]\nname = "g{50 + it}"\ngid = {50 + it}\n' for it in range(GROUPS))
-    member = lambda it: ", ".join(f'"g{gid}"' for gid in gids_of(it))
-    return HEAD + groups + "".join(f'[[user]]\nname = "u{1000 + it}"\nuid = {1000 + it}\ngroups = [{member(it)}]\n' for it in range(users))
+def accounts_of(users):
+    """Who there is, as `getent passwd; getent group` prints it."""
+    lines = [f"u{1000 + it}:x:{1000 + it}:{gids_of(it)[0]}::/:\n" for it in range(users)]
+    for gid in range(50, 50 + GROUPS):
+        members = ",".join(f"u{1000 + it}" for it in range(users) if gids_of(it)[1] == gid)
+        lines.append(f"g{gid}:x:{gid}:{members}\n")
+    return "".join(lines)
 
 
 def list_of(variant):
@@ -116,11 +113,11 @@ def main():
     times = int((sys.argv[1:] + ["5"])[0])
     files = int((sys.argv[2:] + ["1000000"])[0])
     with tempfile.TemporaryDirectory() as folder:
-        one, many = f"{folder}/one.toml", f"{folder}/many.toml"
+        one, many = f"{folder}/one.accounts", f"{folder}/many.accounts"
         shared, each, later, nfs4, nfs4_each = (f"{folder}/{it}" for it in ("shared", "each", "later", "nfs4", "nfs4-each"))
         for name, users in ((one, 1), (many, USERS)):
             with open(name, "w") as file:
-                file.write(setup_of(users))
+                file.write(accounts_of(users))
         folder_of = lambda place: place // FILES_OF_FOLDER
         write_listing(shared, files, folder_of)
         write_listing(each, files, lambda place: place, lambda place: 5000 + place)
@@ -137,7 +134,7 @@ def main():
         folders = 2 + len(range(0, files, FILES_OF_FOLDER))
         # The files of which the one user has a letter; everybody has those of a folder.
         with_letters = lambda variant_of: folders + sum(any(granted(variant_of(place), 0)) for place in range(files))
-        who = lambda setup, *options: ("who", "--setup", setup, *options)
+        who = lambda accounts, *options: ("who", "--accounts", accounts, *options)
         works = {
             "one user: files of a folder with one list, letters": (with_letters(folder_of), *who(one), shared),
             "the same, `--perms w`": (None, *who(one, "--perms", "w"), shared),
@@ -146,8 +143,8 @@ def main():
             f"{USERS} users: files of a folder with one list, `--perms w`": (None, *who(many, "--perms", "w"), shared),
             f"{USERS} users: the same, `--reach --perms w`": (None, *who(many, "--reach", "--perms", "w"), shared),
             f"{USERS} users: each file with a list of its own, `--perms w`": (None, *who(many, "--perms", "w"), each),
-            f"`impact` of two listings, {changed} files changed, one user": (changed, "impact", "--setup", one, shared, later),
-            f"`impact --all` of the same, {USERS} users": (concerned, "impact", "--all", "--setup", many, shared, later),
+            f"`impact` of two listings, {changed} files changed, one user": (changed, "impact", "--accounts", one, shared, later),
+            f"`impact --all` of the same, {USERS} users": (concerned, "impact", "--all", "--accounts", many, shared, later),
             "`restore` of the same": (10 * changed, "restore", shared, later),
             "one user: NFSv4 lists, those of a folder alike, letters": (with_letters(folder_of), *who(one), nfs4),
             "one user: each file with an NFSv4 list of its own, letters": (with_letters(lambda place: place), *who(one), nfs4_each),

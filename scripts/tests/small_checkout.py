@@ -10,7 +10,7 @@ from pathlib import Path
 TOP = Path(__file__).resolve().parent.parent.parent
 # How many seconds a stand-in may take on the slowest machine.
 SLOW = 600
-SCRIPTS = ("aclctl", "build-aclctl", "install", "release", "debian.py", "host-setup", "accounts", "report")
+SCRIPTS = ("aclctl", "build-aclctl", "rt-beside", "install", "release", "debian.py", "host-setup", "accounts", "report")
 # The parts of scripts/report, and the manual pages of section 1.
 PARTS = sorted(it.name for it in (TOP / "scripts/reporting").iterdir() if it.suffix in (".py", ".css", ".js"))
 COMPLETIONS = {"aclctl.bash": "bash-completion/completions/aclctl", "_aclctl": "zsh/site-functions/_aclctl"}

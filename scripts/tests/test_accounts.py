@@ -120,13 +120,19 @@ class Accounts(unittest.TestCase):
 
     def test_whom_accounts_cannot_hold_is_left_out(self):
         odd = {"-rf": "accounts can't hold its name", "+": "accounts can't hold its name", "#x": "accounts can't hold its name", "gone": "the system doesn't know it"}
+        odd[" x"] = "accounts can't hold its name"
         odd |= {"short": "its line has another shape than that of an account", "huge": "its line has another shape than that of an account"}
-        passwd = ["-rf:x:1:0::/:", "+:x:2:0::/:", "#x:x:3:0::/:", "short:x:4:0", "huge:x:4294967295:0::/:", "ok:x:4294967294:0::/:"]
+        passwd = ["-rf:x:1:0::/:", "+:x:2:0::/:", "#x:x:3:0::/:", " x:x:6:0::/:", "short:x:4:0", "huge:x:4294967295:0::/:", "ok:x:4294967294:0::/:"]
         self.system(passwd, ["root:x:0:"], ["ok=0"])
         entries = "".join(f"# owner: {it}\n" for it in (*odd, "ok"))
-        lines, said = self.accounts(entries)
+        lines, said = self.accounts(entries.replace(" x", "\\040x"))
         self.assertEqual(lines, [passwd[-1], "root:x:0:"])
         self.assertEqual(sorted(said), sorted(f"user {it} is left out: {why}" for it, why in odd.items()))
+
+    def test_a_number_that_is_nobodys_name_is_no_groups_only_member(self):
+        self.system(["77:x:77:0::/:"], ["a:x:1:77", "b:x:2: 78,", "c:x:3:78,79"], ["77=0 1"])
+        lines, _ = self.accounts("# file: f\n# group: a\n# group: b\n# group: c\n")
+        self.assertEqual(lines, ["77:x:77:0::/:", "0:x:0:", "a:x:1:77", "b:x:2:", "c:x:3:78,79"])
 
     def test_what_is_no_name_is_not_asked_for(self):
         names = ["a\\072b", "a\\012b", "a\\000b", "x" * 256, ""]

@@ -30,10 +30,11 @@ echo "end $name" >> "$ROOM/calls"
 CRATES = """\
 low: itoa
 middle: low
+second: low
 ring:
 engine may_wait=2: ring
 other: low
-service: low middle engine
+service: low middle second engine
 aclctl: service thiserror
 """
 
@@ -46,7 +47,7 @@ class Build(unittest.TestCase):
         folders = [f"crates/{it}/{part}" for it in names for part in ("src", "specs", "proofs")]
         for folder in ("bin", "scripts", *folders):
             (self.room / folder).mkdir(parents=True)
-        for name in ("aclctl", "build-aclctl"):
+        for name in ("aclctl", "build-aclctl", "rt-beside"):
             shutil.copy(SCRIPTS / name, self.room / "scripts" / name)
         (self.room / "crates.txt").write_text(f"# crates\n{CRATES}")
         for name, text in (("bin/rt", KIT), ("program", '#!/bin/sh\necho "$@"\nexit 5\n')):
@@ -72,19 +73,42 @@ class Build(unittest.TestCase):
         self.assertEqual(sorted(calls[:2]), ["begin low lib --jobs 3", "begin ring lib --jobs 1"])
         self.assertIn("begin service lib --jobs 4", calls)
         self.assertTrue(calls[-2].startswith("begin aclctl run --jobs 4 -- decide "))
-        order = ("low middle", "ring engine", "middle service", "engine service", "service aclctl")
+        order = ("low middle", "low second", "ring engine", "middle service", "second service", "engine service", "service aclctl")
         for low, high in map(str.split, order):
             begun = next(it for it, text in enumerate(calls) if text.startswith(f"begin {high} "))
             self.assertLess(calls.index(f"end {low}"), begun)
         self.assertFalse(any("other" in it for it in calls))
 
+    def test_crates_on_one_base_are_proved_side_by_side(self):
+        self.aclctl()
+        calls = self.calls()
+        begun = [next(it for it, text in enumerate(calls) if text.startswith(f"begin {name} ")) for name in ("middle", "second")]
+        ended = [calls.index(f"end {name}") for name in ("middle", "second")]
+        self.assertLess(max(begun), min(ended))
+
+    def test_the_one_with_the_longest_way_gets_what_the_others_leave(self):
+        (self.room / "crates/engine/proofs/Lemmas.antt").write_text("-- long\n" * 1000)
+        (self.room / "crates/second/proofs/Lemmas.antt").write_text("-- short\n")
+        self.aclctl()
+        calls = self.calls()
+        self.assertEqual(sorted(calls[:2]), ["begin low lib --jobs 1", "begin ring lib --jobs 3"])
+        self.assertIn("begin middle lib --jobs 1", calls)
+        self.assertIn("begin service lib --jobs 4", calls)
+
+    def test_one_processor_proves_one_crate_at_a_time(self):
+        self.env["RT_JOBS"] = "1"
+        self.aclctl()
+        calls = self.calls()
+        kinds = [text.split()[0] for text in calls]
+        self.assertEqual(kinds, ["begin", "end"] * (len(calls) // 2))
+
     def test_a_line_for_each_crate_where_there_is_no_terminal(self):
         lines = self.aclctl().stderr.splitlines()
-        self.assertEqual(len(lines), 7)
-        self.assertIn("only a proved program is built, so its 6 crates are proved first", lines[0])
-        middle = "crate 2 of 6, middle: 7 of 7 functions, proved after 0 minutes"
+        self.assertEqual(len(lines), 8)
+        self.assertIn("only a proved program is built, so its 7 crates are proved first", lines[0])
+        middle = "crate 2 of 7, middle: 7 of 7 functions, proved after 0 minutes"
         self.assertIn(f"scripts/aclctl: {middle}", lines)
-        self.assertTrue(lines[-1].startswith("scripts/aclctl: crate 6 of 6, aclctl: "))
+        self.assertTrue(lines[-1].startswith("scripts/aclctl: crate 7 of 7, aclctl: "))
 
     def test_a_built_program_is_run_at_once(self):
         self.aclctl()

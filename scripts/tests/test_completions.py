@@ -117,7 +117,7 @@ class Names(unittest.TestCase):
             told = by_zsh("aclctl", command, "-")
             names = [re.split(r"[=[]", it.lstrip("*"))[0] for it in told if it.startswith(("--", "*--"))]
             self.assertEqual(sorted(names), sorted(options), command)
-            values = {it for it in told if re.match(r"--(accounts|setup|session|before|listing)=|[*12]:(session|listing)", it)}
+            values = {it for it in told if re.match(r"--(accounts|setup)=|[*12]:(session|listing)", it)}
             self.assertTrue(all(it.endswith(":_files") for it in values))
 
     @unittest.skipUnless(shutil.which("zsh"), "zsh isn't here")
@@ -127,7 +127,7 @@ class Names(unittest.TestCase):
             told = by_zsh("aclctl", command, "")
             styles = [it for it in told if it.endswith(":style:(posix nfs4)")]
             self.assertEqual([it[0] for it in styles], places.get(command, []))
-            places_of_files = {"run": "*", "lint": "*", "who": "1", "why": "1", "impact": "12", "restore": "12", "translate": "1", "dump": "1"}
+            places_of_files = {"run": "*", "lint": "*", "who": "1", "why": "1", "impact": "12", "restore": "12", "translate": "1", "list": "1", "dump": "1"}
             files = [it[0] for it in told if re.search(r":(session|listing):_files$", it) and it[0] != "-" and not it.startswith("*:user")]
             self.assertEqual("".join(files), places_of_files.get(command, ""))
 
@@ -157,7 +157,7 @@ class Lines(unittest.TestCase):
         self.assertEqual(by_bash("aclctl translate --form=f"), ["freebsd"])
 
     def test_options_where_a_text_goes(self):
-        lines = ("decide", "explain nfs4", "compare posix", "compare posix u::- nfs4", "dump s", "why x")
+        lines = ("decide", "explain nfs4", "compare posix", "compare posix u::- nfs4", "dump s", "list s", "why x")
         for line in lines:
             options = sorted(MANUAL[line.split()[0]])
             self.assertEqual(by_bash(f"aclctl {line} "), options)
@@ -167,16 +167,16 @@ class Lines(unittest.TestCase):
     def test_files_where_files_go(self):
         files = sorted(it.name for it in self.room.iterdir())
         lines = ["run --setup ", "run --setup=", "run --setup s x y ", "run --max-errors 3 x "]
-        lines += ["run --journal ", "impact --before ", "impact ", "who --perms r ", "dump "]
-        lines += ["who --accounts ", "who --session=", "who --reach ", "impact --session ", "impact --all x "]
+        lines += ["run --journal ", "impact ", "who --perms r ", "dump ", "list "]
+        lines += ["who --accounts ", "who --reach ", "impact --all x "]
         lines += ["why --user bob --perms w ", "restore ", "restore x ", "translate --print0 ", "lint --setup s x "]
         for line in lines:
             self.assertEqual(by_bash(f"aclctl {line}", cwd=self.room), files, line)
-        for line in ("run --setup se", "who --setup=se", "run x y se", "dump -- se"):
+        for line in ("run --setup se", "who --accounts=se", "run x y se", "dump -- se"):
             self.assertEqual(by_bash(f"aclctl {line}", cwd=self.room), ["setup.toml"], line)
 
     def test_of_a_name_that_bash_cuts_only_the_end_is_replaced(self):
-        for line in ("who at@x", "who --setup at@x", "who --setup=at@x"):
+        for line in ("who at@x", "who --accounts at@x", "who --accounts=at@x"):
             self.assertEqual(by_bash(f"aclctl {line}", cwd=self.room), ["x:y"], line)
         self.assertEqual(by_bash("aclctl who at@x:", cwd=self.room), ["y"])
 

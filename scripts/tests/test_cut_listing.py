@@ -49,6 +49,14 @@ class Cut(unittest.TestCase):
             it.with_suffix(".out").write_bytes(b"".join(answer(it.read_bytes())))
         return len(names), self.run_it("--join", into).stdout
 
+    def test_a_listing_whose_folders_stand_behind_what_is_in_them_is_refused(self):
+        for paths in (("srv/a", "srv"), ("srv", "other", "srv/a"), ("srv", "/srv"), ("a", ".")):
+            whole, into = self.folder / "whole", self.folder / "-".join(it.replace("/", "_") for it in paths)
+            whole.write_bytes(listing(paths))
+            cut = self.run_it("--into", into, whole)
+            self.assertEqual(cut.returncode, 1, paths)
+            self.assertIn(f"{paths[-1]!r} in {whole} stands behind what is in it".encode(), cut.stderr)
+
     def test_the_pieces_answers_are_those_of_the_whole(self):
         for lost in (None, 3, 0):
             paths = [*PATHS]

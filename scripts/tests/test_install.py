@@ -153,7 +153,8 @@ class Install(unittest.TestCase):
     def pages(self):
         """The manual pages of the calls that the header declares."""
         header = (self.checkout.top / "include/meardwyn.h").read_text()
-        calls = {it.split("(")[0].split()[-1] for it in header.splitlines() if "int32_t meardwyn_" in it}
+        types = ("int32_t meardwyn_", "uint32_t meardwyn_", "bool meardwyn_")
+        calls = {it.split("(")[0].split()[-1] for it in header.splitlines() if it.startswith(types)}
         return {f"share/man/man3/{it}.3" for it in calls}
 
     def test_the_library_comes_with_its_header_its_pages_and_what_pkg_config_reads(self):

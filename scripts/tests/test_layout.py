@@ -71,6 +71,39 @@ class Faults(unittest.TestCase):
         self.assertEqual(self.numbers("one.rt", ".rt", head, renamed, "ensures { other }"), [])
 
 
+class Constants(unittest.TestCase):
+    FROM = "use Rattle.acl_tree.specs.declared.limits.TheConstants"
+
+    def without(self, spec, *clauses):
+        """The constants of a definition's text that have no number in these clauses of the code."""
+        names = "".join(f"ghost {self.FROM}.{{{it}}};\n" for it in ("MOST", "LEAST"))
+        numbered = layout.numbered_in(names + "pub fn numbers()\n" + "\n".join(clauses) + "\n{}\n")
+        return [why.split()[6].rstrip(",") for _, why in layout.unnumbered_in(spec, numbered)]
+
+    def test_a_constant_that_a_definition_cites_has_its_number_in_a_clause(self):
+        spec = self.FROM + ".{MOST, LEAST}\n"
+        self.assertEqual(self.without(spec), ["MOST", "LEAST"])
+        self.assertEqual(self.without(spec, "ensures most { MOST \u2261 64 }"), ["LEAST"])
+        self.assertEqual(self.without(spec, "ensures { MOST \u2261 0x4f }", "ensures l { LEAST \u2261 0 }"), [])
+
+    def test_a_number_is_one_and_stands_in_a_clause(self):
+        spec = self.FROM + ".{MOST}\n"
+        for clause in ("requires { MOST \u2261 64 }", "// MOST \u2261 64", "ensures { MOST \u2261 LEAST }"):
+            self.assertEqual(self.without(spec, clause), ["MOST"])
+        self.assertEqual(self.without(spec, "ensures { MOST \u2264 64 }"), ["MOST"])
+
+    def test_it_is_the_constant_of_that_module(self):
+        spec = self.FROM.replace("limits", "path") + ".{MOST}\n"
+        self.assertEqual(self.without(spec, "ensures { MOST \u2261 64 }"), ["MOST"])
+
+    def test_however_it_is_cited(self):
+        self.assertEqual(self.without("size = Rattle.acl_tree.specs.declared.limits.TheConstants.MOST"), ["MOST"])
+        renamed = self.FROM + " as limits\nsize = limits.MOST + 1\n"
+        self.assertEqual(self.without(renamed), ["MOST"])
+        self.assertEqual(self.without(renamed, "ensures { MOST \u2261 64 }"), [])
+        self.assertEqual(self.without(self.FROM + ".{MOST as most}\n"), ["MOST"])
+
+
 class Pages(unittest.TestCase):
     def numbers(self, *lines):
         """The numbers of the lines of a page that are at fault, beside a page with one heading."""

@@ -54,7 +54,7 @@ def users(words):
         print(f"aclctl: cannot read {name}", file=sys.stderr)
         sys.exit(1)
     if any(len(it) not in (4, 7) for it in rows):
-        print(f"aclctl: {name}:1: bad-account", file=sys.stderr)
+        print(f"aclctl: {name}:1: bad-account: alice:x:1000", file=sys.stderr)
         sys.exit(1)
     return sorted(re.sub(r"[ \t\r:,\\]", lambda it: f"\\{ord(it[0]):03o}", it[0]) for it in rows if len(it) == 7 and it[2] != "0")
 
@@ -263,7 +263,7 @@ class Report(OverStandIn):
             self.assertEqual(self.refused(*words), f"report: cannot read {name}: No such file or directory\n")
         self.assertEqual(self.refused("--accounts", ".", "share"), "report: cannot read .: Is a directory\n")
         self.write("accounts", "alice:x:1\n")
-        self.assertEqual(self.refused("--accounts", "accounts", "share"), "report: aclctl who ended with status 1\naclctl: accounts:1: bad-account\n")
+        self.assertEqual(self.refused("--accounts", "accounts", "share"), "report: aclctl who ended with status 1\naclctl: accounts:1: bad-account: alice:x:1000\n")
         self.assertEqual(self.run_script("--accounts", "-", "-").returncode, 2)
 
     def test_an_answer_of_another_form_is_no_page(self):

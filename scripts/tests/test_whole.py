@@ -2,6 +2,7 @@
 when it ends."""
 
 import os
+import re
 import shutil
 import subprocess
 import tempfile
@@ -37,12 +38,17 @@ exit $status
 # How the parts are called before the wrong bodies are.
 BEFORE = ["rt ci", "try-scripts ", "read-texts.py --check", "count-definitions "]
 BEFORE += ["layout "]
-BEFORE += ["try-aclctl ", "try-compare ", "try-trees ", "try-listings ", "try-forms ", "try-kernel ", "try-restore ", "try-changes ", "try-tutorial "]
+BEFORE += ["try-aclctl ", "try-cases ", "try-compare ", "try-trees ", "try-listings ", "try-forms ", "try-kernel ", "try-accounts ", "try-delete ", "try-restore ", "try-changes ", "try-tutorial "]
 BEFORE += ["try-report ", "try-parallel ", "try-streams ", "try-capi "]
 BEFORE += ["refused-growths "]
 PARTS = [*(it.split()[0] for it in BEFORE), "wrong-bodies"]
+# How they are called where nothing is proved.
+QUICK = ["layout ", "count-definitions ", "read-texts.py --check", "wrong-bodies --apply"]
+LOOKED_AT = ["look --version", "try-cases --program out/look/unproved-aclctl"]
+PROVED = ["try-cases --program crates/aclctl/out/aclctl"]
 # What all parts but the wrong bodies pass where each says so of 2 checks.
 ALL = 2 * len(BEFORE)
+DEAREST = " 455 acl_names a.f"
 TRIED = """\
 wrong bodies: 3 of 9 were tried; the others were not, for want of time
 3 passed, 0 failed
@@ -57,10 +63,11 @@ class Whole(unittest.TestCase):
             (self.room / folder).mkdir()
         shutil.copy(SCRIPTS / "test", self.room / "scripts/test")
         (self.room / "now").write_text("1000\n")
-        for name in PARTS:
+        for name in (*PARTS, "look"):
             self.write(f"{'bin' if name == 'rt' else 'scripts'}/{name}", STAND_IN)
             self.part(name, 0, "2 passed, 0 failed\n")
         self.part("wrong-bodies", 0, TRIED)
+        self.write("scripts/dearest", f"#!/bin/sh\necho '{DEAREST}'\n")
         self.write("bin/date", DATE)
         self.write("bin/timeout", TIMEOUT)
 
@@ -83,7 +90,8 @@ class Whole(unittest.TestCase):
         how |= {"env": {**os.environ, "PATH": path, "ROOM": str(self.room)}}
         ran = subprocess.run([self.room / "scripts/test", *words], **how)
         calls = self.room / "calls"
-        called = calls.read_text().splitlines() if calls.exists() else []
+        called = calls.read_text() if calls.exists() else ""
+        called = re.sub(r"--kept \S+/kept ?", "", called).splitlines()
         return ran.returncode, ran.stdout.splitlines(), called
 
     def test_without_minutes_nothing_is_ended_and_all_wrong_bodies_are_tried(self):
@@ -92,11 +100,22 @@ class Whole(unittest.TestCase):
         self.assertEqual(lines[-1], f"{ALL + 3} passed, 0 failed")
         self.assertEqual(sorted(calls), sorted([*BEFORE, "wrong-bodies "]))
 
+    def test_the_wrong_bodies_begin_with_what_was_proved_before(self):
+        kept = self.room / "crates/low/out/incremental/one/module"
+        kept.parent.mkdir(parents=True)
+        kept.write_text("proved\n")
+        (self.room / "crates/high/out").mkdir(parents=True)
+        self.write("bin/rt", '#!/bin/sh\nrm -rf crates/*/out/incremental\necho "1 passed, 0 failed"\n')
+        self.write("scripts/wrong-bodies", '#!/bin/sh\ncd "$2" && cat */*/module && ls && echo "1 passed, 0 failed"\n')
+        _, lines, _ = self.run_test()
+        at = lines.index("proved")
+        self.assertEqual(lines[at : at + 3], ["proved", "low", "1 passed, 0 failed"])
+
     def test_with_minutes_wrong_bodies_come_last_and_fill_what_is_left(self):
         self.part("rt", 60 * 100, "2 passed, 0 failed\n")
         status, lines, calls = self.run_test("--minutes", "150")
         self.assertEqual(status, 0)
-        self.assertEqual(lines[-2:], [TRIED.splitlines()[0], f"{ALL + 3} passed, 0 failed"])
+        self.assertEqual(lines[-3:], [DEAREST, TRIED.splitlines()[0], f"{ALL + 3} passed, 0 failed"])
         parts = [it for it in calls if not it.startswith("timeout")]
         self.assertEqual(parts, [*BEFORE, "wrong-bodies --minutes 48"])
         self.assertIn(f"timeout {60 * 150 - 90}", calls)
@@ -141,9 +160,35 @@ class Whole(unittest.TestCase):
         told = "within scripts/layout: 1 passed, 2 failed"
         self.assertEqual((status, lines[-2:]), (1, [f"failed: {told}", f"{ALL + 2} passed, 2 failed ({told})"]))
 
+    def test_quick_proves_nothing_and_counts_what_it_runs(self):
+        self.part("wrong-bodies", 0, "5 passed, 0 failed\n")
+        status, lines, calls = self.run_test("--quick")
+        self.assertEqual((status, lines[-1]), (0, "15 passed, 0 failed"))
+        self.assertEqual(calls, [*QUICK, *LOOKED_AT, "try-scripts "])
+
+    def test_quick_tries_the_proved_program_unless_a_source_is_newer(self):
+        program = self.room / "crates/aclctl/out/aclctl"
+        for folder in ("src", "specs", "out"):
+            (self.room / "crates/aclctl" / folder).mkdir(parents=True)
+        for path in (self.room / "crates.txt", self.room / "crates/aclctl/src/main.rt"):
+            path.write_text("")
+        self.write(program.relative_to(self.room), "")
+        self.assertEqual(self.run_test("--quick")[2], [*QUICK, *PROVED, "try-scripts "])
+        (self.room / "calls").unlink()
+        past = time.time() - 60
+        os.utime(program, (past, past))
+        self.assertEqual(self.run_test("--quick")[2], [*QUICK, *LOOKED_AT, "try-scripts "])
+
+    def test_quick_fails_where_the_program_cannot_be_built(self):
+        told = "scripts/look: aclctl couldn't be built"
+        self.write("scripts/look", f"#!/bin/sh\necho \"{told}\" >&2\nexit 125\n")
+        status, lines, calls = self.run_test("--quick")
+        self.assertEqual((status, lines[-2]), (1, f"failed: try_cases: {told}"))
+        self.assertEqual(calls, [*QUICK, "try-scripts "])
+
     def test_wrong_usage_runs_nothing(self):
         option = "--minutes"
-        for words in ([option], [option, "x"], [option, ""], ["3"], [option, "3", "acl_broker"]):
+        for words in ([option], [option, "x"], [option, ""], ["3"], [option, "3", "acl_broker"], ["--quick", "3"], ["--quick", option, "3"]):
             self.assertEqual(self.run_test(*words)[::2], (2, []))
 
 

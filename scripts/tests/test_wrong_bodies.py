@@ -1,12 +1,13 @@
 """scripts/wrong-bodies: how it reads code and what the kit says, in which order it tries, and how
 it ends."""
 
+import io
 import subprocess
 import sys
 import tempfile
 import time
 import unittest
-from contextlib import contextmanager
+from contextlib import contextmanager, redirect_stdout
 from pathlib import Path
 from unittest.mock import patch
 
@@ -218,6 +219,18 @@ class Bad(unittest.TestCase):
         self.assertIn("stand once", self.why("no such text"))
         self.assertIn("stand once", self.why("fn"))
         self.assertIsNone(self.why("done();"))
+
+    def test_its_file_may_be_gone(self):
+        with tempfile.TemporaryDirectory() as room:
+            path = Path(room, "crates/names/wrong-bodies/moved/bent.edit")
+            path.parent.mkdir(parents=True)
+            path.write_text("file: src/moved.rt\nold: a\nnew: b\n")
+            says = io.StringIO()
+            with patch.object(crates, "TOP", Path(room)), redirect_stdout(says):
+                found = {"names": edits.edits_of("names")}
+                self.assertEqual(edits.without_bad(found), 1)
+        self.assertEqual(found, {"names": []})
+        self.assertEqual(says.getvalue(), "wrong body names/bent: BAD EDIT: its file is gone\n")
 
     def test_it_stands_in_the_folder_of_its_file(self):
         why = self.why("done();", path="wrong-bodies/bent.edit")

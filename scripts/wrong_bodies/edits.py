@@ -57,7 +57,9 @@ def read_edit(crate, path):
 
 
 def function_with(crate, file, text):
-    """The function of a file in which a text stands first, or None if the text stands in none."""
+    """The function of a file in which a text stands first, or None if the text stands in none, or if there is no such file."""
+    if not (crates.folder(crate) / file).is_file():
+        return None
     lines = (crates.folder(crate) / file).read_text().split("\n")
     at = next((it for it, line in enumerate(lines) if text in line), None)
     return None if at is None else function_around(crate, file, lines, at)
@@ -82,6 +84,8 @@ def why_bad(edit):
     home = f"wrong-bodies/{module_of(edit.pairs[0][0]) or 'lib'}"
     if Path(edit.path).parent.as_posix() != home:
         return f"it belongs in {home}, by the file that it changes first"
+    if not all((crates.folder(edit.crate) / file).is_file() for file, _, _ in edit.pairs):
+        return "its file is gone"
     if not edit.apply({}):
         return "an old text doesn't stand once in its file"
     return None if edit.is_neutral else why_bad_goal(edit)

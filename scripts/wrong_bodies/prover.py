@@ -6,7 +6,7 @@ from functools import cache
 from pathlib import Path
 
 from wrong_bodies import crates, judging
-from wrong_bodies.copies import answers_of, copy_of
+from wrong_bodies.copies import answers_of, copy_of, link
 from wrong_bodies.lanes import Lanes, lane_count
 
 # How a check of edits is run: it leaves the processors to the proofs, for which further ones wait.
@@ -69,7 +69,7 @@ class Prover:
         crate, only = group.crate(), [word for it in paths for word in ("--only", it)]
         lane = self.lanes.lane(False, self.places.of_check(group))
         with lane, copy_of(crate, {**self.answers[crate], **texts}) as room:
-            shutil.copytree(self.folder / crate, f"{room}/out")
+            shutil.copytree(self.folder / crate, f"{room}/out", copy_function=link)
             words = [*LAST, *self.words("check", crate), "--incremental", f"{room}/out", *only]
             status, text = self.clock.run(words, room)
         lines = text.rstrip("\n").split("\n")
