@@ -130,23 +130,23 @@ def are_apart(one, other):
 
 
 class Ways:
-    """The folders above each block of a listing in turn, the nearest first: (path, what was read of it). Where a way begins
-    nothing may be above that the listing has elsewhere, nor what is elsewhere begin otherwise."""
+    """The folders above each block of a listing in turn, the nearest first: (path, what was read of it). Once a way has begun
+    above where another began, or below, or otherwise, none is known."""
 
     def __init__(self):
-        self.folders, self.roots, self.begins_apart = [], [], True
+        self.folders, self.beginnings, self.begin_apart = [], [], True
 
     def to(self, path, read):
         """What was read of each folder above the path; None if that isn't known. The block itself comes onto the way then. Above a
         path that isn't told may be anything, and it may be above anything."""
         self.folders = [it for it in self.folders if None in (path, it[0]) or is_above(it[0], path)]
         if not self.folders:
-            self.begins_apart = path is not None and all(are_apart(it, path) for it in self.roots)
-            self.roots += [path] * self.begins_apart
+            self.begin_apart &= path is not None and all(are_apart(it, path) for it in self.beginnings)
+            self.beginnings.append(path)
         steps = [path, *(it[0] for it in self.folders)]
         pairs = zip(steps, steps[1:])
         is_known = all(None not in it and is_folder_of(it[1], it[0]) for it in pairs) and all(it[1] for it in self.folders)
-        way = [it[1] for it in self.folders] if is_known and self.begins_apart else None
+        way = [it[1] for it in self.folders] if is_known and self.begin_apart else None
         self.folders.insert(0, (path, read))
         return way
 

@@ -1,25 +1,27 @@
 -- Where all ways of a listing are known, the way to a block has all that is above the block.
 use Rattle.std.proofs.Common.{◌≡◌, ◌∙◌, ◌++◌, ◌&&◌, ◌||◌, ◌⊎◌, ℕ, Bool, true, false, cond, List, [], ◌∷◌, Option, Some, None, IsSome, ap, append_assoc, append-nil, inl, inr, not, refl, subst, sym}
-use Rattle.std.specs.List.{list_any}
-use Rattle.std.proofs.lemmas.Bool.{or_parts}
+use Rattle.std.specs.Prelude.{is_none, is_some}
+use Rattle.std.specs.List.{list_all, list_any}
+use Rattle.std.proofs.lemmas.Bool.{and_parts, or_parts}
+use Rattle.std.proofs.lemmas.List.Folds.{list_any-append}
 use Rattle.acl_bridge.specs.Files.{File}
 use Rattle.acl_listings.specs.Way.{begin_alike, is_above, is_absolute, is_folder_of, steps_of}
 use Rattle.acl_listings.proofs.PlaceLemmas.{LeadsBelow, above-is, above-of, holds-is, same-of}
-use Rattle.acl_listings.proofs.WayLemmas.{begin-trans, begin-turned, is_above-trans}
+use Rattle.acl_listings.proofs.WayLemmas.{begin-trans, begin-turned, is_above-self, is_above-trans}
 use Rattle.acl_listing_queries.specs.Readings.{Reading}
-use Rattle.acl_listing_queries.specs.RootSteps.{IsOneOf}
-use Rattle.acl_listing_queries.specs.WayLaws.{AreAtOnePlace, AreWaysKnown, HasFolderAt, IsAbove, IsPlaced, WaysHaveAllAbove}
-use Rattle.acl_listing_queries.specs.Ways.{are_apart, begins_apart, chain_to, folder_of, holds, is_apart, known_way, outermost, roots_of, those_above, way_behind, way_of, with_folder, with_root_on}
+use Rattle.acl_listing_queries.specs.RootSteps.{IsOneOf, outermost}
+use Rattle.acl_listing_queries.specs.WayLaws.{AreAtOnePlace, AreWaysKnown, HasFolderAt, IsAbove, IsPlaced, WaysHaveAllAbove, WaysHaveAllBefore}
+use Rattle.acl_listing_queries.specs.Ways.{are_all_apart, are_apart, beginnings_of, begins_apart, chain_to, folder_of, holds, if_first, known_way, may_be_above, those_above, way_behind, way_of, with_folder}
 use Rattle.acl_listing_queries.specs.WhoSteps.{IsChain, lacks_path}
-use Rattle.acl_listing_queries.proofs.BeginningLemmas.{begins_left, roots-more, way_behind-more}
-use Rattle.acl_listing_queries.proofs.OneOfLemmas.{one_of_end, one_of_front}
-use Rattle.acl_listing_queries.proofs.ReachSteps.{chain_on, known_on}
-use Rattle.acl_listing_queries.proofs.RootLemmas.{AreAllApart, all_apart_with}
+use Rattle.acl_listing_queries.proofs.BeginningLemmas.{begins_left, beginnings-more, way_behind-more}
+use Rattle.acl_listing_queries.proofs.OneOfLemmas.{all_pass, any_from, one_of_end, one_of_front}
+use Rattle.acl_listing_queries.proofs.ReachSteps.{all_of_filter, chain_on, known_if_lost, known_on, none_left}
+use Rattle.acl_listing_queries.proofs.RootLemmas.{apart_turned}
 use Rattle.acl_listing_queries.proofs.WaysLemmas.{lacks_none}
 
 -- ---- what a known way is
 
--- it begins with a root, and each of its folders holds what is next
+-- all ways up to it begin apart, and each of its folders holds what is next
 record IsKnown (earlier : List Reading) (here : Reading) : Type 0 where
   apart : begins_apart earlier here ≡ true
   chain : IsSome (chain_to (way_of earlier here) here)
@@ -33,6 +35,17 @@ known-is earlier here known = by (begins_apart earlier here) refl known
     by : (b : Bool) → begins_apart earlier here ≡ b → IsSome (cond b (chain_to (way_of earlier here) here) None) → IsKnown earlier here
     by true is known = record { apart = is; chain = known }
     by false is known = absurd (never known)
+
+-- where one is known, the path of each block before it reads
+paths_before : (earlier : List Reading) (here : Reading) → IsSome (known_way earlier here) → list_any lacks_path earlier ≡ false
+paths_before earlier here known = by (list_any lacks_path earlier) refl
+  where
+    never : false ≡ true → ⊥
+    never is = cc
+
+    by : (b : Bool) → list_any lacks_path earlier ≡ b → b ≡ false
+    by true lost = absurd (never (ap is_some (sym (known_if_lost earlier here lost)) ∙ known))
+    by false lost = refl
 
 -- its nearest folder holds the block, and the rest of it is a known way to that
 record IsNext (folder here : Reading) (above : List Reading) : Type 0 where
@@ -122,128 +135,44 @@ module _ (path : List ℕ) where
           later (inl there) = inl (inr there)
           later (inr over) = inr over
 
+-- a way begins with the block to which it leads, or with one of its own
+outermost_in : (way : List Reading) (other : Reading) → (outermost way other ≡ other) ⊎ IsOneOf (outermost way other) way
+outermost_in [] other = inl refl
+outermost_in (folder ∷ rest) other = inr (outermost_in rest folder)
+
 -- what is above a path has a way that begins above it, too
-begins_above : (path : List ℕ) (way : List Reading) (other : Reading) → IsSome (chain_to way other) → IsAbove other.path (Some path) → IsAbove (outermost way other).path (Some path)
-begins_above path [] other known above = above
-begins_above path (folder ∷ rest) other known above = begins_above path rest folder next.chain (subst (λ own. IsAbove own (Some path)) (sym next.own_is) over)
+begins_above : (path : List ℕ) (earlier : List Reading) (other : Reading) → list_any lacks_path earlier ≡ false → IsAbove other.path (Some path) → IsAbove (outermost (way_of earlier other) other).path (Some path)
+begins_above path earlier other known above = by (outermost_in (way_of earlier other) other)
   where
-    next : IsNext folder other rest
-    next = next-is folder other rest known
+    bottom : Reading
+    bottom = outermost (way_of earlier other) other
 
-    over : is_above next.own path ≡ true
-    over =
-        let leads = holds-is next.own next.path next.holds_it in
-        is_above-trans next.own next.path path (above-of next.own next.path leads.0 [] leads.1) (subst (λ own. IsAbove own (Some path)) next.path_is above)
+    reads : IsOneOf bottom (way_of earlier other) → (lacks : Bool) → lacks_path bottom ≡ lacks → lacks ≡ false
+    reads among true is = absurd (never (sym (none_left other (way_behind earlier) (known_on [] earlier refl known)) ∙ any_from lacks_path (way_of earlier other) bottom among is))
+      where
+        never : false ≡ true → ⊥
+        never is = cc
+    reads among false is = refl
 
--- ---- ways begin with roots
+    over : (found own : Option (List ℕ)) → is_none found ≡ false → may_be_above found own ≡ true → IsAbove own (Some path) → IsAbove found (Some path)
+    over None own reads first second = cc
+    over (Some one) None reads first second = absurd second
+    over (Some one) (Some own) reads first second = is_above-trans one own path first second
 
-module _ (blocks : List Reading) (are : AreWaysKnown blocks) where
-  has_path : (before : List Reading) (here : Reading) → IsPlaced blocks before here → (path : List ℕ) × (here.path ≡ Some path)
-  has_path before here placed = lacks_none here (by before (ap (list_any lacks_path) (sym placed.are) ∙ are.paths))
-    where
-      by : (before : List Reading) → list_any lacks_path (before ++ here ∷ placed.after) ≡ false → lacks_path here ≡ false
-      by [] none = (or_parts (lacks_path here) (list_any lacks_path placed.after) none).0
-      by (first ∷ before) none = by before (or_parts (lacks_path first) (list_any lacks_path (before ++ here ∷ placed.after)) none).1
+    by : (bottom ≡ other) ⊎ IsOneOf bottom (way_of earlier other) → IsAbove bottom.path (Some path)
+    by (inl same) = subst (λ (block : Reading). IsAbove block.path (Some path)) (sym same) above
+    by (inr among) =
+        over bottom.path other.path (reads among (lacks_path bottom) refl)
+        (all_pass (λ folder. may_be_above folder.path other.path) (way_of earlier other) (all_of_filter (λ folder. may_be_above folder.path other.path) (way_behind earlier)) bottom among) above
 
-  none_before : (before : List Reading) (here : Reading) → IsPlaced blocks before here → list_any lacks_path before ≡ false
-  none_before before here placed = by before (ap (list_any lacks_path) (sym placed.are) ∙ are.paths)
-    where
-      by : (before : List Reading) → list_any lacks_path (before ++ here ∷ placed.after) ≡ false → list_any lacks_path before ≡ false
-      by [] none = refl
-      by (first ∷ before) none =
-          let parts = or_parts (lacks_path first) (list_any lacks_path (before ++ here ∷ placed.after)) none in
-          (λ i. parts.0 i || by before parts.1 i)
+-- ---- the blocks with which ways begin
 
-  known : (before : List Reading) (here : Reading) → IsPlaced blocks before here → IsKnown before here
-  known before here placed = known-is before here (are.ways before here placed)
-
-  -- a block that begins a way is a root
-  abbrev BeginsWithRoot : List Reading → List Reading → Type 0
-  BeginsWithRoot roots [] = Unit {0}
-  BeginsWithRoot roots (block ∷ above) = IsOneOf (outermost above block) roots
-
-  record IsRooted (before : List Reading) : Type 0 where
-    all : AreAllApart (roots_of before)
-    root : BeginsWithRoot (roots_of before) (way_behind before)
-
-  -- it is one behind a block
-  root_here : (before : List Reading) (here : Reading) → IsPlaced blocks before here → IsRooted before → IsOneOf (outermost (way_of before here) here) (roots_of (before ++ here ∷ []))
-  root_here before here placed rooted = by (way_of before here) refl
-    where
-      by : (way : List Reading) → way_of before here ≡ way → IsOneOf (outermost (way_of before here) here) (roots_of (before ++ here ∷ []))
-      by [] is =
-          let apart : is_apart (roots_of before) here ≡ true = ap (λ way. is_apart (roots_of before) (outermost way here)) (sym is) ∙ (known before here placed).apart in
-          let roots : roots_of (before ++ here ∷ []) ≡ roots_of before ++ here ∷ [] =
-          roots-more before here ∙ ap (λ way. with_root_on way here (roots_of before)) is ∙ ap (λ b. cond b (roots_of before ++ here ∷ []) (roots_of before)) apart in
-          subst (IsOneOf (outermost (way_of before here) here)) (sym roots) (subst (λ way. IsOneOf (outermost way here) (roots_of before ++ here ∷ [])) (sym is) (one_of_end here (roots_of before)))
-      by (folder ∷ rest) is =
-          let roots : roots_of (before ++ here ∷ []) ≡ roots_of before = roots-more before here ∙ ap (λ way. with_root_on way here (roots_of before)) is in
-          subst (IsOneOf (outermost (way_of before here) here)) (sym roots) (below (way_behind before) refl rooted.root)
-        where
-          below : (way : List Reading) → way_behind before ≡ way → BeginsWithRoot (roots_of before) way → IsOneOf (outermost (way_of before here) here) (roots_of before)
-          below [] none root = absurd (never (sym (ap (those_above here) none) ∙ is))
-            where
-              never : [] ≡ folder ∷ rest → ⊥
-              never is = cc
-          below (block ∷ above) behind root =
-              let same = begins_left here (has_path before here placed).0 (has_path before here placed).1 block above folder rest
-              (subst IsChain behind (chain_on [] before tt))
-              (sym (ap (list_any lacks_path) behind) ∙ known_on [] before refl (none_before before here placed))
-              (sym (ap (those_above here) behind) ∙ is) in
-              subst (λ bottom. IsOneOf bottom (roots_of before)) (sym (ap (λ way. outermost way here) is ∙ same)) root
-
-  -- what is a root stays one
-  stays_root : (root : Reading) (before more : List Reading) → IsOneOf root (roots_of before) → IsOneOf root (roots_of (before ++ more))
-  stays_root root before [] is = subst (λ all. IsOneOf root (roots_of all)) (sym (append-nil before)) is
-  stays_root root before (here ∷ more) is = subst (λ all. IsOneOf root (roots_of all)) (append_assoc before (here ∷ []) more) (stays_root root (before ++ here ∷ []) more one)
-    where
-      still : (b : Bool) → IsOneOf root (cond b (roots_of before ++ here ∷ []) (roots_of before))
-      still true = one_of_front root (roots_of before) (here ∷ []) is
-      still false = is
-
-      by : (way : List Reading) → IsOneOf root (with_root_on way here (roots_of before))
-      by [] = still (is_apart (roots_of before) here)
-      by (folder ∷ above) = is
-
-      one : IsOneOf root (roots_of (before ++ here ∷ []))
-      one = subst (IsOneOf root) (sym (roots-more before here)) (by (way_of before here))
-
-  all_then : (before : List Reading) (here : Reading) → IsPlaced blocks before here → AreAllApart (roots_of before) → AreAllApart (roots_of (before ++ here ∷ []))
-  all_then before here placed all = by (way_of before here) refl
-    where
-      by : (way : List Reading) → way_of before here ≡ way → AreAllApart (roots_of (before ++ here ∷ []))
-      by [] is =
-          let apart : is_apart (roots_of before) here ≡ true = ap (λ way. is_apart (roots_of before) (outermost way here)) (sym is) ∙ (known before here placed).apart in
-          let roots : roots_of (before ++ here ∷ []) ≡ roots_of before ++ here ∷ [] =
-          roots-more before here ∙ ap (λ way. with_root_on way here (roots_of before)) is ∙ ap (λ b. cond b (roots_of before ++ here ∷ []) (roots_of before)) apart in
-          let own = has_path before here placed in
-          subst AreAllApart (sym roots) (all_apart_with (roots_of before) here own.0 own.1 apart all)
-      by (folder ∷ rest) is = subst AreAllApart (sym (roots-more before here ∙ ap (λ way. with_root_on way here (roots_of before)) is)) all
-
-  rooted_on : (before more after : List Reading) → blocks ≡ before ++ (more ++ after) → IsRooted before → IsRooted (before ++ more)
-  rooted_on before [] after is rooted = subst IsRooted (sym (append-nil before)) rooted
-  rooted_on before (here ∷ more) after is rooted =
-      subst IsRooted (append_assoc before (here ∷ []) more)
-      (rooted_on (before ++ here ∷ []) more after (is ∙ sym (append_assoc before (here ∷ []) (more ++ after))) (record {
-        all = all_then before here placed rooted.all;
-        root = subst (BeginsWithRoot (roots_of (before ++ here ∷ []))) (sym (way_behind-more before here)) (root_here before here placed rooted);
-      }))
-    where
-      placed : IsPlaced blocks before here
-      placed = record { after = more ++ after; are = is }
-
-  begun : IsRooted []
-  begun = record { all = λ one other there too. absurd there; root = tt }
-
-  all_rooted : IsRooted blocks
-  all_rooted = rooted_on [] blocks [] (sym (append-nil blocks)) begun
-
-  is_root : (before : List Reading) (here : Reading) → IsPlaced blocks before here → IsOneOf (outermost (way_of before here) here) (roots_of blocks)
-  is_root before here placed =
-      subst (λ all. IsOneOf (outermost (way_of before here) here) (roots_of all)) (append_assoc before (here ∷ []) placed.after ∙ sym placed.are)
-      (stays_root (outermost (way_of before here) here) (before ++ here ∷ []) placed.after (root_here before here placed (rooted_on [] before (here ∷ placed.after) placed.are begun)))
-
--- ---- what is above a block
+-- those of the first blocks are among those of all
+stays_beginning : (block : Reading) (before more : List Reading) → IsOneOf block (beginnings_of before) → IsOneOf block (beginnings_of (before ++ more))
+stays_beginning block before [] is = subst (λ all. IsOneOf block (beginnings_of all)) (sym (append-nil before)) is
+stays_beginning block before (here ∷ more) is =
+    subst (λ all. IsOneOf block (beginnings_of all)) (append_assoc before (here ∷ []) more)
+    (stays_beginning block (before ++ here ∷ []) more (subst (IsOneOf block) (sym (beginnings-more before here)) (one_of_front block (beginnings_of before) (if_first here (way_of before here)) is)))
 
 -- of two that are apart none is above the other
 clash : (one other : Option (List ℕ)) → IsAbove one other → are_apart one other ≡ true → ⊥
@@ -256,24 +185,135 @@ clash (Some one) (Some other) above apart =
     by true is = cc
     by false is = cc
 
-pub ways_have_all_above : WaysHaveAllAbove
-ways_have_all_above blocks are before here placed earlier other there above = by (on_way_or path (way_of before here) here (known blocks are before here placed).chain (subst (λ own. IsAbove own here.path) path_is above))
+none_above_itself : (path : Option (List ℕ)) → IsAbove path path → ⊥
+none_above_itself None above = absurd above
+none_above_itself (Some path) above = never (sym (is_above-self path) ∙ above)
   where
-    path : List ℕ
-    path = (has_path blocks are earlier other there).0
+    never : false ≡ true → ⊥
+    never is = cc
 
-    path_is : other.path ≡ Some path
-    path_is = (has_path blocks are earlier other there).1
+no_clash : (blocks : List Reading) → are_all_apart blocks ≡ true → (one other : Reading) → IsOneOf one blocks → IsOneOf other blocks → IsAbove one.path other.path → ⊥
+no_clash [] apart one other there too above = absurd there
+no_clash (first ∷ blocks) apart one other there too above = by there too (no_clash blocks parts.1 one other)
+  where
+    parts : (list_all (λ block. are_apart first.path block.path) blocks ≡ true) × (are_all_apart blocks ≡ true)
+    parts = and_parts (list_all (λ block. are_apart first.path block.path) blocks) (are_all_apart blocks) apart
 
-    -- the one way would begin above the other
-    no : (found : Option (List ℕ)) → (outermost (way_of before here) here).path ≡ found → IsAbove (Some path) found → ⊥
-    no None is over = absurd over
-    no (Some bottom) is over =
-        clash (outermost (way_of earlier other) other).path (outermost (way_of before here) here).path
-        (subst (IsAbove (outermost (way_of earlier other) other).path) (sym is)
-        (begins_above bottom (way_of earlier other) other (known blocks are earlier other there).chain (subst (λ own. IsAbove own (Some bottom)) (sym path_is) over)))
-        ((all_rooted blocks are).all (outermost (way_of earlier other) other) (outermost (way_of before here) here) (is_root blocks are earlier other there) (is_root blocks are before here placed))
+    from_first : (block : Reading) → IsOneOf block blocks → are_apart first.path block.path ≡ true
+    from_first = all_pass (λ block. are_apart first.path block.path) blocks parts.0
 
-    by : HasFolderAt (way_of before here) (Some path) ⊎ IsAbove (Some path) (outermost (way_of before here) here).path → HasFolderAt (way_of before here) other.path
-    by (inl on_it) = subst (HasFolderAt (way_of before here)) (sym path_is) on_it
-    by (inr over) = absurd (no (outermost (way_of before here) here).path refl over)
+    by : IsOneOf one (first ∷ blocks) → IsOneOf other (first ∷ blocks) → (IsOneOf one blocks → IsOneOf other blocks → IsAbove one.path other.path → ⊥) → ⊥
+    by (inl is) (inl it_is) rest = none_above_itself first.path (subst (λ (block : Reading). IsAbove first.path block.path) it_is (subst (λ (block : Reading). IsAbove block.path other.path) is above))
+    by (inl is) (inr later) rest = clash first.path other.path (subst (λ (block : Reading). IsAbove block.path other.path) is above) (from_first other later)
+    by (inr later) (inl it_is) rest = clash one.path first.path (subst (λ (block : Reading). IsAbove one.path block.path) it_is above) (apart_turned first.path one.path (from_first one later))
+    by (inr later) (inr later_too) rest = rest later later_too above
+
+-- a way begins with one of these blocks
+abbrev BeginsAmong : List Reading → List Reading → Type 0
+BeginsAmong blocks [] = Unit {0}
+BeginsAmong blocks (block ∷ above) = IsOneOf (outermost above block) blocks
+
+module _ (blocks : List Reading) (paths : list_any lacks_path blocks ≡ false) where
+  has_path : (before : List Reading) (here : Reading) → IsPlaced blocks before here → (path : List ℕ) × (here.path ≡ Some path)
+  has_path before here placed = lacks_none here (by before (ap (list_any lacks_path) (sym placed.are) ∙ paths))
+    where
+      by : (before : List Reading) → list_any lacks_path (before ++ here ∷ placed.after) ≡ false → lacks_path here ≡ false
+      by [] none = (or_parts (lacks_path here) (list_any lacks_path placed.after) none).0
+      by (first ∷ before) none = by before (or_parts (lacks_path first) (list_any lacks_path (before ++ here ∷ placed.after)) none).1
+
+  none_before : (before : List Reading) (here : Reading) → IsPlaced blocks before here → list_any lacks_path before ≡ false
+  none_before before here placed = by before (ap (list_any lacks_path) (sym placed.are) ∙ paths)
+    where
+      by : (before : List Reading) → list_any lacks_path (before ++ here ∷ placed.after) ≡ false → list_any lacks_path before ≡ false
+      by [] none = refl
+      by (first ∷ before) none =
+          let parts = or_parts (lacks_path first) (list_any lacks_path (before ++ here ∷ placed.after)) none in
+          (λ i. parts.0 i || by before parts.1 i)
+
+  -- the way to a block begins with one of them
+  beginning_here : (before : List Reading) (here : Reading) → IsPlaced blocks before here → BeginsAmong (beginnings_of before) (way_behind before)
+      → IsOneOf (outermost (way_of before here) here) (beginnings_of (before ++ here ∷ []))
+  beginning_here before here placed begins = by (way_of before here) refl
+    where
+      by : (way : List Reading) → way_of before here ≡ way → IsOneOf (outermost (way_of before here) here) (beginnings_of (before ++ here ∷ []))
+      by [] is =
+          subst (IsOneOf (outermost (way_of before here) here)) (sym (beginnings-more before here ∙ ap (λ way. beginnings_of before ++ if_first here way) is))
+          (subst (λ way. IsOneOf (outermost way here) (beginnings_of before ++ here ∷ [])) (sym is) (one_of_end here (beginnings_of before)))
+      by (folder ∷ rest) is = stays_beginning (outermost (way_of before here) here) before (here ∷ []) (below (way_behind before) refl begins)
+        where
+          below : (way : List Reading) → way_behind before ≡ way → BeginsAmong (beginnings_of before) way → IsOneOf (outermost (way_of before here) here) (beginnings_of before)
+          below [] none among = absurd (never (sym (ap (those_above here) none) ∙ is))
+            where
+              never : [] ≡ folder ∷ rest → ⊥
+              never is = cc
+          below (block ∷ above) behind among =
+              let same = begins_left here (has_path before here placed).0 (has_path before here placed).1 block above folder rest
+              (subst IsChain behind (chain_on [] before tt))
+              (sym (ap (list_any lacks_path) behind) ∙ known_on [] before refl (none_before before here placed))
+              (sym (ap (those_above here) behind) ∙ is) in
+              subst (λ bottom. IsOneOf bottom (beginnings_of before)) (sym (ap (λ way. outermost way here) is ∙ same)) among
+
+  begins_on : (before more after : List Reading) → blocks ≡ before ++ (more ++ after) → BeginsAmong (beginnings_of before) (way_behind before) → BeginsAmong (beginnings_of (before ++ more)) (way_behind (before ++ more))
+  begins_on before [] after is begins = subst (λ all. BeginsAmong (beginnings_of all) (way_behind all)) (sym (append-nil before)) begins
+  begins_on before (here ∷ more) after is begins =
+      subst (λ all. BeginsAmong (beginnings_of all) (way_behind all)) (append_assoc before (here ∷ []) more)
+      (begins_on (before ++ here ∷ []) more after (is ∙ sym (append_assoc before (here ∷ []) (more ++ after)))
+      (subst (BeginsAmong (beginnings_of (before ++ here ∷ []))) (sym (way_behind-more before here)) (beginning_here before here (record { after = more ++ after; are = is }) begins)))
+
+  is_beginning : (before : List Reading) (here : Reading) → IsPlaced blocks before here → IsOneOf (outermost (way_of before here) here) (beginnings_of blocks)
+  is_beginning before here placed =
+      subst (λ all. IsOneOf (outermost (way_of before here) here) (beginnings_of all)) (append_assoc before (here ∷ []) placed.after ∙ sym placed.are)
+      (stays_beginning (outermost (way_of before here) here) (before ++ here ∷ []) placed.after (beginning_here before here placed (begins_on [] before (here ∷ placed.after) placed.are tt)))
+
+  -- ---- what is above a block, if all ways begin apart
+
+  module _ (apart : are_all_apart (beginnings_of blocks) ≡ true) (before : List Reading) (here : Reading) (placed : IsPlaced blocks before here) (chain : IsSome (chain_to (way_of before here) here)) where
+    has_all : (earlier : List Reading) (other : Reading) → IsPlaced blocks earlier other → IsAbove other.path here.path → HasFolderAt (way_of before here) other.path
+    has_all earlier other there above = by (on_way_or path (way_of before here) here chain (subst (λ own. IsAbove own here.path) path_is above))
+      where
+        path : List ℕ
+        path = (has_path earlier other there).0
+
+        path_is : other.path ≡ Some path
+        path_is = (has_path earlier other there).1
+
+        -- the one way would begin above the other
+        no : (found : Option (List ℕ)) → (outermost (way_of before here) here).path ≡ found → IsAbove (Some path) found → ⊥
+        no None is over = absurd over
+        no (Some bottom) is over =
+            no_clash (beginnings_of blocks) apart (outermost (way_of earlier other) other) (outermost (way_of before here) here) (is_beginning earlier other there) (is_beginning before here placed)
+            (subst (IsAbove (outermost (way_of earlier other) other).path) (sym is)
+            (begins_above bottom earlier other (none_before earlier other there) (subst (λ own. IsAbove own (Some bottom)) (sym path_is) over)))
+
+        by : HasFolderAt (way_of before here) (Some path) ⊎ IsAbove (Some path) (outermost (way_of before here) here).path → HasFolderAt (way_of before here) other.path
+        by (inl on_it) = subst (HasFolderAt (way_of before here)) (sym path_is) on_it
+        by (inr over) = absurd (no (outermost (way_of before here) here).path refl over)
+
+-- ---- of one way that is known
+
+pub ways_have_all_before : WaysHaveAllBefore
+ways_have_all_before before here known earlier other there above =
+    has_all (before ++ here ∷ []) paths is.apart before here (record { after = []; are = refl }) is.chain earlier other (record { after = there.after ++ here ∷ []; are = ap (λ all. all ++ here ∷ []) there.are ∙ append_assoc earlier (other ∷ there.after) (here ∷ []) }) above
+  where
+    is : IsKnown before here
+    is = known-is before here known
+
+    own_reads : (found own : Option (List ℕ)) → IsAbove found own → is_none own ≡ false
+    own_reads None own above = absurd above
+    own_reads (Some path) None above = absurd above
+    own_reads (Some path) (Some own) above = refl
+
+    paths : list_any lacks_path (before ++ here ∷ []) ≡ false
+    paths = list_any-append lacks_path before (here ∷ []) ∙ (λ i. paths_before before here known i || (own_reads other.path here.path above i || false))
+
+-- ---- of all ways
+
+apart_on : (blocks before more : List Reading) → AreWaysKnown blocks → blocks ≡ before ++ more → are_all_apart (beginnings_of before) ≡ true → are_all_apart (beginnings_of (before ++ more)) ≡ true
+apart_on blocks before [] are is apart = ap (λ all. are_all_apart (beginnings_of all)) (append-nil before) ∙ apart
+apart_on blocks before (here ∷ more) are is apart =
+    ap (λ all. are_all_apart (beginnings_of all)) (sym (append_assoc before (here ∷ []) more))
+    ∙ apart_on blocks (before ++ here ∷ []) more are (is ∙ sym (append_assoc before (here ∷ []) more)) (known-is before here (are.ways before here (record { after = more; are = is }))).apart
+
+pub ways_have_all_above : WaysHaveAllAbove
+ways_have_all_above blocks are before here placed =
+    has_all blocks are.paths (apart_on blocks [] blocks are refl refl) before here placed (known-is before here (are.ways before here placed)).chain

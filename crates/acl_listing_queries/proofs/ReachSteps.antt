@@ -41,7 +41,7 @@ use Rattle.acl_listing_queries.proofs.WhyWayLemmas.{none_either, none_with}
 
 -- ---- what is on a way
 
-all_of_filter : {X : Type 0} (test : X → Bool) (items : List X) → list_all test (filter test items) ≡ true
+pub all_of_filter : {X : Type 0} (test : X → Bool) (items : List X) → list_all test (filter test items) ≡ true
 all_of_filter test [] = refl
 all_of_filter test (item ∷ items) = by (test item) refl (all_of_filter test items)
   where
@@ -71,7 +71,7 @@ pub chain_on : (way seen : List Reading) → IsChain way → IsChain (fold way_o
 chain_on way [] chain = chain
 chain_on way (here ∷ seen) chain = chain_on (way_on way here) seen (all_of_filter (λ folder. may_be_above folder.path here.path) way, chain_left here way chain)
 
-none_left : (here : Reading) (way : List Reading) → list_any lacks_path way ≡ false → list_any lacks_path (those_above here way) ≡ false
+pub none_left : (here : Reading) (way : List Reading) → list_any lacks_path way ≡ false → list_any lacks_path (those_above here way) ≡ false
 none_left here [] none = refl
 none_left here (folder ∷ above) none =
     let parts = or_parts (lacks_path folder) (list_any lacks_path above) none in

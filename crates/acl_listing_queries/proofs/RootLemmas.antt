@@ -17,8 +17,8 @@ use Rattle.acl_listings.specs.Way.{begin_alike, is_above, is_absolute, steps_cmp
 use Rattle.acl_listings.proofs.WayLemmas.{begin-same, begin-trans, begin-turned, is_above-self}
 use Rattle.acl_listings.proofs.PlaceLemmas.{LeadsBelow, above-is, above-of, steps-before, steps-between}
 use Rattle.acl_listing_queries.specs.Readings.{Reading}
-use Rattle.acl_listing_queries.specs.RootSteps.{AreRoots, ComesNoLater, IsFirst, IsKeptBy, IsLast, IsOneOf, apart_if, root_cmp, root_steps, root_total}
-use Rattle.acl_listing_queries.specs.Ways.{are_apart, is_apart, with_root_if}
+use Rattle.acl_listing_queries.specs.RootSteps.{AreRoots, ComesNoLater, IsFirst, IsKeptBy, IsLast, IsOneOf, apart_if, is_apart, root_cmp, root_steps, root_total, with_root_if}
+use Rattle.acl_listing_queries.specs.Ways.{are_apart}
 use Rattle.acl_listing_queries.specs.declared.roots.Root.{Root}
 use Rattle.acl_listing_queries.specs.declared.roots.Roots.{Roots}
 use Rattle.acl_listing_queries.proofs.OneOfLemmas.{all_from, all_pass, any_from, one_of_either, one_of_end, one_of_filter, one_of_front}

@@ -1,6 +1,7 @@
 -- How the blocks with which ways begin are kept. Private steps, which no public clause cites.
-use Rattle.std.specs.Prelude.{◌≡◌, ◌⊎◌, ℕ, Bool, true, false, List, [], ◌∷◌, Option}
-use Rattle.std.specs.Prelude.{Some, None, IfSome, Vec, option_map}
+use Rattle.std.specs.Prelude.{◌≡◌, ◌⊎◌, ◌++◌, ℕ, Bool, true, false, List, [], ◌∷◌, Option}
+use Rattle.std.specs.Prelude.{Some, None, IfSome, Vec, if◌then◌else◌, option_map}
+use Rattle.std.specs.List.{list_all}
 use Rattle.std.specs.Cmp.{IsTotalOrder, on_total}
 use Rattle.std.specs.Cmp.Lexicographic.{lists_total, nat_list_cmp_total}
 use Rattle.std.specs.Ordering.{is_gt, on}
@@ -8,7 +9,7 @@ use Rattle.std.specs.declared.alloc.Global.{Global}
 use Rattle.std.specs.declared.cmp.Ordering.{Ordering}
 use Rattle.acl_listings.specs.Way.{is_above, steps_cmp, steps_of}
 use Rattle.acl_listing_queries.specs.Readings.{Reading}
-use Rattle.acl_listing_queries.specs.Ways.{are_apart, is_apart, outermost, roots_of, way_behind}
+use Rattle.acl_listing_queries.specs.Ways.{are_all_apart, are_apart, beginnings_of, way_behind}
 use Rattle.acl_listing_queries.specs.declared.beginning.Beginning.{Beginning}
 use Rattle.acl_listing_queries.specs.declared.roots.Root.{Root}
 use Rattle.acl_listing_queries.specs.declared.roots.Roots.{Roots}
@@ -28,6 +29,14 @@ abbrev pub ComesNoLater : Root → Root → Type 0
 ComesNoLater one other = is_gt (root_cmp one other) ≡ false
 
 -- ---- what is kept
+
+-- it is apart from each of these blocks
+abbrev pub is_apart : List Reading → Reading → Bool
+is_apart blocks here = list_all (λ block. are_apart block.path here.path) blocks
+
+-- this block is one more of them, if it is
+abbrev pub with_root_if : List Reading → Reading → List Reading
+with_root_if blocks here = if is_apart blocks here then blocks ++ here ∷ [] else blocks
 
 abbrev pub IsOneOf : {X : Type 0} → X → List X → Type 0
 IsOneOf item [] = ⊥
@@ -70,23 +79,24 @@ pub record IsFirst (roots : List Root) (root : Root) (found : Option Root) : Typ
 
 -- ---- where the last way began
 
--- the path of the block with which the way to the last of these begins, and whether it is a root
-pub record IsWayBegun (beginning : Beginning) (roots : List Reading) (bottom : Reading) : Type 0
-  where
-    pub path : option_map (λ path. path.items) beginning.path ≡ bottom.path
-    pub apart : beginning.apart ≡ is_apart roots bottom
+-- the block with which this way to a block begins
+abbrev pub outermost : List Reading → Reading → Reading
+outermost [] here = here
+outermost (folder ∷ above) here = outermost above folder
 
-abbrev pub IsBegunOn : Beginning → List Reading → List Reading → Type 0
-IsBegunOn beginning roots [] = beginning.path ≡ None
-IsBegunOn beginning roots (block ∷ above) =
-    IsWayBegun beginning roots (outermost above block)
+-- the path is that of the block with which the way begins, which this block and those above it are
+abbrev pub IsBegunOn : Beginning → List Reading → Type 0
+IsBegunOn beginning [] = beginning.path ≡ None
+IsBegunOn beginning (block ∷ above) =
+    option_map (λ path. path.items) beginning.path ≡ (outermost above block).path
 
 -- what has this path is below that block, if there was one
 abbrev pub is_begun_above : Option (Vec ℕ Global) → List ℕ → Bool
 is_begun_above None path = false
 is_begun_above (Some outermost) path = is_above outermost.items path
 
--- it stands behind these blocks
+-- It stands behind these blocks. What it keeps of them counts only while all ways begin apart.
 pub record IsBegun (beginning : Beginning) (earlier : List Reading) : Type 0 where
-  pub roots : AreRoots beginning.roots (roots_of earlier)
-  pub is : IsBegunOn beginning (roots_of earlier) (way_behind earlier)
+  pub apart : beginning.apart ≡ are_all_apart (beginnings_of earlier)
+  pub roots : beginning.apart ≡ true → AreRoots beginning.roots (beginnings_of earlier)
+  pub is : beginning.apart ≡ true → IsBegunOn beginning (way_behind earlier)

@@ -60,8 +60,14 @@ abbrev pub HasFolderAt : List Reading → Option (List ℕ) → Type 0
 HasFolderAt [] path = ⊥
 HasFolderAt (folder ∷ above) path = AreAtOnePlace folder.path path ⊎ HasFolderAt above path
 
--- Whatever the order of the blocks, if all their ways are known, the way to each has all that the
--- listing has above it.
+-- Whatever the order of the blocks, if the way to one is known, it has all that stand before the
+-- block and are above it.
+abbrev pub WaysHaveAllBefore : Type 0
+WaysHaveAllBefore = (before : List Reading) (here : Reading) → IsSome (known_way before here)
+    → (earlier : List Reading) (other : Reading) → IsPlaced before earlier other
+    → IsAbove other.path here.path → HasFolderAt (way_of before here) other.path
+
+-- And if all their ways are known, the way to each has all that the listing has above it.
 abbrev pub WaysHaveAllAbove : Type 0
 WaysHaveAllAbove = (blocks : List Reading) → AreWaysKnown blocks
     → (before : List Reading) (here : Reading) → IsPlaced blocks before here

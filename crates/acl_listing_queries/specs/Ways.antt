@@ -1,13 +1,13 @@
 -- The folders above the file of a block of a listing, by what stands before the block.
 use Rattle.std.specs.Prelude.{ℕ, Bool, ◌&&◌, true, false, not, List, [], ◌∷◌, ◌++◌, Option, Some}
 use Rattle.std.specs.Prelude.{None, Result, Ok, Err, if◌then◌else◌}
-use Rattle.std.specs.List.{filter, fold, list_all}
+use Rattle.std.specs.List.{filter, flat_map, fold, list_all}
 use Rattle.acl_listings.specs.Block.{FileValue}
 use Rattle.acl_listings.specs.Way.{begin_alike, is_above, is_absolute, is_folder_of}
 use Rattle.acl_listings.specs.declared.fault.BlockFault.{BlockFault}
 use Rattle.acl_bridge.specs.Files.{File}
 use Rattle.acl_reports.specs.Files.{file_of}
-use Rattle.acl_reports.specs.Placed.{Placed, in_places}
+use Rattle.acl_reports.specs.Placed.{in_places}
 use Rattle.acl_listing_queries.specs.Readings.{Reading}
 
 -- of two paths: the one is above the other; a path that isn't known may be above any, and below any
@@ -42,25 +42,21 @@ way_behind blocks = fold way_on [] blocks
 abbrev pub way_of : List Reading → Reading → List Reading
 way_of earlier here = those_above here (way_behind earlier)
 
--- the roots are the blocks with which ways begin: each is apart from the others
-abbrev pub is_apart : List Reading → Reading → Bool
-is_apart roots here = list_all (λ root. are_apart root.path here.path) roots
+-- a way begins with the block to which it leads, if it is this and has nothing above the block
+abbrev pub if_first : Reading → List Reading → List Reading
+if_first here [] = here ∷ []
+if_first here (folder ∷ above) = []
 
--- this block is one more, if it is apart from them
-abbrev pub with_root_if : List Reading → Reading → List Reading
-with_root_if roots here = if is_apart roots here then roots ++ here ∷ [] else roots
+-- the blocks with which ways begin
+abbrev pub beginnings_of : List Reading → List Reading
+beginnings_of blocks = flat_map (λ placed. if_first placed.here (way_of placed.earlier placed.here))
+    (in_places blocks)
 
--- and if its way, which is this, has nothing above it
-abbrev pub with_root_on : List Reading → Reading → List Reading → List Reading
-with_root_on [] here roots = with_root_if roots here
-with_root_on (folder ∷ above) here roots = roots
-
-abbrev pub with_root : List Reading → Placed Reading → List Reading
-with_root roots placed =
-    with_root_on (way_of placed.earlier placed.here) placed.here roots
-
-abbrev pub roots_of : List Reading → List Reading
-roots_of blocks = fold with_root [] (in_places blocks)
+-- each of these is apart from each
+abbrev pub are_all_apart : List Reading → Bool
+are_all_apart [] = true
+are_all_apart (one ∷ more) =
+    list_all (λ other. are_apart one.path other.path) more && are_all_apart more
 
 -- the folder that a block says, if it reads
 abbrev pub folder_of : Reading → Option File
@@ -81,18 +77,12 @@ chain_to [] here = Some []
 chain_to (folder ∷ above) here = if holds folder.path here.path
     then with_folder (folder_of folder) (chain_to above folder) else None
 
--- the block with which a way to this one begins
-abbrev pub outermost : List Reading → Reading → Reading
-outermost [] here = here
-outermost (folder ∷ above) here = outermost above folder
-
--- whether the way to a block begins with a root
+-- whether all ways up to that to a block begin apart from each other
 abbrev pub begins_apart : List Reading → Reading → Bool
-begins_apart earlier here =
-    is_apart (roots_of earlier) (outermost (way_of earlier here) here)
+begins_apart earlier here = are_all_apart (beginnings_of (earlier ++ here ∷ []))
 
--- The folders above a block, the nearest first, if they are known. Where the way begins nothing may
--- be above that the listing has elsewhere, or else a folder would be missing.
+-- The folders above a block, the nearest first, if they are known. If two ways have begun that
+-- aren't apart, a folder stands behind what is in it, so that the folders of any way may be missing.
 abbrev pub known_way : List Reading → Reading → Option (List File)
 known_way earlier here =
     if begins_apart earlier here then chain_to (way_of earlier here) here else None

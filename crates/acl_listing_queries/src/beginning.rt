@@ -10,13 +10,14 @@ use crate::above::is_above;
 use crate::roots::Roots;
 use std::alloc::{AllocError, Global};
 
-/// With which block the way to the last block begins. A way begins with the block that all others
-/// on it are below, so it is enough to look at that one.
+/// With which block the way to the last block begins, and whether all ways so far begin apart from
+/// each other. A way begins with the block that all others on it are below, so it is enough to look
+/// at that one.
 #[derive(Drop)]
 pub(crate) struct Beginning {
     /// The path of that block, if there was a block.
     path: Option<Vec<u8>>,
-    /// Whether it is apart from those with which other ways begin.
+    /// Whether all begin apart. If they don't, nothing else is kept any more.
     apart: bool,
     roots: Roots,
 }
@@ -43,8 +44,8 @@ impl Beginning {
         }
     }
 
-    /// Goes on to a block with this path, and returns whether its way begins apart from the others.
-    /// It fails only if memory runs out.
+    /// Goes on to a block with this path, and returns whether all ways up to its own begin apart
+    /// from each other. It fails only if memory runs out.
     pub fn come_to(&mut self, alloc: Global, path: &[u8]) -> Result<bool, AllocError>
         ensures apart { (earlier : List Reading) (here : Reading) → IsBegun self.old earlier
             → list_any lacks_path earlier ≡ false → here.path ≡ Some path.now
@@ -53,8 +54,11 @@ impl Beginning {
             → list_any lacks_path earlier ≡ false → here.path ≡ Some path.now
             → OnOk result (IsBegun self.new (earlier ++ here ∷ [])) }
     {
+        if !self.apart {
+            return Ok(false);
+        }
         if self.is_above(path) {
-            return Ok(self.apart);
+            return Ok(true);
         }
         let apart = self.roots.add(alloc, path)?;
         let outermost = Vec::from_slice(alloc, path)?;

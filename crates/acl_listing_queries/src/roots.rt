@@ -4,8 +4,8 @@ ghost use Rattle.std.specs.Borrow.{Bor};
 ghost use Rattle.std.specs.Cmp.{eq_by_cmp_equiv, partial_equiv_from_equiv, po};
 ghost use Rattle.acl_listing_queries.specs.Readings.{Reading};
 ghost use Rattle.acl_listing_queries.specs.RootSteps.{AreRoots, IsFirst, IsLast, apart_if};
-ghost use Rattle.acl_listing_queries.specs.RootSteps.{root_total};
-ghost use Rattle.acl_listing_queries.specs.Ways.{are_apart, is_apart, with_root_if};
+ghost use Rattle.acl_listing_queries.specs.RootSteps.{is_apart, root_total, with_root_if};
+ghost use Rattle.acl_listing_queries.specs.Ways.{are_apart};
 ghost use Rattle.acl_listing_queries.specs.declared.roots.Root.{Root as RootValue};
 
 use acl_listings::{Place, compare_steps, place_below};
