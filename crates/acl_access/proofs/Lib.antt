@@ -7,3 +7,4 @@ pub mod ChangesLeft
 pub mod ReachLemmas
 pub mod GrantedLemmas
 pub mod StandingLemmas
+pub mod PathLemmas

@@ -8,3 +8,4 @@ pub mod Reach
 pub mod Marks
 pub mod Deletes
 pub mod Standings
+pub mod Paths

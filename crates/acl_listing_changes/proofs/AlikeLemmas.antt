@@ -5,6 +5,7 @@ use Rattle.acl_names.specs.Asker.{identity_of}
 use Rattle.acl_names.specs.Requester.{Identity}
 use Rattle.acl_bridge.specs.Comparison.{Granter}
 use Rattle.acl_bridge.specs.Lists.{requests_between}
+use Rattle.acl_access.specs.Paths.{printed_path}
 use Rattle.acl_access.specs.Changes.{IsAlikeToAll, IsChangeFor, change_of}
 use Rattle.acl_access.specs.declared.changes.Change.{Change}
 use Rattle.acl_access.proofs.ExclusiveLemmas.{changes_are_not_alike}
@@ -118,9 +119,9 @@ nothing_written false path = refl
 stays : (asking : ImpactAsking) (file : FileValue) → TellsChange asking file file []
 stays asking file = record {
   impact = [];
-  impact_is = nobody (file_of file) (file_of file) file.path (alike_itself (file_of file)) asking.concern;
+  impact_is = nobody (file_of file) (file_of file) (printed_path file.path) (alike_itself (file_of file)) asking.concern;
   written = [];
-  written_is = (unchanged, is_unchanged file, nothing_written asking.written file.path);
+  written_is = (unchanged, is_unchanged file, nothing_written asking.written (printed_path file.path));
   text_is = refl;
 }
 

@@ -1,10 +1,11 @@
 -- Whom a change concerns, person by person.
-use Rattle.std.proofs.Common.{◌≡◌, ◌∙◌, ◌+◌, ◌≤◌, ◌++◌, ◌&&◌, IfOk, Result, Ok, Err, ℕ, zero, suc, Bool, true, false, List, [], ◌∷◌, Option, Some, None, ap, append_assoc, append-nil, arith, drop, inl, is_none, inr, length, length-append, map as each, refl, subst, sym, take}
+use Rattle.std.proofs.Common.{◌≡◌, ◌∙◌, ◌+◌, ◌≤◌, ◌++◌, ◌&&◌, IfOk, Result, Ok, Err, ℕ, zero, suc, Bool, true, false, List, [], ◌∷◌, Option, Some, None, ap, append_assoc, append-nil, arith, drop, inl, is_none, inr, length, length-append, refl, subst, sym, take}
 use Rattle.std.specs.Prelude.{nat_eq, slice_get}
 use Rattle.std.specs.List.{flat_map}
 use Rattle.std.proofs.lemmas.Bool.{true≢false}
 use Rattle.std.proofs.lemmas.Bool.Decides.{Decides-eqb}
 use Rattle.acl_names.specs.Requester.{Identity}
+use Rattle.acl_access.specs.Paths.{printed_path}
 use Rattle.acl_bridge.specs.Files.{File}
 use Rattle.acl_listings.specs.Block.{FileValue, file_by}
 use Rattle.acl_listings.specs.declared.fault.BlockFault.{BlockFault}
@@ -172,15 +173,15 @@ impact_told concern before after path out mid out' those asked asked_is other =
 
 -- and behind it what is written otherwise
 pub change_told : (asking : ImpactAsking) (before after : FileValue) (old new : File) → old ≡ file_of before → new ≡ file_of after → (out mid out' : List ℕ)
-    → Tells (TellsImpact asking.concern old new after.path) out mid → (changed : Changed) → IsChanged before after changed → out' ≡ mid ++ changed_text asking.written changed after.path
+    → Tells (TellsImpact asking.concern old new (printed_path after.path)) out mid → (changed : Changed) → IsChanged before after changed → out' ≡ mid ++ changed_text asking.written changed (printed_path after.path)
     → Tells (TellsChange asking before after) out out'
 change_told asking before after old new old_is new_is out mid out' told changed changed_is is =
-    let written : List ℕ = changed_text asking.written changed after.path in
+    let written : List ℕ = changed_text asking.written changed (printed_path after.path) in
     record {
       text = told.text ++ written;
       is = record {
         impact = told.text;
-        impact_is = subst (λ (old : File). TellsImpact asking.concern old (file_of after) after.path told.text) old_is (subst (λ (new : File). TellsImpact asking.concern old new after.path told.text) new_is told.is);
+        impact_is = subst (λ (old : File). TellsImpact asking.concern old (file_of after) (printed_path after.path) told.text) old_is (subst (λ (new : File). TellsImpact asking.concern old new (printed_path after.path) told.text) new_is told.is);
         written = written;
         written_is = (changed, changed_is, refl);
         text_is = refl;

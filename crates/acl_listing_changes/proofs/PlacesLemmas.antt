@@ -1,7 +1,7 @@
 -- The places of the blocks that have a path, and the marks of those that were met.
 use Rattle.std.proofs.Common.{◌≡◌, ◌∙◌, ◌<◌, ◌&&◌, ◌||◌, ◌++◌, ℕ, zero, suc, Bool, true, false, cond, List}
 use Rattle.std.proofs.Common.{[], ◌∷◌, Option, Some, None, ap, arith, bytes_eq, get_or, is_none, is_some}
-use Rattle.std.proofs.Common.{length, map as each, nat_lt, not, option_and_then, option_copied, option_map}
+use Rattle.std.proofs.Common.{length, nat_lt, not, option_and_then, option_copied, option_map}
 use Rattle.std.proofs.Common.{refl, replicate, set, subst, sym, take, eq-eqb}
 use Rattle.std.specs.Borrow.{Bor}
 use Rattle.std.specs.List.{find, list_any}

@@ -11,6 +11,7 @@ use Rattle.acl_bridge.specs.Comparison.{mask_for}
 use Rattle.acl_bridge.specs.Files.{File}
 use Rattle.acl_access.specs.Changes.{FindsAnybody, IsAlikeTo, IsChangeFor}
 use Rattle.acl_access.specs.Letters.{effective}
+use Rattle.acl_access.specs.Paths.{printed_path}
 use Rattle.acl_access.specs.declared.changes.Change.{Change}
 use Rattle.acl_cli.specs.ErrorOutput.{line_of_words}
 use Rattle.acl_cli.specs.Telling.{is_empty}
@@ -93,7 +94,8 @@ pub record TellsImpact (concern : Concern) (before after : File) (path text : Li
 pub record TellsChange (asking : ImpactAsking) (before after : FileValue) (text : List ℕ) : Type 0
   where
     pub impact : List ℕ
-    pub impact_is : TellsImpact asking.concern (file_of before) (file_of after) after.path impact
+    pub impact_is : TellsImpact asking.concern (file_of before) (file_of after)
+        (printed_path after.path) impact
     pub written : List ℕ
     pub written_is : TellsWritten asking.written before after written
     pub text_is : text ≡ impact ++ written
@@ -124,7 +126,7 @@ told_at gone concern path file =
     path_text gone path ++ lines_if concern.each (may_line gone path file) concern.persons
 
 abbrev pub told_of : Bool → ImpactAsking → FileValue → List ℕ
-told_of gone asking file = told_at gone asking.concern file.path (file_of file)
+told_of gone asking file = told_at gone asking.concern (printed_path file.path) (file_of file)
 
 abbrev pub told_new : ImpactAsking → FileValue → List ℕ
 told_new = told_of false
@@ -140,8 +142,8 @@ fault_of (Err fault) = Some fault
 -- `aclctl: no path of AFTER is in BEFORE, which begins with PATH; AFTER begins with PATH`
 abbrev pub apart_line : List ℕ → List ℕ → List ℕ
 apart_line first second = line_of_words
-    (codes "no path of AFTER is in BEFORE, which begins with " ++ first
-    ++ codes "; AFTER begins with " ++ second)
+    (codes "no path of AFTER is in BEFORE, which begins with " ++ printed_path first
+    ++ codes "; AFTER begins with " ++ printed_path second)
 
 abbrev pub impacting : ImpactAsking → Wording
 impacting asking = record {

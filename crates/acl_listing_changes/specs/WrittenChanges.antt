@@ -2,6 +2,7 @@
 use Rattle.std.specs.Prelude.{◌≡◌, ◌≢◌, ◌↔◌, ◌||◌, ◌&&◌, Bool, true, false, IsTrue, ℕ, List, []}
 use Rattle.std.specs.Prelude.{◌∷◌, ◌++◌, Option, None, codes, if◌then◌else◌}
 use Rattle.acl_names.specs.Bytes.{comma}
+use Rattle.acl_access.specs.Paths.{printed_path}
 use Rattle.acl_posix.specs.Entry.{EntryValue}
 use Rattle.acl_bridge.specs.declared.any_acl.AnyAcl.{AnyAcl}
 use Rattle.acl_bridge.specs.declared.any_acl.AnyAcl.TheVariants.{Posix, Nfs4}
@@ -53,4 +54,4 @@ changed_text asked changed path = if asked && is_changed changed
 -- the text is that line
 abbrev pub TellsWritten : Bool → FileValue → FileValue → List ℕ → Type 0
 TellsWritten asked before after text = (changed : Changed) × IsChanged before after changed
-    × (text ≡ changed_text asked changed after.path)
+    × (text ≡ changed_text asked changed (printed_path after.path))

@@ -6,6 +6,7 @@ ghost use Rattle.acl_listing_changes.specs.ImpactText.{all_gids_text, differ_tex
 ghost use Rattle.acl_listing_changes.specs.ImpactText.{new_text, path_text};
 ghost use Rattle.acl_listing_changes.specs.Impacting.{apart_line};
 
+use acl_access::push_printed_path;
 use acl_names::{Asker, Gid, Requester, Uid, push_decimal};
 use acl_nfs4::Mask;
 use acl_queries::{push_bits, push_gids};
@@ -130,9 +131,9 @@ pub(crate) fn push_apart(
     ensures { OnOk result (beside.new.items ≡ beside.old.items ++ apart_line first.now second.now) }
 {
     beside.extend_from_slice(b"aclctl: no path of AFTER is in BEFORE, which begins with ")?;
-    beside.extend_from_slice(first)?;
+    push_printed_path(first, beside)?;
     beside.extend_from_slice(b"; AFTER begins with ")?;
-    beside.extend_from_slice(second)?;
+    push_printed_path(second, beside)?;
     beside.push(b'\n')?;
     Ok(())
 }

@@ -5,6 +5,7 @@ use Rattle.acl_names.specs.Names.{Names}
 use Rattle.acl_listings.specs.Block.{FileValue}
 use Rattle.acl_listings.specs.declared.fault.BlockFault.{BlockFault}
 use Rattle.acl_listings.specs.declared.fault.BlockFault.TheVariants.{UnknownWay}
+use Rattle.acl_access.specs.Paths.{printed_path}
 use Rattle.acl_bridge.specs.Files.{File}
 use Rattle.acl_reports.specs.Files.{file_of}
 use Rattle.acl_reports.specs.Listed.{Part}
@@ -26,8 +27,8 @@ pub record Asking : Type 0 where
   pub question : Question
   pub reach : Bool
 
--- What is reported of a file at this path on this way, of which the nearest folder has the sticky
--- bit or not: who may delete it isn't known without that folder.
+-- What is reported of a file on this way, of which the nearest folder has the sticky bit or not, and
+-- whose path is printed so: who may delete it isn't known without that folder.
 abbrev pub part_of : List Person → Question → Bool → List File → List ℕ → File → Part
 part_of persons (What asked) sticky way path file = Ok (who_text persons asked way path file)
 part_of persons Deletion sticky [] path file = Err UnknownWay
@@ -37,7 +38,7 @@ part_of persons Deletion sticky (folder ∷ above) path file =
 -- if the way is known
 abbrev pub part_on : Asking → Bool → FileValue → Option (List File) → Part
 part_on asking sticky file (Some way) =
-    part_of asking.persons asking.question sticky way file.path (file_of file)
+    part_of asking.persons asking.question sticky way (printed_path file.path) (file_of file)
 part_on asking sticky file None = Err UnknownWay
 
 -- of a block that says this

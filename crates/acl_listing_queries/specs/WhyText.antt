@@ -2,6 +2,7 @@
 use Rattle.std.specs.Prelude.{ℕ, ◌&&◌, List, ◌++◌, Option, Some, None, Result, Ok, Err, [], codes}
 use Rattle.std.specs.Prelude.{reverse}
 use Rattle.std.specs.List.{flat_map}
+use Rattle.acl_access.specs.Paths.{printed_path}
 use Rattle.acl_access.specs.Reach.{reaches}
 use Rattle.acl_listings.specs.Block.{FileValue}
 use Rattle.acl_listings.specs.declared.fault.BlockFault.{BlockFault}
@@ -34,7 +35,7 @@ file_reasons file who perms = reasons nobody (record {
 
 -- `WORD PATH granted` or `WORD PATH denied`, and why
 abbrev pub decision_text : List ℕ → List ℕ → File → Identity → ℕ → List ℕ
-decision_text word path file who perms = word ++ codes " " ++ path ++ codes " "
+decision_text word path file who perms = word ++ codes " " ++ printed_path path ++ codes " "
     ++ answer_line (may file who perms) ++ file_reasons file who perms
 
 -- of a folder that reads, whether it may be searched

@@ -10,6 +10,7 @@ use super::changed::{changed_between, push_changed};
 use super::concerned::Concerned;
 use crate::between::ChangeTeller;
 use crate::impact_lines::push_apart;
+use acl_access::PrintedPath;
 use acl_bridge::FileAcl;
 use acl_listings::{BlockFault, File, FileFault, faulty_line, read_file};
 use acl_people::{Host, People};
@@ -55,13 +56,13 @@ impl<'t> ImpactTeller<'t> {
         ensures { OnOk result (out.new.items
             ≡ out.old.items ++ told_of gone (asking_by self.now) (view_file file.entry)) }
     {
-        let path = file.path;
+        let path = PrintedPath::of(alloc, file.path)?;
         let (owners, list) = owners_and_list(alloc, file)?;
         let acl = FileAcl {
             owners,
             list: list.as_ref(),
         };
-        self.concerned().push_path(gone, &acl, path, out)
+        self.concerned().push_path(gone, &acl, path.bytes(), out)
     }
 
     /// Appends what is reported of a file that became another.
@@ -75,7 +76,7 @@ impl<'t> ImpactTeller<'t> {
         ensures { OnOk result (Tells (TellsChange (asking_by self.now) (view_file before.entry)
             (view_file after.entry)) out.old.items out.new.items) }
     {
-        let path = after.path;
+        let path = PrintedPath::of(alloc, after.path)?;
         let changed = changed_between(&before, &after);
         let (old_owners, old_list) = owners_and_list(alloc, before)?;
         let (new_owners, new_list) = owners_and_list(alloc, after)?;
@@ -87,8 +88,9 @@ impl<'t> ImpactTeller<'t> {
             owners: new_owners,
             list: new_list.as_ref(),
         };
-        self.concerned().push_impact(alloc, &old, &new, path, out)?;
-        push_changed(self.written, changed, path, out)
+        self.concerned()
+            .push_impact(alloc, &old, &new, path.bytes(), out)?;
+        push_changed(self.written, changed, path.bytes(), out)
     }
 }
 

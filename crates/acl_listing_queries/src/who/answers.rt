@@ -2,6 +2,7 @@
 ghost use Rattle.std.specs.Prelude.{◌≡◌, ◌<◌, Bool, IfErr, IfOk, List, bytes_eq, false, Ok};
 ghost use Rattle.std.specs.Prelude.{option_map};
 ghost use Rattle.std.specs.Option.{option_map_or};
+ghost use Rattle.acl_access.specs.Paths.{printed_path};
 ghost use Rattle.acl_bridge.specs.Files.{File, view_acl};
 ghost use Rattle.acl_listings.specs.Block.{FileValue, file_by};
 ghost use Rattle.acl_listings.specs.Faults.{IsFaultOf};
@@ -18,8 +19,8 @@ use super::asked::Asked;
 use super::lines::{push_letters_lines, push_may_lines};
 use super::way::Inside;
 use acl_access::{
-    Standing, letters_of_each, places_of_takers, places_of_those_who_may, standings_of_each,
-    which_may,
+    PrintedPath, Standing, letters_of_each, places_of_takers, places_of_those_who_may,
+    standings_of_each, which_may,
 };
 use acl_bridge::FileAcl;
 use acl_listings::{BlockFault, FileFault, MAX_BLOCK, path_and_lines, path_of, read_file};
@@ -292,10 +293,13 @@ impl<'t> Answers<'t> {
             → file_by (names_by self.now.users) text.now ≡ Ok file
             → IsAnsweredAt self.now place file → IsInside self.now.users sticky way inside.entry
             → IsPart (part_of (asking_of self.now.users).persons (question_by self.now.users) sticky
-            way file.path (file_of file)) result out.old.items out.new.items }
+            way (printed_path file.path) (file_of file)) result out.old.items out.new.items }
     {
         match (self.at(place), path_of(text)) {
-            (Some(kept), Some(path)) => self.users.push(alloc, kept, inside, path, out),
+            (Some(kept), Some(path)) => {
+                let printed = PrintedPath::of(alloc, path)?;
+                self.users.push(alloc, kept, inside, printed.bytes(), out)
+            }
             _ => Ok(()),
         }
     }

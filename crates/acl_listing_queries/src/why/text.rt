@@ -4,6 +4,7 @@ ghost use Rattle.acl_posix.specs.Perms.{bits_of};
 ghost use Rattle.acl_bridge.specs.Files.{may, view_acl};
 ghost use Rattle.acl_listing_queries.specs.WhyText.{decision_text, file_reasons};
 
+use acl_access::push_printed_path;
 use acl_bridge::FileAcl;
 use acl_names::Requester;
 use acl_posix::Perms;
@@ -50,7 +51,7 @@ pub(super) fn push_decision(
     let granted = file.may(requester, perms);
     out.extend_from_slice(word.as_bytes())?;
     out.push(b' ')?;
-    out.extend_from_slice(path)?;
+    push_printed_path(path, out)?;
     out.push(b' ')?;
     out.extend_from_slice(answer_line(granted).as_bytes())?;
     push_file_reasons(alloc, file, requester, perms, out)?;

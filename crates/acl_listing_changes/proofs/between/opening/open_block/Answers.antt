@@ -1,4 +1,4 @@
-use Rattle.std.proofs.Common.{rules, ◌≡◌, ◌∙◌, ◌+◌, ◌++◌, ◌∷◌, [], List, ℕ, Some, ap, arith, is_none, length, length-append, option_map, subst, sym}
+use Rattle.std.proofs.Common.{rules, ◌≡◌, ◌∙◌, ◌+◌, ◌++◌, ◌∷◌, [], List, ℕ, Some, ap, is_none, length, length-append, option_map, subst, sym}
 use Rattle.std.specs.Prelude.{slice_get}
 use Rattle.acl_listings.specs.Listing.{Block}
 use Rattle.acl_reports.specs.Listed.{IsSaid}

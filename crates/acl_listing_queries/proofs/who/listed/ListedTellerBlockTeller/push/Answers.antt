@@ -1,4 +1,5 @@
 use Rattle.std.proofs.Common.{◌≡◌, ◌∙◌, [], None, Ok, Some, ap, map, subst, sym}
+use Rattle.acl_access.specs.Paths.{printed_path}
 use Rattle.acl_access.specs.Reach.{reaches}
 use Rattle.acl_listings.specs.Block.{file_by}
 use Rattle.acl_reports.specs.Files.{file_of}
@@ -28,7 +29,7 @@ returns-clause-part c = λ earlier stands.
     let sticky = is_sticky (way_of before here) in
     let lies : Inside = record { reach = c.as_slice.result; folder = None } in
     let inside : IsInside c.find.new.self.users sticky [] lies = record { reach = marks; folder = no_folder (question_by c.find.new.self.users) (whos_of c.find.new.self.users) sticky } in
-    let told = subst (λ (users : Users). IsPart (part_of (asking_of users).persons (question_by users) sticky [] file.path (file_of file)) c.push_at.result c.args.out.now.items c.push_at.new.out.items) now
+    let told = subst (λ (users : Users). IsPart (part_of (asking_of users).persons (question_by users) sticky [] (printed_path file.path) (file_of file)) c.push_at.result c.args.out.now.items c.push_at.new.out.items) now
     (c.push_at.ensures file sticky [] reads found.2 inside) in
     subst (λ b. IsPart (part_by asking sticky (file_by asking.names text) (way_for b before here)) c.push_at.result c.args.out.now.items c.push_at.new.out.items) (sym stands.reach)
     (subst (λ said. IsPart (part_by asking sticky said (Some [])) c.push_at.result c.args.out.now.items c.push_at.new.out.items) (sym found.1) told)

@@ -1,0 +1,99 @@
+//! Paths as answers print them.
+ghost use Rattle.std.specs.Prelude.{◌≡◌, ◌++◌, IfOk, OnOk};
+ghost use Rattle.std.specs.List.{list_any};
+ghost use Rattle.acl_access.specs.Paths.{is_control, path_byte, printed_path};
+
+use acl_names::octal;
+use std::alloc::{AllocError, Global};
+use std::marker::Model;
+
+/// Whether the byte may steer a terminal, or ends a line.
+fn is_control(byte: u8) -> bool
+    ensures { result ≡ is_control byte }
+{
+    byte < b' ' || byte == 127
+}
+
+/// Whether one of the bytes does.
+fn has_controls(path: &[u8]) -> bool
+    ensures { result ≡ list_any is_control path.now }
+{
+    path.iter().any(|byte| is_control(*byte))
+}
+
+/// Appends a byte as it is printed.
+fn push_byte(byte: u8, out: &mut Vec<u8>) -> Result<(), AllocError>
+    ensures { OnOk result (out.new.items ≡ out.old.items ++ path_byte byte) }
+{
+    if is_control(byte) {
+        let text = octal(byte);
+        out.extend_from_slice(&text)?;
+    } else {
+        out.push(byte)?;
+    }
+    Ok(())
+}
+
+/// Appends a path as answers print it: each byte below 32, and 127, as `\` and three octal digits.
+/// It fails only if memory runs out.
+pub fn push_printed_path(path: &[u8], out: &mut Vec<u8>) -> Result<(), AllocError>
+    ensures { OnOk result (out.new.items ≡ out.old.items ++ printed_path path.now) }
+{
+    for byte in path {
+        push_byte(*byte, out)?;
+    }
+    Ok(())
+}
+
+/// The path as it is printed.
+fn escaped(alloc: Global, path: &[u8]) -> Result<Vec<u8>, AllocError>
+    ensures { IfOk result (λ text. text.items ≡ printed_path path.now) }
+{
+    let mut text = Vec::new(alloc);
+    push_printed_path(path, &mut text)?;
+    Ok(text)
+}
+
+/// A path as answers print it, so that none steers a terminal, or ends a line. A contract sees the
+/// bytes that are printed.
+#[derive(Drop)]
+pub struct PrintedPath<'t> {
+    path: &'t [u8],
+    /// What is printed, if that isn't the path.
+    escaped: Option<Vec<u8>>,
+}
+
+impl<'t> Model for PrintedPath<'t> {
+    ghost use Rattle.std.specs.Prelude.{ℕ, List};
+    ghost use Rattle.std.specs.Option.{option_map_or};
+
+    ghost Value = { List ℕ };
+
+    ghost view = { λ inside.
+        option_map_or (λ text. text.items) inside.escaped inside.path.now };
+}
+
+impl<'t> PrintedPath<'t> {
+    /// The path as it is printed. It fails only if memory runs out, and takes none for a path that
+    /// is printed as it is.
+    pub fn of(alloc: Global, path: &'t [u8]) -> Result<PrintedPath<'t>, AllocError>
+        ensures { IfOk result (λ printed. printed ≡ printed_path path.entry.now) }
+    {
+        let escaped = if has_controls(path) {
+            Some(escaped(alloc, path)?)
+        } else {
+            None
+        };
+        Ok(PrintedPath { path, escaped })
+    }
+
+    /// The bytes that are printed.
+    pub fn bytes(&self) -> &[u8]
+        ensures { result.now ≡ self.now }
+    {
+        match &self.escaped {
+            Some(text) => text.as_slice(),
+            None => self.path,
+        }
+    }
+}
