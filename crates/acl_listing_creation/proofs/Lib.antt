@@ -1,0 +1,3 @@
+pub mod FoldersLemmas
+pub mod FieldsLemmas
+pub mod ModeLemmas

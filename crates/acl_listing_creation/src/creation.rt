@@ -1,0 +1,52 @@
+//! What is created, and by whom.
+ghost use Rattle.std.specs.Prelude.{◌≡◌};
+ghost use Rattle.acl_listing_creation.specs.Created.{beyond_umask, mode_on};
+
+use acl_names::{Gid, Uid};
+use acl_nfs4::{Ace, Kind};
+use acl_posix::{Mode, without};
+
+/// Who creates what in a folder.
+#[derive(Drop)]
+pub(crate) struct Creation {
+    /// Whose it is.
+    pub owner: Uid,
+    /// Its group, unless the folder hands on its own.
+    pub group: Gid,
+    /// Whether it is a file or a folder.
+    pub kind: Kind,
+    /// The mode that the program asks for.
+    pub mode: Mode,
+    /// What isn't set of it if nothing is inherited.
+    pub umask: Mode,
+}
+
+/// The mode without what the umask has.
+fn beyond_umask(mode: Mode, umask: Mode) -> Mode
+    ensures { result ≡ beyond_umask mode umask }
+{
+    Mode {
+        user: without(mode.user, umask.user),
+        group: without(mode.group, umask.group),
+        other: without(mode.other, umask.other),
+    }
+}
+
+impl Creation {
+    /// The mode if nothing is inherited: without what the umask has.
+    pub(crate) fn mode_alone(&self) -> Mode
+        ensures { result ≡ beyond_umask self.now.mode self.now.umask }
+    {
+        beyond_umask(self.mode, self.umask)
+    }
+
+    /// The mode that is set on inherited entries; if there are none, the umask counts.
+    pub(crate) fn mode_on(&self, inherited: &[Ace]) -> Mode
+        ensures { result ≡ mode_on self.now inherited.now }
+    {
+        match inherited.first() {
+            Some(_) => self.mode,
+            None => self.mode_alone(),
+        }
+    }
+}
