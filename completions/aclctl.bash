@@ -12,20 +12,21 @@ _aclctl_options() {
         impact) echo --accounts --domain --all --user --text --exit-code --help ;;
         restore) echo --help ;;
         translate) echo --accounts --domain --form --attributes --print0 --help ;;
+        next) echo --user --mode --umask --dir --dirs-only --accounts --domain --help ;;
         list | dump) echo --setup --help ;;
         lint) echo --setup --help ;;
     esac
 }
 
 # The commands.
-_aclctl_commands='who why impact restore translate decide explain compare run list dump lint help --version'
+_aclctl_commands='who why impact restore translate next decide explain compare run list dump lint help --version'
 
 # What stands at a place of a command, from 0, options not counted: a style, a file, a command, or else
 # a text.
 _aclctl_kind() {
     case $1:$2 in
         explain:0 | compare:[02]) echo style ;;
-        run:* | lint:* | who:0 | why:0 | impact:[01] | restore:[01] | translate:0 | list:0 | dump:0) echo file ;;
+        run:* | lint:* | who:0 | why:0 | impact:[01] | restore:[01] | translate:0 | next:0 | list:0 | dump:0) echo file ;;
         help:0) echo command ;;
     esac
 }
@@ -70,7 +71,7 @@ _aclctl_place() {
             place=$((place + 1))
         elif [[ $word == -- ]]; then
             is_ended=yes
-        elif [[ ! $word =~ =|^--(nfs4|journal|letters|reach|all|text|exit-code|attributes|print0|help)$ ]]; then
+        elif [[ ! $word =~ =|^--(nfs4|journal|letters|reach|all|text|exit-code|attributes|print0|dir|dirs-only|help)$ ]]; then
             option=$word
         fi
     done

@@ -127,7 +127,7 @@ class Names(unittest.TestCase):
             told = by_zsh("aclctl", command, "")
             styles = [it for it in told if it.endswith(":style:(posix nfs4)")]
             self.assertEqual([it[0] for it in styles], places.get(command, []))
-            places_of_files = {"run": "*", "lint": "*", "who": "1", "why": "1", "impact": "12", "restore": "12", "translate": "1", "list": "1", "dump": "1"}
+            places_of_files = {"run": "*", "lint": "*", "who": "1", "why": "1", "impact": "12", "restore": "12", "translate": "1", "next": "1", "list": "1", "dump": "1"}
             files = [it[0] for it in told if re.search(r":(session|listing):_files$", it) and it[0] != "-" and not it.startswith("*:user")]
             self.assertEqual("".join(files), places_of_files.get(command, ""))
 
@@ -169,7 +169,7 @@ class Lines(unittest.TestCase):
         lines = ["run --setup ", "run --setup=", "run --setup s x y ", "run --max-errors 3 x "]
         lines += ["run --journal ", "impact ", "who --perms r ", "dump ", "list "]
         lines += ["who --accounts ", "who --reach ", "impact --all x "]
-        lines += ["why --user bob --perms w ", "restore ", "restore x ", "translate --print0 ", "lint --setup s x "]
+        lines += ["why --user bob --perms w ", "restore ", "restore x ", "translate --print0 ", "next --user bob --dir ", "lint --setup s x "]
         for line in lines:
             self.assertEqual(by_bash(f"aclctl {line}", cwd=self.room), files, line)
         for line in ("run --setup se", "who --accounts=se", "run x y se", "dump -- se"):

@@ -18,6 +18,7 @@ help_text = lines_text (
     codes "  impact     tells who gains or loses what between two listings" ∷
     codes "  restore    prints what brings back the lists of files as a listing had them" ∷
     codes "  translate  prints a listing with an NFSv4 list for each file" ∷
+    codes "  next       prints a listing, and what a user's next file in each folder would be" ∷
     codes "  decide     tells whether an access control list grants a request" ∷
     codes "  explain    tells why it does: which entries decide" ∷
     codes "  compare    tells whether anybody gains or loses access between two lists" ∷

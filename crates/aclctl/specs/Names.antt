@@ -7,6 +7,7 @@ use Rattle.aclctl.specs.declared.named.Asked.TheVariants.{Command, HelpOf, Nothi
 use Rattle.aclctl.specs.declared.named.Named.{Named}
 use Rattle.aclctl.specs.declared.named.Named.TheVariants.{Decide, Explain, Compare, Run, Who}
 use Rattle.aclctl.specs.declared.named.Named.TheVariants.{Why, Impact, Restore, Translate}
+use Rattle.aclctl.specs.declared.named.Named.TheVariants.{Next}
 use Rattle.aclctl.specs.declared.named.Named.TheVariants.{List as ListTree, Dump, Lint}
 use Rattle.aclctl.specs.declared.named.Named.TheVariants.{Help, Version}
 
@@ -22,6 +23,7 @@ named word =
     else if bytes_eq word (codes "impact") then Some Impact
     else if bytes_eq word (codes "restore") then Some Restore
     else if bytes_eq word (codes "translate") then Some Translate
+    else if bytes_eq word (codes "next") then Some Next
     else if bytes_eq word (codes "list") then Some ListTree
     else if bytes_eq word (codes "dump") then Some Dump
     else if bytes_eq word (codes "lint") then Some Lint
@@ -41,6 +43,7 @@ name_of Why = codes "why"
 name_of Impact = codes "impact"
 name_of Restore = codes "restore"
 name_of Translate = codes "translate"
+name_of Next = codes "next"
 name_of ListTree = codes "list"
 name_of Dump = codes "dump"
 name_of Lint = codes "lint"

@@ -21,6 +21,8 @@ use Rattle.acl_listing_changes.specs.ImpactLine.{impact_line}
 use Rattle.acl_listing_changes.specs.ImpactMeaning.{impact_meaning}
 use Rattle.acl_listing_changes.specs.RestoreLine.{restore_line}
 use Rattle.acl_listing_changes.specs.RestoreMeaning.{restore_meaning}
+use Rattle.acl_listing_creation.specs.NextLine.{next_line}
+use Rattle.acl_listing_creation.specs.NextMeaning.{next_meaning}
 use Rattle.acl_listing_translation.specs.TranslateLine.{translate_line}
 use Rattle.acl_listing_translation.specs.TranslateMeaning.{translate_meaning}
 use Rattle.acl_queries.specs.CompareLine.{compare_line}
@@ -44,6 +46,7 @@ use Rattle.aclctl.specs.declared.named.Asked.TheVariants.{Command, HelpOf, Nothi
 use Rattle.aclctl.specs.declared.named.Named.{Named}
 use Rattle.aclctl.specs.declared.named.Named.TheVariants.{Decide, Explain, Compare, Run, Who}
 use Rattle.aclctl.specs.declared.named.Named.TheVariants.{Why, Impact, Restore, Translate}
+use Rattle.aclctl.specs.declared.named.Named.TheVariants.{Next}
 use Rattle.aclctl.specs.declared.named.Named.TheVariants.{List as ListTree, Dump, Lint}
 use Rattle.aclctl.specs.declared.named.Named.TheVariants.{Help, Version}
 
@@ -81,6 +84,7 @@ command_meaning files input Restore words =
     of_words restore_line true (restore_meaning files input) words
 command_meaning files input Translate words =
     of_words translate_line true (translate_meaning files input) words
+command_meaning files input Next words = of_words next_line true (next_meaning files input) words
 command_meaning files input ListTree words =
     of_words list_line true (list_meaning files input) words
 command_meaning files input Dump words = of_words dump_line true (dump_meaning files input) words
@@ -102,6 +106,7 @@ help_meaning Why = help_by (name_of Why) why_line
 help_meaning Impact = help_by (name_of Impact) impact_line
 help_meaning Restore = help_by (name_of Restore) restore_line
 help_meaning Translate = help_by (name_of Translate) translate_line
+help_meaning Next = help_by (name_of Next) next_line
 help_meaning ListTree = help_by (name_of ListTree) list_line
 help_meaning Dump = help_by (name_of Dump) dump_line
 help_meaning Lint = help_by (name_of Lint) lint_line

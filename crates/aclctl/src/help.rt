@@ -21,6 +21,7 @@ commands:
   impact     tells who gains or loses what between two listings
   restore    prints what brings back the lists of files as a listing had them
   translate  prints a listing with an NFSv4 list for each file
+  next       prints a listing, and what a user's next file in each folder would be
   decide     tells whether an access control list grants a request
   explain    tells why it does: which entries decide
   compare    tells whether anybody gains or loses access between two lists

@@ -12,6 +12,7 @@ use crate::named::{Asked, Named};
 use acl_cli::{CommandLine, ErrorOutput, OpenFiles};
 use acl_lint::Lint;
 use acl_listing_changes::{Impact, Restore};
+use acl_listing_creation::Next;
 use acl_listing_queries::{Who, Why};
 use acl_listing_translation::Translate;
 use acl_queries::{Compare, Decide, Explain};
@@ -56,6 +57,7 @@ where
         Named::Impact => acl_cli::run_command(&Impact, alloc, files, words, input, out, err),
         Named::Restore => acl_cli::run_command(&Restore, alloc, files, words, input, out, err),
         Named::Translate => acl_cli::run_command(&Translate, alloc, files, words, input, out, err),
+        Named::Next => acl_cli::run_command(&Next, alloc, files, words, input, out, err),
         Named::List => acl_cli::run_command(&List, alloc, files, words, input, out, err),
         Named::Dump => acl_cli::run_command(&Dump, alloc, files, words, input, out, err),
         Named::Lint => acl_cli::run_command(&Lint, alloc, files, words, input, out, err),
@@ -115,6 +117,7 @@ where
         Named::Impact => print_help_by(&Impact, alloc, name, files, input, out, err),
         Named::Restore => print_help_by(&Restore, alloc, name, files, input, out, err),
         Named::Translate => print_help_by(&Translate, alloc, name, files, input, out, err),
+        Named::Next => print_help_by(&Next, alloc, name, files, input, out, err),
         Named::List => print_help_by(&List, alloc, name, files, input, out, err),
         Named::Dump => print_help_by(&Dump, alloc, name, files, input, out, err),
         Named::Lint => print_help_by(&Lint, alloc, name, files, input, out, err),
@@ -136,11 +139,11 @@ fn unnamed<S: AsStr>(words: &[S]) -> Option<&str> {
 }
 
 /// Runs the command that the first word names (`decide`, `explain`, `compare`, `run`, `who`, `why`,
-/// `impact`, `restore`, `translate`, `list`, `dump`, `lint`), or prints the version (`--version`)
-/// or help (`help`, `--help`, `-h`; `help` with the name of a command prints that command's). It
-/// returns the exit status: that of the command; 2 if the first word names none, and the commands
-/// go to `err`. At 3 (out of memory, a thread refused, a write failed, or the run stopped) nothing
-/// or a front of the output went out.
+/// `impact`, `restore`, `translate`, `next`, `list`, `dump`, `lint`), or prints the version
+/// (`--version`) or help (`help`, `--help`, `-h`; `help` with the name of a command prints that
+/// command's). It returns the exit status: that of the command; 2 if the first word names none, and
+/// the commands go to `err`. At 3 (out of memory, a thread refused, a write failed, or the run
+/// stopped) nothing or a front of the output went out.
 pub fn run_command<R, F, S, I, W, E>(
     rt: &R,
     alloc: Global,
