@@ -1,3 +1,5 @@
 pub mod FoldersLemmas
 pub mod FieldsLemmas
 pub mod ModeLemmas
+pub mod CreatedLemmas
+pub mod AgainLemmas

@@ -1,12 +1,21 @@
 -- What `next` tells of a listing as a whole.
-use Rattle.std.specs.Prelude.{◌≡◌, ℕ, Bool, false, ◌||◌, List, [], ◌∷◌, ◌++◌, Option, Some, None}
-use Rattle.std.specs.Prelude.{Result, Ok, Err, filter_map, if◌then◌else◌}
-use Rattle.acl_listings.specs.Listing.{Block}
+use Rattle.std.specs.Prelude.{◌≡◌, ◌<◌, ◌≤◌, ◌==◌, ℕ, Bool, false, ◌||◌, List, [], ◌∷◌, ◌++◌}
+use Rattle.std.specs.Prelude.{All, IfOk, Option, Some, None, Result, Ok, Err, filter_map, length}
+use Rattle.std.specs.Prelude.{map, if◌then◌else◌}
+use Rattle.acl_names.specs.Bytes.{newline}
+use Rattle.acl_names.specs.declared.limits.TheConstants.{MAX_ID}
+use Rattle.acl_nfs4.specs.NamedAces.{ReadNumbers}
+use Rattle.acl_listings.specs.Block.{FileValue, file_by}
+use Rattle.acl_listings.specs.Extent.{HasFullLines}
+use Rattle.acl_listings.specs.Listing.{Block, blocks_of}
+use Rattle.acl_listings.specs.Numbered.{ArePrintable, said_of}
 use Rattle.acl_listings.specs.Way.{is_above}
 use Rattle.acl_listings.specs.declared.fault.BlockFault.{BlockFault}
 use Rattle.acl_reports.specs.Listed.{items_after, told}
+use Rattle.acl_listing_creation.specs.Created.{created_in}
 use Rattle.acl_listing_creation.specs.Next.{NextAsking, Reading, as_it_stands, is_known_folder}
 use Rattle.acl_listing_creation.specs.Next.{next_part, reading_of}
+use Rattle.acl_listing_creation.specs.declared.creation.Creation.{Creation}
 
 -- a block that is answered, and what it says
 pub record Answered : Type 0 where
@@ -43,3 +52,34 @@ with_next asking (block ∷ behind) = as_it_stands block.text
 abbrev pub TellsEachFolder : NextAsking → List Block → Type 0
 TellsEachFolder asking blocks =
     told (items_after (next_part asking) [] blocks) ≡ with_next asking (answered asking blocks)
+
+-- a file that is told so that it is read again: the path is one line and not empty, ids are ids,
+-- and it has lists that are printed so
+pub record IsPrintable (file : FileValue) : Type 0 where
+  pub path : 0 < length file.path
+  pub one_line : All (λ byte. (byte == newline) ≡ false) file.path
+  pub owner : file.owner ≤ MAX_ID
+  pub group : file.group ≤ MAX_ID
+  pub lists : ArePrintable file.lists
+  pub some : said_of file ≡ Ok file
+
+-- what is created in folders is so
+abbrev pub CreatesPrintable : Creation → List Answered → Type 0
+CreatesPrintable creation blocks =
+    All (λ block. IfOk (created_in creation block.reading.file) IsPrintable) blocks
+
+-- the files that are told: those of the listing, and behind each folder what is created in it
+abbrev pub files_told : NextAsking → List Answered → List (Result FileValue BlockFault)
+files_told asking [] = []
+files_told asking (block ∷ behind) = Ok block.reading.file
+    ∷ ((if is_folder asking block.reading behind
+    then created_in asking.creation block.reading.file ∷ [] else []) ++ files_told asking behind)
+
+-- What is told of blocks, which have no empty lines, is read again as these files.
+abbrev pub SaysEachFolder : NextAsking → List Block → Type 0
+SaysEachFolder asking blocks = ReadNumbers asking.names
+    → All (λ block. HasFullLines block.text) blocks
+    → CreatesPrintable asking.creation (answered asking blocks)
+    → map (λ block. file_by asking.names block.text)
+    (blocks_of (with_next asking (answered asking blocks)))
+    ≡ files_told asking (answered asking blocks)
