@@ -1,1 +1,1 @@
-"""The parts of scripts/report, installed as aclctl-report."""
+"""The parts of scripts/report, installed as aclctl-report, and what other scripts share with it."""

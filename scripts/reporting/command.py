@@ -2,12 +2,9 @@
 
 import argparse
 import os
-import shutil
 import subprocess
-import sys
 import tempfile
 import time
-from pathlib import Path
 
 from reporting.accounts import Accounts
 from reporting.answers import Unread
@@ -17,6 +14,7 @@ from reporting.folders import Tree
 from reporting.html import moment, several, shown
 from reporting.listing import Survey
 from reporting.page import Found, page_of
+from reporting.program import COMPARISON, NoProgram, program_of, tell
 from reporting.sums import Sums
 
 # Whose accounts are taken without --accounts, as the program takes them.
@@ -35,15 +33,6 @@ def words_given():
     if [given.accounts, given.before, given.listing].count("-") > 1:
         parser.error("- is given twice")
     return given
-
-
-def program_of(here):
-    """The program: the one beside the script, or else the one on the path."""
-    beside = here / "aclctl"
-    found = str(beside) if beside.is_file() else shutil.which("aclctl")
-    if not found:
-        raise NoPage("cannot find aclctl")
-    return found
 
 
 def accounts_of(name):
@@ -116,16 +105,11 @@ def found_by(given, here, room):
     asker.ask(listing, lambda answer: opened.extend(sums.read_anybody(answer)), "who", "--reach", "--user", nobody)
     if before:
         changes = Changes()
-        of_change = asker.ask(listing, changes.read, "impact", "--all", before)
+        of_change = asker.ask(listing, changes.read, *COMPARISON, before)
         said.add(of_change, given.listing)
     sums.tree.add_up()
     since = before and f"{shown(os.fsencode(given.before))} of {moment(made(before))}"
     return Found(name_of(sums.tree), moment(made(listing)), accounts, survey, sums.tree, sums.users, *opened, changes, since, said)
-
-
-def tell(text):
-    """Writes a line to standard error, after this script's name, which it is installed by."""
-    print(f"{Path(sys.argv[0]).name}: {text}", file=sys.stderr)
 
 
 def main(here):
@@ -136,7 +120,7 @@ def main(here):
             page = page_of(found_by(given, here, room))
         with open(1, "w", encoding="utf-8", errors="backslashreplace", closefd=False) as out:
             out.write(page)
-    except (NoPage, Unread) as fault:
+    except (NoPage, NoProgram, Unread) as fault:
         tell(fault)
         return 1
     except OSError as fault:

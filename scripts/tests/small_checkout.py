@@ -10,12 +10,15 @@ from pathlib import Path
 TOP = Path(__file__).resolve().parent.parent.parent
 # How many seconds a stand-in may take on the slowest machine.
 SLOW = 600
-SCRIPTS = ("aclctl", "build-aclctl", "rt-beside", "install", "release", "debian.py", "host-setup", "accounts", "report")
-# The parts of scripts/report, and the manual pages of section 1.
+# The scripts that are installed beside the program, and those that build, install and release.
+BESIDE = ("accounts", "host-setup", "report", "table")
+SCRIPTS = ("aclctl", "build-aclctl", "rt-beside", "install", "release", "debian.py", *BESIDE)
+# What the scripts share and the parts of scripts/report, and the manual pages of section 1.
 PARTS = sorted(it.name for it in (TOP / "scripts/reporting").iterdir() if it.suffix in (".py", ".css", ".js"))
 COMPLETIONS = {"aclctl.bash": "bash-completion/completions/aclctl", "_aclctl": "zsh/site-functions/_aclctl"}
-COMPLETIONS |= {it.replace("aclctl", "aclctl-report"): to.replace("aclctl", "aclctl-report") for it, to in COMPLETIONS.items()}
-PAGES = ("aclctl.1", "aclctl-accounts.1", "aclctl-host-setup.1", "aclctl-report.1")
+COMPLETED = ("report", "table")
+COMPLETIONS |= {it.replace("aclctl", f"aclctl-{name}"): to.replace("aclctl", f"aclctl-{name}") for it, to in COMPLETIONS.items() for name in COMPLETED}
+PAGES = ("aclctl.1", *(f"aclctl-{it}.1" for it in BESIDE))
 FILES = (*(f"scripts/{it}" for it in SCRIPTS), *(f"scripts/reporting/{it}" for it in PARTS))
 FILES += (*(f"docs/{it}" for it in PAGES), *(f"completions/{it}" for it in COMPLETIONS))
 FILES += ("include/meardwyn.h", "docs/meardwyn.3")

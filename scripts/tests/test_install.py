@@ -7,14 +7,12 @@ import time
 import unittest
 from pathlib import Path
 
-from small_checkout import COMPLETIONS, PAGES, PARTS, VERSION, SmallCheckout
+from small_checkout import BESIDE, COMPLETIONS, PAGES, PARTS, VERSION, SmallCheckout
 
 # Where each file goes, and what it is in the checkout.
 PLACES = {
     "bin/aclctl": "crates/aclctl/out/aclctl",
-    "bin/aclctl-host-setup": "scripts/host-setup",
-    "bin/aclctl-accounts": "scripts/accounts",
-    "bin/aclctl-report": "scripts/report",
+    **{f"bin/aclctl-{it}": f"scripts/{it}" for it in BESIDE},
     **{f"share/aclctl/reporting/{it}": f"scripts/reporting/{it}" for it in PARTS},
     **{f"share/man/man1/{it}": f"docs/{it}" for it in PAGES},
     **{f"share/{to}": f"completions/{it}" for it, to in COMPLETIONS.items()},
@@ -69,7 +67,7 @@ class Install(unittest.TestCase):
 
     def test_what_is_installed_runs_and_leaves_nothing_behind(self):
         self.install()
-        for name in ("host-setup", "accounts", "report"):
+        for name in BESIDE:
             ran = self.checkout.run(self.prefix / f"bin/aclctl-{name}", "--help")
             self.assertEqual((ran.returncode, ran.stderr), (0, ""), name)
             self.assertIn(f"usage: aclctl-{name} ", ran.stdout)

@@ -12,6 +12,7 @@ import tempfile
 import unittest
 from pathlib import Path
 
+from small_checkout import BESIDE as SCRIPTS_BESIDE
 from small_checkout import COMPLETIONS, GLIBC, PAGES, SLOW, TOP, VERSION, SmallCheckout
 from small_checkout import PARTS as SCRIPT_PARTS
 
@@ -19,7 +20,7 @@ NAME = f"aclctl-{VERSION}-x86_64-linux"
 LIBRARY = f"meardwyn-{VERSION}-x86_64-linux"
 # The time of the commit, which is none of those at which files are made.
 SECONDS = 1_700_000_000
-PLACES = ("bin/aclctl", *(f"bin/aclctl-{it}" for it in ("host-setup", "accounts", "report")))
+PLACES = ("bin/aclctl", *(f"bin/aclctl-{it}" for it in SCRIPTS_BESIDE))
 PLACES += (*(f"share/man/man1/{it}" for it in PAGES), *(f"share/aclctl/reporting/{it}" for it in SCRIPT_PARTS))
 PLACES += (*(f"share/{it}" for it in COMPLETIONS.values()),)
 BESIDE = ("LICENSE-APACHE", "LICENSE-MIT", "README.md")
@@ -212,7 +213,7 @@ class Debian(InCheckout):
         self.assertIn("Status: install ok installed", self.told(*dpkg, "--status", "aclctl"))
         self.assertEqual(self.told(*dpkg, "--verify", "aclctl"), "")
         self.assertEqual(self.told(root / "usr/bin/aclctl", "--version"), f"aclctl {VERSION}\n")
-        for name in ("host-setup", "accounts", "report"):
+        for name in SCRIPTS_BESIDE:
             self.assertIn(f"usage: aclctl-{name} ", self.told(root / f"usr/bin/aclctl-{name}", "--help"))
         page = gzip.decompress((root / "usr/share/man/man1/aclctl.1.gz").read_bytes())
         self.assertEqual(page, (TOP / "docs/aclctl.1").read_bytes())
