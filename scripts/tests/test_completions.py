@@ -132,6 +132,29 @@ class Names(unittest.TestCase):
             self.assertEqual("".join(files), places_of_files.get(command, ""))
 
 
+class Scripts(unittest.TestCase):
+    """The scripts beside the program that have options."""
+
+    NAMES = sorted(it.stem.removeprefix("aclctl-") for it in (TOP / "completions").glob("aclctl-*.bash"))
+
+    def test_help_manual_and_both_shells_have_the_same_options(self):
+        self.assertIn("report", self.NAMES)
+        for name in self.NAMES:
+            told = "\n".join(run(TOP / "scripts" / name, "--help"))
+            wanted = set(re.findall(r"--[a-z0-9-]+", told.replace("`getent", "")))
+            page = (TOP / f"docs/aclctl-{name}.1").read_text().replace("\\-", "-").split(".SH SYNOPSIS")[1].split(".SH DESC")[0]
+            self.assertEqual(set(re.findall(r"--[a-z0-9-]+", page)) | {"--help"}, wanted, name)
+            bash = (TOP / f"completions/aclctl-{name}.bash").read_text()
+            self.assertEqual(set(re.search(r"compgen -W '([^']+)'", bash)[1].split()), wanted, name)
+            zsh = (TOP / f"completions/_aclctl-{name}").read_text()
+            self.assertEqual(set(re.findall(r"'(?:\([a-z -]+\))?(--[a-z0-9-]+)[=[]", zsh)), wanted, name)
+
+    def test_bash_completes_options_and_files(self):
+        for name in self.NAMES:
+            script = f"source {TOP}/completions/aclctl-{name}.bash; _aclctl_{name} aclctl-{name} --h aclctl-{name}; printf '%s\n' \"${{COMPREPLY[@]}}\""
+            self.assertEqual(run("bash", "--norc", "-c", script), ["--help"], name)
+
+
 class Lines(unittest.TestCase):
     def setUp(self):
         self.room = Path(tempfile.mkdtemp(prefix="test-completions-")).resolve()
