@@ -11,12 +11,12 @@ TOP = Path(__file__).resolve().parent.parent.parent
 # How many seconds a stand-in may take on the slowest machine.
 SLOW = 600
 # The scripts that are installed beside the program, and those that build, install and release.
-BESIDE = ("accounts", "host-setup", "nightly", "report", "table")
+BESIDE = ("accounts", "host-setup", "nightly", "rehearse", "report", "table")
 SCRIPTS = ("aclctl", "build-aclctl", "rt-beside", "install", "release", "debian.py", *BESIDE)
 # What the scripts share and the parts of scripts/report, and the manual pages of section 1.
 PARTS = sorted(it.name for it in (TOP / "scripts/reporting").iterdir() if it.suffix in (".py", ".css", ".js"))
 COMPLETIONS = {"aclctl.bash": "bash-completion/completions/aclctl", "_aclctl": "zsh/site-functions/_aclctl"}
-COMPLETED = ("nightly", "report", "table")
+COMPLETED = ("nightly", "rehearse", "report", "table")
 COMPLETIONS |= {it.replace("aclctl", f"aclctl-{name}"): to.replace("aclctl", f"aclctl-{name}") for it, to in COMPLETIONS.items() for name in COMPLETED}
 PAGES = ("aclctl.1", *(f"aclctl-{it}.1" for it in BESIDE))
 FILES = (*(f"scripts/{it}" for it in SCRIPTS), *(f"scripts/reporting/{it}" for it in PARTS))
