@@ -2,8 +2,8 @@
 
 _aclctl_report() {
     local current=$2 option=$3
-    if [[ $current == -* && $option != --accounts && $option != --before ]]; then
-        mapfile -t COMPREPLY < <(compgen -W '--accounts --before --help' -- "$current")
+    if [[ $current == -* && $option != --accounts && $option != --before && $option != --owners ]]; then
+        mapfile -t COMPREPLY < <(compgen -W '--accounts --before --help --owners' -- "$current")
     else
         mapfile -t COMPREPLY < <(compgen -f -- "$current")
         compopt -o filenames 2>/dev/null

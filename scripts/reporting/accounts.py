@@ -1,12 +1,15 @@
 """Accounts as `getent passwd; getent group` prints them, as far as the page tells of them."""
 
+from reporting.names import unescaped
+
 
 class Accounts:
     """Which users and groups there are."""
 
     def __init__(self):
         self.users = set()
-        self.uids = set()
+        # By uid, the name of the first user who has it.
+        self.uids = {}
         self.gids = set()
 
     def read(self, file):
@@ -19,10 +22,14 @@ class Accounts:
             if len(fields) == 4:
                 self.gids.add(number)
                 continue
-            self.uids.add(number)
+            self.uids.setdefault(number, fields[0])
             if number != 0:
                 self.users.add(fields[0])
         return self
+
+    def owner(self, text):
+        """The name of an owner as it is, of what a listing has: a name, or a number of a user or of nobody."""
+        return self.uids.get(int(text), text) if text.isdigit() else unescaped(text)
 
     def has(self, role, number):
         """Whether a user or a group has this id."""

@@ -6,16 +6,17 @@ import subprocess
 import tempfile
 import time
 
+from reporting import owners
 from reporting.accounts import Accounts
 from reporting.answers import Unread
 from reporting.asking import NoPage, as_file, ask
 from reporting.changes import Changes
 from reporting.folders import Tree
-from reporting.html import moment, several, shown
+from reporting.html import moment, named, several, shown
 from reporting.listing import Survey
 from reporting.page import Found, page_of
 from reporting.program import COMPARISON, NoProgram, program_of, tell
-from reporting.sums import Sums
+from reporting.sums import Opened, Sums
 
 # Whose accounts are taken without --accounts, as the program takes them.
 OWN_ACCOUNTS = ("/etc/passwd", "/etc/group")
@@ -28,6 +29,8 @@ def words_given():
     accounts = "who there is, as `getent passwd; getent group` prints it; this host's without it"
     parser.add_argument("--accounts", metavar="FILE", help=accounts)
     parser.add_argument("--before", metavar="LISTING", help="an earlier listing: the page tells what changed since")
+    of_owners = "a folder into which a page and a table are written for each owner of a folder"
+    parser.add_argument("--owners", metavar="DIR", help=of_owners)
     parser.add_argument("listing", metavar="LISTING", help="what getfacl -R printed; - is standard input")
     given = parser.parse_args()
     if [given.accounts, given.before, given.listing].count("-") > 1:
@@ -89,7 +92,7 @@ def name_of(tree):
     if not roots:
         return several(tree.whole.files, "file", "files")
     more = f" and {len(roots) - 3} more" if len(roots) > 3 else ""
-    return ", ".join(shown(it.name) for it in roots[:3]) + more
+    return ", ".join(named(it.name) for it in roots[:3]) + more
 
 
 def found_by(given, here, room):
@@ -101,15 +104,23 @@ def found_by(given, here, room):
     names = {"-": given.listing, accounts_file: given.accounts, before: given.before}
     asker = Asker(here, accounts_file, {word: name for word, name in names.items() if word})
     said = asker.ask(listing, sums.read, "who", "--reach")
-    nobody, opened = str(survey.nobody()), []
-    asker.ask(listing, lambda answer: opened.extend(sums.read_anybody(answer)), "who", "--reach", "--user", nobody)
+    nobody, opened = str(survey.nobody()), Opened()
+    asker.ask(listing, lambda answer: sums.read_anybody(answer, opened), "who", "--reach", "--user", nobody)
     if before:
         changes = Changes()
         of_change = asker.ask(listing, changes.read, *COMPARISON, before)
         said.add(of_change, given.listing)
     sums.tree.add_up()
     since = before and f"{shown(os.fsencode(given.before))} of {moment(made(before))}"
-    return Found(name_of(sums.tree), moment(made(listing)), accounts, survey, sums.tree, sums.users, *opened, changes, since, said)
+    return Found(name_of(sums.tree), made(listing), accounts, survey, sums.tree, sums.users, opened, changes, since, said)
+
+
+def write_owners(found, folder):
+    """Writes what each owner of a folder is asked."""
+    try:
+        owners.write(found, folder)
+    except OSError as fault:
+        raise NoPage(f"cannot write {fault.filename or folder}: {fault.strerror}") from None
 
 
 def main(here):
@@ -117,7 +128,10 @@ def main(here):
     given = words_given()
     try:
         with tempfile.TemporaryDirectory(prefix="aclctl-report-") as room:
-            page = page_of(found_by(given, here, room))
+            found = found_by(given, here, room)
+            page = page_of(found)
+            if given.owners:
+                write_owners(found, given.owners)
         with open(1, "w", encoding="utf-8", errors="backslashreplace", closefd=False) as out:
             out.write(page)
     except (NoPage, NoProgram, Unread) as fault:

@@ -18,6 +18,8 @@ class Folder:
 
     def __init__(self, name, level):
         self.name, self.level = name, level
+        # Who owns it, as bytes, and whether who may write there may delete only what is one's own.
+        self.owner, self.is_sticky = b"", False
         self.inner = []
         self.files = 0
         # By the number of a user: the letters on the folder itself, and the files that are read and written. While these are added
@@ -52,6 +54,7 @@ class Tree:
     """The folders of a listing: those that it has blocks of. Before all is the listing as a whole."""
 
     def __init__(self, survey):
+        self.accounts, self.owners, self.sticky = survey.accounts, survey.owners, survey.sticky
         self.whole = Folder(b"", 0)
         self.at = {}
         self.homes = {}
@@ -66,6 +69,7 @@ class Tree:
         """Puts a folder into the one above it."""
         over = self.home(folder_of(place))
         folder = Folder(path, over.level + 1)
+        folder.owner, folder.is_sticky = self.accounts.owner(self.owners[place]), place in self.sticky
         over.inner.append(folder)
         self.at[place] = folder
 

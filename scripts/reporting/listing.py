@@ -21,9 +21,13 @@ ID_OF_NFS4 = re.compile(rb"^[ADUL]:([^:\n]*):([0-9]{1,10}):", re.M)
 OF_FOLDER = re.compile(rb"^(?:default:|# flags: ..t|[ADUL]:[^:\n]*[fd]|[^#\n]*:[rwxpdDaARWcCos-]+:[inSFI-]*[fd][fdinSFI-]*:(?:allow|deny))", re.M)
 ROLES = {b"owner": "owner", b"group": "group", b"user": "user", b"u": "user", b"g": "group"}
 
+# The owner, with which what follows the path begins; and the flags of a file with the sticky bit.
+OWNER = re.compile(rb"# owner: ([^\n]+)")
+STICKY = re.compile(rb"^# flags: ..t", re.M)
+
 # What a block's text says besides its path: its ids without an account, those of users that are
-# high, and whether only a folder can have it.
-Facts = namedtuple("Facts", "strangers high is_folder")
+# high, whether only a folder can have it, whose it is, and whether it has the sticky bit.
+Facts = namedtuple("Facts", "strangers high is_folder owner is_sticky")
 
 
 def blocks_of(listing):
@@ -77,8 +81,9 @@ class Survey:
         self.blocks = 0
         # By the place of each folder that something is in: how many blocks are.
         self.inside = {}
-        # By the place of each folder that has a block: as the listing writes it.
-        self.listed = {}
+        # By the place of each folder that has a block: as the listing writes it, and its owner; and the places of those with the
+        # sticky bit.
+        self.listed, self.owners, self.sticky = {}, {}, set()
         # How many blocks of a folder there are besides the first, which is no file either.
         self.repeated = {}
         # By (role, id): how many files, and the path of the first.
@@ -99,30 +104,32 @@ class Survey:
                 continue
             if facts.strangers:
                 self.count_strangers(facts.strangers, path)
-            before = self.put(path, facts.is_folder, before)
+            before = self.put(path, facts, before)
         return self
 
-    def put(self, path, is_folder, before):
-        """Counts a block in its folder. Returns its place, and its path. The block before it is that of its folder, or of a file
-        in that, or of what is deeper, if the listing is in order."""
+    def put(self, path, facts, before):
+        """Counts a block in its folder. Returns its place, its path and its facts. The block before it is that of its folder, or of a
+        file in that, or of what is deeper, if the listing is in order."""
         place = place_of(path)
         folder = folder_of(place)
-        if is_folder or place in self.inside:
-            self.list(place, path)
+        if facts.is_folder or place in self.inside:
+            self.list(place, path, facts)
         if folder in self.inside:
             self.inside[folder] += 1
         else:
             self.inside[folder] = 1
             if before and before[0] == folder and folder not in self.listed:
                 self.list(*before)
-        return place, path
+        return place, path, facts
 
-    def list(self, place, path):
+    def list(self, place, path, facts):
         """Takes down the block of a folder."""
         if place in self.listed:
             self.repeated[place] = self.repeated.get(place, 0) + 1
         else:
-            self.listed[place] = path
+            self.listed[place], self.owners[place] = path, facts.owner
+            if facts.is_sticky:
+                self.sticky.add(place)
 
     def learn(self, body):
         """What a text says, kept for the next block that has it."""
@@ -131,7 +138,8 @@ class Survey:
         strangers = tuple(sorted(it for it in ids if not self.accounts.has(*it)))
         high = [number for role, number in ids if role != "group" and number in HIGH_IDS]
         self.high.update(high)
-        facts = Facts(strangers, high, bool(OF_FOLDER.search(body)))
+        owner = OWNER.match(body)
+        facts = Facts(strangers, high, bool(OF_FOLDER.search(body)), owner[1] if owner else b"", bool(STICKY.search(body)))
         if len(self.facts) >= REMEMBERED:
             self.facts.clear()
         self.facts[body] = facts

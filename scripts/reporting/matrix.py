@@ -3,7 +3,7 @@
 import re
 from html import escape
 
-from reporting.html import number, shown, several, text, text_of
+from reporting.html import name_text, named, number, several, shown, text
 from reporting.sums import Users
 
 # How many cells a page has at most: it has some 5 MB then. A row's head is as long as three cells.
@@ -16,7 +16,8 @@ DEEPEST = 9
 # Where the name of a user may go on in the next line.
 JOINT = re.compile(r"(?<=[._@\\-])(?=.)")
 MEANING = """Each row is a folder and each column a user. A cell has the letters of the folder itself: <b>r</b> lists
-what is in it, <b>w</b> creates files there, <b>x</b> passes through. Below them stands how many of the files in
+what is in it, <b>w</b> creates files there, <b>x</b> passes through. Beside its name stand its files and its owner. Below
+the letters stands how many of the files in
 it and below the user can read (r) and write (w), by way of all folders above them. An empty cell is nothing at all."""
 COLOURS = """<span class=w>The folder or most files can be written</span> <span class=v>some files can be
 written</span> <span class=r>something can be read</span> <span class=x>passing through</span>"""
@@ -59,13 +60,18 @@ def name_of(folder, over):
         return "The whole listing"
     front = over.name + b"/"
     inner = folder.name[len(front) :] if over.level and folder.name.startswith(front) else folder.name
-    return shown(inner)
+    return named(inner)
+
+
+def owner_of(folder):
+    """Whose a folder is."""
+    return f"<em>{shown(folder.owner)}</em>" if folder.owner else ""
 
 
 def row(folder, over, users):
     """The row of a folder."""
     level = min(folder.level, DEEPEST)
-    files = f"<small>{several(folder.files, 'file', 'files')}</small>"
+    files = f"<small>{several(folder.files, 'file', 'files')}</small>{owner_of(folder)}"
     head = f"<tr data-l={folder.level}><th scope=row class=l{level}><span>{name_of(folder, over)}</span>{files}"
     return head + "".join(cell(folder, it) for it in users)
 
@@ -88,21 +94,21 @@ def rows(tree, users, deepest):
 
 def head_of(name):
     """The head of a user's column."""
-    told = text_of(name)
+    told = name_text(name)
     title = f' title="{escape(told)}"' if len(told) > 9 else ""
     return f"<th scope=col{title}>" + "<wbr>".join(escape(it) for it in JOINT.split(told))
 
 
 def head(users, names, like_anyone):
     """The first row: who the columns are. The filter finds that of anyone by the names of those who are like that, too."""
-    also = escape(" ".join(text_of(names[it]) for it in like_anyone))
+    also = escape(" ".join(name_text(names[it]) for it in like_anyone))
     anyone = f'<th scope=col data-also="{also}"><i>anyone</i>'
     return f"<thead><tr><th scope=col>Folder{anyone}{''.join(head_of(names[it]) for it in users)}</thead>"
 
 
 def divided(tree, users):
     """The users by their names: those who have a column, and those whose cells are all those of anyone."""
-    order = sorted(users.numbers.values(), key=lambda it: (text_of(users.names[it]).casefold(), it))
+    order = sorted(users.numbers.values(), key=lambda it: (name_text(users.names[it]).casefold(), it))
     unlike = set()
     for folder in tree.in_order():
         of_anybody = folder.cell(Users.ANYBODY)
@@ -114,7 +120,7 @@ def like_text(names, like_anyone):
     """Who is like anyone."""
     if not like_anyone:
         return text(ANYONE)
-    who = ", ".join(shown(names[it]) for it in like_anyone)
+    who = ", ".join(named(names[it]) for it in like_anyone)
     words = f"{several(len(like_anyone), 'user has', 'users have')} the same in each row, and no column"
     return text(f"{ANYONE} {words}: {who}." if len(like_anyone) <= 40 else f"{ANYONE} {words}.")
 

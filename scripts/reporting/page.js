@@ -8,7 +8,7 @@
   // Folders are open down to this level at first.
   var OPEN = 2;
   // How many users stand beside each other on paper, at most.
-  var ON_PAPER = 12;
+  var ON_PAPER = 15;
 
   // Of each row: its level, the row above it, its path, whether it is open, and whether something is in it.
   var rows = [], above = [];
@@ -29,6 +29,22 @@
     row.button.type = "button";
     row.button.addEventListener("click", function () { row.open = !row.open; draw(); });
     th.insertBefore(row.button, th.firstChild);
+  });
+
+  // The other tables and lists: what is hidden with them, where their number is told, and their rows.
+  var headsOf = function (box, own) {
+    var folded = box.closest("details");
+    return own.concat(folded ? [folded.querySelector("summary")] : []);
+  };
+  var lists = all(".list").map(function (it) {
+    return { box: it.parentNode, heads: headsOf(it, [it.querySelector("th")]), items: all("tbody tr", it) };
+  }).concat(all(".paths").map(function (it) {
+    return { box: it, heads: headsOf(it, []), items: all("li", it) };
+  }));
+  var cards = all(".card");
+  cards.forEach(function (it) {
+    it.dataset.all = it.firstChild.textContent;
+    it.dataset.words = it.lastChild.textContent;
   });
 
   var wanted = { user: "", path: "" };
@@ -69,21 +85,51 @@
     return users.length - hidden.length;
   }
 
-  // Shows the rows of the other tables that have what is wanted.
+  // Says beside a head how many of how many are shown, if not all are wanted.
+  function tell(it, count, of) {
+    if (wanted.user || wanted.path) { it.dataset.of = count + " of " + of; } else { delete it.dataset.of; }
+  }
+
+  // Shows the rows of the other tables and lists that have what is wanted, and says at their heads how many these are. One that has
+  // none is hidden.
   function drawLists() {
-    all(".list tbody tr, .paths li").forEach(function (it) {
-      it.hidden = ["user", "path"].some(function (kind) {
-        var cells = all("." + kind.charAt(0), it).concat(it.classList.contains(kind.charAt(0)) ? [it] : []);
-        var text = wanted[kind].toLowerCase();
-        return text && cells.length && cells.every(function (cell) { return cell.textContent.toLowerCase().indexOf(text) < 0; });
+    lists.forEach(function (list) {
+      var count = 0;
+      list.items.forEach(function (it) {
+        it.hidden = ["user", "path"].some(function (kind) {
+          var cells = all("." + kind.charAt(0), it).concat(it.classList.contains(kind.charAt(0)) ? [it] : []);
+          var text = wanted[kind].toLowerCase();
+          return text && cells.length && cells.every(function (cell) { return cell.textContent.toLowerCase().indexOf(text) < 0; });
+        });
+        count += !it.hidden;
       });
+      list.count = count;
+      list.box.hidden = !count && list.items.length;
+      list.heads.forEach(function (it) { tell(it, count, list.items.length); });
+    });
+    all("section").forEach(function (it) {
+      var own = lists.filter(function (list) { return it.contains(list.box); });
+      var isEmpty = own.length && own.every(function (list) { return !list.count; });
+      if (isEmpty && (wanted.user || wanted.path)) { it.firstChild.dataset.of = "nothing of it"; } else { delete it.firstChild.dataset.of; }
+    });
+  }
+
+  // The numbers at the head of the page: those of folders and users are of what is wanted, and the others are of all.
+  function drawCards(shown, columns) {
+    var counts = { folders: [shown, rows.length, "folders"], users: [columns, users.length, "columns of users"] };
+    cards.forEach(function (it) {
+      var count = wanted.user || wanted.path ? counts[it.dataset.of] : null;
+      it.firstChild.textContent = count ? count[0] + " of " + count[1] : it.dataset.all;
+      it.lastChild.textContent = count ? count[2] : it.dataset.words;
     });
   }
 
   function draw() {
-    var shown = drawRows(), columns = drawColumns();
+    var shown = drawRows(), columns = drawColumns(), isFiltered = wanted.user || wanted.path;
     drawLists();
-    byId("count").textContent = wanted.user || wanted.path ? columns + " of " + users.length + " columns, " + shown + " of " + rows.length + " rows" : "";
+    drawCards(shown, columns);
+    document.body.classList.toggle("filtered", Boolean(isFiltered));
+    byId("count").textContent = isFiltered ? columns + " of " + users.length + " columns, " + shown + " of " + rows.length + " rows" : "";
   }
 
   // What is wanted stands in the address too, so that it can be handed on.

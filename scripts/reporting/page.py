@@ -1,13 +1,11 @@
 """The page: what is on it, in which order."""
 
-import base64
-import hashlib
 from collections import namedtuple
 from pathlib import Path
 
-from reporting.html import number, path_text, row, section, several, shown, table, text
+from reporting.html import head_of_page, moment, named, number, path_text, rest, row, section, several, shown, table, text
 from reporting.matrix import matrix
-from reporting.sums import Users
+from reporting.sums import Opened, Users
 
 HERE = Path(__file__).resolve().parent
 # How many users stand among those who can write most, how many folders that anyone can read or write, how many ids without an
@@ -17,9 +15,9 @@ MOST_FOLDERS = 10
 MOST_STRANGERS = 100
 MOST_CHANGED = 200
 
-# What the page tells of: the listing's name and time, whose accounts, the survey, tree and users, the paths that anyone can write and
-# how many these are, what changed, since when, and what the program said.
-Found = namedtuple("Found", "name made accounts survey tree users open_paths open_count changes before said")
+# What the page tells of: the listing's name and time, whose accounts, the survey, tree and users, the paths that anyone can write,
+# what changed, since when, and what the program said.
+Found = namedtuple("Found", "name made_at accounts survey tree users opened changes before said")
 
 UNKNOWN = """This page doesn’t know the folders above those of the listing, root (uid 0), who may do nearly everything,
 or who may delete and rename a file, which the letters of its folder and its sticky bit decide; its numbers are sums of
@@ -27,38 +25,44 @@ proved answers: for each user and file <code>aclctl who --reach</code> answers w
 of the folders above it, which is proved, and a script that is tested, and not proved, adds them up."""
 FOLDERS = """The listing doesn’t say which paths are folders. A folder here is a path with another below it, with a
 default list or entries that are inherited, or with the sticky bit; an empty folder that has none counts as a file."""
+# What is said of the paths that anyone can write, the worst first.
+OPENED = (
+    (Opened.FOLDERS, "folder", "folders", "without the sticky bit that anyone can write: who can may delete there what others own"),
+    (Opened.OTHERS, "other path", "other paths", "that anyone can write"),
+    (Opened.BOXES, "drop box", "drop boxes", "that anyone can write: with the sticky bit, so that everybody may delete only their own"),
+)
 CHANGED = """Who gains or loses something by the lists of the files themselves, the folders above them not counted.
 Each number counts paths: those where a user gains or loses something, and those where that is writing; new ones where a
 user may do something, and gone ones where a user could."""
 
 
 def cards(found):
-    """The numbers at the head of the page."""
+    """The numbers at the head of the page: each with its words, its class, and what a filter changes of it."""
     folders, reaching = len(found.tree.at), len(found.users.numbers)
     lost = sum(found.said.unanswered.values())
-    yield number(folders), "folder" if folders == 1 else "folders", ""
-    yield number(found.tree.whole.files), "file" if found.tree.whole.files == 1 else "files", ""
-    yield number(reaching), f"of {several(len(found.accounts.users), 'user reaches', 'users reach')} something", ""
-    for count, one, more, words in ((found.open_count, "path", "paths", "that anyone can write"), (lost, "block", "blocks", "not answered")):
-        yield number(count), f"{one if count == 1 else more} {words}", "bad" if count else "good"
+    yield number(folders), "folder" if folders == 1 else "folders", "", " data-of=folders"
+    yield number(found.tree.whole.files), "file" if found.tree.whole.files == 1 else "files", "", ""
+    yield number(reaching), f"of {several(len(found.accounts.users), 'user reaches', 'users reach')} something", "", " data-of=users"
+    mistakes = found.opened.count() - found.opened.counts[Opened.BOXES]
+    for count, one, more, words in ((mistakes, "path", "paths", "that anyone can write"), (lost, "block", "blocks", "not answered")):
+        yield number(count), f"{one if count == 1 else more} {words}", "bad" if count else "good", ""
     if found.changes:
         counts = found.changes.counts
-        yield number(sum(counts.values())), "paths changed, new or gone", ""
+        yield number(sum(counts.values())), "paths changed, new or gone", "", ""
 
 
 def top(found):
     """The head of the page."""
-    boxes = "".join(f"<div class='card {kind}'><b>{count}</b><span>{words}</span></div>" for count, words, kind in cards(found))
+    boxes = "".join(f"<div class='card {kind}'{of}><b>{count}</b><span>{words}</span></div>" for count, words, kind, of in cards(found))
     since = f" It is compared with that of {found.before}." if found.before else ""
-    made = f"<p class=made>Listing of {found.made}.{since}</p>"
+    made = f"<p class=made>Listing of {moment(found.made_at)}.{since}</p>"
     return f"<header><p class=over>Who reaches what</p><h1>{found.name}</h1>{made}<div class=cards>{boxes}</div></header>\n"
 
 
 def paths(raws, count):
     """A list of paths, and how many more there are."""
     rows = "".join(f"<li class=p>{path_text(it)}" for it in raws)
-    more = text(f"And {number(count - len(raws))} more.") if count > len(raws) else ""
-    return f"<ul class=paths>{rows}</ul>{more}"
+    return f"<ul class=paths>{rows}</ul>{rest(count - len(raws), 'more')}"
 
 
 def folded(summary, inside, is_open=False):
@@ -79,9 +83,9 @@ def anybody(found):
     parts = [text(words)]
     if rows:
         parts.append(table((("", "Folder"), ("n", "Files read"), ("n", "Files written")), rows))
-    if found.open_paths:
-        what = f"{several(found.open_count, 'path', 'paths')} that anyone can write"
-        parts.append(folded(what, paths(found.open_paths, found.open_count), True))
+    for kind, one, more, words in OPENED:
+        if count := found.opened.counts[kind]:
+            parts.append(folded(f"{several(count, one, more)} {words}", paths(found.opened.named[kind], count), kind != Opened.BOXES))
     return section("anyone", "What everybody can do", *parts)
 
 
@@ -100,9 +104,8 @@ def writers(found):
     for user in able[:MOST_WRITERS]:
         folders, reads, writes = written[user]
         counts = (("n", number(it)) for it in (writes, folders, reads))
-        rows.append(row(("u", shown(found.users.names[user])), *counts))
-    rest = len(able) - MOST_WRITERS
-    more = text(f"And {several(rest, 'user', 'users')} besides who can write something.") if rest > 0 else ""
+        rows.append(row(("u", named(found.users.names[user])), *counts))
+    more = rest(len(able) - MOST_WRITERS, "users besides who can write something")
     heads = (("", "User"), ("n", "Files written"), ("n", "Folders written"), ("n", "Files read"))
     return section("writers", "Who can write most", table(heads, rows), more)
 
@@ -117,7 +120,7 @@ def strangers(found):
     rows = []
     for (role, it), (count, path) in order[:MOST_STRANGERS]:
         rows.append(row(("", words[role]), ("n", str(it)), ("n", number(count)), ("p", path_text(path))))
-    more = text(f"And {number(len(order) - MOST_STRANGERS)} more ids.") if len(order) > MOST_STRANGERS else ""
+    more = rest(len(order) - MOST_STRANGERS, "more ids")
     heads = (("", "Is"), ("n", "Id"), ("n", "Files"), ("", "The first of them"))
     return section("strangers", "Ids without an account", table(heads, rows), more)
 
@@ -136,7 +139,7 @@ def unanswered(found):
 
 def user_of(name):
     """The name of a user whom a change concerns."""
-    return "<i>somebody else</i>" if name == b"-" else shown(name)
+    return "<i>somebody else</i>" if name == b"-" else named(name)
 
 
 def changed_users(changes):
@@ -146,7 +149,7 @@ def changed_users(changes):
     for name, it in order[:MOST_CHANGED]:
         cells = (it.gained, it.gained_write, it.lost, it.lost_write, it.new, it.gone)
         rows.append(row(("u", user_of(name)), *(("n", number(count) if count else "") for count in cells)))
-    more = text(f"And {number(len(order) - MOST_CHANGED)} more users.") if len(order) > MOST_CHANGED else ""
+    more = rest(len(order) - MOST_CHANGED, "more users")
     heads = ("gains", "gains writing", "loses", "loses writing", "new", "gone")
     return f"<div>{table((('', 'User'), *(('n', it) for it in heads)), rows)}{more}</div>" if rows else ""
 
@@ -158,7 +161,7 @@ def changed_folders(changes):
     for place, it in order[:MOST_CHANGED]:
         cells = (it.differ, it.new, it.gone, len(it.names))
         rows.append(row(("p", path_text(place or b".")), *(("n", number(count) if count else "") for count in cells)))
-    more = text(f"And {number(len(order) - MOST_CHANGED)} more folders.") if len(order) > MOST_CHANGED else ""
+    more = rest(len(order) - MOST_CHANGED, "more folders")
     heads = ("changed", "new", "gone", "users concerned")
     return f"<div>{table((('', 'In folder'), *(('n', it) for it in heads)), rows)}{more}</div>" if rows else ""
 
@@ -204,23 +207,13 @@ BAR = """<div id=bar hidden><label>User <input id=user type=search placeholder="
 """
 
 
-def policy(style, script):
-    """What a browser lets the page do: nothing but this style and this script, whatever names stand in it."""
-    sums = [base64.b64encode(hashlib.sha256(it.encode()).digest()).decode() for it in (style, script)]
-    own = f"style-src 'sha256-{sums[0]}'; script-src 'sha256-{sums[1]}'"
-    return f"default-src 'none'; {own}; base-uri 'none'; form-action 'none'"
-
-
 def page_of(found):
     """The page as text."""
     folders, columns = matrix(found.tree, found.users)
-    style = (HERE / "page.css").read_text().replace("COLUMNS", str(columns))
     script = (HERE / "page.js").read_text()
     notes = section("notes", "What this page doesn’t know", text(UNKNOWN), text(FOLDERS))
     glance = f"<div class=glance>{anybody(found)}{writers(found)}</div>"
     reach = section("reach", "Folders by users", folders)
     body = (top(found), glance, changed(found), BAR, reach, strangers(found), unanswered(found), notes)
-    meta = "<meta charset=utf-8><meta name=viewport content='width=device-width'>"
-    meta += f'<meta http-equiv=Content-Security-Policy content="{policy(style, script)}">'
-    head = f"<!doctype html>\n<html lang=en><head>{meta}<title>Who reaches what: {found.name}</title><style>{style}</style></head>\n"
+    head = head_of_page(f"Who reaches what: {found.name}", columns, script)
     return f"{head}<body><main>{''.join(body)}</main><script>{script}</script></body></html>\n"

@@ -55,6 +55,28 @@ class Kind:
         return sum_of(counts)
 
 
+class Opened:
+    """The paths that a user in no group may write: folders in which that user may delete what others own, folders with the sticky bit,
+    in which nobody may, and others."""
+
+    KINDS = FOLDERS, OTHERS, BOXES = "folders", "others", "boxes"
+
+    def __init__(self):
+        self.counts = dict.fromkeys(self.KINDS, 0)
+        self.named = {it: [] for it in self.KINDS}
+
+    def put(self, path, folder, may_search):
+        """Takes down a path, and the folder that it is, if it is one. Nothing is deleted in a folder that can't be searched."""
+        kind = self.OTHERS if not folder or not may_search else self.BOXES if folder.is_sticky else self.FOLDERS
+        self.counts[kind] += 1
+        if len(self.named[kind]) < MOST_NAMED:
+            self.named[kind].append(path)
+
+    def count(self):
+        """How many there are of all kinds."""
+        return sum(self.counts.values())
+
+
 class Sums:
     """What users reach in the folders of a tree."""
 
@@ -108,16 +130,12 @@ class Sums:
             kind.waiting.clear()
         self.waiting = 0
 
-    def read_anybody(self, answer):
-        """Reads the answer about a user in no group. Returns the paths that the user may write, so many as are named, and how
-        many there are."""
-        named, count, kinds = [], 0, [Kind([(Users.ANYBODY, bits)]) for bits in range(8)]
+    def read_anybody(self, answer, opened):
+        """Reads the answer about a user in no group, and takes down which paths the user may write."""
+        kinds = [Kind([(Users.ANYBODY, bits)]) for bits in range(8)]
         for path, text in Runs(answer, WHO):
-            bits = bits_of(text[:3])
+            bits, place = bits_of(text[:3]), place_of(path)
             if bits & BITS[b"w"]:
-                count += 1
-                if len(named) < MOST_NAMED:
-                    named.append(path)
-            self.put(place_of(path), kinds[bits])
+                opened.put(path, self.tree.at.get(place), bits & BITS[b"x"])
+            self.put(place, kinds[bits])
         self.add_up(kinds)
-        return named, count

@@ -12,6 +12,8 @@ class Page(HTMLParser):
         self.titles, self.cards, self.section, self.open = [], [], "head", []
         # Of the rows of the table of folders, how deep they are.
         self.levels = []
+        # The owners of the folders that have one, in their order.
+        self.owners = []
         self.feed(text)
         self.close()
 
@@ -39,7 +41,9 @@ class Page(HTMLParser):
 
     def handle_data(self, data):
         self.texts[self.section] = self.texts.get(self.section, "") + data
-        if "table" in self.open and data.strip("\n") and self.tables.get(self.section):
+        if "em" in self.open:
+            self.owners.append(data)
+        elif "table" in self.open and data.strip("\n") and self.tables.get(self.section):
             self.tables[self.section][-1][-1] += ("|" if "small" in self.open or "b" in self.open else "") + data
         elif "ul" in self.open and self.paths.get(self.section):
             self.paths[self.section][-1] += data

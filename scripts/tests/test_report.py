@@ -182,6 +182,51 @@ class Report(OverStandIn):
         self.assertEqual(page.paths["anyone"], ["srv/open"])
         self.assertEqual(page.tables["writers"][1:], [["alice", "3", "1", "4"], ["bob", "2", "0", "3"], ["carol", "1", "0", "1"]])
 
+    def test_drop_boxes_stand_apart_from_mistakes(self):
+        sticky = lambda path, other: block(path, other).replace("# group: root\n", "# group: root\n# flags: --t\n")
+        self.write("share", block("s", "r-x") + sticky("s/box", "rwx") + block("s/open", "rwx") + block("s/open/in", "rw-") + block("s/odd", "-w-") + block("s/odd/in", "---"))
+        page = self.page()
+        self.assertEqual(page.paths["anyone"], ["s/open", "s/open/in", "s/odd", "s/box"])
+        self.assertEqual(page.numbers()["paths that anyone can write"], "3")
+        for words in ("1 folder without the sticky bit that anyone can write", "2 other paths that anyone can write", "1 drop box that anyone can write"):
+            self.assertIn(words, page.texts["anyone"])
+
+    def test_names_and_owners_stand_without_escapes(self):
+        self.write("accounts", ACCOUNTS + "CORP\\bea x:x:1005:100::/:\n")
+        folder = "# file: s\\\\x\\012y\n# owner: OWNER\n# group: root\nuser:CORP\\134bea\\040x:rwx\nother::r-x\n\n" + block("s\\\\x\\012y/f", "r--")
+        for owner, shown in (("CORP\\134bea\\040x", "CORP\\bea x"), ("1005", "CORP\\bea x"), ("4711", "4711"), ("root", "root"), ("0", "root")):
+            self.write("share", folder.replace("OWNER", owner))
+            page = self.page()
+            self.assertEqual((page.owners, [*page.folders()]), ([shown], ["s\\x\u21b5y"]))
+            self.assertIn("CORP\\bea x", page.tables["reach"][0])
+
+    def owners_of(self, *words):
+        """Writes the pages of owners. Returns them and the tables, by the names of their files."""
+        ran = self.run_script("--accounts", "accounts", "--owners", "own", *words, "share")
+        self.assertEqual((ran.returncode, ran.stderr), (0, ""))
+        return {it.name: it.read_text() for it in sorted((self.room / "own").iterdir())}
+
+    def test_each_owner_has_a_page_and_a_table(self):
+        self.write("share", "".join(SHARE).replace("srv/plans\n# owner: root", "srv/plans\n# owner: alice").replace("srv/shut\n# owner: root", "srv/shut\n# owner: =b/ad"))
+        found = self.owners_of()
+        self.assertEqual([*found], ["%3Db%2Fad.csv", "%3Db%2Fad.html", "alice.csv", "alice.html", "root.csv", "root.html"])
+        head = "folder,user,permissions,files read,files written,files,keep or remove,date,signature"
+        self.assertEqual(found["alice.csv"].splitlines(), [head, "srv/plans,(anyone),x,0,0,3,,,", "srv/plans,bob,x,2,1,3,,,"])
+        self.assertEqual(found["%3Db%2Fad.csv"].splitlines(), [head, "srv/shut,alice,x,0,0,1,,,"])
+        rows = found["root.csv"].splitlines()[1:]
+        self.assertEqual(rows, ["srv,(anyone),rx,1,1,5,,,", "srv,alice,rx,4,3,5,,,", "srv,bob,rx,3,2,5,,,", "srv/plans/old,alice,rx,1,0,1,,,"])
+        page = found["alice.html"]
+        self.assertIn("<h1>alice</h1>", page)
+        self.assertIn("<td class=u>bob<td class=m>--x<td class=n>2<td class=n>1<td class=box><td class=box>", page)
+        self.assertNotIn("<td class=u>alice", page)
+        for it in ("Date", "Signature", "Keep", "Remove", "default-src 'none'"):
+            self.assertIn(it, page)
+        self.assertEqual(page.count("<script"), 0)
+
+    def test_pages_of_owners_that_cannot_be_written(self):
+        self.write("own", "a file")
+        self.assertIn("report: cannot write own: File exists", self.refused("--accounts", "accounts", "--owners", "own", "share"))
+
     def test_somebody_in_no_group_has_an_id_that_nothing_names(self):
         self.write("accounts", ACCOUNTS + "high:x:4294967294:100::/:\n")
         self.write("share", "".join(SHARE) + "# file: srv/x\n# owner: 4294967293\n# group: root\nuser:4294967292:rw-\nother::---\n")
@@ -223,7 +268,7 @@ class Report(OverStandIn):
         shown = {"srv"} | {f"srv/{it}" for it in (*names[:4], "\\342\\200\\256gpj.exe", "\\033[31mred", "caf\u00e9", "not\\377text", "two  blanks", "end\\040")}
         self.assertEqual(set(page.folders()), shown)
         self.assertIn("<i>", page.tables["reach"][0])
-        self.assertIn("\"q'\\040b", page.texts["reach"])
+        self.assertIn("\"q' b", page.texts["reach"])
         self.assertEqual([it for it in page.paths["anyone"] if "/in" not in it][:2], ["srv/<script>alert(1)", "srv/a&amp;b"])
 
     def test_the_page_takes_nothing_from_elsewhere(self):
@@ -376,7 +421,7 @@ class Words(unittest.TestCase):
     def test_all_have_the_same_options(self):
         told = subprocess.run([TOP / "scripts/report", "--help"], capture_output=True, text=True, timeout=SLOW).stdout
         options = set(re.findall(r"--[a-z]+", told))
-        self.assertEqual(options, {"--help", "--accounts", "--before"})
+        self.assertEqual(options, {"--help", "--accounts", "--before", "--owners"})
         self.assertEqual(set(self.completed("x", "-")), options)
         self.assertEqual(set(re.findall(r"'(--[a-z]+)[=[]", (TOP / "completions/_aclctl-report").read_text())), options)
         page = (TOP / "docs/aclctl-report.1").read_text().split(".SH OPTIONS")[1].replace("\\-", "-")

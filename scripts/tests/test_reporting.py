@@ -134,7 +134,7 @@ class Listings(unittest.TestCase):
 
 class Names(unittest.TestCase):
     def test_what_cannot_be_seen_is_in_octal_digits(self):
-        for raw, text in ((b"a b", "a b"), (b" a", "\\040a"), (b"a ", "a\\040"), (b"", ""), (b"\t", "\\011"), ("\u00e9".encode(), "\u00e9"), (b"\xe9", "\\351"), ("\u200b\u2028".encode(), "\\342\\200\\213\\342\\200\\250"), (b"\\012", "\\012"), ("a\u00a0b".encode(), "a\\302\\240b")):
+        for raw, text in ((b"a b", "a b"), (b" a", "\\040a"), (b"a ", "a\\040"), (b"", ""), (b"\t", "\\011"), (b"a\n\x7f", "a\u21b5\\177"), ("\u00e9".encode(), "\u00e9"), (b"\xe9", "\\351"), ("\u200b\u2028".encode(), "\\342\\200\\213\\342\\200\\250"), (b"\\012", "\\012"), ("a\u00a0b".encode(), "a\\302\\240b")):
             self.assertEqual(text_of(raw), text)
 
 
