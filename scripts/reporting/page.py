@@ -5,6 +5,7 @@ from pathlib import Path
 
 from reporting.html import head_of_page, moment, named, number, path_text, rest, row, section, several, shown, table, text
 from reporting.matrix import matrix
+from reporting.program import COMPARISON
 from reporting.sums import Opened, Users
 
 HERE = Path(__file__).resolve().parent
@@ -31,7 +32,8 @@ OPENED = (
     (Opened.OTHERS, "other path", "other paths", "that anyone can write"),
     (Opened.BOXES, "drop box", "drop boxes", "that anyone can write: with the sticky bit, so that everybody may delete only their own"),
 )
-CHANGED = """Who gains or loses something by the lists of the files themselves, the folders above them not counted.
+BY = "by way of all folders above" if "--reach" in COMPARISON else "by the lists of the files themselves, the folders above them not counted"
+CHANGED = f"""Who gains or loses something {BY}.
 Each number counts paths: those where a user gains or loses something, and those where that is writing; new ones where a
 user may do something, and gone ones where a user could."""
 

@@ -67,9 +67,9 @@ class Nightly(unittest.TestCase):
         for it in names:
             (self.room / it).unlink(missing_ok=True)
 
-    def start(self, *words, **how):
+    def start(self, *words, path="/srv", **how):
         """Starts the script."""
-        words = [self.room / "bin/nightly", "--state", self.state, *words, "/srv"]
+        words = [self.room / "bin/nightly", "--state", self.state, *words, path]
         return subprocess.Popen(words, **{"stdout": subprocess.PIPE, "stderr": subprocess.PIPE, "env": self.env, "text": True, **how})
 
     def run_script(self, *words, **how):
@@ -226,6 +226,12 @@ class Nightly(unittest.TestCase):
         status, lines, said = self.run_script()
         self.assertEqual((status, lines), (4, ["differ bob 5 6 - w /srv/a"]))
         self.assertEqual(said[1:], [f"aclctl: {self.state}/{self.nights()[-1]}/listing:1: bad-acl: x"])
+
+    def test_listings_are_not_listed_themselves(self):
+        for path in (self.room, self.state, "/"):
+            self.assertEqual(self.run_script(path=path), (1, [], [f"{self.state} is in {path}: its listings would be new each night"]))
+        self.assertFalse(self.state.exists())
+        self.assertEqual(self.run_script(path=f"{self.state}s")[0], 0)
 
     def test_what_is_wanting_is_told(self):
         self.first()

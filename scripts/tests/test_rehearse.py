@@ -25,6 +25,7 @@ while [ "$1" != sh ]; do shift; done
 shift 4
 skeleton=$1 folder=$2
 shift 2
+[ "$skeleton" != "$folder" ] || exit 0
 mv -- "$folder" "$folder.real" && mv -- "$skeleton" "$folder"
 (cd -- "$1" && umask "$2" && shift 2 && "$@")
 status=$?
@@ -196,6 +197,10 @@ class Rehearse(unittest.TestCase):
         self.refused(f"{self.share}/in is in {self.share}", "--room", "share/in", "share", "--", "true")
         for words in (["share"], ["--depth=-1", "share", "--", "true"], ["--", "true"], ["share", "true"]):
             self.assertEqual(self.run_script(*words)[0], 2, words)
+
+    def test_without_a_mount_namespace_it_says_so(self):
+        (self.room / "bin/unshare").write_text("#!/bin/sh\necho unshare: no >&2\nexit 1\n")
+        self.refused("no mount namespace can be made here: unshare: no", "share", "--", "true")
 
     def test_without_root_it_says_so(self):
         for it in (self.room, *(self.room / "bin").iterdir()):
