@@ -26,11 +26,12 @@ proved answers: for each user and file <code>aclctl who --reach</code> answers w
 of the folders above it, which is proved, and a script that is tested, and not proved, adds them up."""
 FOLDERS = """The listing doesn’t say which paths are folders. A folder here is a path with another below it, with a
 default list or entries that are inherited, or with the sticky bit; an empty folder that has none counts as a file."""
+STICKY = "By POSIX lists who can write in a folder without the sticky bit can delete there what others own."
 # What is said of the paths that anyone can write, the worst first.
 OPENED = (
-    (Opened.FOLDERS, "folder", "folders", "without the sticky bit that anyone can write: who can may delete there what others own"),
+    (Opened.FOLDERS, "folder", "folders", "without the sticky bit that anyone can write"),
     (Opened.OTHERS, "other path", "other paths", "that anyone can write"),
-    (Opened.BOXES, "drop box", "drop boxes", "that anyone can write: with the sticky bit, so that everybody may delete only their own"),
+    (Opened.BOXES, "drop box", "drop boxes", "with the sticky bit that anyone can write"),
 )
 BY = "by way of all folders above" if "--reach" in COMPARISON else "by the lists of the files themselves, the folders above them not counted"
 CHANGED = f"""Who gains or loses something {BY}.
@@ -85,6 +86,8 @@ def anybody(found):
     parts = [text(words)]
     if rows:
         parts.append(table((("", "Folder"), ("n", "Files read"), ("n", "Files written")), rows))
+    if found.opened.counts[Opened.FOLDERS]:
+        parts.append(text(STICKY))
     for kind, one, more, words in OPENED:
         if count := found.opened.counts[kind]:
             parts.append(folded(f"{several(count, one, more)} {words}", paths(found.opened.named[kind], count), kind != Opened.BOXES))

@@ -188,7 +188,7 @@ class Report(OverStandIn):
         page = self.page()
         self.assertEqual(page.paths["anyone"], ["s/open", "s/open/in", "s/odd", "s/box"])
         self.assertEqual(page.numbers()["paths that anyone can write"], "3")
-        for words in ("1 folder without the sticky bit that anyone can write", "2 other paths that anyone can write", "1 drop box that anyone can write"):
+        for words in ("1 folder without the sticky bit that anyone can write", "2 other paths that anyone can write", "1 drop box with the sticky bit that anyone can write"):
             self.assertIn(words, page.texts["anyone"])
 
     def test_names_and_owners_stand_without_escapes(self):
