@@ -39,7 +39,7 @@ exit $status
 BEFORE = ["rt ci", "try-scripts ", "read-texts.py --check", "count-definitions "]
 BEFORE += ["layout "]
 BEFORE += ["try-aclctl ", "try-cases ", "try-compare ", "try-trees ", "try-listings ", "try-forms ", "try-kernel ", "try-accounts ", "try-delete ", "try-next ", "try-restore ", "try-changes ", "try-tutorial "]
-BEFORE += ["try-report ", "try-parallel ", "try-streams ", "try-capi "]
+BEFORE += ["try-report ", "try-desk ", "try-parallel ", "try-streams ", "try-capi "]
 BEFORE += ["refused-growths "]
 PARTS = [*(it.split()[0] for it in BEFORE), "wrong-bodies"]
 # How they are called where nothing is proved.
