@@ -121,6 +121,20 @@ static unsigned kernel_answers(const char *path, uint32_t uid, const gid_t *gids
     return answers;
 }
 
+/* 1 if the kernel lets the user take the file away. */
+static int kernel_deletes(const char *path, uint32_t uid, const gid_t *gids, int count)
+{
+    pid_t child = fork();
+    int status;
+    if (!child) {
+        if (setgroups(count, gids) || setresgid(gids[0], gids[0], gids[0]) || setresuid(uid, uid, uid)) _exit(2);
+        _exit(unlink(path) ? errno == EACCES || errno == EPERM ? 1 : 2 : 0);
+    }
+    waitpid(child, &status, 0);
+    if (!WIFEXITED(status) || WEXITSTATUS(status) > 1) { puts("no answer"); exit(1); }
+    return WEXITSTATUS(status) == 0;
+}
+
 /* On real files: what the kernel keeps, shows as the mode, makes of chmod and of creation, and decides. */
 static void beside_the_kernel(int lists)
 {
@@ -129,7 +143,7 @@ static void beside_the_kernel(int lists)
     snprintf(folder, sizeof folder, "%s/meardwyn-XXXXXX", base);
     if (!mkdtemp(folder)) { perror(folder); exit(1); }
     chmod(folder, 0755);
-    int asked = 0, kept = 0, refused = 0, strict = 0;
+    int asked = 0, kept = 0, refused = 0, strict = 0, deleted = 0;
     umask(0);
     for (int i = 0; i < lists; i++) {
         struct bytes b, told;
@@ -182,7 +196,7 @@ static void beside_the_kernel(int lists)
             /* creation under a default list */
             char *below_it = at("folder");
             mkdir(below_it, 0700);
-            meardwyn_posix_canonical(b.at, b.length, out, sizeof out, &needed);
+            if (meardwyn_posix_canonical(b.at, b.length, out, sizeof out, &needed)) { puts("canonical"); exit(1); }
             if (setxattr(below_it, "system.posix_acl_default", out, needed, 0)) { perror("default"); exit(1); }
             char made[160];
             snprintf(made, sizeof made, "%s/made", below_it);
@@ -193,13 +207,29 @@ static void beside_the_kernel(int lists)
                 read_attribute(made, "system.posix_acl_access", &told);
                 SAME("bytes of a new file", &b, same_bytes(&told, out, needed), 1);
             }
-            unlink(made), rmdir(below_it);
+            /* deletion from a folder with the list, which is sticky or not */
+            if (meardwyn_posix_canonical(b.at, b.length, out, sizeof out, &needed)) { puts("canonical"); exit(1); }
+            struct meardwyn_file in = {1 + below(4), 1 + below(8)}, of = {1 + below(4), 1 + below(8)};
+            uint32_t uid = 1 + below(below(2) ? 4 : 16);
+            gid_t gids[3] = {1 + below(12), 1 + below(12), 1 + below(12)};
+            struct meardwyn_user user = {uid, gids, 3};
+            int32_t error = 77, sticky = below(2);
+            if (removexattr(below_it, "system.posix_acl_default") || setxattr(below_it, "system.posix_acl_access", out, needed, 0)
+                || chown(made, of.owner, of.group) || chown(below_it, in.owner, in.group)) { perror("folder"); exit(1); }
+            if (sticky && chmod(below_it, 01000 | mode_at(below_it))) { perror("sticky"); exit(1); }
+            deleted++;
+            int deletes = kernel_deletes(made, uid, gids, 3);
+            SAME("the kernel's deletion", &b, meardwyn_posix_may_delete_linux_for(out, needed, &in, sticky, &of, &user, &error), deletes);
+            if (mask) SAME("the kernel's deletion by the draft", &b, meardwyn_posix_may_delete_for(out, needed, &in, sticky, &of, &user, &error), deletes);
+            SAME("no error", &b, error, 0);
+            if (!deletes) unlink(made);
+            rmdir(below_it);
         }
         unlink(file);
     }
     rmdir(folder);
-    printf("the kernel: %d lists kept alike, with their mode, chmod and creation, %d after they were put in order; %d that it takes and draft 17 does not; %d checks alike\n",
-           kept, refused, strict, asked);
+    printf("the kernel: %d lists kept alike, with their mode, chmod and creation, %d after they were put in order; %d that it takes and draft 17 does not; %d checks and %d deletions alike\n",
+           kept, refused, strict, asked, deleted);
 }
 
 /* ---- NFSv4 lists, beside RFC 8881, section 6.2.1, written down by hand */
@@ -245,6 +275,27 @@ static uint32_t allowed_by_hand(const struct meardwyn_ace *aces, size_t n, uint3
     return allowed;
 }
 
+/* What is denied is what the list allows with each type turned round. */
+static uint32_t denied_by_hand(const struct meardwyn_ace *aces, size_t n, uint32_t owner, uint32_t group, uint32_t uid, const uint32_t *gids,
+                               int count, uint32_t request)
+{
+    static struct meardwyn_ace turned[MOST_ACES];
+    for (size_t i = 0; i < n; i++) turned[i] = aces[i], turned[i].type ^= aces[i].type < 2;
+    return allowed_by_hand(turned, n, owner, group, uid, gids, count, request);
+}
+
+/* RFC 8881, section 6.2.1.3.2, for folders that are searched. */
+static int deletes_by_hand(const struct meardwyn_ace *folder, size_t n, const struct meardwyn_file *in, int sticky, const struct meardwyn_ace *aces,
+                           size_t m, const struct meardwyn_file *of, uint32_t uid, const uint32_t *gids, int count)
+{
+    if (allowed_by_hand(aces, m, of->owner, of->group, uid, gids, count, MEARDWYN_NFS4_DELETE)) return 1;
+    if (allowed_by_hand(folder, n, in->owner, in->group, uid, gids, count, MEARDWYN_NFS4_DELETE_CHILD)) return 1;
+    if (denied_by_hand(aces, m, of->owner, of->group, uid, gids, count, MEARDWYN_NFS4_DELETE)) return 0;
+    if (denied_by_hand(folder, n, in->owner, in->group, uid, gids, count, MEARDWYN_NFS4_DELETE_CHILD)) return 0;
+    if (!allowed_by_hand(folder, n, in->owner, in->group, uid, gids, count, MEARDWYN_NFS4_ADD_FILE)) return 0;
+    return !sticky || uid == in->owner || uid == of->owner;
+}
+
 static void must(int holds, const char *what)
 {
     if (!holds) { printf("%s\n", what); exit(1); }
@@ -272,7 +323,7 @@ static void nfs4(int lists)
     static struct meardwyn_ace aces[MOST_ACES], other[MOST_ACES], again[MOST_ACES];
     static uint8_t xdr[8192], written[8192];
     static char text[16384];
-    int checks = 0, alike = 0, told = 0;
+    int checks = 0, alike = 0, told = 0, deletions = 0;
     for (int i = 0; i < lists; i++) {
         size_t needed = 0, n = random_aces(aces, i % 10 ? below(17) : below(129)), m;
         must(meardwyn_nfs4_valid(aces, n) == 0, "a random list is none");
@@ -288,9 +339,7 @@ static void nfs4(int lists)
             must(meardwyn_nfs4_check(aces, n, owner, group, uid, gids, count, request) == (allowed == request), "the check is another");
             must(meardwyn_nfs4_grants(aces, n, &file, uid, gids, count, request, &error) == (allowed == request) && error == 0, "grants");
             must(meardwyn_nfs4_decide(aces, n, &file, uid, gids, count, request, &said) == 0 && said.allowed == allowed, "decided");
-            /* What is denied is what the list allows with each type turned round. */
-            for (size_t k = 0; k < n; k++) other[k] = aces[k], other[k].type ^= aces[k].type < 2;
-            must(said.denied == allowed_by_hand(other, n, owner, group, uid, gids, count, request), "denied");
+            must(said.denied == denied_by_hand(aces, n, owner, group, uid, gids, count, request), "denied");
             /* An entry that is none is told if something is open in front of it, and then nothing is allowed. */
             memcpy(other, aces, n * sizeof *aces);
             if (n) {
@@ -306,6 +355,35 @@ static void nfs4(int lists)
                 must(said.allowed == (settled ? front : 0) && said.denied == (settled ? back : request), "said with a fault");
                 must(meardwyn_nfs4_grants(other, n, &file, uid, gids, count, request, &error) == (settled && front == request)
                      && error == told, "grants with a fault");
+            }
+        }
+        /* Who deletes a file from a folder with these entries. */
+        for (int j = 0; j < 10; j++, deletions++) {
+            uint32_t gids[4] = {below(8), below(8), below(8), below(8)};
+            struct meardwyn_file in = {below(4), below(8)}, of = {below(4), below(8)};
+            struct meardwyn_user user = {below(4), gids, below(5)};
+            int sticky = below(2);
+            int32_t error = 77;
+            size_t k = random_aces(other, below(9));
+            for (size_t l = 0; l < k; l++) if (below(2)) other[l].access_mask |= MEARDWYN_NFS4_DELETE;
+            for (size_t l = 0; l < n; l++) if (!below(8)) aces[l].access_mask ^= MEARDWYN_NFS4_DELETE_CHILD;
+            int wanted = deletes_by_hand(aces, n, &in, sticky, other, k, &of, user.uid, gids, user.gids_len);
+            must(meardwyn_nfs4_may_delete_for(aces, n, &in, sticky, other, k, &of, &user, &error) == wanted && error == 0, "deletion");
+        }
+        /* What is made below is what is inherited, with the mode set; the umask counts where nothing is. */
+        for (uint32_t kind = 0; kind < 2; kind++) {
+            struct meardwyn_making making = {kind, below(512), below(512), below(2)};
+            uint32_t its = 0x7777;
+            size_t inherits = 0;
+            must(meardwyn_nfs4_inherit(aces, n, kind, other, MOST_ACES, &inherits) == 0, "inherit");
+            int told = meardwyn_nfs4_create(aces, n, &making, again, MOST_ACES, &m, &its);
+            if (!inherits) must(told == 1 && m == 0 && its == (making.mode & ~making.umask), "nothing is inherited");
+            else {
+                static struct meardwyn_ace dressed[MOST_ACES];
+                int wanted = meardwyn_nfs4_chmod(other, inherits, making.mode, making.how, dressed, MOST_ACES, &needed);
+                must(told == wanted, "create");
+                if (told == 0) must(its == making.mode && m == needed && !memcmp(again, dressed, m * sizeof *again), "what is made");
+                else must(its == 0x7777, "a mode without a list");
             }
         }
         /* The mode set is the mode shown; to set it again changes nothing; both ways decide alike for whoever asks. */
@@ -348,8 +426,8 @@ static void nfs4(int lists)
             } else alike++;
         }
     }
-    printf("%d NFSv4 lists: %d checks alike, modes shown, XDR and texts again; of changed lists %d with a witness, %d alike\n", lists, checks, told,
-           alike);
+    printf("%d NFSv4 lists: %d checks and %d deletions alike, modes shown, XDR and texts again; of changed lists %d with a witness, %d alike\n",
+           lists, checks, deletions, told, alike);
 }
 
 /* A POSIX list and its translation decide each permission alike; a witness of a comparison is one. */
@@ -423,7 +501,68 @@ static void edges(void)
     must(meardwyn_posix_of_mode(0640, out, sizeof out, &needed) == 0 && needed == 28 && meardwyn_posix_mode(out, needed) == 0640, "of a mode");
     must(meardwyn_error_name(MEARDWYN_NO_MASK, name, sizeof name, &needed) == 0 && needed == 7 && !memcmp(name, "no-mask", 7), "a name");
     must(meardwyn_version() == 0x10000, "the version");
+    must(meardwyn_errno(MEARDWYN_NO_MEMORY) == ENOMEM && meardwyn_errno(MEARDWYN_NO_ROOM) == ERANGE && meardwyn_errno(MEARDWYN_TOO_MANY) == ENOSPC
+         && meardwyn_errno(MEARDWYN_NO_MASK) == EINVAL && meardwyn_errno(1) == 0 && meardwyn_errno(0) == 0, "errno");
+    must(!strcmp(meardwyn_strerror(MEARDWYN_NO_MASK), "somebody is named and there is no mask") && !strcmp(meardwyn_strerror(-99), "unknown error")
+         && !strcmp(meardwyn_strerror(0), "no error"), "strerror");
     puts("edges");
+}
+
+/* NULL with length 0 is no bytes, no entries, no groups and no room. */
+static void nothing(void)
+{
+    struct meardwyn_ace ace = {MEARDWYN_ALLOW, 0, MEARDWYN_NFS4_READ_DATA, MEARDWYN_EVERYONE, 0}, out[8];
+    struct meardwyn_file file = {1, 2};
+    struct meardwyn_user user = {3, NULL, 0};
+    struct meardwyn_decided said;
+    struct meardwyn_asker who;
+    struct meardwyn_difference difference;
+    struct meardwyn_making making = {MEARDWYN_FILE, 0640, 022, MEARDWYN_CHMOD_LEAST};
+    struct bytes b;
+    uint32_t allowed = 77, mode = 0;
+    int32_t error = 77;
+    size_t needed = 77;
+    random_list(&b, 5);
+    must(meardwyn_posix_check(NULL, 0, 1, 2, 3, NULL, 0, 4) == MEARDWYN_BAD_SIZE && meardwyn_posix_valid(NULL, 0) == MEARDWYN_BAD_SIZE, "no bytes");
+    must(meardwyn_posix_check(b.at, b.length, 1, 2, 3, NULL, 0, 0) == 1 && meardwyn_posix_check_linux(b.at, b.length, 1, 2, 3, NULL, 0, 0) == 1, "no groups");
+    must(meardwyn_posix_mode(NULL, 0) == MEARDWYN_BAD_SIZE && meardwyn_posix_to_text(NULL, 0, NULL, 0, &needed) == MEARDWYN_BAD_SIZE, "no list");
+    must(meardwyn_posix_canonical(b.at, b.length, NULL, 0, &needed) == MEARDWYN_NO_ROOM && needed == b.length, "no room");
+    must(meardwyn_posix_chmod(b.at, b.length, 0640, NULL, 0, &needed) == MEARDWYN_NO_ROOM, "no room for a mode");
+    must(meardwyn_posix_create(b.at, b.length, 0640, NULL, 0, &needed) == MEARDWYN_NO_ROOM, "no room for a new file");
+    must(meardwyn_posix_of_mode(0640, NULL, 0, &needed) == MEARDWYN_NO_ROOM && needed == 28, "no room for a list");
+    must(meardwyn_posix_from_text(NULL, 0, NULL, 0, &needed) == MEARDWYN_INVALID_LIST, "no text");
+    must(meardwyn_posix_to_nfs4(b.at, b.length, NULL, 0, &needed) == MEARDWYN_NO_ROOM, "no room for a translation");
+    must(meardwyn_posix_default_to_nfs4(b.at, b.length, NULL, 0, &needed) == MEARDWYN_NO_ROOM, "no room for a default list");
+    must(meardwyn_posix_compare(NULL, 0, 1, 2, NULL, 0, 1, 2, 4, &who) == MEARDWYN_BAD_SIZE, "no lists");
+    must(!meardwyn_posix_may_delete(NULL, 0, &file, 0, &file, 3, NULL, 0, &error) && error == MEARDWYN_BAD_SIZE, "no folder's list");
+    must(!meardwyn_posix_may_delete_linux(NULL, 0, &file, 0, &file, 3, NULL, 0, &error) && error == MEARDWYN_BAD_SIZE, "none for Linux");
+    must(!meardwyn_posix_grants_for(NULL, 0, &file, &user, 4, &error) && error == MEARDWYN_BAD_SIZE, "none that grants");
+    must(meardwyn_posix_grants_linux_for(b.at, b.length, &file, &user, 0, &error) && error == 0, "one that grants nothing");
+    must(meardwyn_nfs4_check(NULL, 0, 1, 2, 3, NULL, 0, 1) == 0 && meardwyn_nfs4_check(&ace, 1, 1, 2, 3, NULL, 0, 1) == 1, "no entries");
+    must(meardwyn_nfs4_allowed(NULL, 0, 1, 2, 3, NULL, 0, 1, &allowed) == 0 && allowed == 0, "nothing is allowed");
+    must(meardwyn_nfs4_decide_for(NULL, 0, &file, &user, 1, &said) == 0 && said.allowed == 0 && said.denied == 0, "nothing is said");
+    must(!meardwyn_nfs4_grants_for(NULL, 0, &file, &user, 1, &error) && error == 0, "nothing is granted");
+    must(!meardwyn_nfs4_may_delete_for(NULL, 0, &file, 0, NULL, 0, &file, &user, &error) && error == 0, "nothing of deletion");
+    must(meardwyn_nfs4_valid(NULL, 0) == 0 && meardwyn_nfs4_mode(NULL, 0) == 0, "a list without entries");
+    must(meardwyn_nfs4_chmod(NULL, 0, 0640, MEARDWYN_CHMOD_LEAST, NULL, 0, &needed) == MEARDWYN_NO_ROOM && needed == 4, "no room for a mode");
+    must(meardwyn_nfs4_of_mode(0640, 0, NULL, 0, &needed) == MEARDWYN_NO_ROOM && needed == 4, "no room for a list");
+    must(meardwyn_nfs4_inherit(NULL, 0, 1, NULL, 0, &needed) == 0 && needed == 0, "nothing to inherit");
+    must(meardwyn_nfs4_create(NULL, 0, &making, NULL, 0, &needed, &mode) == 1 && needed == 0 && mode == 0640, "nothing for a new file");
+    must(meardwyn_nfs4_from_xdr(NULL, 0, NULL, 0, &needed) == MEARDWYN_BAD_SIZE, "no XDR");
+    must(meardwyn_nfs4_to_xdr(NULL, 0, NULL, 0, &needed) == MEARDWYN_NO_ROOM && needed == 4, "no room for XDR");
+    must(meardwyn_nfs4_from_text(NULL, 0, NULL, 0, &needed) == 0 && needed == 0, "no text");
+    must(meardwyn_nfs4_to_text(NULL, 0, NULL, 0, &needed) == 0 && needed == 0, "no text of it");
+    must(meardwyn_nfs4_compare(NULL, 0, 1, 2, NULL, 0, 1, 2, 1, &difference) == 0, "lists without entries");
+    must(meardwyn_error_name(-1, NULL, 0, &needed) == MEARDWYN_NO_ROOM && needed == 9, "no room for a name");
+    /* The list of a mode is what a mode makes of no entries; what servers check besides stands behind it. */
+    must(meardwyn_nfs4_of_mode(0640, 1, out, 8, &needed) == 0 && needed == 6 && meardwyn_nfs4_mode(out, 6) == 0640, "the list of a mode");
+    must(out[0].type == MEARDWYN_ALLOW && out[0].special == MEARDWYN_OWNER && out[0].access_mask == 7, "what the owner may");
+    must(out[4].special == MEARDWYN_OWNER && out[4].access_mask == 0x1e0198 && out[5].special == MEARDWYN_EVERYONE && out[5].access_mask == 0x120088,
+         "what servers check besides");
+    must(meardwyn_nfs4_of_mode(01000, 0, out, 8, &needed) == MEARDWYN_BAD_ARGUMENT, "a mode above 0777");
+    making.kind = 2;
+    must(meardwyn_nfs4_create(NULL, 0, &making, NULL, 0, &needed, &mode) == MEARDWYN_BAD_ARGUMENT, "a kind that is none");
+    puts("NULL with length 0");
 }
 
 /* test [PERCENT]: of the usual numbers of lists so many percent. */
@@ -431,6 +570,7 @@ int main(int count, char **words)
 {
     int percent = count > 1 ? atoi(words[1]) : 100;
     edges();
+    nothing();
     nfs4(40 * percent);
     between(40 * percent);
     beside_libacl(200 * percent);

@@ -30,10 +30,13 @@ int main(int count, char **words)
     ssize_t got = getxattr(words[4], "system.posix_acl_access", list, sizeof list);
     if (got >= 0) length = got;
     else if (errno != ENODATA && errno != EOPNOTSUPP) return perror(words[4]), 1;
-    else meardwyn_posix_of_mode(file.st_mode & 0777, list, sizeof list, &length);
+    else if (meardwyn_posix_of_mode(file.st_mode & 0777, list, sizeof list, &length)) return fputs("no list of a mode\n", stderr), 1;
 
-    int answer = meardwyn_posix_check_linux(list, length, file.st_uid, file.st_gid, uid, gids, groups, perms);
-    if (answer < 0) return fprintf(stderr, "%s: no list, error %d\n", words[4], answer), 1;
-    puts(answer ? "granted" : "denied");
+    struct meardwyn_file its = {file.st_uid, file.st_gid};
+    struct meardwyn_user user = {uid, gids, groups};
+    int32_t error;
+    bool granted = meardwyn_posix_grants_linux_for(list, length, &its, &user, perms, &error);
+    if (error) return fprintf(stderr, "%s: %s\n", words[4], meardwyn_strerror(error)), 1;
+    puts(granted ? "granted" : "denied");
     return 0;
 }

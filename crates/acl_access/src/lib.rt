@@ -20,5 +20,5 @@ pub use letters::{LetterSet, effective, granted_mask};
 pub use marks::{both, is_set, letters_at, letters_of_each, places_of_those_who_may, which_may};
 pub use path::{PrintedPath, push_printed_path};
 pub use same::is_same_file;
-pub use standing::{Standing, places_of_takers, standings_of_each};
+pub use standing::{Standing, deletes_by, places_of_takers, standings_of_each};
 pub use who::{push_letters_line, push_may_line};

@@ -112,9 +112,9 @@ pub fn standings_of_each(
     Ok(standings)
 }
 
-/// Whether it is granted, by what is said of deleting the file, and what is in the folder, and by
-/// whether it is granted otherwise.
-fn deletes_by(file: Option<bool>, child: Option<bool>, otherwise: bool) -> bool
+/// Whether to delete a file is granted, by what its list says of `DELETE` and that of its folder of
+/// `DELETE_CHILD`, and by whether it is granted where neither says anything.
+pub fn deletes_by(file: Option<bool>, child: Option<bool>, otherwise: bool) -> bool
     ensures { result ≡ deletes_by file child otherwise }
 {
     let granted = file.unwrap_or(false) || child.unwrap_or(false);

@@ -23,9 +23,9 @@ granted_number false = pos 0
 abbrev pub mode_number : {A : Type 0} → (List A → Classes) → List A → ℤ
 mode_number mode_of list = pos (number_of (mode_of list))
 
--- 0 for any list
-abbrev pub zero_number : {A : Type 0} → List A → ℤ
-zero_number list = pos 0
+-- 0 for any answer
+abbrev pub zero_number : {Y : Type 0} → Y → ℤ
+zero_number value = pos 0
 
 -- the number of an answer
 abbrev pub number_of_answer : {Y F : Type 0} → (F → ℤ) → (Y → ℤ) → Result Y F → ℤ

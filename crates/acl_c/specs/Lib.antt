@@ -3,3 +3,4 @@ pub mod Answers
 pub mod Texts
 pub mod Names
 pub mod Compared
+pub mod Created

@@ -1,4 +1,4 @@
--- The names of what goes wrong.
+-- The names of what goes wrong, and the numbers of errno that stand for it.
 use Rattle.std.specs.Prelude.{ℕ, ℤ, pos, negsuc, List, ◌==◌, codes, if◌then◌else◌}
 
 abbrev pub name_at : ℕ → List ℕ
@@ -29,3 +29,15 @@ name_at n =
 abbrev pub error_name : ℤ → List ℕ
 error_name (pos n) = codes "unknown"
 error_name (negsuc n) = name_at n
+
+-- ENOMEM, ERANGE, ENOSPC and EINVAL
+abbrev pub errno_at : ℕ → ℤ
+errno_at n =
+    if n == 0 then pos 12
+    else if n == 1 then pos 34
+    else if n == 5 then pos 28
+    else pos 22
+
+abbrev pub errno_of : ℤ → ℤ
+errno_of (pos n) = pos 0
+errno_of (negsuc n) = errno_at n

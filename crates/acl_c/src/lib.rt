@@ -4,6 +4,8 @@
 
 mod buffers;
 mod compare;
+mod creation;
+mod deletion;
 mod nfs4;
 mod posix;
 mod status;

@@ -2,7 +2,7 @@
 
 ghost use Rattle.std.specs.Prelude.{◌≡◌};
 ghost use Rattle.acl_c.specs.Answers.{Puts};
-ghost use Rattle.acl_c.specs.Names.{error_name};
+ghost use Rattle.acl_c.specs.Names.{errno_of, error_name};
 
 use crate::buffers::put_bytes;
 
@@ -51,4 +51,19 @@ pub extern "C" fn meardwyn_error_name(error: i32, out: &mut [u8], needed: &mut u
     ensures { Puts (error_name error) result out.old out.new needed.new }
 {
     put_bytes(name_of(error).as_bytes(), out, needed)
+}
+
+/// The number of errno for what a call tells: 0 if that is no error. Of memory it is `ENOMEM`, of a
+/// buffer `ERANGE`, of too many entries `ENOSPC`, and else `EINVAL`.
+#[unsafe(no_mangle)]
+pub extern "C" fn meardwyn_errno(error: i32) -> i32
+    ensures { result ≡ errno_of error }
+{
+    match error {
+        0.. => 0,
+        -1 => 12,
+        -2 => 34,
+        -6 => 28,
+        _ => 22,
+    }
 }

@@ -16,6 +16,8 @@ pub mod RawsWritten
 pub mod DecisionLemmas
 pub mod DecisionLoop
 pub mod GrantLemmas
+pub mod DeletionLemmas
+pub mod CreationLemmas
 pub mod NobodyLemmas
 pub mod XdrLoop
 pub mod XdrRawsLoop

@@ -8,8 +8,10 @@ pub mod OnePass
 pub mod RawAces
 pub mod RawAcesWriting
 pub mod Nfs4
+pub mod Creation
 pub mod Decision
 pub mod DecisionSteps
+pub mod Deletion
 pub mod WireLaws
 pub mod Written
 pub mod Text

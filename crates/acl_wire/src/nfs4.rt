@@ -3,7 +3,7 @@
 ghost use Rattle.std.specs.Prelude.{◌≡◌, ◌≢◌, ◌≤◌, ◌<◌, ◌↔◌, Err, IfErr, IfOk, IsOk, OnOk, length};
 ghost use Rattle.acl_nfs4.specs.declared.limits.TheConstants.{INLINE_ACES, MAX_ACES};
 ghost use Rattle.acl_wire.specs.Nfs4.{chmod_of, classes_in, inherited_of, rule_in};
-ghost use Rattle.acl_wire.specs.Nfs4.{with_mode_by};
+ghost use Rattle.acl_wire.specs.Nfs4.{fits, with_mode_by};
 ghost use Rattle.acl_wire.specs.RawAces.{Answers};
 
 use crate::{Nfs4Error, Nfs4Fault, Purpose, RawAce, read_raw_aces};
@@ -12,7 +12,7 @@ use acl_posix::Mode;
 use std::alloc::Global;
 
 /// The mode of this number, at most octal 777.
-fn mode_of_number(mode: u32) -> Result<Mode, Nfs4Fault>
+pub(crate) fn mode_of_number(mode: u32) -> Result<Mode, Nfs4Fault>
     ensures { result ≡ classes_in mode }
 {
     match u16::try_from(mode) {
@@ -34,7 +34,7 @@ pub enum ModeRule {
 }
 
 /// The rule of this number.
-fn rule_of_number(how: u32) -> Result<ModeRule, Nfs4Fault>
+pub(crate) fn rule_of_number(how: u32) -> Result<ModeRule, Nfs4Fault>
     ensures { result ≡ rule_in how }
 {
     match how {
@@ -57,6 +57,25 @@ fn set_mode(alloc: Global, acl: &mut Acl4, mode: Mode, rule: ModeRule) -> Result
     }
 }
 
+/// The list with a mode set by the rule, if it is not too long.
+pub(crate) fn with_mode(
+    alloc: Global,
+    list: Acl4,
+    mode: Mode,
+    rule: ModeRule,
+) -> Result<Acl4, Nfs4Error>
+    ensures value { Answers (λ aces. aces) result (fits (with_mode_by rule list mode)) }
+    ensures short { IfOk (fits (with_mode_by rule list mode)) (λ aces. length aces ≤ INLINE_ACES)
+        → IfErr result (λ error. error ≢ Nfs4Error.Memory) }
+{
+    let mut list = list;
+    match set_mode(alloc, &mut list, mode, rule) {
+        Ok(()) => Ok(list),
+        Err(Fault4::TooMany) => Err(Nfs4Error::Fault(Nfs4Fault::TooMany)),
+        Err(Fault4::Memory) => Err(Nfs4Error::Memory),
+    }
+}
+
 /// The list with a mode set (within RFC 8881, section 6.4.1.1), by the rule of this number: 0 is
 /// `Profile`, 1 `Least`. A mode above octal 777, or no rule, is the fault `Argument`, before all
 /// others, and a list that would have more than 128 entries is `TooMany`. Memory runs out only if
@@ -75,12 +94,8 @@ pub fn raws_with_mode(
 {
     let mode = mode_of_number(mode)?;
     let rule = rule_of_number(how)?;
-    let mut acl = read_raw_aces(alloc, Purpose::Write, raws)?;
-    match set_mode(alloc, &mut acl, mode, rule) {
-        Ok(()) => Ok(acl),
-        Err(Fault4::TooMany) => Err(Nfs4Error::Fault(Nfs4Fault::TooMany)),
-        Err(Fault4::Memory) => Err(Nfs4Error::Memory),
-    }
+    let acl = read_raw_aces(alloc, Purpose::Write, raws)?;
+    with_mode(alloc, acl, mode, rule)
 }
 
 /// What a new file, or a new directory, inherits (RFC 8881, section 6.4.3), before a mode is set.

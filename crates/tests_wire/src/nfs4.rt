@@ -2,8 +2,9 @@
 //! entry its type, its flags, its mask and its who, numbers of four bytes with the highest first; a
 //! string has its length before it, and zeros up to a whole group of four bytes behind it.
 use acl_wire::{
-    Decided, Nfs4Error, Nfs4Fault, Purpose, RawAce, acl4_of_xdr, put_xdr_raws, raws_allow,
-    raws_decide, raws_grant, raws_text, raws_xdr, read_raw_aces, write_raw_aces,
+    Decided, Making, Nfs4Error, Nfs4Fault, Purpose, RawAce, acl4_of_mode, acl4_of_xdr, mode_made,
+    put_xdr_raws, raws_allow, raws_created, raws_decide, raws_delete, raws_grant, raws_text,
+    raws_xdr, read_raw_aces, write_raw_aces,
 };
 use std::alloc::Global;
 
@@ -223,4 +224,92 @@ fn bits_that_decide_nothing(rt: HostRuntime) {
             "{flags} {mask}"
         );
     }
+}
+
+/// ACE4_DELETE of the file to the user 8, and nothing else to anybody.
+const MAY_BE_DELETED: [RawAce; 1] = [RawAce {
+    kind: 0,
+    flags: 0,
+    mask: 0x1_0000,
+    special: 0,
+    id: 8,
+}];
+
+/// RFC 8881, section 6.2.1.3.2: in the folder everybody may add a file, and the user 9 is denied
+/// ACE4_DELETE_CHILD. It is the user 7's, and the file the user 6's.
+#[test]
+fn who_may_delete(rt: HostRuntime) {
+    const FOLDER: [RawAce; 2] = [
+        RawAce {
+            kind: 1,
+            flags: 0,
+            mask: 0x40,
+            special: 0,
+            id: 9,
+        },
+        RawAce {
+            kind: 0,
+            flags: 0,
+            mask: 2,
+            special: 3,
+            id: 0,
+        },
+    ];
+    const ROWS: [(u32, bool, bool); 6] = [
+        (5, false, true),
+        (5, true, false),
+        (6, true, true),
+        (7, true, true),
+        (8, true, true),
+        (9, false, false),
+    ];
+    for (uid, sticky, wanted) in ROWS {
+        let told = raws_delete(sticky, &FOLDER, 7, 1, &MAY_BE_DELETED, 6, 1, uid, &[]);
+        assert_eq!(rt; told, Ok(wanted), "{uid} {sticky}");
+    }
+    let told = raws_delete(false, &FOLDER, 7, 1, &MAY_BE_DELETED, u32::MAX, 1, 8, &[]);
+    assert_eq!(rt; told, Err(Nfs4Fault::Argument));
+}
+
+/// How many entries what is made in the folder has, and the mode that it gets; no entries if it
+/// inherits nothing.
+fn is_made(alloc: Global, folder: &[RawAce], kind: u32) -> Option<(usize, u32)> {
+    let making = Making {
+        kind,
+        mode: 0o640,
+        umask: 0o022,
+        how: 1,
+    };
+    let list = raws_created(alloc, folder, &making).ok()?;
+    let mode = mode_made(&making, list.is_some());
+    Some((list.map_or(0, |list| list.aces().len()), mode))
+}
+
+/// Directories inherit the entry of the group 50; with the mode that is its own entry, to read, to
+/// be inherited further, and the owner's, the group's and nothing of the others'.
+#[test]
+fn what_is_made(rt: HostRuntime) {
+    const FOLDER: [RawAce; 1] = [RawAce {
+        kind: 0,
+        flags: 0x42,
+        mask: 1,
+        special: 0,
+        id: 50,
+    }];
+    assert_eq!(rt; is_made(rt.alloc(), &FOLDER, 0), Some((0, 0o640)));
+    assert_eq!(rt; is_made(rt.alloc(), &FOLDER, 1), Some((6, 0o640)));
+    assert_eq!(rt; is_made(rt.alloc(), &FOLDER, 2), None);
+}
+
+/// The entries of the list that says what a mode says.
+fn are_of_mode(alloc: Global, attributes: bool) -> Option<usize> {
+    let list = acl4_of_mode(alloc, 0o600, attributes).ok()?;
+    Some(list.aces().len())
+}
+
+/// `A::OWNER@:rwa`, `D::OWNER@:x`, `D::GROUP@:rwax`; and two of what servers check besides.
+#[test]
+fn the_list_of_a_mode(rt: HostRuntime) {
+    assert_eq!(rt; are_of_mode(rt.alloc(), false), Some(3));
+    assert_eq!(rt; are_of_mode(rt.alloc(), true), Some(5));
 }

@@ -1,0 +1,150 @@
+//! What is made in a folder with an NFSv4 list, and the NFSv4 list of a mode.
+
+ghost use Rattle.std.specs.Prelude.{◌≡◌, ◌≢◌, ◌≤◌, ◌<◌, ◌++◌, ◌∷◌, [], length, IfErr, IfOk, IfSome};
+ghost use Rattle.std.specs.Prelude.{List, None, Some, true, false};
+ghost use Rattle.acl_nfs4.specs.Ace.{Nfsace4, ace_of};
+ghost use Rattle.acl_nfs4.specs.ModeChange.{with_mode};
+ghost use Rattle.acl_nfs4.specs.Who.{is_special};
+ghost use Rattle.acl_nfs4.specs.declared.ace.AceType.TheVariants.{Allow};
+ghost use Rattle.acl_nfs4.specs.declared.limits.TheConstants.{INLINE_ACES};
+ghost use Rattle.acl_wire.specs.Creation.{aces_of_mode, attributes_if, created_of, dressed, kind_in};
+ghost use Rattle.acl_wire.specs.Creation.{mode_made};
+ghost use Rattle.acl_wire.specs.RawAces.{Answers};
+
+use crate::numbers::without_bits;
+use crate::nfs4::{mode_of_number, rule_of_number, with_mode};
+use crate::{ModeRule, Nfs4Error, Nfs4Fault, Purpose, RawAce, read_raw_aces};
+use acl_nfs4::{Ace, AceType, Acl4, Flags, Kind, Mask, Who};
+use acl_posix::Mode;
+use bitflags::Flags as FlagSet;
+use std::alloc::Global;
+
+/// What is made in a folder, and how.
+#[repr(C)]
+#[derive(Clone, Copy, Debug, PartialEq, Eq)]
+pub struct Making {
+    /// 0 is a file, 1 a directory.
+    pub kind: u32,
+    /// The mode that it is to have.
+    pub mode: u32,
+    /// What is taken from the mode if nothing is inherited.
+    pub umask: u32,
+    /// The number of the rule by which the mode is set on what is inherited.
+    pub how: u32,
+}
+
+/// What servers check of an owner besides: `tTnNcCoy`.
+const OWNER_ATTRIBUTES: u32 = 0x1E_0198;
+
+/// And of everybody: `tncy`.
+const ATTRIBUTES: u32 = 0x12_0088;
+
+/// The kind of this number.
+fn kind_of_number(kind: u32) -> Result<Kind, Nfs4Fault>
+    ensures { result ≡ kind_in kind }
+{
+    match kind {
+        0 => Ok(Kind::File),
+        1 => Ok(Kind::Dir),
+        _ => Err(Nfs4Fault::Argument),
+    }
+}
+
+/// What is inherited, with the mode set on it.
+fn dressed(
+    alloc: Global,
+    below: Acl4,
+    mode: Mode,
+    rule: ModeRule,
+) -> Result<Option<Acl4>, Nfs4Error>
+    ensures value { Answers (λ list. list) result (dressed rule mode below) }
+    ensures short { IfOk (dressed rule mode below)
+        (λ made. IfSome made (λ list. length list ≤ INLINE_ACES))
+        → IfErr result (λ error. error ≢ Nfs4Error.Memory) }
+{
+    if below.aces().is_empty() {
+        return Ok(None);
+    }
+    match with_mode(alloc, below, mode, rule) {
+        Ok(list) => Ok(Some(list)),
+        Err(error) => Err(error),
+    }
+}
+
+/// The list of what is made in a folder with these entries: what it inherits (RFC 8881, section
+/// 6.4.3), with its mode set on it, whatever the umask; none if it inherits nothing. A kind, a mode,
+/// a umask or a rule that is none is the fault `Argument`, before all others, and a list that would
+/// have more than 128 entries is `TooMany`. Memory runs out only if the folder's list, or the one
+/// that is made, has more than `INLINE_ACES` entries.
+#[tactic(auto, unfolding(crate::specs::Creation::created_of))]
+pub fn raws_created(
+    alloc: Global,
+    folder: &[RawAce],
+    making: &Making,
+) -> Result<Option<Acl4>, Nfs4Error>
+    ensures value { Answers (λ list. list) result (created_of folder.now making.now) }
+    ensures short { length folder.now ≤ INLINE_ACES
+        → IfOk (created_of folder.now making.now)
+        (λ made. IfSome made (λ list. length list ≤ INLINE_ACES))
+        → IfErr result (λ error. error ≢ Nfs4Error.Memory) }
+{
+    let kind = kind_of_number(making.kind)?;
+    let mode = mode_of_number(making.mode)?;
+    let _umask = mode_of_number(making.umask)?;
+    let rule = rule_of_number(making.how)?;
+    let acl = read_raw_aces(alloc, Purpose::Write, folder)?;
+    dressed(alloc, acl.inherited(alloc, kind)?, mode, rule)
+}
+
+/// The mode of what is made, whether it inherits or not: the umask is taken from it if not.
+pub fn mode_made(making: &Making, inherits: bool) -> u32
+    ensures yes { (list : List Nfsace4) → inherits ≡ true → result ≡ mode_made making.now (Some list) }
+    ensures no { inherits ≡ false → result ≡ mode_made making.now None }
+{
+    if inherits {
+        making.mode
+    } else {
+        without_bits(making.mode, making.umask)
+    }
+}
+
+/// The list that says what the mode says.
+fn of_mode(alloc: Global, mode: Mode) -> Acl4
+    ensures value { result ≡ with_mode [] mode }
+    ensures few { length result ≤ 5 }
+{
+    let mut list = Acl4::empty(alloc);
+    let _set = list.chmod4(alloc, mode);
+    list
+}
+
+/// Appends an entry that allows the bits. There is room for it.
+fn push_allowed(list: &mut Acl4, who: Who, bits: u32)
+    requires special { is_special who ≡ true }
+    requires room { length list.old < INLINE_ACES }
+    ensures { list.new ≡ list.old ++ ace_of Allow 0 who bits ∷ [] }
+{
+    let ace = Ace::new(
+        AceType::Allow,
+        Flags::empty(),
+        who,
+        Mask::from_bits_retain(bits),
+    );
+    let _pushed = list.push(ace);
+}
+
+/// The list that says what a mode says (as RFC 8881, section 6.3.2, shows it), and if that is
+/// asked for, what servers check besides: of the owner `tTnNcCoy`, of everybody `tncy`. A mode above
+/// octal 777 is the fault `Argument`. It takes no memory.
+#[tactic(auto, unfolding(crate::specs::Creation::aces_of_mode))]
+pub fn acl4_of_mode(alloc: Global, mode: u32, attributes: bool) -> Result<Acl4, Nfs4Fault>
+    ensures { result ≡ aces_of_mode mode attributes }
+{
+    let mode = mode_of_number(mode)?;
+    let mut list = of_mode(alloc, mode);
+    if attributes {
+        push_allowed(&mut list, Who::Owner, OWNER_ATTRIBUTES);
+        push_allowed(&mut list, Who::Everyone, ATTRIBUTES);
+    }
+    Ok(list)
+}
