@@ -1,5 +1,5 @@
 -- What is made in a folder, and how many entries a mode alone makes.
-use Rattle.std.proofs.Common.{◌≡◌, ◌≢◌, ◌↔◌, ◌∙◌, ◌≤◌, ◌<◌, ℕ, Bool, true, false, cond, List, [], ◌∷◌, ◌++◌, ◌==◌, length, Option, Some, None, Result, Ok, Err, IfOk, IfErr, OnOk, IsOk, IfSome, arith, refl, sym, length-append}
+use Rattle.std.proofs.Common.{◌≡◌, ◌≢◌, ◌↔◌, ◌∙◌, ◌≤◌, ◌<◌, ℕ, Bool, true, false, cond, List, [], ◌∷◌, ◌++◌, ◌==◌, length, Some, Result, Ok, Err, IfOk, IfErr, OnOk, IsOk, IfSome, arith, refl, sym, length-append}
 use Rattle.std.proofs.lemmas.Bool.{false≢true, true≢false}
 use Rattle.acl_names.specs.Bits.{has, without}
 use Rattle.acl_names.specs.Steps.{◌>>=◌}

@@ -14,7 +14,6 @@ use Rattle.acl_posix.specs.Mode.{Classes}
 use Rattle.acl_wire.specs.Nfs4.{classes_in, fits, rule_in, with_mode_by}
 use Rattle.acl_wire.specs.RawAces.{list_of}
 use Rattle.acl_wire.specs.declared.creation.Making.{Making}
-use Rattle.acl_wire.specs.declared.creation.TheConstants.{ATTRIBUTES, OWNER_ATTRIBUTES}
 use Rattle.acl_wire.specs.declared.fault.Nfs4Fault.{Nfs4Fault}
 use Rattle.acl_wire.specs.declared.fault.Nfs4Fault.TheVariants as faults
 use Rattle.acl_wire.specs.declared.nfs4.ModeRule.{ModeRule}
@@ -53,7 +52,7 @@ mode_made making (Some list) = making.mode
 -- `A::EVERYONE@:tncy`
 abbrev pub attributes_if : Bool → List Nfsace4
 attributes_if false = []
-attributes_if true = ace_of Allow 0 Owner OWNER_ATTRIBUTES ∷ ace_of Allow 0 Everyone ATTRIBUTES ∷ []
+attributes_if true = ace_of Allow 0 Owner 0x1E0198 ∷ ace_of Allow 0 Everyone 0x120088 ∷ []
 
 -- the list that says what a mode says
 unfoldable pub aces_of_mode : ℕ → Bool → Result (List Nfsace4) Nfs4Fault

@@ -1,18 +1,17 @@
 //! What is made in a folder with an NFSv4 list, and the NFSv4 list of a mode.
 
-ghost use Rattle.std.specs.Prelude.{◌≡◌, ◌≢◌, ◌≤◌, ◌<◌, ◌++◌, ◌∷◌, [], length, IfErr, IfOk, IfSome};
-ghost use Rattle.std.specs.Prelude.{List, None, Some, true, false};
+ghost use Rattle.std.specs.Prelude.{◌≡◌, ◌≢◌, ◌≤◌, ◌<◌, ◌++◌, ◌∷◌, [], IfErr, IfOk, IfSome, List};
+ghost use Rattle.std.specs.Prelude.{None, Some, false, length, true};
 ghost use Rattle.acl_nfs4.specs.Ace.{Nfsace4, ace_of};
 ghost use Rattle.acl_nfs4.specs.ModeChange.{with_mode};
 ghost use Rattle.acl_nfs4.specs.Who.{is_special};
 ghost use Rattle.acl_nfs4.specs.declared.ace.AceType.TheVariants.{Allow};
 ghost use Rattle.acl_nfs4.specs.declared.limits.TheConstants.{INLINE_ACES};
-ghost use Rattle.acl_wire.specs.Creation.{aces_of_mode, attributes_if, created_of, dressed, kind_in};
-ghost use Rattle.acl_wire.specs.Creation.{mode_made};
+ghost use Rattle.acl_wire.specs.Creation.{aces_of_mode, created_of, dressed, kind_in, mode_made};
 ghost use Rattle.acl_wire.specs.RawAces.{Answers};
 
-use crate::numbers::without_bits;
 use crate::nfs4::{mode_of_number, rule_of_number, with_mode};
+use crate::numbers::without_bits;
 use crate::{ModeRule, Nfs4Error, Nfs4Fault, Purpose, RawAce, read_raw_aces};
 use acl_nfs4::{Ace, AceType, Acl4, Flags, Kind, Mask, Who};
 use acl_posix::Mode;
@@ -72,10 +71,10 @@ fn dressed(
 }
 
 /// The list of what is made in a folder with these entries: what it inherits (RFC 8881, section
-/// 6.4.3), with its mode set on it, whatever the umask; none if it inherits nothing. A kind, a mode,
-/// a umask or a rule that is none is the fault `Argument`, before all others, and a list that would
-/// have more than 128 entries is `TooMany`. Memory runs out only if the folder's list, or the one
-/// that is made, has more than `INLINE_ACES` entries.
+/// 6.4.3), with its mode set on it, whatever the umask; none if it inherits nothing. A kind, a
+/// mode, a umask or a rule that is none is the fault `Argument`, before all others, and a list that
+/// would have more than 128 entries is `TooMany`. Memory runs out only if the folder's list, or the
+/// one that is made, has more than `INLINE_ACES` entries.
 #[tactic(auto, unfolding(crate::specs::Creation::created_of))]
 pub fn raws_created(
     alloc: Global,
@@ -98,7 +97,8 @@ pub fn raws_created(
 
 /// The mode of what is made, whether it inherits or not: the umask is taken from it if not.
 pub fn mode_made(making: &Making, inherits: bool) -> u32
-    ensures yes { (list : List Nfsace4) → inherits ≡ true → result ≡ mode_made making.now (Some list) }
+    ensures yes { (list : List Nfsace4) → inherits ≡ true
+        → result ≡ mode_made making.now (Some list) }
     ensures no { inherits ≡ false → result ≡ mode_made making.now None }
 {
     if inherits {
@@ -114,6 +114,7 @@ fn of_mode(alloc: Global, mode: Mode) -> Acl4
     ensures few { length result ≤ 5 }
 {
     let mut list = Acl4::empty(alloc);
+    // It has room for all that a mode makes.
     let _set = list.chmod4(alloc, mode);
     list
 }
@@ -130,12 +131,13 @@ fn push_allowed(list: &mut Acl4, who: Who, bits: u32)
         who,
         Mask::from_bits_retain(bits),
     );
+    // There is room for it, and it takes effect.
     let _pushed = list.push(ace);
 }
 
 /// The list that says what a mode says (as RFC 8881, section 6.3.2, shows it), and if that is
-/// asked for, what servers check besides: of the owner `tTnNcCoy`, of everybody `tncy`. A mode above
-/// octal 777 is the fault `Argument`. It takes no memory.
+/// asked for, what servers check besides: of the owner `tTnNcCoy`, of everybody `tncy`. A mode
+/// above octal 777 is the fault `Argument`. It takes no memory.
 #[tactic(auto, unfolding(crate::specs::Creation::aces_of_mode))]
 pub fn acl4_of_mode(alloc: Global, mode: u32, attributes: bool) -> Result<Acl4, Nfs4Fault>
     ensures { result ≡ aces_of_mode mode attributes }

@@ -1,4 +1,4 @@
-use Rattle.std.proofs.Common.{◌≡◌, ◌∙◌, ◌≤◌, arith, ap, length}
+use Rattle.std.proofs.Common.{◌∙◌, ◌≤◌, arith, ap, length}
 use Rattle.acl_nfs4.specs.ModeChange.{with_mode}
 use Rattle.acl_nfs4.specs.declared.limits.TheConstants.{INLINE_ACES}
 use Rattle.acl_wire.proofs.CreationLemmas.{few, is_done}
