@@ -84,6 +84,31 @@ static void nfs4_times(int n, int groups)
     printf("| %d, %s | %.1f | %.1f | %.1f | %.1f |\n", n, groups ? "half groups" : "users", check, decide, hand, tested);
 }
 
+/* Who deletes a file from a folder, of n entries each; and what is made in a folder with n entries for users, 5 of which are inherited. */
+static void folder_times(int n)
+{
+    static struct meardwyn_ace aces[1024], folder[128], out[128];
+    struct meardwyn_file file = {1, 2};
+    struct meardwyn_making making = {MEARDWYN_FILE, 0640, 022, MEARDWYN_CHMOD_LEAST};
+    uint32_t gids[17], mode;
+    int32_t error;
+    size_t needed;
+    for (int i = 0; i < 17; i++) gids[i] = 9000 + i;
+    for (int i = 0; i < n; i++) aces[i] = (struct meardwyn_ace){i % 5 == 4, 0, 0x1200e9, 0, 5000 + i};
+    aces[n - 1] = (struct meardwyn_ace){0, 0, 0x1200ab, 3, 0};
+    for (int i = 0; i < n && i < 128; i++) folder[i] = aces[i], folder[i].flag = i < 5 ? MEARDWYN_NFS4_FILE_INHERIT : 0;
+    int rounds = 400000 / (n + 10);
+    double deletes = 1e18, creates = 1e18, inherits = 1e18;
+    IN_TURNS {
+        LEAST(deletes, rounds, for (int i = 0; i < rounds; i++) sink += meardwyn_nfs4_may_delete(aces, n, &file, 1, aces, n, &file, 3, gids, 17, &error));
+        if (n > 128) continue;
+        LEAST(creates, rounds, for (int i = 0; i < rounds; i++) sink += meardwyn_nfs4_create(folder, n, &making, out, 128, &needed, &mode));
+        LEAST(inherits, rounds, for (int i = 0; i < rounds; i++) sink += meardwyn_nfs4_inherit(folder, n, 0, out, 128, &needed));
+    }
+    if (n > 128) printf("| %d | %.1f | | |\n", n, deletes);
+    else printf("| %d | %.1f | %.1f | %.1f |\n", n, deletes, creates, inherits);
+}
+
 /* Does one work over and over, for callgrind: `ours` and `hand` (checked and decided) of a check, `nfs4` of a translation. */
 static void work(const char *what, int n, int rounds)
 {
@@ -135,6 +160,8 @@ int main(int count, char **words)
     translation(3), translation(8), translation(64);
     printf("\n| NFSv4 entries, 17 groups | check ns | decide ns | by hand, trusted ns | by hand, tested ns |\n|---|---|---|---|---|\n");
     for (int groups = 0; groups < 2; groups++) nfs4_times(5, groups), nfs4_times(16, groups), nfs4_times(128, groups), nfs4_times(1024, groups);
+    printf("\n| NFSv4 entries of a folder, 17 groups | may_delete ns | create ns | inherit alone ns |\n|---|---|---|---|\n");
+    folder_times(5), folder_times(16), folder_times(128), folder_times(1024);
     if (system("valgrind --version > /dev/null 2>&1")) {
         puts("\nno valgrind: instructions aren't counted");
         return 0;

@@ -65,6 +65,12 @@ static void posix(const uint8_t *at, size_t length)
     must(wanted ? told == wanted : told == 0 || told == 1, "check", at, length, told);
     told = meardwyn_posix_check_linux(bytes, length, 1, 2, 3, gids, 2, 4);
     must(wanted ? told == wanted : told == 0 || told == 1, "check as Linux", at, length, told);
+    struct meardwyn_file file = {1, 2};
+    int32_t error = 77;
+    told = meardwyn_posix_may_delete(bytes, length, &file, 1, &file, 3, gids, 2, &error);
+    must(error == wanted && !(wanted && told), "deletion", at, length, error);
+    told = meardwyn_posix_may_delete_linux(bytes, length, &file, 0, &file, 3, gids, 2, &error);
+    must(error == wanted && !(wanted && told), "deletion as Linux", at, length, error);
     told = meardwyn_posix_mode(bytes, length);
     must(wanted ? told == wanted : told >= 0 && told < 512, "mode", at, length, told);
     told = meardwyn_posix_canonical(bytes, length, none, 0, &needed);

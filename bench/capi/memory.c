@@ -34,7 +34,7 @@ void __wrap_free(void *old)
 }
 
 static struct bytes b;
-static struct meardwyn_ace aces[128], out[128];
+static struct meardwyn_ace aces[128], folder[128], out[128];
 static size_t n, needed;
 static uint8_t bytes[MOST];
 static char text[16384];
@@ -44,7 +44,10 @@ static int call(int which)
 {
     struct meardwyn_asker who;
     struct meardwyn_difference difference;
-    uint32_t allowed;
+    struct meardwyn_file file = {1, 2};
+    struct meardwyn_making making = {MEARDWYN_DIRECTORY, 0640, 022, MEARDWYN_CHMOD_LEAST};
+    uint32_t allowed, mode;
+    int32_t error = 0;
     switch (which) {
     case 0: return meardwyn_posix_check(b.at, b.length, 1, 2, 3, gids, 2, 4);
     case 1: return meardwyn_posix_valid(b.at, b.length);
@@ -65,22 +68,34 @@ static int call(int which)
     case 16: return meardwyn_nfs4_to_text(aces, n, text, sizeof text, &needed);
     case 17: return meardwyn_posix_to_text(b.at, b.length, text, sizeof text, &needed);
     case 19: return meardwyn_nfs4_to_xdr(aces, n, bytes, sizeof bytes, &needed) == MEARDWYN_NO_MEMORY ? MEARDWYN_NO_MEMORY : 0;
+    case 20: return meardwyn_nfs4_create(folder, n, &making, out, 128, &needed, &mode);
+    case 21: return meardwyn_nfs4_of_mode(0640, 1, out, 128, &needed);
+    case 22: return meardwyn_nfs4_may_delete(aces, n, &file, 1, aces, n, &file, 3, gids, 2, &error) ? 1 : error;
+    case 23: return meardwyn_posix_may_delete(b.at, b.length, &file, 1, &file, 3, gids, 2, &error) ? 1 : error;
+    case 24: return meardwyn_posix_may_delete_linux(b.at, b.length, &file, 1, &file, 3, gids, 2, &error) ? 1 : error;
     case 18: return meardwyn_posix_from_text("u::rw-,g::r--,o::---", 20, bytes, sizeof bytes, &needed);
     default: return meardwyn_nfs4_from_text("A::OWNER@:rw", 12, out, 128, &needed);
     }
 }
-enum { CALLS = 21, FREE_OF_MEMORY = 15 };
+enum { CALLS = 26, FREE_OF_MEMORY = 15 };
+
+/* Whether a call never takes memory; and whether it takes none for so few entries, of which a mode makes some more. */
+static int is_free(int which) { return which == 0 || which == 9 || which == 10 || (which >= 21 && which <= 24); }
+static int is_free_for(int which, int nfs4) { return which < FREE_OF_MEMORY || (which == 20 && nfs4 < 6); }
 
 static void of_length(int posix, int nfs4, int may_take)
 {
     random_list(&b, posix == 4 ? 5 : posix);
     shuffle(&b);
-    for (n = 0; n < (size_t)nfs4; n++) aces[n] = (struct meardwyn_ace){n % 2, 0, 1u << n % 6, 0, n % 16};
+    for (n = 0; n < (size_t)nfs4; n++) {
+        aces[n] = (struct meardwyn_ace){n % 2, 0, 1u << n % 6, 0, n % 16};
+        folder[n] = aces[n], folder[n].flag = n < 40 ? MEARDWYN_NFS4_FILE_INHERIT | MEARDWYN_NFS4_DIRECTORY_INHERIT : 0;
+    }
     for (int which = 0; which < CALLS; which++) {
         taken = given = 0, fail_at = 0;
         int answer = call(which);
         long growths = taken;
-        if (answer < 0 || taken != given || (taken && !may_take && which < FREE_OF_MEMORY)) {
+        if (answer < 0 || taken != given || (taken && is_free(which)) || (taken && !may_take && is_free_for(which, nfs4))) {
             printf("call %d of %d and %d entries: %d, %ld taken, %ld given back\n", which, posix, nfs4, answer, taken, given);
             exit(1);
         }
