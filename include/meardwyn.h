@@ -51,13 +51,13 @@ enum { MEARDWYN_MOST_ACES = 128, MEARDWYN_MOST_XATTR = 516, MEARDWYN_MOST_XDR = 
    there are, the entries come in their order, and then what is wrong with them as a whole: MISSING before REPEATED before NO_MASK.
    Of NFSv4 entries the first at fault is told. Calls on POSIX bytes may tell -3 to -12; on NFSv4 entries -3, -6, -8 and -13 to -17, but
    checks of them never -6 and -17; on XDR that is read -4, -8, -13 to -16 and -19; on POSIX texts -6 and -18 to -20; on NFSv4 texts -6
-   and -17 to -19. Those that put something may also tell -2, meardwyn_nfs4_chmod, meardwyn_nfs4_inherit and a text of an NFSv4 list -21,
-   and those that take memory -1. */
+   and -17 to -19. Those that put something may also tell -2, meardwyn_nfs4_chmod, meardwyn_nfs4_inherit, meardwyn_nfs4_create and a
+   text of an NFSv4 list -21, and those that take memory -1. A call that answers a bool tells the error beside it. */
 enum meardwyn_error {
     MEARDWYN_NO_MEMORY = -1,     /* malloc gave no memory; this says nothing of the list */
     MEARDWYN_NO_ROOM = -2,       /* the buffer is too small; what is needed is told, and the buffer is as it was */
     MEARDWYN_BAD_ARGUMENT = -3,  /* the owner, the group or the uid is 0xffffffff, a mode is above 0777, a request of a POSIX list above 7,
-                                    one of an NFSv4 list has a bit of retention (0x200, 0x400), or how is none */
+                                    one of an NFSv4 list has a bit of retention (0x200, 0x400), or a kind or how is none */
     MEARDWYN_BAD_SIZE = -4,      /* the bytes are no version and a whole number of entries; in XDR they end too early or go on */
     MEARDWYN_BAD_VERSION = -5,   /* the version is not 2 */
     MEARDWYN_TOO_MANY = -6,      /* more than 64 POSIX entries, or 128 NFSv4 entries */
@@ -75,7 +75,7 @@ enum meardwyn_error {
     MEARDWYN_SYNTAX = -18,       /* a piece of a text has no shape of an entry */
     MEARDWYN_UNKNOWN_NAME = -19, /* a text or XDR has a name: map it to an id first */
     MEARDWYN_INVALID_LIST = -20, /* the entries of a text are no POSIX list: one, or the mask, is missing, or one stands twice */
-    MEARDWYN_UNKEPT_BITS = -21,  /* a call that puts a list would lose ACE4_INHERITED_ACE, or a bit of retention, of an entry */
+    MEARDWYN_UNKEPT_BITS = -21   /* a call that puts a list would lose ACE4_INHERITED_ACE, or a bit of retention, of an entry */
 };
 
 /* The version of the calls, 0x10000: as long as the upper half is 1, what is here stays. */
@@ -271,7 +271,8 @@ int32_t meardwyn_posix_compare(const uint8_t *first, size_t first_len, uint32_t 
  * NFSv4 lists, RFC 8881, as arrays of entries, of which the first decides first.
  *
  * ACE4_INHERITED_ACE, ACE4_WRITE_RETENTION and ACE4_WRITE_RETENTION_HOLD decide nothing here. Calls that only decide (check, allowed,
- * decide, grants, valid, mode, compare) ignore them in entries, and XDR keeps them; chmod, inherit and a text can't, and refuse the list.
+ * decide, grants, may_delete, valid, mode, compare) ignore them in entries, and XDR keeps them; chmod, inherit, create and a text can't,
+ * and refuse the list.
  * Nothing is said of the two of retention, 0x200 and 0x400: a request, or the bits of a comparison, that have one are
  * MEARDWYN_BAD_ARGUMENT.
  */
