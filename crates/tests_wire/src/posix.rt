@@ -3,7 +3,7 @@
 //! The numbers of the tags are those of linux/posix_acl.h.
 use acl_wire::{
     PosixError, PosixFault, Rules, acl_of_text, acl_of_xattr, acl4_of_text, write_xattr,
-    xattr_grants, xattr_text, xattr_translated,
+    xattr_delete, xattr_grants, xattr_text, xattr_translated,
 };
 use std::alloc::Global;
 
@@ -139,4 +139,28 @@ fn bytes_that_are_cut(rt: HostRuntime) {
         let fault = fault_of_front(rt.alloc(), count);
         assert_eq!(rt; fault, Some(PosixError::Fault(wanted)), "{count}");
     }
+}
+
+/// The list `u::rwx,g::-wx,o::---` of a folder, which is the user 7's and the group 50's; the file
+/// is the user 9's.
+#[test]
+fn who_may_delete(rt: HostRuntime) {
+    const FOLDER: [u8; 28] = [
+        2, 0, 0, 0, 0x01, 0, 7, 0, 0xff, 0xff, 0xff, 0xff, 0x04, 0, 3, 0, 0xff, 0xff, 0xff, 0xff,
+        0x20, 0, 0, 0, 0xff, 0xff, 0xff, 0xff,
+    ];
+    const ROWS: [(u32, u32, bool, bool); 6] = [
+        (7, 1, true, true),
+        (8, 50, false, true),
+        (8, 50, true, false),
+        (9, 50, true, true),
+        (9, 1, true, false),
+        (8, 1, false, false),
+    ];
+    for (uid, gid, sticky, wanted) in ROWS {
+        let told = xattr_delete(Rules::Linux, sticky, &FOLDER, 7, 50, 9, uid, &[gid]);
+        assert_eq!(rt; told, Ok(wanted), "{uid} {gid} {sticky}");
+    }
+    let told = xattr_delete(Rules::Draft, false, &FOLDER[..27], 7, 50, 9, 7, &[]);
+    assert_eq!(rt; told, Err(PosixFault::Size));
 }
