@@ -5,3 +5,4 @@ pub mod Seen
 pub mod ListingMeaning
 pub mod Paths
 pub mod Placed
+pub mod ClosingLaws

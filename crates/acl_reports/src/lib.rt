@@ -4,6 +4,7 @@
 
 mod blocks;
 mod files;
+mod laws;
 mod lines;
 mod named;
 mod next_block;
@@ -12,6 +13,7 @@ mod tally;
 
 pub use blocks::{BlockTeller, push_fault, push_fault_at};
 pub use files::owners_and_list;
+pub use laws::closing_laws;
 pub use named::{INPUT, listing_field, tell_named};
 pub use next_block::advance;
 pub use tally::Tally;
