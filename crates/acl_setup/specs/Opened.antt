@@ -91,9 +91,13 @@ abbrev pub Opens : List ℕ → Known → NodesUnderUmask → Type 0
 Opens bytes known tree = (table : Members) × ReadsAs bytes table
     × IsOpened (opened_in table) known tree
 
+-- the spot is that of the byte at this place, or of the end
+abbrev pub IsSpotAt : List ℕ → ℕ → Spot → Type 0
+IsSpotAt bytes at spot = (at ≤ length bytes) × (spot ≡ spot_after (take at bytes))
+
 -- the spot is that of one of these bytes, or of their end
 abbrev pub IsSpotIn : List ℕ → Spot → Type 0
-IsSpotIn bytes spot = (at : ℕ) × (at ≤ length bytes) × (spot ≡ spot_after (take at bytes))
+IsSpotIn bytes spot = (at : ℕ) × IsSpotAt bytes at spot
 
 -- the bytes are refused for this: they are no document, or its table has this fault; out of memory
 -- says nothing of them

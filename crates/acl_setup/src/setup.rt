@@ -1,9 +1,10 @@
 //! Setups: a file in TOML that says whom the service knows, and with which root a tree starts.
-ghost use Rattle.std.specs.Prelude.{◌≡◌, ◌≤◌, ◌↔◌, IfErr, IfOk, IfSome, IsNone, Ok, length};
-ghost use Rattle.toml.specs.Errors.{IsMemory, IsWithin};
+ghost use Rattle.std.specs.Prelude.{◌≡◌, ◌↔◌, IfErr, IfOk, IfSome, IsNone, Ok};
+ghost use Rattle.toml.specs.Errors.{IsMemory, IsWithin, span_start};
 ghost use Rattle.toml.specs.View.{table_view};
 ghost use Rattle.acl_names.specs.Directory.{IsRefusedFor};
-ghost use Rattle.acl_setup.specs.Opened.{ExplainsSetup, IsOpened, IsRefusedSetup, Opens, opened_by};
+ghost use Rattle.acl_setup.specs.Opened.{ExplainsSetup, IsOpened, IsRefusedSetup, IsSpotAt, Opens};
+ghost use Rattle.acl_setup.specs.Opened.{opened_by};
 ghost use Rattle.acl_setup.specs.Setup.{setup_in};
 ghost use Rattle.acl_setup.specs.Shown.{setup_shown};
 
@@ -11,7 +12,7 @@ use crate::fault::SetupError;
 use crate::fields::{Setup, read_table};
 use crate::key::Key;
 use crate::parts::key_of_parts;
-use crate::spot::spot_after;
+use crate::spot::{Spot, spot_after};
 use acl_names::{Directory, SetupFault};
 use acl_tree::Tree;
 use std::alloc::Global;
@@ -62,15 +63,15 @@ fn open(alloc: Global, table: &Table, setup: Setup) -> Result<(Directory, Tree),
     Ok((directory, tree))
 }
 
-/// How many bytes of the text stand before the fault for which it is no document, if memory hasn't
-/// run out.
-fn start_of(bytes: &[u8], error: &Error) -> Option<usize>
+/// Where the fault begins for which the bytes are no document, as the toml crate tells it, if
+/// memory hasn't run out.
+fn spot_of(bytes: &[u8], error: &Error) -> Option<Spot>
     requires { IsWithin bytes.now error.now }
-    ensures within { IfSome result (λ start. start ≤ length bytes.now) }
+    ensures spot { IfSome result (IsSpotAt bytes.now (span_start error.now)) }
     ensures memory { IsNone result ↔ IsMemory error.now }
 {
     match error.span() {
-        Some(range) => Some(range.start),
+        Some(range) => Some(spot_after(&bytes[..range.start])),
         None => None,
     }
 }
@@ -94,8 +95,8 @@ pub fn read_setup(alloc: Global, bytes: &[u8]) -> Result<(Directory, Tree), Setu
 {
     match toml::table_from_slice(alloc, bytes) {
         Ok(table) => open(alloc, &table, read_table(alloc, &table)?),
-        Err(error) => match start_of(bytes, &error) {
-            Some(start) => Err(SetupError::NotToml(spot_after(&bytes[..start]))),
+        Err(error) => match spot_of(bytes, &error) {
+            Some(spot) => Err(SetupError::NotToml(spot)),
             None => Err(SetupError::Memory),
         },
     }
