@@ -1,6 +1,8 @@
 -- All faults that the program tells: the exit status and the line of each.
-use Rattle.std.specs.Prelude.{◌≡◌, ◌≢◌, ◌⊎◌, ⊤, ℕ, Bool, false, true, ◌&&◌, List, [], Option, Some}
+use Rattle.std.specs.Prelude.{◌≡◌, ◌⊎◌, ⊤, ℕ, Bool, false, true, ◌&&◌, List, [], Option, Some}
 use Rattle.std.specs.Prelude.{None, Result, Err, ◌++◌, codes, option_map, unwrap_or}
+use Rattle.std.specs.declared.io.ErrorKind.{ErrorKind as SystemKind}
+use Rattle.std.specs.declared.io.ErrorKind.TheVariants as system
 use Rattle.clap.specs.Words.{IsAmong, Kinds, Text, kind_of}
 use Rattle.clap.specs.declared.error.Error.{Error}
 use Rattle.clap.specs.declared.error.kind.ErrorKind.{ErrorKind}
@@ -30,6 +32,14 @@ status_of (CannotRead name reason) = 1
 status_of (Refused refusal) = 1
 status_of (Unread name) = 3
 status_of (Lacks lack) = 3
+
+-- the reason that an error of this kind gives, which the system tells
+abbrev pub reason_of : SystemKind → Reason
+reason_of system.NotFound = NotFound
+reason_of system.PermissionDenied = PermissionDenied
+reason_of system.NotADirectory = NotADirectory
+reason_of system.IsADirectory = IsADirectory
+reason_of kind = Unknown
 
 abbrev pub reason_words : Reason → List ℕ
 reason_words Unknown = []

@@ -1,6 +1,6 @@
 //! Why a file can't be read, where the system says so.
 ghost use Rattle.std.specs.Prelude.{◌≡◌};
-ghost use Rattle.acl_cli.specs.Failures.{reason_words};
+ghost use Rattle.acl_cli.specs.Failures.{reason_of, reason_words};
 
 use std::io::ErrorKind;
 
@@ -16,7 +16,9 @@ pub enum Reason {
 
 impl Reason {
     /// The reason that an error of this kind gives.
-    pub fn of(kind: ErrorKind) -> Reason {
+    pub fn of(kind: ErrorKind) -> Reason
+        ensures { result ≡ reason_of kind }
+    {
         match kind {
             ErrorKind::NotFound => Reason::NotFound,
             ErrorKind::PermissionDenied => Reason::PermissionDenied,
