@@ -1,5 +1,6 @@
 -- What the fields of a command mean that asks of two listings.
-use Rattle.std.specs.Prelude.{◌≡◌, ◌⊎◌, ℕ, ◌+◌, List, [], Option, codes, true, unwrap_or}
+use Rattle.std.specs.Prelude.{◌≡◌, ◌⊎◌, ◌&&◌, ℕ, ◌+◌, Bool, List, [], Option, codes, false, true}
+use Rattle.std.specs.Prelude.{unwrap_or}
 use Rattle.clap.specs.Words.{Row, Text, first_of}
 use Rattle.acl_cli.specs.Commands.{Meaning}
 use Rattle.acl_cli.specs.Failures.{failed_write}
@@ -22,13 +23,18 @@ abbrev pub IsUnopened : Text → Failure → Type 0
 IsUnopened name (CannotRead refused reason) = refused.now ≡ name
 IsUnopened name _ = ⊥
 
--- both are standard input; one can't be opened, or fails while it is read; or something lacks
+abbrev pub is_input_twice : Text → Text → Bool
+is_input_twice before after = is_input before && is_input after
+
+-- both are standard input; or they aren't, and one can't be opened, or fails while it is read, or
+-- something lacks
 abbrev pub FailsForListings : Text → Text → Failure → Type 0
 FailsForListings before after failure =
-    ((failure ≡ Misuse InputTwice) × (is_input before ≡ true) × (is_input after ≡ true))
-    ⊎ ((IsUnopened before failure ⊎ IsUnopened after failure)
+    ((failure ≡ Misuse InputTwice) × (is_input_twice before after ≡ true))
+    ⊎ ((is_input_twice before after ≡ false)
+    × ((IsUnopened before failure ⊎ IsUnopened after failure)
     ⊎ (IsListingFailure before failure ⊎ (IsListingFailure after failure
-    ⊎ (failure ≡ failed_write))))
+    ⊎ (failure ≡ failed_write)))))
 
 -- listings of these names, of which it is reported in this way
 abbrev pub change_meaning : Wording → (Text → Option (List ℕ)) → Option (List ℕ) → Text → Text

@@ -1,5 +1,5 @@
 -- What the fields of `impact` mean, of two listings.
-use Rattle.std.specs.Prelude.{◌≡◌, ◌⊎◌, ◌&&◌, ◌||◌, ◌+◌, ℕ, Bool, true, false, not, List, Option}
+use Rattle.std.specs.Prelude.{◌≡◌, ◌⊎◌, ◌||◌, ◌+◌, ℕ, Bool, true, false, not, List, Option}
 use Rattle.std.specs.Prelude.{Ok, codes, is_some, map}
 use Rattle.clap.specs.Words.{Row, Text, all_of}
 use Rattle.acl_cli.specs.Commands.{Answer, Meaning}
@@ -11,8 +11,9 @@ use Rattle.acl_people.specs.Host.{Host, IsHost, names_of_host}
 use Rattle.acl_people.specs.HostFailures.{IsHostFailure}
 use Rattle.acl_people.specs.People.{IsAskedFailure, asked_in}
 use Rattle.acl_people.specs.Person.{Person}
-use Rattle.acl_reports.specs.ListingMeaning.{bytes_named, inputs_of, is_input}
+use Rattle.acl_reports.specs.ListingMeaning.{bytes_named, inputs_of}
 use Rattle.acl_listing_changes.specs.ChangeMeaning.{FailsForListings, after_in, before_in}
+use Rattle.acl_listing_changes.specs.ChangeMeaning.{is_input_twice}
 use Rattle.acl_listing_changes.specs.Changes.{IsChangeAnswer, IsChangeBegun, Named, OfListings}
 use Rattle.acl_listing_changes.specs.Changes.{Wording}
 use Rattle.acl_listing_changes.specs.Impacting.{Concern, ImpactAsking, impacting}
@@ -51,16 +52,12 @@ pub record ImpactAnswers (Is : Wording → Named → Named → Answer → Type 0
       (bytes_named bytes_of input (before_in rows)) (after_in rows)
       (bytes_named bytes_of input (after_in rows)) answer
 
--- both listings are standard input
-abbrev pub is_input_twice : List Row → Bool
-is_input_twice rows = is_input (before_in rows) && is_input (after_in rows)
-
--- both are; or they aren't, and the files don't say who there is, nobody is asked about, or the
--- listings fail
+-- both listings are standard input; or they aren't, and the files don't say who there is, nobody is
+-- asked about, or the listings fail
 abbrev pub FailsForImpact : (Text → Option (List ℕ)) → List Row → Failure → Type 0
 FailsForImpact bytes_of rows failure =
-    ((failure ≡ Misuse InputTwice) × (is_input_twice rows ≡ true))
-    ⊎ ((is_input_twice rows ≡ false)
+    ((failure ≡ Misuse InputTwice) × (is_input_twice (before_in rows) (after_in rows) ≡ true))
+    ⊎ ((is_input_twice (before_in rows) (after_in rows) ≡ false)
     × (IsHostFailure bytes_of rows failure
     ⊎ (((host : Host) × IsHost bytes_of rows host × IsAskedFailure (asked_in host rows) failure)
     ⊎ FailsForListings (before_in rows) (after_in rows) failure)))

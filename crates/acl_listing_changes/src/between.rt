@@ -11,5 +11,5 @@ mod seen;
 mod sides;
 mod teller;
 
-pub(crate) use named::{after_field, before_field, tell_between};
+pub(crate) use named::{after_field, before_field, is_input_twice, tell_between};
 pub(crate) use teller::ChangeTeller;

@@ -3,7 +3,7 @@ ghost use Rattle.std.specs.Prelude.{◌≡◌, IfErr, IfOk};
 ghost use Rattle.clap.specs.Words.{found_of, rows_of};
 ghost use Rattle.acl_cli.specs.Commands.{Comes};
 ghost use Rattle.acl_listing_changes.specs.ChangeMeaning.{IsUnopened, after_in, before_in};
-ghost use Rattle.acl_listing_changes.specs.ChangeMeaning.{change_meaning};
+ghost use Rattle.acl_listing_changes.specs.ChangeMeaning.{change_meaning, is_input_twice};
 
 use super::changes::tell_both;
 use super::teller::ChangeTeller;
@@ -26,6 +26,13 @@ pub(crate) fn after_field<'a>(matches: &ArgMatches<'a>) -> &'a str
     ensures { result.now ≡ after_in (rows_of (found_of matches.now)) }
 {
     text_field(matches, "after").unwrap_or("")
+}
+
+/// Whether both listings are standard input.
+pub(crate) fn is_input_twice(before: &str, after: &str) -> bool
+    ensures { result ≡ is_input_twice before.now after.now }
+{
+    before == INPUT && after == INPUT
 }
 
 /// The file of this name.
@@ -62,10 +69,10 @@ where
         (I.remaining input.old) before.entry.now after.entry.now) result (W.contents out.old)
         (W.contents out.new) err.old err.new input.old input.new }
 {
+    if is_input_twice(before, after) {
+        return Err(Failure::Misuse(Misuse::InputTwice));
+    }
     if before == INPUT {
-        if after == INPUT {
-            return Err(Failure::Misuse(Misuse::InputTwice));
-        }
         let later = open(files, after)?;
         return tell_both(alloc, teller, (before, input), (after, later), out, err);
     }

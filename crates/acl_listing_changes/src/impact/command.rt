@@ -1,12 +1,11 @@
 //! The command `impact`.
-ghost use Rattle.std.specs.Prelude.{◌≡◌, ◌&&◌, ◌||◌, codes};
+ghost use Rattle.std.specs.Prelude.{◌≡◌, ◌||◌, codes};
 ghost use Rattle.clap.specs.Words.{found_of, rows_of};
 ghost use Rattle.acl_cli.specs.Fields.{flag_in};
-ghost use Rattle.acl_reports.specs.ListingMeaning.{is_input};
 ghost use Rattle.acl_listing_changes.specs.ImpactMeaning.{names_users};
 
 use super::teller::ImpactTeller;
-use crate::between::{after_field, before_field, tell_between};
+use crate::between::{after_field, before_field, is_input_twice, tell_between};
 use acl_cli::fields::flag_field;
 use acl_cli::{
     Command as CliCommand, CommandLine, Ending, ErrorOutput, Failure, Given, Line, Misuse,
@@ -14,7 +13,6 @@ use acl_cli::{
 };
 use acl_people::options::{ACCOUNTS, DOMAIN, USERS};
 use acl_people::{read_host, read_people, user_fields};
-use acl_reports::INPUT;
 use acl_reports::options::{AFTER, BEFORE};
 use clap::ArgMatches;
 use std::alloc::Global;
@@ -117,13 +115,6 @@ fn each_has_a_line(matches: &ArgMatches<'_>) -> bool
         || names_users (rows_of (found_of matches.now))) }
 {
     flag_field(matches, "all") || names_users(matches)
-}
-
-/// Whether both listings are standard input.
-fn is_input_twice(before: &str, after: &str) -> bool
-    ensures { result ≡ (is_input before.now && is_input after.now) }
-{
-    before == INPUT && after == INPUT
 }
 
 impl CliCommand for Impact {

@@ -8,9 +8,9 @@ use Rattle.acl_people.specs.Host.{names_of_host}
 use Rattle.acl_reports.specs.ListingMeaning.{bytes_named, inputs_of, is_input}
 use Rattle.acl_people.specs.Asked.{persons_in}
 use Rattle.acl_people.proofs.AskedLemmas.{persons_again}
-use Rattle.acl_listing_changes.specs.ChangeMeaning.{FailsForListings, after_in, before_in, change_meaning}
+use Rattle.acl_listing_changes.specs.ChangeMeaning.{FailsForListings, after_in, before_in, change_meaning, is_input_twice}
 use Rattle.acl_listing_changes.specs.Changes.{IsChangeAnswer, IsChangeBegun, OfListings}
-use Rattle.acl_listing_changes.specs.ImpactMeaning.{FailsForImpact, concern_in, impact_asked, impact_meaning, is_input_twice}
+use Rattle.acl_listing_changes.specs.ImpactMeaning.{FailsForImpact, concern_in, impact_asked, impact_meaning}
 use Rattle.std.proofs.lemmas.Result.{IfErr-weaker}
 use Rattle.acl_listing_changes.specs.Impacting.{Concern, ImpactAsking, impacting}
 use Rattle.acl_listing_changes.proofs.ComesLemmas.{comes_refused}
@@ -27,7 +27,7 @@ returns-in_err-host g c =
     let files = g.F.OpenFiles.bytes_of c.args.files.now in
     let input = g.I.Read.remaining c.args.input.now in
     let rows : List Row = rows_of (found_of c.args.matches.now) in
-    let once : is_input_twice rows ≡ false =
+    let once : is_input_twice (before_in rows) (after_in rows) ≡ false =
     twice_of c.before_field-before.result.now (before_in rows) c.after_field-after.result.now (after_in rows) c.before_field-before.ensures c.after_field-after.ensures
     c.is_input_twice.result c.is_input_twice.ensures ∙ c.if-is_input_twice.false in
     let fails : IfErr c.read_host.result (λ failure. (impact_meaning files input rows).Fails failure) =
@@ -39,7 +39,7 @@ returns-in_err-people g c =
     let files = g.F.OpenFiles.bytes_of c.args.files.now in
     let input = g.I.Read.remaining c.args.input.now in
     let rows : List Row = rows_of (found_of c.args.matches.now) in
-    let once : is_input_twice rows ≡ false =
+    let once : is_input_twice (before_in rows) (after_in rows) ≡ false =
     twice_of c.before_field-before.result.now (before_in rows) c.after_field-after.result.now (after_in rows) c.before_field-before.ensures c.after_field-after.ensures
     c.is_input_twice.result c.is_input_twice.ensures ∙ c.if-is_input_twice.false in
     let meaning : Meaning = impact_meaning files input rows in
@@ -59,7 +59,7 @@ returns g c =
     let (persons, people, persons_are) = c.in_ok-people.ensures.read in
     let before : List ℕ = c.before_field-before.result.now in
     let after : List ℕ = c.after_field-after.result.now in
-    let once : is_input_twice rows ≡ false =
+    let once : is_input_twice (before_in rows) (after_in rows) ≡ false =
     twice_of before (before_in rows) after (after_in rows) c.before_field-before.ensures c.after_field-after.ensures
     c.is_input_twice.result c.is_input_twice.ensures ∙ c.if-is_input_twice.false in
     let concern : Concern = record {
