@@ -6,7 +6,7 @@ use acl_cli::{CommandLine, Given, Line, Word};
 
 /// What is reported, and what the exit statuses are.
 const ANSWERS: &str = "For example, who may do what in the tree of a setup:
-  aclctl list --setup S > tree; aclctl who --setup S tree
+  aclctl list --setup S > tree; aclctl who --accounts A tree
 
 A block for each node, a directory before what is in it, as getfacl -Rnp and
 nfs4_getfacl print it: its path, its owner and its group, and its entries. Ids
