@@ -11,10 +11,10 @@ pub fn each_folder_is_told()
     ensures { (asking : NextAsking) (blocks : List Block) → TellsEachFolder asking blocks }
 {}
 
-/// What is told of the blocks of a listing is read again, by the names by which they are read: as the
-/// files of those that are answered, and behind each folder what would be created in it. It needs
-/// blocks without empty lines, as a listing's are, and created files whose lists have entries and ids
-/// within their range. There is nothing to run here: a proof cites the contract.
+/// What is told of the blocks of a listing is read again, by the names by which they are read: as
+/// the files of those that are answered, and behind each folder what would be created in it. It
+/// needs blocks without empty lines, as a listing's are, and created files whose lists have entries
+/// and ids within their range. There is nothing to run here: a proof cites the contract.
 pub fn what_is_told_is_read_again()
     ensures { (asking : NextAsking) (blocks : List Block) → SaysEachFolder asking blocks }
 {}

@@ -82,7 +82,7 @@ abbrev pub begins_apart : List Reading → Reading → Bool
 begins_apart earlier here = are_all_apart (beginnings_of (earlier ++ here ∷ []))
 
 -- The folders above a block, the nearest first, if they are known. If two ways have begun that
--- aren't apart, a folder stands behind what is in it, so that the folders of any way may be missing.
+-- aren't apart, a folder stands behind what is in it, so that folders of any way may be missing.
 abbrev pub known_way : List Reading → Reading → Option (List File)
 known_way earlier here =
     if begins_apart earlier here then chain_to (way_of earlier here) here else None

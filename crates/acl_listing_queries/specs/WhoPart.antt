@@ -27,8 +27,8 @@ pub record Asking : Type 0 where
   pub question : Question
   pub reach : Bool
 
--- What is reported of a file on this way, of which the nearest folder has the sticky bit or not, and
--- whose path is printed so: who may delete it isn't known without that folder.
+-- What is reported of a file on this way, of which the nearest folder has the sticky bit or not,
+-- and whose path is printed so: who may delete it isn't known without that folder.
 abbrev pub part_of : List Person → Question → Bool → List File → List ℕ → File → Part
 part_of persons (What asked) sticky way path file = Ok (who_text persons asked way path file)
 part_of persons Deletion sticky [] path file = Err UnknownWay

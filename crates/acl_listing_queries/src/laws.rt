@@ -6,9 +6,9 @@ ghost use Rattle.acl_listing_queries.specs.declared.who.answers.TheConstants.{PL
 
 /// In a listing where a folder stands before what is in it, and all of that before anything else,
 /// the way to a file is all the blocks whose paths are above its path, the nearest first. Whatever
-/// the order, if the way to a block is known, it has every folder above the block that stands before
-/// it; and if the way to each is known, every one that the listing has. There is nothing to run
-/// here: a proof cites the contract.
+/// the order, if the way to a block is known, it has every folder above the block that stands
+/// before it; and if the way to each is known, every one that the listing has. There is nothing to
+/// run here: a proof cites the contract.
 pub fn way_laws()
     ensures above { WaysAreAllAbove }
     ensures before { WaysHaveAllBefore }
