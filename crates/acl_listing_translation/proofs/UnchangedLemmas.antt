@@ -9,6 +9,7 @@ use Rattle.acl_posix.specs.Validity.{IsValid}
 use Rattle.acl_posix.proofs.ValidityLemmas.{IsValid-from_fault_of}
 use Rattle.acl_bridge.specs.Files.{File, file_with}
 use Rattle.acl_access.specs.Changes.{IsAlikeToAll}
+use Rattle.acl_access.specs.Paths.{printed_path}
 use Rattle.acl_listings.specs.Block.{FileValue, file_by}
 use Rattle.acl_listings.specs.declared.fault.BlockFault.{BlockFault}
 use Rattle.acl_listings.specs.declared.file_flags.FileFlags.{FileFlags}
@@ -99,11 +100,11 @@ module _ (asking : ImpactAsking) (unasked : asking.written ≡ false) (before af
   change_nothing : (told : List ℕ) → TellsChange asking before after told ↔ (told ≡ [])
   change_nothing told = (
     λ tells. tells.text_is
-        ∙ ap₂ (λ (a b : List ℕ). a ++ b) ((tells_nothing (file_of before) (file_of after) after.path alike asking.concern tells.impact).0 tells.impact_is)
-        (tells.written_is.2 ∙ ap (λ asked. changed_text asked tells.written_is.0 after.path) unasked),
+        ∙ ap₂ (λ (a b : List ℕ). a ++ b) ((tells_nothing (file_of before) (file_of after) (printed_path after.path) alike asking.concern tells.impact).0 tells.impact_is)
+        (tells.written_is.2 ∙ ap (λ asked. changed_text asked tells.written_is.0 (printed_path after.path)) unasked),
     λ none. subst (TellsChange asking before after) (sym none) (record {
       impact = [];
-      impact_is = nobody (file_of before) (file_of after) after.path alike asking.concern;
+      impact_is = nobody (file_of before) (file_of after) (printed_path after.path) alike asking.concern;
       written = [];
       written_is = subst (λ (asked : Bool). TellsWritten asked before after []) (sym unasked) nothing;
       text_is = refl;
