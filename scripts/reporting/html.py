@@ -53,6 +53,11 @@ def path_text(raw):
     return named(raw).replace("/", "/<wbr>")
 
 
+def place_text(raw):
+    """The same of a path as it is, without escapes."""
+    return shown(raw).replace("/", "/<wbr>")
+
+
 def number(count):
     """A number that is easy to read."""
     return f"{count:,}"

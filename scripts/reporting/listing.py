@@ -3,6 +3,8 @@
 import re
 from collections import namedtuple
 
+from reporting.names import unescaped
+
 # The words for a file that a block may begin with, which are as long as each other.
 HEADS = (b"# file: ", b"# File: ")
 # How many bytes are read at once, and of how many one block may be.
@@ -55,7 +57,9 @@ def path_of(head):
 
 
 def place_of(path):
-    """A path without the steps that lead nowhere: two paths with one place are those of one file."""
+    """A path as it is, without the steps that lead nowhere: two paths with one place are those of one file, whatever of them is
+    escaped."""
+    path = unescaped(path)
     if b"/." in path or b"//" in path or path[:1] == b"." or path[-1:] == b"/":
         start = b"/" if path[:1] == b"/" else b""
         return start + b"/".join(it for it in path.split(b"/") if it not in (b"", b"."))

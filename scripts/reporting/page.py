@@ -3,7 +3,7 @@
 from collections import namedtuple
 from pathlib import Path
 
-from reporting.html import head_of_page, moment, named, number, path_text, rest, row, section, several, shown, table, text
+from reporting.html import head_of_page, moment, named, number, path_text, place_text, rest, row, section, several, shown, table, text
 from reporting.matrix import matrix
 from reporting.program import COMPARISON
 from reporting.sums import Opened, Users
@@ -165,7 +165,7 @@ def changed_folders(changes):
     rows = []
     for place, it in order[:MOST_CHANGED]:
         cells = (it.differ, it.new, it.gone, len(it.names))
-        rows.append(row(("p", path_text(place or b".")), *(("n", number(count) if count else "") for count in cells)))
+        rows.append(row(("p", place_text(place or b".")), *(("n", number(count) if count else "") for count in cells)))
     more = rest(len(order) - MOST_CHANGED, "more folders")
     heads = ("changed", "new", "gone", "users concerned")
     return f"<div>{table((('', 'In folder'), *(('n', it) for it in heads)), rows)}{more}</div>" if rows else ""

@@ -200,6 +200,14 @@ class Report(OverStandIn):
             self.assertEqual((page.owners, [*page.folders()]), ([shown], ["s\\x\u21b5y"]))
             self.assertIn("CORP\\bea x", page.tables["reach"][0])
 
+    def test_what_is_escaped_in_one_place_and_not_in_another_is_one_path(self):
+        self.write("share", block("s\\\\\x1b", "r-x") + block("s\\\\\x1b/in", "rw-", bob="r--"))
+        program = (self.room / "scripts/aclctl").read_text().replace('{user} {path}\\n"', '{user} " + path.replace(chr(27), chr(92) + "033") + "\\n"')
+        self.assertIn("chr(27)", program)
+        self.write("scripts/aclctl", program)
+        folders = self.page().folders()
+        self.assertEqual(folders, {"s\\\\033": ("1 file", {"anyone": "r-x r all w all", "bob": "r-x r all"})})
+
     def owners_of(self, *words):
         """Writes the pages of owners. Returns them and the tables, by the names of their files."""
         ran = self.run_script("--accounts", "accounts", "--owners", "own", *words, "share")

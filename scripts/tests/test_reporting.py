@@ -108,7 +108,7 @@ class Listings(unittest.TestCase):
             self.assertEqual(listing.path_of(head), path)
 
     def test_places_are_paths_without_idle_steps(self):
-        for path, place in ((b".", b""), (b"./a", b"a"), (b"a//b/./c/", b"a/b/c"), (b"/", b"/"), (b"//a", b"/a"), (b"a/.", b"a"), (b"a/.b", b"a/.b"), (b"..", b".."), (b".a", b".a")):
+        for path, place in ((b".", b""), (b"./a", b"a"), (b"a//b/./c/", b"a/b/c"), (b"/", b"/"), (b"//a", b"/a"), (b"a/.", b"a"), (b"a/.b", b"a/.b"), (b"..", b".."), (b".a", b".a"), (b"a\\\\b/\\012", b"a\\b/\n"), (b"\\033/./\x1b", b"\x1b/\x1b")):
             self.assertEqual(place_of(path), place)
 
     def test_folders_are_in_one_another_by_steps(self):
