@@ -12,6 +12,8 @@ import threading
 MOST_KEPT = 200
 # The end of what it says if not every block was answered.
 NOT_ANSWERED = re.compile(rb"aclctl: (.*): ([0-9]+) of ([0-9]+) files were not answered$")
+# What it says of ids without an account, which have a place of their own on the page.
+STRANGERS = re.compile(rb"aclctl: .*: [0-9]+ of [0-9]+ files name ids without an account, .*")
 # The statuses with which there is an answer.
 ANSWERED = (0, 4)
 # How much the pipe of an answer holds, if the system lets it.
@@ -52,6 +54,8 @@ class Said:
             line = line.rstrip(b"\n")
             if counted := NOT_ANSWERED.fullmatch(line):
                 self.unanswered[self.called(counted[1])] = int(counted[2])
+            elif STRANGERS.fullmatch(line):
+                continue
             elif len(self.lines) < MOST_KEPT:
                 self.lines.append(self.renamed(line))
             else:

@@ -30,6 +30,7 @@ for after in "$@"; do before=${last-}; last=$after; done
 awk 'BEGIN { RS = "" } FILENAME == ARGV[1] { old[$3] = $0; next }
     !($3 in old) { print "new " $3 } $3 in old && old[$3] != $0 { print "differ bob 5 6 - w " $3 } { seen[$3] = 1 }
     END { for (path in old) if (!(path in seen)) print "gone " path }' "$before" "$after"
+[ ! -e "$ROOM/says" ] || cat "$ROOM/says" >&2
 [ ! -e "$ROOM/unanswered" ] || { echo "aclctl: $after:1: bad-acl: x" >&2; exit 4; }
 exit "$(cat "$ROOM/aclctl-ends" 2> /dev/null || echo 0)"
 """
@@ -69,7 +70,7 @@ class Nightly(unittest.TestCase):
 
     def start(self, *words, path="/srv", **how):
         """Starts the script."""
-        words = [self.room / "bin/nightly", "--state", self.state, *words, path]
+        words = [self.room / "bin/nightly", "--state", self.state, *words, *([path] if isinstance(path, (str, Path)) else path)]
         return subprocess.Popen(words, **{"stdout": subprocess.PIPE, "stderr": subprocess.PIPE, "env": self.env, "text": True, **how})
 
     def run_script(self, *words, **how):
@@ -141,6 +142,18 @@ class Nightly(unittest.TestCase):
         self.assertEqual(self.run_script(), (0, [], said[1:]))
         self.assertEqual(self.run_script("--quiet"), (0, [], []))
         self.assertIn("/srv/b", (self.state / self.nights()[-1] / "vanished").read_text())
+
+    def test_a_quiet_night_says_nothing(self):
+        self.assertEqual(self.run_script("--quiet"), (0, [], []))
+        self.write("said", "getfacl: /srv/x: No such file or directory\n")
+        self.write("ends", "1")
+        self.write("says", "aclctl: listing: 1 of 2 files name ids without an account, the first is 7 (line 2)\n")
+        self.assertEqual(self.run_script("--quiet"), (0, [], []))
+        status, _, said = self.run_script()
+        self.assertEqual((status, len(said)), (0, 2))
+        self.share(a="rw-", b="r--")
+        status, lines, said = self.run_script("--quiet")
+        self.assertEqual((status, len(lines), len(said)), (5, 1, 3))
 
     def test_a_listing_that_is_not_whole_is_none(self):
         self.first()
@@ -232,6 +245,10 @@ class Nightly(unittest.TestCase):
             self.assertEqual(self.run_script(path=path), (1, [], [f"{self.state} is in {path}: its listings would be new each night"]))
         self.assertFalse(self.state.exists())
         self.assertEqual(self.run_script(path=f"{self.state}s")[0], 0)
+
+    def test_nothing_is_listed_twice(self):
+        self.run_script(path=["/srv/b/", "/home", "/srv", "/srv/b/../b", "/srv2", "/srv"])
+        self.assertEqual((self.room / "calls").read_text(), "-Rnp -- /home /srv /srv2\n")
 
     def test_what_is_wanting_is_told(self):
         self.first()
