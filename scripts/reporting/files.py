@@ -1,8 +1,10 @@
 """Listings of real files: made by getfacl, and compared by the program."""
 
+import contextlib
 import os
 import re
 import shutil
+import stat
 import subprocess
 import threading
 
@@ -80,6 +82,15 @@ def compare(program, accounts, before, after, changes):
     if ran.returncode not in ANSWERED:
         raise NotWhole(f"aclctl ended with status {ran.returncode}{first_of(ran.stderr.splitlines())}")
     return ran.returncode == 0, ran.stderr
+
+
+def is_own(folder):
+    """Makes a folder, if it isn't there, and tells whether nobody but this user can write in it. Else another may have put there what is
+    read or run, or a link in the way of what is written."""
+    with contextlib.suppress(FileExistsError):
+        os.mkdir(folder, 0o700)
+    found = os.lstat(folder)
+    return stat.S_ISDIR(found.st_mode) and found.st_uid == os.geteuid() and not found.st_mode & 0o022
 
 
 def shown(raw):

@@ -246,6 +246,16 @@ class Nightly(unittest.TestCase):
         self.assertFalse(self.state.exists())
         self.assertEqual(self.run_script(path=f"{self.state}s")[0], 0)
 
+    def test_a_state_that_others_can_write_is_refused(self):
+        self.state.mkdir()
+        self.state.chmod(0o770)
+        why = f"{self.state} is no folder that only its owner, who runs this, can write"
+        self.assertEqual(self.run_script(), (1, [], [why]))
+        self.state.rmdir()
+        self.state.symlink_to(self.room / "bin")
+        self.assertEqual(self.run_script(), (1, [], [why]))
+        self.assertFalse((self.room / "bin/lock").exists())
+
     def test_nothing_is_listed_twice(self):
         self.run_script(path=["/srv/b/", "/home", "/srv", "/srv/b/../b", "/srv2", "/srv"])
         self.assertEqual((self.room / "calls").read_text(), "-Rnp -- /home /srv /srv2\n")

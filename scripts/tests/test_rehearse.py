@@ -198,6 +198,20 @@ class Rehearse(unittest.TestCase):
         for words in (["share"], ["--depth=-1", "share", "--", "true"], ["--", "true"], ["share", "true"]):
             self.assertEqual(self.run_script(*words)[0], 2, words)
 
+    def test_a_room_that_others_can_write_is_refused(self):
+        why = f"{self.kept} is no folder that root alone can write"
+        self.kept.mkdir()
+        for owner, mode in ((65534, 0o700), (0, 0o720), (0, 0o702)):
+            os.chown(self.kept, owner, 0)
+            self.kept.chmod(mode)
+            self.refused(why, "--apply", "share")
+        self.kept.rmdir()
+        self.kept.symlink_to(self.room / "bin")
+        self.refused(why, "share", "--", "true")
+        self.kept.unlink()
+        self.kept.write_text("")
+        self.refused(why, "share", "--", "true")
+
     def test_without_a_mount_namespace_it_says_so(self):
         (self.room / "bin/unshare").write_text("#!/bin/sh\necho unshare: no >&2\nexit 1\n")
         self.refused("no mount namespace can be made here: unshare: no", "share", "--", "true")
