@@ -108,6 +108,11 @@ def path_of(text):
     return first[8:] if first.startswith(FILE_WORDS) and 8 < len(first) <= MAX_BLOCK else None
 
 
+def printed(path):
+    """A path as answers print it: each control byte by its octal digits."""
+    return b"".join(b"\\%03o" % it if it < 32 or it == 127 else b"%c" % it for it in path)
+
+
 def steps_of(path):
     """Where a path begins, and its steps: empty parts and "." are none."""
     return path.startswith(b"/"), [it for it in path.split(b"/") if it not in (b"", b".")]
