@@ -18,7 +18,12 @@ fn is_control(byte: u8) -> bool
 fn has_controls(path: &[u8]) -> bool
     ensures { result ≡ list_any is_control path.now }
 {
-    path.iter().any(|byte| is_control(*byte))
+    let mut found = false;
+    // To the end, so that many bytes are looked at in one step.
+    for byte in path {
+        found |= is_control(*byte);
+    }
+    found
 }
 
 /// Appends a byte as it is printed.
