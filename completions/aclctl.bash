@@ -9,7 +9,7 @@ _aclctl_options() {
         run) echo --setup --journal --max-errors --help ;;
         who) echo --accounts --domain --perms --letters --delete --reach --user --help ;;
         why) echo --accounts --domain --user --perms --help ;;
-        impact) echo --accounts --domain --all --user --text --exit-code --help ;;
+        impact) echo --accounts --domain --reach --all --user --text --exit-code --help ;;
         restore) echo --help ;;
         translate) echo --accounts --domain --form --attributes --print0 --help ;;
         next) echo --user --mode --umask --dir --dirs-only --accounts --domain --help ;;

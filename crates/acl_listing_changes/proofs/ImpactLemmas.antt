@@ -15,7 +15,8 @@ use Rattle.acl_people.specs.Person.{Person}
 use Rattle.acl_people.specs.Asked.{persons_of}
 use Rattle.acl_listing_changes.specs.ChangeSteps.{Appended}
 use Rattle.acl_listing_changes.specs.Changes.{TellsIf, TellsOld}
-use Rattle.acl_listing_changes.specs.ImpactSteps.{TellsAt, TellsBy, TellsRead, line_at}
+use Rattle.acl_listing_changes.specs.ImpactSteps.{TellsAt, TellsBy, TellsRead}
+use Rattle.acl_listing_changes.specs.ImpactText.{line_at}
 use Rattle.acl_listing_changes.specs.Impacting.{Concern, ImpactAsking, Tells, TellsAnybody, TellsChange, TellsFirst, TellsImpact, TellsPerson, TellsPersons, TellsThose, fault_of, impacting, told_gone, told_new}
 use Rattle.acl_listing_changes.specs.WrittenChanges.{IsChanged, changed_text}
 use Rattle.acl_listing_changes.specs.declared.impact.changed.Changed.{Changed}

@@ -1,4 +1,4 @@
--- What the fields of `impact` mean, of two listings.
+-- What the fields of `impact` mean, of the lists of two listings.
 use Rattle.std.specs.Prelude.{◌≡◌, ◌⊎◌, ◌||◌, ◌+◌, ℕ, Bool, true, false, not, List, Option}
 use Rattle.std.specs.Prelude.{Ok, codes, is_some, map}
 use Rattle.clap.specs.Words.{Row, Text, all_of}
@@ -62,8 +62,9 @@ FailsForImpact bytes_of rows failure =
     ⊎ (((host : Host) × IsHost bytes_of rows host × IsAskedFailure (asked_in host rows) failure)
     ⊎ FailsForListings (before_in rows) (after_in rows) failure)))
 
-abbrev pub impact_meaning : (Text → Option (List ℕ)) → Option (List ℕ) → List Row → Meaning
-impact_meaning bytes_of input rows = record {
+-- of the lists of files
+abbrev pub lists_meaning : (Text → Option (List ℕ)) → Option (List ℕ) → List Row → Meaning
+lists_meaning bytes_of input rows = record {
   Answers = ImpactAnswers IsChangeAnswer bytes_of input rows;
   Begins = ImpactAnswers IsChangeBegun bytes_of input rows;
   Fails = FailsForImpact bytes_of rows;

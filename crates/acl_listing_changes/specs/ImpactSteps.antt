@@ -44,7 +44,3 @@ TellsBy false before after path person text =
 abbrev pub TellsAt : Bool → File → File → List ℕ → Option Person → List ℕ → Type 0
 TellsAt some before after path None text = (some ≡ false) × (text ≡ [])
 TellsAt some before after path (Some person) text = TellsBy some before after path person text
-
-abbrev pub line_at : (Person → List ℕ) → Option Person → List ℕ
-line_at line None = []
-line_at line (Some person) = line person

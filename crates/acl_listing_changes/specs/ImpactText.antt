@@ -1,5 +1,6 @@
 -- How it is reported what changed for somebody.
-use Rattle.std.specs.Prelude.{ℕ, Bool, true, false, List, [], ◌∷◌, ◌++◌, codes, decimal}
+use Rattle.std.specs.Prelude.{ℕ, Bool, true, false, List, [], ◌∷◌, ◌++◌, Option, Some, None, codes}
+use Rattle.std.specs.Prelude.{decimal}
 use Rattle.std.specs.List.{flat_map}
 use Rattle.acl_names.specs.Bytes.{comma}
 use Rattle.acl_nfs4.specs.Mask.{mask_bits}
@@ -40,3 +41,8 @@ gone_text path = codes "gone " ++ path ++ codes "\n"
 abbrev pub path_text : Bool → List ℕ → List ℕ
 path_text true path = gone_text path
 path_text false path = new_text path
+
+-- the line of somebody, if there is one
+abbrev pub line_at : (Person → List ℕ) → Option Person → List ℕ
+line_at line None = []
+line_at line (Some person) = line person

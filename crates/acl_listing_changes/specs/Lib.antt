@@ -11,6 +11,5 @@ pub mod WrittenChanges
 pub mod Impacting
 pub mod Concerns
 pub mod ImpactSteps
-pub mod ImpactLine
 pub mod ImpactMeaning
 pub mod AlikeLaws

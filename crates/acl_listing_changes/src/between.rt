@@ -11,5 +11,8 @@ mod seen;
 mod sides;
 mod teller;
 
-pub(crate) use named::{after_field, before_field, is_input_twice, tell_between};
+pub use changes::{ending_of_both, with_difference};
+pub use faults::unless_repeated;
+pub(crate) use named::tell_between;
+pub use named::{after_field, before_field, is_input_twice, open_listing};
 pub(crate) use teller::ChangeTeller;

@@ -6,4 +6,5 @@ mod command;
 mod concerned;
 mod teller;
 
-pub use command::Impact;
+pub use asked::push_person_at;
+pub use command::{each_has_a_line, tell_impact};

@@ -112,7 +112,7 @@ fn push_gone(path: &[u8], out: &mut Vec<u8>) -> Result<(), AllocError>
 }
 
 /// Appends the line of a path that is gone, or else new.
-pub(crate) fn push_path(gone: bool, path: &[u8], out: &mut Vec<u8>) -> Result<(), AllocError>
+pub fn push_path(gone: bool, path: &[u8], out: &mut Vec<u8>) -> Result<(), AllocError>
     ensures { OnOk result (out.new.items ≡ out.old.items ++ path_text gone path.now) }
 {
     if gone {
@@ -123,11 +123,7 @@ pub(crate) fn push_path(gone: bool, path: &[u8], out: &mut Vec<u8>) -> Result<()
 }
 
 /// Appends the line that says that no path is in both listings, whose first paths these are.
-pub(crate) fn push_apart(
-    first: &[u8],
-    second: &[u8],
-    beside: &mut Vec<u8>,
-) -> Result<(), AllocError>
+pub fn push_apart(first: &[u8], second: &[u8], beside: &mut Vec<u8>) -> Result<(), AllocError>
     ensures { OnOk result (beside.new.items ≡ beside.old.items ++ apart_line first.now second.now) }
 {
     beside.extend_from_slice(b"aclctl: no path of AFTER is in BEFORE, which begins with ")?;

@@ -1,11 +1,13 @@
 -- What is kept of a file tells of it.
-use Rattle.std.proofs.Common.{◌≡◌, ◌∙◌, ◌+◌, ◌++◌, ◌&&◌, ℕ, zero, suc, Bool, true, false, cond, List, [], ◌∷◌, Some, None, ap, append_assoc, append-nil, arith, get_or, length, length-append, map, refl, sym}
+use Rattle.std.proofs.Common.{◌≡◌, ◌∙◌, ◌+◌, ◌++◌, ◌&&◌, ◌<◌, ◌≤◌, ℕ, zero, suc, Bool, true, false, cond, List, [], ◌∷◌, Some, None, ap, append_assoc, append-nil, arith, get_or, length, length-append, map, refl, sym}
 use Rattle.std.specs.Prelude.{Vec, slice_get}
 use Rattle.std.specs.List.{enumerate_from, flat_map}
 use Rattle.std.specs.declared.alloc.Global.{Global}
+use Rattle.std.proofs.lemmas.Bool.{le-ltb, lt-ltb}
+use Rattle.std.proofs.lemmas.List.{length-map}
 use Rattle.acl_names.specs.Requester.{Identity}
 use Rattle.acl_access.specs.Deletes.{deletes}
-use Rattle.acl_access.specs.Marks.{is_set, places_from}
+use Rattle.acl_access.specs.Marks.{is_set, letters_at, places_from}
 use Rattle.acl_access.specs.Letters.{effective, granted_mask, mask_text}
 use Rattle.acl_access.specs.Reach.{reaches}
 use Rattle.acl_access.specs.Standings.{places_of_takers, standing_of, takes_each}
@@ -20,9 +22,9 @@ use Rattle.acl_access.proofs.ReachLemmas.{at_place}
 use Rattle.acl_access.proofs.StandingLemmas.{places_of_pairs}
 use Rattle.acl_people.specs.Asked.{persons_of}
 use Rattle.acl_people.specs.Person.{Person}
-use Rattle.acl_listing_queries.specs.WhoSteps.{IsGranted, letters_line_at, letters_lines, may_line_at, may_line_of, may_lines}
-use Rattle.acl_listing_queries.specs.WhoText.{AllLetters, Asked, Request, ThreeLetters, deletion_text, letters_line_if, person_line, who_text}
-use Rattle.acl_listing_queries.specs.declared.who.answers.Granted.TheVariants.{Letters, Masks, Those}
+use Rattle.acl_listing_queries.specs.WhoSteps.{IsGranted, letters_lines, may_line_at, may_line_of, may_lines, number_there, numbers_of_each, told_at, told_of_each}
+use Rattle.acl_listing_queries.specs.WhoText.{AllLetters, Asked, Numbers, Request, ThreeLetters, deletion_text, letters_line_if, number_told, person_told, who_text}
+use Rattle.acl_listing_queries.specs.declared.who.answers.Granted.TheVariants.{Letters, Masks, Numbered, Those}
 
 -- what stands behind some items
 name_there : (before after : List (List ℕ)) (name : List ℕ) → slice_get (before ++ name ∷ after) (length before) ≡ Some name
@@ -39,42 +41,80 @@ module _ (way : List File) (path : List ℕ) (file : File) where
   abbrev reach : List Identity → List Bool
   reach whos = map (reaches way) whos
 
-  -- letters that are written and granted so
+  -- letters that are told and granted so
 
-  module _ (text : ℕ → List ℕ) (granted : File → Identity → ℕ) where
+  module _ (tell : List ℕ → ℕ → List ℕ) (granted : File → Identity → ℕ) (none : (name : List ℕ) → tell name 0 ≡ []) where
     abbrev letters : List Identity → List ℕ
     letters whos = map (granted file) whos
 
-    -- the line of somebody at a place
+    -- what is told of somebody at a place
     one_letters : (whos before after : List Identity) (name : List ℕ) (who : Identity) (place : ℕ) → whos ≡ before ++ who ∷ after → place ≡ length before
-        → letters_line_at text path (letters whos) (reach whos) (place, name) ≡ person_line text granted way path file (record { name = name; who = who })
+        → told_at tell (letters whos) (reach whos) (place, name) ≡ person_told tell granted way file (record { name = name; who = who })
     one_letters whos before after name who place is there =
-        ap (λ place. letters_line_at text path (letters whos) (reach whos) (place, name)) there
-        ∙ ap (λ whos. letters_line_at text path (letters whos) (reach whos) (length before, name)) is
-        ∙ ap (λ b. letters_line_if text path name (cond b (get_or (letters (before ++ who ∷ after)) (length before) 0) 0)) (at_place (reaches way) false before after who)
-        ∙ ap (λ perms. letters_line_if text path name (cond (reaches way who) perms 0)) (at_place (granted file) 0 before after who)
+        ap (λ place. told_at tell (letters whos) (reach whos) (place, name)) there
+        ∙ ap (λ whos. told_at tell (letters whos) (reach whos) (length before, name)) is
+        ∙ ap (λ b. tell name (cond b (get_or (letters (before ++ who ∷ after)) (length before) 0) 0)) (at_place (reaches way) false before after who)
+        ∙ ap (λ perms. tell name (cond (reaches way who) perms 0)) (at_place (granted file) 0 before after who)
 
     -- where nobody is any more there is no line
-    no_letters : (whos : List Identity) (names : List (List ℕ)) (more : ℕ) → flat_map (letters_line_at text path (letters whos) (reach whos)) (enumerate_from (length whos + more) names) ≡ []
+    no_letters : (whos : List Identity) (names : List (List ℕ)) (more : ℕ) → flat_map (told_at tell (letters whos) (reach whos)) (enumerate_from (length whos + more) names) ≡ []
     no_letters whos [] more = refl
     no_letters whos (name ∷ names) more =
         let next : length whos + more + 1 ≡ length whos + (more + 1) = omega arith in
-        ap (λ b. letters_line_if text path name (cond b (get_or (letters whos) (length whos + more) 0) 0) ++ flat_map (letters_line_at text path (letters whos) (reach whos)) (enumerate_from (length whos + more + 1) names))
+        ap (λ b. tell name (cond b (get_or (letters whos) (length whos + more) 0) 0) ++ flat_map (told_at tell (letters whos) (reach whos)) (enumerate_from (length whos + more + 1) names))
         (none_there (reaches way) false whos more)
-        ∙ ap (λ place. flat_map (letters_line_at text path (letters whos) (reach whos)) (enumerate_from place names)) next ∙ no_letters whos names (more + 1)
+        ∙ ap (λ line. line ++ flat_map (told_at tell (letters whos) (reach whos)) (enumerate_from (length whos + more + 1) names)) (none name)
+        ∙ ap (λ place. flat_map (told_at tell (letters whos) (reach whos)) (enumerate_from place names)) next ∙ no_letters whos names (more + 1)
 
     letters_behind : (whos before after : List Identity) (names : List (List ℕ)) (place : ℕ) → whos ≡ before ++ after → place ≡ length before
-        → flat_map (letters_line_at text path (letters whos) (reach whos)) (enumerate_from place names) ≡ flat_map (person_line text granted way path file) (persons_of names after)
+        → flat_map (told_at tell (letters whos) (reach whos)) (enumerate_from place names) ≡ flat_map (person_told tell granted way file) (persons_of names after)
     letters_behind whos before after [] place is there = refl
     letters_behind whos before [] (name ∷ names) place is there =
         let whole : before ≡ whos = sym (append-nil before) ∙ sym is in
         let at : place ≡ length whos + 0 = there ∙ ap length whole ∙ omega arith in
-        ap (λ place. flat_map (letters_line_at text path (letters whos) (reach whos)) (enumerate_from place (name ∷ names))) at ∙ no_letters whos (name ∷ names) 0
+        ap (λ place. flat_map (told_at tell (letters whos) (reach whos)) (enumerate_from place (name ∷ names))) at ∙ no_letters whos (name ∷ names) 0
     letters_behind whos before (who ∷ after) (name ∷ names) place is there =
         let next : place + 1 ≡ length (before ++ who ∷ []) = simp length-append (omega (arith, there)) in
-        ap (λ line. line ++ flat_map (letters_line_at text path (letters whos) (reach whos)) (enumerate_from (place + 1) names)) (one_letters whos before after name who place is there)
-        ∙ ap (λ lines. person_line text granted way path file (record { name = name; who = who }) ++ lines)
+        ap (λ line. line ++ flat_map (told_at tell (letters whos) (reach whos)) (enumerate_from (place + 1) names)) (one_letters whos before after name who place is there)
+        ∙ ap (λ lines. person_told tell granted way file (record { name = name; who = who }) ++ lines)
         (letters_behind whos (before ++ who ∷ []) after names (place + 1) (is ∙ sym (append_assoc before (who ∷ []) after)) next)
+
+  -- the numbers of letters
+
+  abbrev effects : List Identity → List ℕ
+  effects whos = map (effective file) whos
+
+  abbrev number_at : List Identity → ℕ × List ℕ → List ℕ
+  number_at whos here = number_there (effects whos) (reach whos) here.0
+
+  one_number : (whos before after : List Identity) (who : Identity) (place : ℕ) → whos ≡ before ++ who ∷ after → place ≡ length before
+      → number_there (effects whos) (reach whos) place ≡ cond (reaches way who) (effective file who) 0 ∷ []
+  one_number whos before after who place is there =
+      let within : place < length (effects whos) = omega (arith, there, length-map whos (effective file), ap length is, length-append before (who ∷ after)) in
+      ap (λ b. cond b (letters_at (effects whos) (reach whos) place ∷ []) []) (lt-ltb place (length (effects whos)) within)
+      ∙ ap (λ place. letters_at (effects whos) (reach whos) place ∷ []) there
+      ∙ ap (λ whos. letters_at (effects whos) (reach whos) (length before) ∷ []) is
+      ∙ ap (λ b. cond b (get_or (effects (before ++ who ∷ after)) (length before) 0) 0 ∷ []) (at_place (reaches way) false before after who)
+      ∙ ap (λ perms. cond (reaches way who) perms 0 ∷ []) (at_place (effective file) 0 before after who)
+
+  no_numbers : (whos : List Identity) (names : List (List ℕ)) (place : ℕ) → length whos ≤ place → flat_map (number_at whos) (enumerate_from place names) ≡ []
+  no_numbers whos [] place past = refl
+  no_numbers whos (name ∷ names) place past =
+      let beyond : length (effects whos) ≤ place = omega (arith, past, length-map whos (effective file)) in
+      ap (λ b. cond b (letters_at (effects whos) (reach whos) place ∷ []) [] ++ flat_map (number_at whos) (enumerate_from (place + 1) names)) (le-ltb place (length (effects whos)) beyond)
+      ∙ no_numbers whos names (place + 1) (omega (arith, past))
+
+  numbers_behind : (whos before after : List Identity) (names : List (List ℕ)) (place : ℕ) → whos ≡ before ++ after → place ≡ length before
+      → flat_map (number_at whos) (enumerate_from place names) ≡ flat_map (person_told number_told effective way file) (persons_of names after)
+  numbers_behind whos before after [] place is there = refl
+  numbers_behind whos before [] (name ∷ names) place is there =
+      let whole : whos ≡ before = is ∙ append-nil before in
+      no_numbers whos (name ∷ names) place (omega (arith, there, ap length whole))
+  numbers_behind whos before (who ∷ after) (name ∷ names) place is there =
+      let next : place + 1 ≡ length (before ++ who ∷ []) = simp length-append (omega (arith, there)) in
+      ap (λ line. line ++ flat_map (number_at whos) (enumerate_from (place + 1) names)) (one_number whos before after who place is there)
+      ∙ ap (λ lines. cond (reaches way who) (effective file who) 0 ∷ lines)
+      (numbers_behind whos (before ++ who ∷ []) after names (place + 1) (is ∙ sym (append_assoc before (who ∷ []) after)) next)
 
   -- of those who may
 
@@ -142,28 +182,41 @@ module _ (way : List File) (path : List ℕ) (file : File) where
         ]
 
 module _ (names : List (List ℕ)) (whos : List Identity) (way : List File) (path : List ℕ) (file : File) (marks : List Bool) (marks_are : marks ≡ map (reaches way) whos) where
-  lettered : (text : ℕ → List ℕ) (granted : File → Identity → ℕ) (letters : List ℕ) → letters ≡ map (granted file) whos
-      → letters_lines text path names letters marks ≡ flat_map (person_line text granted way path file) (persons_of names whos)
-  lettered text granted letters is =
-      ap (λ marks. letters_lines text path names letters marks) marks_are
-      ∙ ap (λ letters. letters_lines text path names letters (map (reaches way) whos)) is
-      ∙ letters_behind way path file text granted whos [] whos names 0 refl refl
+  lettered : (tell : List ℕ → ℕ → List ℕ) (granted : File → Identity → ℕ) → ((name : List ℕ) → tell name 0 ≡ []) → (letters : List ℕ) → letters ≡ map (granted file) whos
+      → told_of_each tell names letters marks ≡ flat_map (person_told tell granted way file) (persons_of names whos)
+  lettered tell granted none letters is =
+      ap (λ marks. told_of_each tell names letters marks) marks_are
+      ∙ ap (λ letters. told_of_each tell names letters (map (reaches way) whos)) is
+      ∙ letters_behind way path file tell granted none whos [] whos names 0 refl refl
 
   pub letters_text : (asked : Asked) (letters : Vec Perms Global) → IsGranted whos asked file (Letters letters)
       → letters_lines perms_text path names (map bits_of letters.items) marks ≡ who_text (persons_of names whos) asked way path file
-  letters_text ThreeLetters letters is = lettered perms_text effective (map bits_of letters.items) is
+  letters_text ThreeLetters letters is = lettered (letters_line_if perms_text path) effective (λ name. refl) (map bits_of letters.items) is
+  letters_text Numbers letters is = absurd is
   letters_text AllLetters letters is = absurd is
   letters_text (Request perms) letters is = absurd is
+
+  pub numbers_text : (asked : Asked) (letters : Vec Perms Global) → IsGranted whos asked file (Numbered letters)
+      → numbers_of_each names (map bits_of letters.items) marks ≡ who_text (persons_of names whos) asked way path file
+  numbers_text ThreeLetters letters is = absurd is
+  numbers_text Numbers letters is =
+      ap (λ marks. numbers_of_each names (map bits_of letters.items) marks) marks_are
+      ∙ ap (λ letters. numbers_of_each names letters (map (reaches way) whos)) is
+      ∙ numbers_behind way path file whos [] whos names 0 refl refl
+  numbers_text AllLetters letters is = absurd is
+  numbers_text (Request perms) letters is = absurd is
 
   pub masks_text : (asked : Asked) (masks : Vec Mask Global) → IsGranted whos asked file (Masks masks)
       → letters_lines mask_text path names (map mask_bits masks.items) marks ≡ who_text (persons_of names whos) asked way path file
   masks_text ThreeLetters masks is = absurd is
-  masks_text AllLetters masks is = lettered mask_text granted_mask (map mask_bits masks.items) is
+  masks_text Numbers masks is = absurd is
+  masks_text AllLetters masks is = lettered (letters_line_if mask_text path) granted_mask (λ name. refl) (map mask_bits masks.items) is
   masks_text (Request perms) masks is = absurd is
 
   pub those_text : (asked : Asked) (places : Vec ℕ Global) → IsGranted whos asked file (Those places)
       → may_lines path names places.items marks ≡ who_text (persons_of names whos) asked way path file
   those_text ThreeLetters places is = absurd is
+  those_text Numbers places is = absurd is
   those_text AllLetters places is = absurd is
   those_text (Request perms) places is =
       ap (λ marks. may_lines path names places.items marks) marks_are

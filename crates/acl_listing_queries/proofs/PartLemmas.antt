@@ -15,16 +15,21 @@ use Rattle.acl_posix.specs.declared.perms.Perms.{Perms}
 use Rattle.acl_bridge.specs.Files.{File}
 use Rattle.acl_people.specs.Asked.{persons_of}
 use Rattle.acl_listing_queries.specs.WhoPart.{Deletion, Question, What, part_of}
-use Rattle.acl_listing_queries.specs.WhoSteps.{IsAnswered, IsFolder, letters_lines, may_lines}
-use Rattle.acl_listing_queries.specs.WhoText.{AllLetters, Request, ThreeLetters}
-use Rattle.acl_listing_queries.specs.declared.who.answers.Granted.TheVariants.{Letters, Masks, Standings, Those}
-use Rattle.acl_listing_queries.proofs.LinesLemmas.{letters_text, masks_text, takers_text, those_text}
+use Rattle.acl_listing_queries.specs.WhoSteps.{IsAnswered, IsFolder, letters_lines, may_lines, numbers_of_each}
+use Rattle.acl_listing_queries.specs.WhoText.{AllLetters, Numbers, Request, ThreeLetters}
+use Rattle.acl_listing_queries.specs.declared.who.answers.Granted.TheVariants.{Letters, Masks, Numbered, Standings, Those}
+use Rattle.acl_listing_queries.proofs.LinesLemmas.{letters_text, masks_text, numbers_text, takers_text, those_text}
 
 module _ (names : List (List ℕ)) (whos : List Identity) (sticky own : Bool) (way : List File) (path : List ℕ) (file : File) (marks : List Bool) (are : marks ≡ map (reaches way) whos) where
   pub letters_part : (question : Question) (letters : Vec Perms Global) → IsAnswered whos question own file (Letters letters)
       → part_of (persons_of names whos) question sticky way path file ≡ Ok (letters_lines perms_text path names (map bits_of letters.items) marks)
   letters_part (What asked) letters is = ap (λ text. Ok text) (sym (letters_text names whos way path file marks are asked letters is))
   letters_part Deletion letters is = absurd is
+
+  pub numbers_part : (question : Question) (letters : Vec Perms Global) → IsAnswered whos question own file (Numbered letters)
+      → part_of (persons_of names whos) question sticky way path file ≡ Ok (numbers_of_each names (map bits_of letters.items) marks)
+  numbers_part (What asked) letters is = ap (λ text. Ok text) (sym (numbers_text names whos way path file marks are asked letters is))
+  numbers_part Deletion letters is = absurd is
 
   pub masks_part : (question : Question) (masks : Vec Mask Global) → IsAnswered whos question own file (Masks masks)
       → part_of (persons_of names whos) question sticky way path file ≡ Ok (letters_lines mask_text path names (map mask_bits masks.items) marks)
@@ -41,6 +46,7 @@ pub standings_part : (names : List (List ℕ)) (whos : List Identity) (sticky ow
     → (question : Question) (standings : Vec Standing Global) (folder : List Standing) → IsAnswered whos question own file (Standings standings) → IsFolder question whos sticky way (Some folder)
     → part_of (persons_of names whos) question sticky way path file ≡ Ok (may_lines path names (places_of_takers folder standings.items) marks)
 standings_part names whos sticky own way path file marks are (What ThreeLetters) standings folder is lies = absurd is
+standings_part names whos sticky own way path file marks are (What Numbers) standings folder is lies = absurd is
 standings_part names whos sticky own way path file marks are (What AllLetters) standings folder is lies = absurd is
 standings_part names whos sticky own way path file marks are (What (Request perms)) standings folder is lies = absurd is
 standings_part names whos sticky own [] path file marks are Deletion standings folder is lies = cc

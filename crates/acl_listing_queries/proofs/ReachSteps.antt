@@ -25,14 +25,14 @@ use Rattle.acl_listing_queries.specs.Readings.{Reading, reading_of}
 use Rattle.acl_listing_queries.specs.RootSteps.{IsBegun}
 use Rattle.acl_listing_queries.specs.Ways.{begins_apart, chain_to, folder_of, holds, is_sticky, known_way, may_be_above, those_above, way_of, way_on, with_folder}
 use Rattle.acl_listing_queries.specs.WhoPart.{Asking, Deletion, Question, What, part_by, part_on, way_for, who_part}
-use Rattle.acl_listing_queries.specs.WhoText.{AllLetters, Request, ThreeLetters}
+use Rattle.acl_listing_queries.specs.WhoText.{AllLetters, Numbers, Request, ThreeLetters}
 use Rattle.acl_listing_queries.specs.declared.who.reach.ReachTeller.{ReachTeller}
 use Rattle.std.specs.declared.alloc.Global.{Global}
 use Rattle.std.proofs.lemmas.Option.{none-some}
 use Rattle.acl_listing_queries.specs.WhoSteps.{AreAnswersOf, AreFolders, AreRight, IsAnswered, IsBehind, IsChain, IsCome, IsEveryone, IsOnWay, IsPlacedAt, IsSearch, asking_of, folders_to, kept_at, lacks_path, marks_of, names_by, question_by, readings_of, standings_for, standings_kept, whos_of}
 use Rattle.acl_listing_queries.specs.declared.who.answers.Answers.{Answers}
 use Rattle.acl_listing_queries.specs.declared.who.answers.Granted.{Granted}
-use Rattle.acl_listing_queries.specs.declared.who.answers.Granted.TheVariants.{Letters, Masks, Standings, Those}
+use Rattle.acl_listing_queries.specs.declared.who.answers.Granted.TheVariants.{Letters, Masks, Numbered, Standings, Those}
 use Rattle.acl_listing_queries.specs.declared.who.answers.Kept.{Kept}
 use Rattle.acl_listing_queries.specs.declared.who.answers.Users.{Users}
 use Rattle.acl_listing_queries.specs.declared.who.reach.Before.{Before}
@@ -225,12 +225,15 @@ searched users file kept asks are =
 pub standings_are : (whos : List Identity) (question : Question) (file : FileValue) (granted : Granted) → IsAnswered whos question file.flags.sticky (file_of file) granted
     → standings_kept granted ≡ standings_for question whos (Ok file)
 standings_are whos (What asked) file (Letters letters) is = refl
+standings_are whos (What asked) file (Numbered letters) is = refl
 standings_are whos (What asked) file (Masks masks) is = refl
 standings_are whos (What asked) file (Those places) is = refl
 standings_are whos (What ThreeLetters) file (Standings standings) is = absurd is
+standings_are whos (What Numbers) file (Standings standings) is = absurd is
 standings_are whos (What AllLetters) file (Standings standings) is = absurd is
 standings_are whos (What (Request perms)) file (Standings standings) is = absurd is
 standings_are whos Deletion file (Letters letters) is = absurd is
+standings_are whos Deletion file (Numbered letters) is = absurd is
 standings_are whos Deletion file (Masks masks) is = absurd is
 standings_are whos Deletion file (Those places) is = absurd is
 standings_are whos Deletion file (Standings standings) is = is

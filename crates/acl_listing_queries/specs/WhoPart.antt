@@ -12,7 +12,7 @@ use Rattle.acl_reports.specs.Listed.{Part}
 use Rattle.acl_people.specs.Person.{Person}
 use Rattle.acl_listing_queries.specs.Readings.{Reading, reading_of}
 use Rattle.acl_listing_queries.specs.Ways.{is_sticky, known_way, way_of}
-use Rattle.acl_listing_queries.specs.WhoText.{Asked, deletion_text, who_text}
+use Rattle.acl_listing_queries.specs.WhoText.{Asked, Numbers, deletion_text, who_text}
 
 -- what is asked about a file: what may be done with it, or who may delete it
 pub data Question : Type 0 where
@@ -26,6 +26,15 @@ pub record Asking : Type 0 where
   pub persons : List Person
   pub question : Question
   pub reach : Bool
+
+-- the letters r, w and x of these people by reach, as numbers
+abbrev pub letters_asked : Names → List Person → Asking
+letters_asked names persons = record {
+  names = names;
+  persons = persons;
+  question = What Numbers;
+  reach = true;
+}
 
 -- What is reported of a file on this way, of which the nearest folder has the sticky bit or not,
 -- and whose path is printed so: who may delete it isn't known without that folder.

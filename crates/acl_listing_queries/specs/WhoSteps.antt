@@ -1,7 +1,7 @@
 -- How it is reported block by block who may do what. Private steps, which no public clause cites.
 use Rattle.std.specs.Prelude.{◌≡◌, ℕ, Bool, true, false, List, [], ◌∷◌, Option, Some, None}
 use Rattle.std.specs.Prelude.{Result, Ok, Err, IfSome, get_or, is_none, length, map, option_map}
-use Rattle.std.specs.Prelude.{⊤, reverse, slice_get, if◌then◌else◌}
+use Rattle.std.specs.Prelude.{⊤, nat_lt, reverse, slice_get, if◌then◌else◌}
 use Rattle.std.specs.List.{enumerate_from, flat_map, fold, list_all, list_any}
 use Rattle.acl_names.specs.Names.{Names}
 use Rattle.acl_names.specs.Requester.{Identity}
@@ -25,12 +25,13 @@ use Rattle.acl_listing_queries.specs.RootSteps.{IsBegun}
 use Rattle.acl_listing_queries.specs.Ways.{chain_to, folder_of, may_be_above, way_on}
 use Rattle.acl_listing_queries.specs.Ways.{with_folder}
 use Rattle.acl_listing_queries.specs.WhoPart.{Asking, Deletion, Question, What}
-use Rattle.acl_listing_queries.specs.WhoText.{AllLetters, Asked, Request, ThreeLetters}
+use Rattle.acl_listing_queries.specs.WhoText.{AllLetters, Asked, Numbers, Request, ThreeLetters}
 use Rattle.acl_listing_queries.specs.WhoText.{letters_line_if}
 use Rattle.acl_listing_queries.specs.declared.who.answers.Answers.{Answers}
 use Rattle.acl_listing_queries.specs.declared.who.answers.Granted.{Granted}
 use Rattle.acl_listing_queries.specs.declared.who.answers.Granted.TheVariants.{Letters, Masks}
-use Rattle.acl_listing_queries.specs.declared.who.answers.Granted.TheVariants.{Standings, Those}
+use Rattle.acl_listing_queries.specs.declared.who.answers.Granted.TheVariants.{Numbered, Standings}
+use Rattle.acl_listing_queries.specs.declared.who.answers.Granted.TheVariants.{Those}
 use Rattle.acl_listing_queries.specs.declared.who.answers.Kept.{Kept}
 use Rattle.acl_listing_queries.specs.declared.who.answers.TheConstants.{PLACES}
 use Rattle.acl_listing_queries.specs.declared.who.answers.Users.{Users}
@@ -52,6 +53,7 @@ names_by users = names_of_host users.host.now
 
 abbrev pub question_of : AskedValue → Question
 question_of asked.Letters = What ThreeLetters
+question_of asked.Numbers = What Numbers
 question_of asked.AllLetters = What AllLetters
 question_of (asked.Perms perms) = What (Request (bits_of perms))
 question_of asked.Deletion = Deletion
@@ -69,10 +71,9 @@ asking_of users = record {
 
 -- ---- the lines of a file
 
--- the line of the name at a place, of letters that are written so
-abbrev pub letters_line_at : (ℕ → List ℕ) → List ℕ → List ℕ → List Bool → ℕ × List ℕ → List ℕ
-letters_line_at text path letters reach here =
-    letters_line_if text path here.1 (letters_at letters reach here.0)
+-- what is told of the name at a place and its letters
+abbrev pub told_at : (List ℕ → ℕ → List ℕ) → List ℕ → List Bool → ℕ × List ℕ → List ℕ
+told_at tell letters reach here = tell here.1 (letters_at letters reach here.0)
 
 abbrev pub may_line_of : List ℕ → Option (List ℕ) → List ℕ
 may_line_of path None = []
@@ -83,10 +84,24 @@ abbrev pub may_line_at : List ℕ → List (List ℕ) → List Bool → ℕ → 
 may_line_at path names reach place =
     if is_set reach place then may_line_of path (slice_get names place) else []
 
--- the lines of all names, and of those at the places
+-- of all names
+abbrev pub told_of_each : (List ℕ → ℕ → List ℕ) → List (List ℕ) → List ℕ → List Bool → List ℕ
+told_of_each tell names letters reach =
+    flat_map (told_at tell letters reach) (enumerate_from 0 names)
+
+-- the number of the letters at a place, if somebody is there; and of all of them who have names
+abbrev pub number_there : List ℕ → List Bool → ℕ → List ℕ
+number_there letters reach place =
+    if nat_lt place (length letters) then letters_at letters reach place ∷ [] else []
+
+abbrev pub numbers_of_each : List (List ℕ) → List ℕ → List Bool → List ℕ
+numbers_of_each names letters reach =
+    flat_map (λ here. number_there letters reach here.0) (enumerate_from 0 names)
+
+-- the lines of letters that are written so; and of the names at the places
 abbrev pub letters_lines : (ℕ → List ℕ) → List ℕ → List (List ℕ) → List ℕ → List Bool → List ℕ
 letters_lines text path names letters reach =
-    flat_map (letters_line_at text path letters reach) (enumerate_from 0 names)
+    told_of_each (letters_line_if text path) names letters reach
 
 abbrev pub may_lines : List ℕ → List (List ℕ) → List ℕ → List Bool → List ℕ
 may_lines path names places reach = flat_map (may_line_at path names reach) places
@@ -96,6 +111,8 @@ may_lines path names places reach = flat_map (may_line_at path names reach) plac
 -- of all of these what the file grants: the letters, or the places of those who are granted it all
 abbrev pub IsGranted : List Identity → Asked → File → Granted → Type 0
 IsGranted whos ThreeLetters file (Letters letters) =
+    map bits_of letters.items ≡ map (effective file) whos
+IsGranted whos Numbers file (Numbered letters) =
     map bits_of letters.items ≡ map (effective file) whos
 IsGranted whos AllLetters file (Masks masks) =
     map mask_bits masks.items ≡ map (granted_mask file) whos

@@ -11,10 +11,11 @@ use Rattle.acl_posix.specs.PermsText.{perms_text}
 use Rattle.acl_bridge.specs.Files.{File, may}
 use Rattle.acl_people.specs.Person.{Person}
 
--- what is asked for: the letters r, w and x, all fourteen letters of a mask, or who may do all of
--- this at once
+-- what is asked for: the letters r, w and x, these as the number of their permissions, all fourteen
+-- letters of a mask, or who may do all of this at once
 pub data Asked : Type 0 where
   ThreeLetters : Asked
+  Numbers : Asked
   AllLetters : Asked
   Request : ℕ → Asked
 
@@ -28,13 +29,22 @@ abbrev pub letters_line_if : (ℕ → List ℕ) → List ℕ → List ℕ → �
 letters_line_if text path name letters =
     if letters == 0 then [] else written_line text path name letters
 
--- the letters that a file grants who reaches it on this way, of letters that are written and
--- granted so
+-- what is told of a name and its letters, of letters that are granted so: those that a file grants
+-- who reaches it on this way
+abbrev pub person_told : (List ℕ → ℕ → List ℕ) → (File → Identity → ℕ) → List File → File → Person
+    → List ℕ
+person_told tell granted way file person =
+    tell person.name (if reaches way person.who then granted file person.who else 0)
+
+-- the line of letters that are written so
 abbrev pub person_line : (ℕ → List ℕ) → (File → Identity → ℕ) → List File → List ℕ → File → Person
     → List ℕ
 person_line text granted way path file person =
-    letters_line_if text path person.name
-    (if reaches way person.who then granted file person.who else 0)
+    person_told (letters_line_if text path) granted way file person
+
+-- the number alone
+abbrev pub number_told : List ℕ → ℕ → List ℕ
+number_told name letters = letters ∷ []
 
 -- `NAME PATH`, of somebody to whom a check grants the permissions, and who reaches it
 abbrev pub person_line_if : List File → List ℕ → File → ℕ → Person → List ℕ
@@ -45,6 +55,8 @@ person_line_if way path file perms person =
 abbrev pub who_text : List Person → Asked → List File → List ℕ → File → List ℕ
 who_text persons ThreeLetters way path file =
     flat_map (person_line perms_text effective way path file) persons
+who_text persons Numbers way path file =
+    flat_map (person_told number_told effective way file) persons
 who_text persons AllLetters way path file =
     flat_map (person_line mask_text granted_mask way path file) persons
 who_text persons (Request perms) way path file =

@@ -10,5 +10,5 @@ mod who;
 mod why;
 
 pub use laws::{limits_in_numbers, way_laws};
-pub use who::Who;
+pub use who::{ReachTeller, Who, letters_by_reach};
 pub use why::Why;

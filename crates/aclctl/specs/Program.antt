@@ -17,12 +17,12 @@ use Rattle.acl_listing_queries.specs.WhoLine.{who_line}
 use Rattle.acl_listing_queries.specs.WhoMeaning.{who_meaning}
 use Rattle.acl_listing_queries.specs.WhyLine.{why_line}
 use Rattle.acl_listing_queries.specs.WhyMeaning.{why_meaning}
-use Rattle.acl_listing_changes.specs.ImpactLine.{impact_line}
-use Rattle.acl_listing_changes.specs.ImpactMeaning.{impact_meaning}
 use Rattle.acl_listing_changes.specs.RestoreLine.{restore_line}
 use Rattle.acl_listing_changes.specs.RestoreMeaning.{restore_meaning}
 use Rattle.acl_listing_creation.specs.NextLine.{next_line}
 use Rattle.acl_listing_creation.specs.NextMeaning.{next_meaning}
+use Rattle.acl_listing_reach.specs.ImpactLine.{impact_line}
+use Rattle.acl_listing_reach.specs.ImpactMeaning.{impact_meaning}
 use Rattle.acl_listing_translation.specs.TranslateLine.{translate_line}
 use Rattle.acl_listing_translation.specs.TranslateMeaning.{translate_meaning}
 use Rattle.acl_queries.specs.CompareLine.{compare_line}

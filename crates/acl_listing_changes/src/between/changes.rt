@@ -65,7 +65,7 @@ impl<'n, 't, C: ChangeTeller, A: Read + Drop> Telling<'n> for Changes<'n, 't, C,
 }
 
 /// How the answer ends, if all blocks before and after were counted so.
-fn ending_of_both(first: Ending, second: Ending) -> Ending
+pub fn ending_of_both(first: Ending, second: Ending) -> Ending
     ensures { result ≡ ending_of_both first second }
 {
     match first {
@@ -75,7 +75,7 @@ fn ending_of_both(first: Ending, second: Ending) -> Ending
 }
 
 /// How the answer ends, if the exit status tells of differences, and there are some.
-fn with_difference(asks: bool, some: bool, ending: Ending) -> Ending
+pub fn with_difference(asks: bool, some: bool, ending: Ending) -> Ending
     ensures { result ≡ with_difference (asks && some) ending }
 {
     match ending {

@@ -11,7 +11,7 @@ use acl_reports::push_fault_at;
 use std::alloc::Global;
 
 /// What is wrong with a block, whose path a block before it may have.
-fn unless_repeated(repeated: bool, fault: Option<BlockFault>) -> Option<BlockFault>
+pub fn unless_repeated(repeated: bool, fault: Option<BlockFault>) -> Option<BlockFault>
     ensures { result ≡ unless_repeated repeated fault }
 {
     if !repeated {

@@ -15,28 +15,28 @@ use std::alloc::Global;
 use std::io::{Read, Write};
 
 /// The name of the listing before.
-pub(crate) fn before_field<'a>(matches: &ArgMatches<'a>) -> &'a str
+pub fn before_field<'a>(matches: &ArgMatches<'a>) -> &'a str
     ensures { result.now ≡ before_in (rows_of (found_of matches.now)) }
 {
     text_field(matches, "listing").unwrap_or("")
 }
 
 /// The name of the listing after.
-pub(crate) fn after_field<'a>(matches: &ArgMatches<'a>) -> &'a str
+pub fn after_field<'a>(matches: &ArgMatches<'a>) -> &'a str
     ensures { result.now ≡ after_in (rows_of (found_of matches.now)) }
 {
     text_field(matches, "after").unwrap_or("")
 }
 
 /// Whether both listings are standard input.
-pub(crate) fn is_input_twice(before: &str, after: &str) -> bool
+pub fn is_input_twice(before: &str, after: &str) -> bool
     ensures { result ≡ is_input_twice before.now after.now }
 {
     before == INPUT && after == INPUT
 }
 
-/// The file of this name.
-fn open<'n, F: OpenFiles>(files: &F, name: &'n str) -> Result<F::File, Failure<'n>>
+/// The file of this name. Fails if it can't be opened.
+pub fn open_listing<'n, F: OpenFiles>(files: &F, name: &'n str) -> Result<F::File, Failure<'n>>
     ensures opened { IfOk result (λ file. F.File.remaining file
         ≡ F.bytes_of files.now name.entry.now) }
     ensures refused { IfErr result (IsUnopened name.entry.now) }
@@ -73,13 +73,13 @@ where
         return Err(Failure::Misuse(Misuse::InputTwice));
     }
     if before == INPUT {
-        let later = open(files, after)?;
+        let later = open_listing(files, after)?;
         return tell_both(alloc, teller, (before, input), (after, later), out, err);
     }
-    let earlier = open(files, before)?;
+    let earlier = open_listing(files, before)?;
     if after == INPUT {
         return tell_both(alloc, teller, (before, earlier), (after, input), out, err);
     }
-    let later = open(files, after)?;
+    let later = open_listing(files, after)?;
     tell_both(alloc, teller, (before, earlier), (after, later), out, err)
 }

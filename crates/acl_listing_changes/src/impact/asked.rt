@@ -2,8 +2,10 @@
 ghost use Rattle.std.specs.Prelude.{◌≡◌, ◌++◌, IfOk, OnOk, map, option_map, slice_get};
 ghost use Rattle.std.specs.List.{flat_map};
 ghost use Rattle.acl_bridge.specs.Files.{view_acl};
+ghost use Rattle.acl_nfs4.specs.Mask.{mask_bits};
 ghost use Rattle.acl_people.specs.Asked.{persons_in};
-ghost use Rattle.acl_listing_changes.specs.ImpactSteps.{TellsAt, TellsBy, line_at, view_one};
+ghost use Rattle.acl_listing_changes.specs.ImpactText.{person_text, line_at};
+ghost use Rattle.acl_listing_changes.specs.ImpactSteps.{TellsAt, TellsBy, view_one};
 ghost use Rattle.acl_listing_changes.specs.Impacting.{Tells, TellsAnybody, TellsFirst};
 ghost use Rattle.acl_listing_changes.specs.Impacting.{TellsPersons, TellsThose, lines_if};
 ghost use Rattle.acl_listing_changes.specs.Impacting.{may_line};
@@ -179,6 +181,26 @@ pub(super) fn push_anybody(
         Ok(Some(found)) => push_somebody(found.asker, found.lost, found.gained, path, out),
         Ok(None) => Ok(()),
         Err(refused) => Err(refused),
+    }
+}
+
+/// Appends the line of who is at the place: what is lost and gained there, and where. Nothing if
+/// nobody is. Fails only if memory runs out.
+pub fn push_person_at(
+    people: &People,
+    place: usize,
+    lost: Mask,
+    gained: Mask,
+    path: &[u8],
+    out: &mut Vec<u8>,
+) -> Result<(), AllocError>
+    ensures { OnOk result (out.new.items ≡ out.old.items ++ line_at
+        (λ person. person_text person (mask_bits lost) (mask_bits gained) path.now)
+        (slice_get (persons_in people.now) place)) }
+{
+    match one_at(people, place) {
+        Some(one) => push_person(one.name, one.requester, lost, gained, path, out),
+        None => Ok(()),
     }
 }
 

@@ -16,7 +16,7 @@ ghost use Rattle.acl_listing_queries.specs.WhoSteps.{kept_at, names_by, question
 ghost use Rattle.acl_listing_queries.specs.WhoSteps.{standings_kept, whos_of};
 
 use super::asked::Asked;
-use super::lines::{push_letters_lines, push_may_lines};
+use super::lines::{push_letters_lines, push_may_lines, push_numbers};
 use super::way::Inside;
 use acl_access::{
     PrintedPath, Standing, letters_of_each, places_of_takers, places_of_those_who_may,
@@ -41,6 +41,8 @@ const FACTOR: u64 = 0x9e37_79b9_7f4a_7c15;
 pub(super) enum Granted {
     /// Of each user the letters `r`, `w` and `x`.
     Letters(Vec<Perms>),
+    /// The same, to be told as numbers.
+    Numbered(Vec<Perms>),
     /// Of each user all the letters.
     Masks(Vec<Mask>),
     /// The places of those users who are granted what is asked.
@@ -121,6 +123,7 @@ impl<'t> Users<'t> {
         let requesters = self.people.requesters.as_slice();
         match self.asked {
             Asked::Letters => Ok(Granted::Letters(letters_of_each(alloc, requesters, file)?)),
+            Asked::Numbers => Ok(Granted::Numbered(letters_of_each(alloc, requesters, file)?)),
             Asked::AllLetters => Ok(Granted::Masks(letters_of_each(alloc, requesters, file)?)),
             Asked::Perms(perms) => {
                 let places = places_of_those_who_may(alloc, requesters, file, perms)?;
@@ -197,6 +200,9 @@ impl<'t> Users<'t> {
         match &kept.granted {
             Granted::Letters(letters) => {
                 push_letters_lines(names, letters.as_slice(), reach, path, out)?;
+            }
+            Granted::Numbered(letters) => {
+                push_numbers(names, letters.as_slice(), reach, out)?;
             }
             Granted::Masks(masks) => {
                 push_letters_lines(names, masks.as_slice(), reach, path, out)?;

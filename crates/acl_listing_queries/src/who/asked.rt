@@ -14,6 +14,8 @@ use clap::ArgMatches;
 pub(super) enum Asked {
     /// The letters `r`, `w` and `x` of each user.
     Letters,
+    /// The same, as the numbers of permissions.
+    Numbers,
     /// All fourteen letters of each user.
     AllLetters,
     /// Who may do all of this at once.

@@ -104,7 +104,7 @@ impl CommandLine for Who {
 }
 
 /// Of each of the requesters that it is set.
-fn everyone(alloc: Global, requesters: &[Requester]) -> Result<Vec<bool>, AllocError>
+pub(super) fn everyone(alloc: Global, requesters: &[Requester]) -> Result<Vec<bool>, AllocError>
     ensures { IfOk result (λ marks. IsEveryone requesters.now marks.items) }
 {
     let mut marks = Vec::with_capacity(alloc, requesters.len())?;

@@ -1,9 +1,13 @@
 //! The lines of a file, of people by their places.
 ghost use Rattle.std.specs.Prelude.{◌≡◌, ◌++◌, OnOk, map};
+ghost use Rattle.acl_posix.specs.Perms.{bits_of};
 ghost use Rattle.acl_listing_queries.specs.WhoSteps.{letters_lines, may_line_at, may_lines};
+ghost use Rattle.acl_listing_queries.specs.WhoSteps.{number_there, numbers_of_each};
 ghost use Rattle.acl_listing_queries.specs.WhoText.{letters_line_if};
 
 use acl_access::{LetterSet, is_set, letters_at, push_letters_line, push_may_line};
+use acl_posix::Perms;
+use bitflags::Flags;
 use std::alloc::AllocError;
 
 /// Appends the line of somebody who has a letter.
@@ -37,6 +41,41 @@ pub(super) fn push_letters_lines<L: LetterSet>(
     for (place, name) in names.iter().enumerate() {
         let here = letters_at(letters, reach, place);
         push_letters_if(path, name.as_slice(), here, out)?;
+    }
+    Ok(())
+}
+
+/// Appends the number of the permissions at the place, if somebody is there: 0 for one who doesn't
+/// reach the file.
+fn push_number_at(
+    letters: &[Perms],
+    reach: &[bool],
+    place: usize,
+    out: &mut Vec<u8>,
+) -> Result<(), AllocError>
+    ensures { OnOk result (out.new.items
+        ≡ out.old.items ++ number_there (map bits_of letters.now) reach.now place) }
+{
+    if place >= letters.len() {
+        return Ok(());
+    }
+    out.push(letters_at(letters, reach, place).bits())?;
+    Ok(())
+}
+
+/// Appends a byte for each of the names, in their order: the number of the permissions at the
+/// name's place, if it is one of those that reach the file, and else 0.
+pub(super) fn push_numbers(
+    names: &[Vec<u8>],
+    letters: &[Perms],
+    reach: &[bool],
+    out: &mut Vec<u8>,
+) -> Result<(), AllocError>
+    ensures { OnOk result (out.new.items ≡ out.old.items ++ numbers_of_each
+        (map (λ name. name.items) names.now) (map bits_of letters.now) reach.now) }
+{
+    for (place, _name) in names.iter().enumerate() {
+        push_number_at(letters, reach, place, out)?;
     }
     Ok(())
 }

@@ -34,7 +34,7 @@ pub(super) struct Before {
 /// Tells which letters each user has, or who is granted permissions: of those alone who may search
 /// each folder above the file.
 #[derive(Drop)]
-pub(super) struct ReachTeller<'t> {
+pub struct ReachTeller<'t> {
     answers: Answers<'t>,
     /// Every user's place is set.
     everyone: Vec<bool>,
@@ -49,7 +49,7 @@ pub(super) struct ReachTeller<'t> {
 
 impl<'t> ReachTeller<'t> {
     /// No block was met.
-    pub fn new(alloc: Global, answers: Answers<'t>, everyone: Vec<bool>) -> ReachTeller<'t>
+    pub(super) fn new(alloc: Global, answers: Answers<'t>, everyone: Vec<bool>) -> ReachTeller<'t>
         ensures users { result.answers.users ≡ answers.entry.users }
         ensures stands { AreRight answers.entry → answers.entry.users.reach ≡ true
             → IsEveryone (whos_of answers.entry.users) everyone.items → IsOnWay result [] }

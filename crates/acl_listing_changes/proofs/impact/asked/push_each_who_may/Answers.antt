@@ -3,7 +3,7 @@ use Rattle.std.specs.List.{flat_map}
 use Rattle.std.specs.Prelude.{slice_get}
 use Rattle.acl_bridge.specs.Files.{view_acl}
 use Rattle.acl_people.specs.Asked.{names_of_people, persons_in}
-use Rattle.acl_listing_changes.specs.ImpactSteps.{line_at}
+use Rattle.acl_listing_changes.specs.ImpactText.{line_at}
 use Rattle.acl_listing_changes.specs.Impacting.{may_line}
 use Rattle.acl_listing_changes.proofs.ImpactLemmas.{lines_all, lines_more}
 use Rattle.acl_listing_changes.proofs.impact.asked.push_each_who_may.Goals as goal

@@ -3,7 +3,8 @@ use Rattle.std.specs.Prelude.{slice_get}
 use Rattle.acl_bridge.specs.Files.{view_acl}
 use Rattle.acl_people.specs.Asked.{persons_in}
 use Rattle.acl_people.specs.Person.{Person}
-use Rattle.acl_listing_changes.specs.ImpactSteps.{line_at, view_one}
+use Rattle.acl_listing_changes.specs.ImpactSteps.{view_one}
+use Rattle.acl_listing_changes.specs.ImpactText.{line_at}
 use Rattle.acl_listing_changes.specs.Impacting.{may_line}
 use Rattle.acl_listing_changes.proofs.impact.asked.push_may_at.Goals as goal
 

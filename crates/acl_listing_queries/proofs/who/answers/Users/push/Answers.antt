@@ -6,9 +6,9 @@ use Rattle.acl_posix.specs.Perms.{bits_of}
 use Rattle.acl_posix.specs.PermsText.{perms_text}
 use Rattle.acl_reports.specs.Files.{file_of}
 use Rattle.acl_people.specs.Asked.{names_of_people}
-use Rattle.acl_listing_queries.specs.WhoSteps.{IsAnswered, IsFolder, letters_lines, may_lines, question_by, whos_of}
-use Rattle.acl_listing_queries.specs.declared.who.answers.Granted.TheVariants.{Letters, Masks, Standings, Those}
-use Rattle.acl_listing_queries.proofs.PartLemmas.{letters_part, masks_part, standings_part, those_part}
+use Rattle.acl_listing_queries.specs.WhoSteps.{IsAnswered, IsFolder, letters_lines, may_lines, question_by, numbers_of_each, whos_of}
+use Rattle.acl_listing_queries.specs.declared.who.answers.Granted.TheVariants.{Letters, Masks, Numbered, Standings, Those}
+use Rattle.acl_listing_queries.proofs.PartLemmas.{letters_part, masks_part, numbers_part, standings_part, those_part}
 use Rattle.acl_listing_queries.proofs.who.answers.Users.push.Goals as goal
 
 pub returns-in_ok-push_letters_lines-in-Letters : goal.returns-in_ok-push_letters_lines-in-Letters
@@ -25,6 +25,21 @@ returns-in_ok-push_letters_lines-in-Letters c = λ file sticky way are inside.
       c.in_ok-push_letters_lines-in-Letters.ensures
           ∙ ap (λ names. c.args.out.now.items ++ letters_lines perms_text path (map (λ name. name.items) names) (map bits_of c.as_slice.result.now) marks) c.as_slice-names.ensures.value
           ∙ ap (λ letters. c.args.out.now.items ++ letters_lines perms_text path names (map bits_of letters) marks) c.as_slice.ensures.value,
+    )
+
+pub returns-in_ok-push_numbers-in-Numbered : goal.returns-in_ok-push_numbers-in-Numbered
+returns-in_ok-push_numbers-in-Numbered c = λ file sticky way are inside.
+    let users = c.args.self.now in
+    let names = names_of_people users.people.now in
+    let marks = c.args.inside.reach.now in
+    let is : c.args.kept.now.granted ≡ Numbered c.in-Numbered.letters = search rules in
+    let granted : IsAnswered (whos_of users) (question_by users) file.flags.sticky (file_of file) (Numbered c.in-Numbered.letters) =
+    subst (IsAnswered (whos_of users) (question_by users) file.flags.sticky (file_of file)) is are.granted in (
+      numbers_of_each names (map bits_of c.in-Numbered.letters.items) marks,
+      numbers_part names (whos_of users) sticky file.flags.sticky way c.args.path.now (file_of file) marks inside.reach (question_by users) c.in-Numbered.letters granted,
+      c.in_ok-push_numbers-in-Numbered.ensures
+          ∙ ap (λ names. c.args.out.now.items ++ numbers_of_each (map (λ name. name.items) names) (map bits_of c.as_slice-in-Numbered.result.now) marks) c.as_slice-names.ensures.value
+          ∙ ap (λ letters. c.args.out.now.items ++ numbers_of_each names (map bits_of letters) marks) c.as_slice-in-Numbered.ensures.value,
     )
 
 pub returns-in_ok-push_letters_lines-in-Masks : goal.returns-in_ok-push_letters_lines-in-Masks

@@ -10,11 +10,11 @@ use Rattle.acl_people.specs.Asked.{persons_in}
 use Rattle.acl_people.proofs.AskedLemmas.{persons_again}
 use Rattle.acl_listing_changes.specs.ChangeMeaning.{FailsForListings, after_in, before_in, change_meaning, is_input_twice}
 use Rattle.acl_listing_changes.specs.Changes.{IsChangeAnswer, IsChangeBegun, OfListings}
-use Rattle.acl_listing_changes.specs.ImpactMeaning.{FailsForImpact, concern_in, impact_asked, impact_meaning}
+use Rattle.acl_listing_changes.specs.ImpactMeaning.{FailsForImpact, concern_in, impact_asked, lists_meaning}
 use Rattle.std.proofs.lemmas.Result.{IfErr-weaker}
 use Rattle.acl_listing_changes.specs.Impacting.{Concern, ImpactAsking, impacting}
 use Rattle.acl_listing_changes.proofs.ComesLemmas.{comes_refused}
-use Rattle.acl_listing_changes.proofs.impact.command.ImpactCliCommand.answer.Goals as goal
+use Rattle.acl_listing_changes.proofs.impact.command.tell_impact.Goals as goal
 
 -- what is said of the names is said of what the words have
 twice_of : (before before' after after' : List ℕ) → before ≡ before' → after ≡ after' → (b : Bool) → b ≡ (is_input before && is_input after)
@@ -30,9 +30,9 @@ returns-in_err-host g c =
     let once : is_input_twice (before_in rows) (after_in rows) ≡ false =
     twice_of c.before_field-before.result.now (before_in rows) c.after_field-after.result.now (after_in rows) c.before_field-before.ensures c.after_field-after.ensures
     c.is_input_twice.result c.is_input_twice.ensures ∙ c.if-is_input_twice.false in
-    let fails : IfErr c.read_host.result (λ failure. (impact_meaning files input rows).Fails failure) =
+    let fails : IfErr c.read_host.result (λ failure. (lists_meaning files input rows).Fails failure) =
     IfErr-weaker c.read_host.result _ _ (λ failure fails. inr (once, inl fails)) c.read_host.ensures.refused in
-    search (rules, fails, comes_refused (impact_meaning files input rows) (g.W.Write.contents c.args.out.now) c.args.err.now c.args.input.now)
+    search (rules, fails, comes_refused (lists_meaning files input rows) (g.W.Write.contents c.args.out.now) c.args.err.now c.args.input.now)
 
 pub returns-in_err-people : goal.returns-in_err-people
 returns-in_err-people g c =
@@ -42,7 +42,7 @@ returns-in_err-people g c =
     let once : is_input_twice (before_in rows) (after_in rows) ≡ false =
     twice_of c.before_field-before.result.now (before_in rows) c.after_field-after.result.now (after_in rows) c.before_field-before.ensures c.after_field-after.ensures
     c.is_input_twice.result c.is_input_twice.ensures ∙ c.if-is_input_twice.false in
-    let meaning : Meaning = impact_meaning files input rows in
+    let meaning : Meaning = lists_meaning files input rows in
     let failure : Failure = c.in_err-people.field-0.0 in
     let fails : FailsForImpact files rows failure = inr (once, inr (inl (c.in_ok-host.host, c.in_ok-host.ensures.opened, c.in_err-people.ensures.refused))) in
     let is : c.from_residual-in_err-people.result ≡ Err failure = search rules in
@@ -85,7 +85,7 @@ returns g c =
     ∙ ap (λ written. record told { concern = asked.concern; written = written }) c.flag_field.ensures
     ∙ ap (λ asks. record told { concern = asked.concern; written = asked.written; asks = asks }) c.flag_field-2.ensures in
     let part = change_meaning (impacting told) files input before after in
-    Comes-as part (impact_meaning files input rows) c.tell_between.result _ _ _ _ _ _
+    Comes-as part (lists_meaning files input rows) c.tell_between.result _ _ _ _ _ _
     (λ answer is. record {
       host = host;
       host_is = c.in_ok-host.ensures.opened;

@@ -1,0 +1,15 @@
+pub mod Once
+pub mod ReachText
+pub mod ReachAnswer
+pub mod Sources
+pub mod Reporting
+pub mod ReachMeaning
+pub mod ImpactLine
+pub mod ImpactMeaning
+pub mod ReachLaws
+pub mod Known
+pub mod KnownSteps
+pub mod LineSteps
+pub mod AnsweredSteps
+pub mod ReportSteps
+pub mod BetweenSteps
