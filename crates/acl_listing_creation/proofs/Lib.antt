@@ -3,3 +3,4 @@ pub mod FieldsLemmas
 pub mod ModeLemmas
 pub mod CreatedLemmas
 pub mod AgainLemmas
+pub mod CreateLemmas

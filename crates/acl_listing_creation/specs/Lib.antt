@@ -6,3 +6,4 @@ pub mod NextFields
 pub mod NextMeaning
 pub mod NextSteps
 pub mod NextLaws
+pub mod CreateLaws

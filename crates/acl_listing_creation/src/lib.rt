@@ -12,4 +12,4 @@ mod modes;
 mod teller;
 
 pub use command::Next;
-pub use laws::{each_folder_is_told, what_is_told_is_read_again};
+pub use laws::{each_folder_is_told, trees_create_alike, what_is_told_is_read_again};
