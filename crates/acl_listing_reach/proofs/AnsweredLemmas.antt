@@ -1,7 +1,7 @@
 -- A listing that is answered one block further.
-use Rattle.std.proofs.Common.{◌≡◌, ◌∙◌, ◌++◌, ◌||◌, ℕ, Bool, true, false, cond, List, [], ◌∷◌, Option, Some, None, Ok, Err, IfSome, ap, append_assoc, append-nil, bytes_eq, is_none, refl, subst, sym, nat_eq}
-use Rattle.std.specs.Cmp.Lexicographic.{pointwise, same_text}
-use Rattle.std.specs.List.{fold, list_any}
+use Rattle.std.proofs.Common.{◌≡◌, ◌∙◌, ◌++◌, ◌||◌, ℕ, Bool, true, false, cond, List, [], ◌∷◌, Option, Some, None, Err, IfSome, ap, append_assoc, append-nil, bytes_eq, is_none, refl, subst, sym}
+use Rattle.std.specs.Cmp.Lexicographic.{same_text}
+use Rattle.std.specs.List.{list_any}
 use Rattle.std.specs.Option.{option_map_or}
 use Rattle.std.proofs.Math.Bool.{or-false}
 use Rattle.std.proofs.lemmas.Bool.{true≢false}
@@ -12,7 +12,7 @@ use Rattle.acl_listings.specs.Block.{path_of}
 use Rattle.acl_listings.specs.Cursor.{HandsOut, IsOver}
 use Rattle.acl_listings.specs.Listing.{Block}
 use Rattle.acl_listings.specs.declared.fault.BlockFault.{BlockFault}
-use Rattle.acl_reports.specs.Listed.{AreSaid, IsSaid, Item, Part, fault_in, items_after, no_blocks, tally_with, with_item}
+use Rattle.acl_reports.specs.Listed.{AreSaid, IsSaid, Item, Part, fault_in, items_after, no_blocks, with_item}
 use Rattle.acl_reports.specs.declared.tally.Tally.{Tally}
 use Rattle.acl_listing_changes.specs.Changes.{part_of, unless_repeated}
 use Rattle.acl_listing_changes.specs.RestoreLaws.{text_has}

@@ -14,7 +14,7 @@ use Rattle.acl_people.specs.Person.{Person}
 use Rattle.acl_listing_changes.specs.ImpactText.{line_at, person_text}
 use Rattle.acl_listing_changes.proofs.ImpactLemmas.{none_left}
 use Rattle.acl_listing_reach.specs.LineSteps.{line_there}
-use Rattle.acl_listing_reach.specs.ReachText.{ReachAsking, all_lines, change_line, differ_text, first_line, first_of, line_for, number_at}
+use Rattle.acl_listing_reach.specs.ReachText.{ReachAsking, all_lines, differ_text, first_line, first_of, line_for, number_at}
 
 -- ---- of what stands at a place, and behind it
 

@@ -1,5 +1,5 @@
 -- What is told where the answers of `who --reach` differ.
-use Rattle.std.proofs.Common.{◌≡◌, ◌∙◌, ◌+◌, ◌++◌, ◌==◌, ℕ, zero, suc, Bool, true, false, cond, List, [], ◌∷◌, Option, Some, None, ap, append_assoc, arith, get_or, length, length-append, refl, subst, sym}
+use Rattle.std.proofs.Common.{◌≡◌, ◌∙◌, ◌+◌, ◌++◌, ◌==◌, ℕ, zero, suc, Bool, true, false, cond, List, [], ◌∷◌, Some, ap, append_assoc, arith, get_or, length, length-append, refl, sym}
 use Rattle.std.specs.Prelude.{slice_get}
 use Rattle.std.specs.List.{enumerate_from, flat_map}
 use Rattle.std.proofs.lemmas.Bool.Decides.{Decides-eqb}
@@ -12,7 +12,7 @@ use Rattle.acl_bridge.specs.Comparison.{mask_for}
 use Rattle.acl_bridge.specs.Files.{File, may}
 use Rattle.acl_people.specs.Person.{Person}
 use Rattle.acl_listing_changes.specs.ImpactText.{person_text}
-use Rattle.acl_listing_queries.specs.WhoText.{Numbers, ThreeLetters, letters_line_if, number_told, person_line, person_told, who_text}
+use Rattle.acl_listing_queries.specs.WhoText.{letters_line_if, number_told, person_line, person_told}
 use Rattle.acl_listing_reach.specs.ReachLaws.{LettersAreThoseOfWho, LinesAreWhereAnswersDiffer}
 use Rattle.acl_listing_reach.specs.ReachText.{change_line, line_for, number_at}
 

@@ -4,7 +4,6 @@ use Rattle.std.specs.Prelude.{slice_get}
 use Rattle.std.specs.Io.KnownBytes.{Appends}
 use Rattle.std.specs.List.{flat_map, list_any}
 use Rattle.std.specs.Option.{option_map_or}
-use Rattle.std.proofs.Math.Seq.{take-length}
 use Rattle.std.proofs.lemmas.List.{take-append-le, take_min}
 use Rattle.acl_cli.specs.Output.{AppendsFront}
 use Rattle.acl_cli.specs.Telling.{LeadsOn}

@@ -1,5 +1,5 @@
 -- How a listing is answered block by block. Private steps, which no public clause cites.
-use Rattle.std.specs.Prelude.{◌≡◌, ⊤, ℕ, Bool, List, [], ◌++◌, Option, Some, None, Ok, Err}
+use Rattle.std.specs.Prelude.{◌≡◌, ⊤, ℕ, List, [], ◌++◌, Option, Some, None, Ok, Err}
 use Rattle.std.specs.List.{list_any}
 use Rattle.acl_names.specs.Names.{Names}
 use Rattle.acl_listings.specs.Listing.{Block}

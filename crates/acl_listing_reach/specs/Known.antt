@@ -1,5 +1,5 @@
 -- What is known of a path, as the code has it.
-use Rattle.std.specs.Prelude.{ℕ, List, Option, option_map}
+use Rattle.std.specs.Prelude.{option_map}
 use Rattle.acl_listing_reach.specs.Once.{At}
 use Rattle.acl_listing_reach.specs.declared.known.KnownPath.{KnownPath}
 

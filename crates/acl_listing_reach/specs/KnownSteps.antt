@@ -1,7 +1,7 @@
 -- How the paths of a listing are kept with their letters. Private steps, which no public clause
 -- cites.
 use Rattle.std.specs.Prelude.{◌≡◌, ◌<◌, ⊤, ℕ, List, [], ◌∷◌, ◌++◌, Option, Some, None, Vec}
-use Rattle.std.specs.Prelude.{length, option_map, slice_get}
+use Rattle.std.specs.Prelude.{option_map, slice_get}
 use Rattle.std.specs.declared.alloc.Global.{Global}
 use Rattle.acl_listing_reach.specs.Once.{At}
 

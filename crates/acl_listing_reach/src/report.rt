@@ -39,12 +39,7 @@ pub(crate) struct Report<'t> {
 
 impl<'t> Report<'t> {
     /// Appends what is reported of the path of the listing after at this place.
-    fn push_after(
-        &self,
-        alloc: Global,
-        place: usize,
-        out: &mut Vec<u8>,
-    ) -> Result<(), AllocError>
+    fn push_after(&self, alloc: Global, place: usize, out: &mut Vec<u8>) -> Result<(), AllocError>
         ensures { OnOk result (out.new.items ≡ out.old.items ++ option_map_or
             (after_text (asking_by self.now.reporting) self.now.before.now)
             (slice_get self.now.after.now place) []) }
@@ -60,12 +55,7 @@ impl<'t> Report<'t> {
     }
 
     /// Appends what is reported of the path of the listing before at this place.
-    fn push_gone(
-        &self,
-        alloc: Global,
-        place: usize,
-        out: &mut Vec<u8>,
-    ) -> Result<(), AllocError>
+    fn push_gone(&self, alloc: Global, place: usize, out: &mut Vec<u8>) -> Result<(), AllocError>
         ensures { OnOk result (out.new.items ≡ out.old.items ++ option_map_or
             (gone_text (asking_by self.now.reporting) self.now.after.now)
             (slice_get self.now.before.now place) []) }

@@ -1,4 +1,4 @@
-use Rattle.std.proofs.Common.{rules, ◌≡◌, ◌∙◌, ◌&&◌, not, Bool, ap, ap₂, refl, subst, sym, List, ℕ}
+use Rattle.std.proofs.Common.{rules, ◌∙◌, ◌&&◌, not, Bool, ap, ap₂, refl, subst, sym, List, ℕ}
 use Rattle.acl_cli.specs.Commands.{FrontWentOut}
 use Rattle.acl_cli.specs.ErrorOutput.{ErrorText, Tells}
 use Rattle.acl_cli.specs.Telling.{is_empty}

@@ -1,4 +1,4 @@
-use Rattle.std.proofs.Common.{Err, IfErr, Result, rules, ◌≡◌, ◌∙◌, ◌+◌, Bool, false, List, ℕ, ap, inl, inr, subst, sym}
+use Rattle.std.proofs.Common.{Err, IfErr, Result, rules, ◌≡◌, ◌∙◌, ◌+◌, false, List, ℕ, ap, inl, inr, subst, sym}
 use Rattle.clap.specs.Words.{Row, found_of, rows_of}
 use Rattle.acl_cli.proofs.CommandsLemmas.{Comes-as}
 use Rattle.acl_cli.specs.Commands.{Comes, Meaning}
@@ -12,8 +12,8 @@ use Rattle.acl_reports.specs.Listed.{Part}
 use Rattle.acl_reports.specs.ListingMeaning.{inputs_of}
 use Rattle.acl_listing_queries.specs.WhoPart.{letters_asked, who_part}
 use Rattle.acl_listing_queries.specs.WhoSteps.{asking_of}
-use Rattle.acl_listing_changes.specs.ChangeMeaning.{FailsForListings, after_in, before_in}
-use Rattle.acl_listing_changes.specs.ImpactMeaning.{FailsForImpact, is_input_twice}
+use Rattle.acl_listing_changes.specs.ChangeMeaning.{FailsForListings, after_in, before_in, is_input_twice}
+use Rattle.acl_listing_changes.specs.ImpactMeaning.{FailsForImpact}
 use Rattle.std.proofs.lemmas.Result.{IfErr-weaker}
 use Rattle.acl_listing_changes.proofs.ComesLemmas.{comes_refused}
 use Rattle.acl_listing_reach.specs.ReachAnswer.{IsReachAnswer, IsReachBegun}
@@ -28,7 +28,7 @@ returns-in_err-host g c =
     let files = g.F.OpenFiles.bytes_of c.args.files.now in
     let input = g.I.Read.remaining c.args.input.now in
     let rows : List Row = rows_of (found_of c.args.matches.now) in
-    let once : is_input_twice rows ≡ false =
+    let once : is_input_twice (before_in rows) (after_in rows) ≡ false =
     twice_of c.before_field-before.result.now (before_in rows) c.after_field-after.result.now (after_in rows) c.before_field-before.ensures c.after_field-after.ensures
     c.is_input_twice.result c.is_input_twice.ensures ∙ c.if-is_input_twice.false in
     let fails : IfErr c.read_host.result (λ failure. (reach_meaning files input rows).Fails failure) =
@@ -40,7 +40,7 @@ returns-in_err-people g c =
     let files = g.F.OpenFiles.bytes_of c.args.files.now in
     let input = g.I.Read.remaining c.args.input.now in
     let rows : List Row = rows_of (found_of c.args.matches.now) in
-    let once : is_input_twice rows ≡ false =
+    let once : is_input_twice (before_in rows) (after_in rows) ≡ false =
     twice_of c.before_field-before.result.now (before_in rows) c.after_field-after.result.now (after_in rows) c.before_field-before.ensures c.after_field-after.ensures
     c.is_input_twice.result c.is_input_twice.ensures ∙ c.if-is_input_twice.false in
     let meaning : Meaning = reach_meaning files input rows in
@@ -56,11 +56,11 @@ returns-in_err-letters_by_reach g c =
     let files = g.F.OpenFiles.bytes_of c.args.files.now in
     let input = g.I.Read.remaining c.args.input.now in
     let rows : List Row = rows_of (found_of c.args.matches.now) in
-    let once : is_input_twice rows ≡ false =
+    let once : is_input_twice (before_in rows) (after_in rows) ≡ false =
     twice_of c.before_field-before.result.now (before_in rows) c.after_field-after.result.now (after_in rows) c.before_field-before.ensures c.after_field-after.ensures
     c.is_input_twice.result c.is_input_twice.ensures ∙ c.if-is_input_twice.false in
     let meaning : Meaning = reach_meaning files input rows in
-    let fails : FailsForImpact files rows out_of_memory = inr (once, inr (inr (inr (inr (inl tt))))) in
+    let fails : FailsForImpact files rows out_of_memory = inr (once, inr (inr (inr (once, inr (inl tt))))) in
     let is : c.from_residual-in_err-letters_by_reach.result ≡ Err out_of_memory = search rules in
     let out = g.W.Write.contents c.args.out.now in
     let Ends = λ (result : Result Ending Failure). Comes meaning result out out c.args.err.now c.args.err.now c.args.input.now c.args.input.now in
@@ -71,11 +71,11 @@ returns-in_err-letters_by_reach-2 g c =
     let files = g.F.OpenFiles.bytes_of c.args.files.now in
     let input = g.I.Read.remaining c.args.input.now in
     let rows : List Row = rows_of (found_of c.args.matches.now) in
-    let once : is_input_twice rows ≡ false =
+    let once : is_input_twice (before_in rows) (after_in rows) ≡ false =
     twice_of c.before_field-before.result.now (before_in rows) c.after_field-after.result.now (after_in rows) c.before_field-before.ensures c.after_field-after.ensures
     c.is_input_twice.result c.is_input_twice.ensures ∙ c.if-is_input_twice.false in
     let meaning : Meaning = reach_meaning files input rows in
-    let fails : FailsForImpact files rows out_of_memory = inr (once, inr (inr (inr (inr (inl tt))))) in
+    let fails : FailsForImpact files rows out_of_memory = inr (once, inr (inr (inr (once, inr (inl tt))))) in
     let is : c.from_residual-in_err-letters_by_reach-2.result ≡ Err out_of_memory = search rules in
     let out = g.W.Write.contents c.args.out.now in
     let Ends = λ (result : Result Ending Failure). Comes meaning result out out c.args.err.now c.args.err.now c.args.input.now c.args.input.now in
@@ -91,7 +91,7 @@ returns g c =
     let (persons, people, persons_are) = c.in_ok-people.ensures.read in
     let before : List ℕ = c.before_field-before.result.now in
     let after : List ℕ = c.after_field-after.result.now in
-    let once : is_input_twice rows ≡ false =
+    let once : is_input_twice (before_in rows) (after_in rows) ≡ false =
     twice_of before (before_in rows) after (after_in rows) c.before_field-before.ensures c.after_field-after.ensures
     c.is_input_twice.result c.is_input_twice.ensures ∙ c.if-is_input_twice.false in
     let told : ReachAsking = record { persons = persons_in c.in_ok-people.people; each = c.each_has_a_line.result; asks = c.flag_field.result } in

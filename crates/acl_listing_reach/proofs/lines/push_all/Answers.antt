@@ -1,4 +1,4 @@
-use Rattle.std.proofs.Common.{◌≡◌, ◌∙◌, ◌≤◌, ◌++◌, ap, append-nil, arith, length, sym}
+use Rattle.std.proofs.Common.{◌∙◌, ◌≤◌, ◌++◌, ap, append-nil, arith, length, sym}
 use Rattle.acl_people.specs.Asked.{names_of_people, persons_in}
 use Rattle.acl_listing_reach.proofs.LineLemmas.{all_end, all_more}
 use Rattle.acl_listing_reach.proofs.lines.push_all.Goals as goal

@@ -1,4 +1,4 @@
-use Rattle.std.proofs.Common.{◌≡◌, ◌∙◌, ◌≤◌, ◌+◌, [], ap, append-nil, arith, length, sym}
+use Rattle.std.proofs.Common.{◌∙◌, ◌≤◌, ◌+◌, [], ap, append-nil, arith, length, sym}
 use Rattle.std.specs.Prelude.{slice_get}
 use Rattle.std.specs.Option.{option_map_or}
 use Rattle.acl_listing_reach.specs.ReachText.{after_text, gone_text}
