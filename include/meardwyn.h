@@ -51,8 +51,8 @@ enum { MEARDWYN_MOST_ACES = 128, MEARDWYN_MOST_XATTR = 516, MEARDWYN_MOST_XDR = 
    there are, the entries come in their order, and then what is wrong with them as a whole: MISSING before REPEATED before NO_MASK.
    Of NFSv4 entries the first at fault is told. Calls on POSIX bytes may tell -3 to -12; on NFSv4 entries -3, -6, -8 and -13 to -17, but
    checks of them never -6 and -17; on XDR that is read -4, -8, -13 to -16 and -19; on POSIX texts -6 and -18 to -20; on NFSv4 texts -6
-   and -17 to -19. Those that put something may also tell -2, meardwyn_nfs4_chmod, meardwyn_nfs4_inherit, meardwyn_nfs4_create and a
-   text of an NFSv4 list -21, and those that take memory -1. A call that answers a bool tells the error beside it. */
+   and -17 to -19. Those that put something may also tell -2, a text of an NFSv4 list -21, and those that take memory -1. A call that
+   answers a bool tells the error beside it. */
 enum meardwyn_error {
     MEARDWYN_NO_MEMORY = -1,     /* malloc gave no memory; this says nothing of the list */
     MEARDWYN_NO_ROOM = -2,       /* the buffer is too small; what is needed is told, and the buffer is as it was */
@@ -75,7 +75,7 @@ enum meardwyn_error {
     MEARDWYN_SYNTAX = -18,       /* a piece of a text has no shape of an entry */
     MEARDWYN_UNKNOWN_NAME = -19, /* a text or XDR has a name: map it to an id first */
     MEARDWYN_INVALID_LIST = -20, /* the entries of a text are no POSIX list: one, or the mask, is missing, or one stands twice */
-    MEARDWYN_UNKEPT_BITS = -21   /* a call that puts a list would lose ACE4_INHERITED_ACE, or a bit of retention, of an entry */
+    MEARDWYN_UNKEPT_BITS = -21   /* a text of an NFSv4 list would lose ACE4_INHERITED_ACE, or a bit of retention, of an entry */
 };
 
 /* The version of the calls, 0x10000: as long as the upper half is 1, what is here stays. */
@@ -271,8 +271,8 @@ int32_t meardwyn_posix_compare(const uint8_t *first, size_t first_len, uint32_t 
  * NFSv4 lists, RFC 8881, as arrays of entries, of which the first decides first.
  *
  * ACE4_INHERITED_ACE, ACE4_WRITE_RETENTION and ACE4_WRITE_RETENTION_HOLD decide nothing here. Calls that only decide (check, allowed,
- * decide, grants, may_delete, valid, mode, compare) ignore them in entries, and XDR keeps them; chmod, inherit, create and a text can't,
- * and refuse the list.
+ * decide, grants, may_delete, valid, mode, compare) ignore them in entries; chmod, inherit, create and XDR keep them; a text has no
+ * letters for them, and refuses the list.
  * Nothing is said of the two of retention, 0x200 and 0x400: a request, or the bits of a comparison, that have one are
  * MEARDWYN_BAD_ARGUMENT.
  */
@@ -407,12 +407,13 @@ int32_t meardwyn_nfs4_mode(const struct meardwyn_ace *aces, size_t aces_len);
    more than it takes, mostly nothing, so that after 0600 a mode of 0644 gives them what it gives anybody: servers want this one. */
 enum meardwyn_how { MEARDWYN_CHMOD_PROFILE = 0, MEARDWYN_CHMOD_LEAST = 1 };
 
-/* The list with a mode set. */
+/* The list with a mode set. All bits that have a meaning stay. */
 MEARDWYN_TOLD
 int32_t meardwyn_nfs4_chmod(const struct meardwyn_ace *aces, size_t aces_len, uint32_t mode, uint32_t how,
                             struct meardwyn_ace *out, size_t out_len, size_t *needed);
 
-/* What a new file (is_dir 0) or a new directory (1) inherits, before a mode is set. */
+/* What a new file (is_dir 0) or a new directory (1) inherits, before a mode is set. All bits that have a meaning stay but the flags of
+   inheritance. ACE4_INHERITED_ACE is as the folder's entry has it: a server that marks what is inherited sets it on each. */
 MEARDWYN_TOLD
 int32_t meardwyn_nfs4_inherit(const struct meardwyn_ace *aces, size_t aces_len, bool is_dir, struct meardwyn_ace *out,
                               size_t out_len, size_t *needed);

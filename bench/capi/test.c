@@ -565,12 +565,30 @@ static void nothing(void)
     puts("NULL with length 0");
 }
 
+/* A mode, inheritance and creation keep ACE4_INHERITED_ACE and both bits of retention; a text has no letters for them. */
+static void kept_bits(void)
+{
+    struct meardwyn_ace ace = {MEARDWYN_ALLOW, MEARDWYN_NFS4_INHERITED | MEARDWYN_NFS4_FILE_INHERIT, 0x601, MEARDWYN_BY_ID, 1001}, out[8];
+    struct meardwyn_making making = {MEARDWYN_FILE, 0640, 022, MEARDWYN_CHMOD_LEAST};
+    uint32_t mode = 0;
+    size_t needed = 77;
+    must(meardwyn_nfs4_inherit(&ace, 1, 0, out, 8, &needed) == 0 && needed == 1 && out[0].flag == MEARDWYN_NFS4_INHERITED
+         && out[0].access_mask == 0x601 && out[0].id == 1001, "bits that are inherited");
+    must(meardwyn_nfs4_chmod(&ace, 1, 0640, MEARDWYN_CHMOD_LEAST, out, 8, &needed) == 0 && needed == 6, "a mode over such bits");
+    must(out[2].flag == 0x89 && out[2].access_mask == 0x601 && out[3].flag == 0x80 && out[3].access_mask == 0x601, "bits beside a mode");
+    must(meardwyn_nfs4_create(&ace, 1, &making, out, 8, &needed, &mode) == 0 && needed == 5 && mode == 0640 && out[2].flag == 0x80
+         && out[2].access_mask == 0x601, "bits of what is made");
+    must(meardwyn_nfs4_to_text(&ace, 1, NULL, 0, &needed) == MEARDWYN_UNKEPT_BITS, "bits without letters");
+    puts("kept bits");
+}
+
 /* test [PERCENT]: of the usual numbers of lists so many percent. */
 int main(int count, char **words)
 {
     int percent = count > 1 ? atoi(words[1]) : 100;
     edges();
     nothing();
+    kept_bits();
     nfs4(40 * percent);
     between(40 * percent);
     beside_libacl(200 * percent);

@@ -4,6 +4,8 @@ use Rattle.std.specs.Prelude.{nat_le, if◌then◌else◌}
 use Rattle.acl_nfs4.specs.Ace.{Nfsace4}
 use Rattle.acl_nfs4.specs.Evaluation.{Grants}
 use Rattle.acl_nfs4.specs.Who.{matches}
+use Rattle.acl_nfs4.specs.declared.inheritance.Kind.{Kind}
+use Rattle.acl_nfs4.specs.declared.inheritance.Kind.TheVariants.{File, Dir}
 use Rattle.acl_names.specs.Requester.{Identity}
 use Rattle.acl_posix.specs.Mode.{Classes, number_of}
 use Rattle.acl_wire.specs.Decision.{IsDecided}
@@ -26,6 +28,10 @@ mode_number mode_of list = pos (number_of (mode_of list))
 -- 0 for any answer
 abbrev pub zero_number : {Y : Type 0} → Y → ℤ
 zero_number value = pos 0
+
+-- what is made: a directory or a file
+abbrev pub kind_below : Bool → Kind
+kind_below is_dir = if is_dir then Dir else File
 
 -- the number of an answer
 abbrev pub number_of_answer : {Y F : Type 0} → (F → ℤ) → (Y → ℤ) → Result Y F → ℤ

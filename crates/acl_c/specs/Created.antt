@@ -1,8 +1,6 @@
 -- What a call tells of what is made in a folder.
 use Rattle.std.specs.Prelude.{◌≡◌, ◌⊎◌, ℕ, ℤ, pos, List, Option, Some, None, Result, Ok, Err}
-use Rattle.acl_nfs4.specs.Ace.{Nfsace4}
 use Rattle.acl_wire.specs.Creation.{mode_made}
-use Rattle.acl_wire.specs.RawAcesWriting.{raws_of}
 use Rattle.acl_wire.specs.declared.creation.Making.{Making}
 use Rattle.acl_wire.specs.declared.fault.Nfs4Fault.{Nfs4Fault}
 use Rattle.acl_wire.specs.declared.raw_ace.RawAce.{RawAce}
@@ -11,10 +9,10 @@ use Rattle.acl_c.specs.Status.{nfs4_number, out_of_memory}
 
 -- it puts the list, and tells the mode; or it tells 1 with no entries, and the mode, if nothing is
 -- inherited; or why there is no answer, and then the mode is as it was
-abbrev pub PutsMade : Result (Option (List Nfsace4)) Nfs4Fault → Making → ℤ → List RawAce
+abbrev pub PutsMade : Result (Option (List RawAce)) Nfs4Fault → Making → ℤ → List RawAce
     → List RawAce → ℕ → ℕ → ℕ → ℕ → Type 0
 PutsMade answer making told old new old_count new_count old_mode new_mode =
-    ((list : List Nfsace4) × (answer ≡ Ok (Some list)) × Puts (raws_of list) told old new new_count
+    ((list : List RawAce) × (answer ≡ Ok (Some list)) × Puts list told old new new_count
     × (new_mode ≡ mode_made making (Some list)))
     ⊎ (((answer ≡ Ok None) × (told ≡ pos 1) × (new ≡ old) × (new_count ≡ 0)
     × (new_mode ≡ mode_made making None))

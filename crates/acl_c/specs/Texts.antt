@@ -16,8 +16,8 @@ use Rattle.acl_wire.specs.declared.raw_ace.RawAce.{RawAce}
 use Rattle.acl_c.specs.Answers.{Puts, PutsAnswer, PutsNothing}
 use Rattle.acl_c.specs.Status.{ace_fault_number, text_number}
 
-abbrev pub itself : List ℕ → List ℕ
-itself text = text
+abbrev pub itself : {A : Type 0} → List A → List A
+itself items = items
 
 -- a call puts the bytes of the POSIX list that a text spells where nobody has a name
 abbrev pub PutsAclOfText : List ℕ → ℤ → List ℕ → List ℕ → ℕ → ℕ → Type 0

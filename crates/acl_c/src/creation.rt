@@ -8,7 +8,7 @@ ghost use Rattle.acl_nfs4.specs.declared.limits.TheConstants.{INLINE_ACES};
 ghost use Rattle.acl_wire.specs.Creation.{aces_of_mode, created_of};
 ghost use Rattle.acl_wire.specs.RawAcesWriting.{raws_of};
 
-use crate::buffers::put_raw_aces;
+use crate::buffers::{put_raw_aces, put_raws};
 use crate::status::{nfs4_error_number, nfs4_number as nfs4_fault_number};
 use acl_wire::{Making, RawAce, acl4_of_mode, mode_made, raws_created};
 use std::alloc::Global;
@@ -34,7 +34,7 @@ pub extern "C" fn meardwyn_nfs4_create(
     match raws_created(alloc, folder_aces, making) {
         Ok(Some(list)) => {
             *mode = mode_made(making, true);
-            put_raw_aces(&list, out, needed)
+            put_raws(list.as_slice(), out, needed)
         }
         Ok(None) => {
             *mode = mode_made(making, false);

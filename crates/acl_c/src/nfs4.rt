@@ -3,22 +3,23 @@
 ghost use Rattle.std.specs.Prelude.{◌≡◌, ◌≢◌, ◌≤◌, ◌↔◌, IfOk, IsTrue, length};
 ghost use Rattle.acl_c.specs.Answers.{AreGranting, PutsAnswer, PutsEntries, Tells, TellsAllowed};
 ghost use Rattle.acl_c.specs.Answers.{TellsDecided, TellsWhether, mode_number, number_of_answer};
-ghost use Rattle.acl_c.specs.Answers.{zero_number};
+ghost use Rattle.acl_c.specs.Answers.{kind_below, zero_number};
 ghost use Rattle.acl_c.specs.Status.{nfs4_number, out_of_memory};
+ghost use Rattle.acl_c.specs.Texts.{itself};
 ghost use Rattle.acl_names.specs.Requester.{Identity};
 ghost use Rattle.acl_nfs4.specs.Evaluation.{Grants, mode_of};
 ghost use Rattle.acl_nfs4.specs.Who.{matches};
 ghost use Rattle.acl_nfs4.specs.declared.limits.TheConstants.{INLINE_ACES};
 ghost use Rattle.acl_wire.specs.Decision.{decided_by};
-ghost use Rattle.acl_wire.specs.Nfs4.{chmod_of, inherited_of};
+ghost use Rattle.acl_wire.specs.Inheritance.{inherited_of};
+ghost use Rattle.acl_wire.specs.ModeChange.{chmod_of};
 ghost use Rattle.acl_wire.specs.RawAces.{list_of};
-ghost use Rattle.acl_wire.specs.RawAcesWriting.{raws_of};
 ghost use Rattle.acl_wire.specs.XdrRaws.{xdr_raws_of};
 ghost use Rattle.acl_wire.specs.XdrWriting.{raws_xdr_of};
-ghost use Rattle.acl_c.specs.Texts.{itself};
 
-use crate::buffers::{put_bytes, put_raw_aces};
+use crate::buffers::{put_bytes, put_raws};
 use crate::status::{nfs4_error_number, nfs4_number as nfs4_fault_number, no_room};
+use acl_nfs4::Kind;
 use acl_wire::{
     Decided, Purpose, RawAce, put_xdr_raws, raws_allow, raws_decide, raws_grant, raws_inherited,
     raws_with_mode, raws_xdr, read_raw_aces,
@@ -172,16 +173,23 @@ pub extern "C" fn meardwyn_nfs4_chmod(
     out: &mut [RawAce],
     needed: &mut usize,
 ) -> i32
-    ensures value { PutsAnswer nfs4_number raws_of (chmod_of aces.now mode how) result out.old
+    ensures value { PutsAnswer nfs4_number itself (chmod_of aces.now mode how) result out.old
         out.new needed.old needed.new }
     ensures short { length aces.now ≤ INLINE_ACES
         → IfOk (chmod_of aces.now mode how) (λ list. length list ≤ INLINE_ACES)
         → result ≢ out_of_memory }
 {
     match raws_with_mode(alloc, aces, mode, how) {
-        Ok(acl) => put_raw_aces(&acl, out, needed),
+        Ok(made) => put_raws(made.as_slice(), out, needed),
         Err(error) => nfs4_error_number(error),
     }
+}
+
+/// The kind of what is made.
+fn kind_below(is_dir: bool) -> Kind
+    ensures { result ≡ kind_below is_dir }
+{
+    if is_dir { Kind::Dir } else { Kind::File }
 }
 
 /// What a new file, or a new directory, inherits.
@@ -193,12 +201,12 @@ pub extern "C" fn meardwyn_nfs4_inherit(
     out: &mut [RawAce],
     needed: &mut usize,
 ) -> i32
-    ensures value { PutsAnswer nfs4_number raws_of (inherited_of aces.now is_dir) result out.old
-        out.new needed.old needed.new }
+    ensures value { PutsAnswer nfs4_number itself (inherited_of (kind_below is_dir) aces.now)
+        result out.old out.new needed.old needed.new }
     ensures short { length aces.now ≤ INLINE_ACES → result ≢ out_of_memory }
 {
-    match raws_inherited(alloc, aces, is_dir) {
-        Ok(acl) => put_raw_aces(&acl, out, needed),
+    match raws_inherited(alloc, aces, kind_below(is_dir)) {
+        Ok(below) => put_raws(below.as_slice(), out, needed),
         Err(error) => nfs4_error_number(error),
     }
 }

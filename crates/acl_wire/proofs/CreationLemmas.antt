@@ -16,14 +16,15 @@ use Rattle.acl_nfs4.specs.declared.who.Who.{Who}
 use Rattle.acl_nfs4.specs.declared.who.Who.TheVariants.{Owner, Group, Everyone, User, NamedGroup}
 use Rattle.acl_posix.specs.Mode.{Classes}
 use Rattle.acl_wire.specs.declared.fault.Nfs4Fault.{Nfs4Fault}
+use Rattle.acl_wire.specs.declared.raw_ace.RawAce.{RawAce}
 
 -- a list that there is has no more entries than are stored inline
-pub made-short : (made : Result (List Nfsace4) Nfs4Fault) → IfOk (made >>= λ list. Ok (Some list)) (λ some. IfSome some (λ list. length list ≤ INLINE_ACES))
+pub made-short : (made : Result (List RawAce) Nfs4Fault) → IfOk (made >>= λ list. Ok (Some list)) (λ some. IfSome some (λ list. length list ≤ INLINE_ACES))
     → IfOk made (λ list. length list ≤ INLINE_ACES)
 made-short (Ok list) few = few
 made-short (Err fault) few = few
 
-one : (ace : Nfsace4) → length (unless_empty ace) ≤ 1
+pub one : (ace : Nfsace4) → length (unless_empty ace) ≤ 1
 unfolding unless_empty
 one ace = by (ace.mask == 0)
   where

@@ -5,7 +5,8 @@ use Rattle.std.proofs.Math.Seq.{drop-cons}
 use Rattle.acl_names.specs.Steps.{◌>>=◌}
 use Rattle.acl_nfs4.specs.Ace.{Nfsace4}
 use Rattle.acl_wire.specs.Decision.{value_of}
-use Rattle.acl_wire.specs.XdrWriting.{ace_bytes, behind, kept_ace, raws_bytes}
+use Rattle.acl_wire.specs.Kept.{kept_ace}
+use Rattle.acl_wire.specs.XdrWriting.{ace_bytes, behind, raws_bytes}
 use Rattle.acl_wire.specs.declared.fault.Nfs4Fault.{Nfs4Fault}
 use Rattle.acl_wire.specs.declared.raw_ace.RawAce.{RawAce}
 use Rattle.acl_wire.proofs.AcesLoop.{nothing}

@@ -18,8 +18,13 @@ pub mod DecisionLoop
 pub mod GrantLemmas
 pub mod DeletionLemmas
 pub mod CreationLemmas
+pub mod KeptLemmas
+pub mod ModeLengths
+pub mod ModeLemmas
+pub mod PartsLemmas
 pub mod NobodyLemmas
 pub mod XdrLoop
 pub mod XdrRawsLoop
 pub mod KeptLoop
 pub mod XdrKeptAgain
+pub mod PlacesLoop

@@ -23,7 +23,8 @@ use Rattle.acl_wire.specs.Written.{tidied_raw}
 use Rattle.acl_wire.specs.WireLaws.{IsNumbers, KeptXdrIsReadAgain}
 use Rattle.acl_wire.specs.Xdr.{number_at, raw_at}
 use Rattle.acl_wire.specs.XdrRaws.{raws_at, xdr_raws_of}
-use Rattle.acl_wire.specs.XdrWriting.{ace_bytes, behind, kept_ace, raws_bytes, raws_xdr_of}
+use Rattle.acl_wire.specs.Kept.{kept_ace}
+use Rattle.acl_wire.specs.XdrWriting.{ace_bytes, behind, raws_bytes, raws_xdr_of}
 use Rattle.acl_wire.specs.declared.fault.Nfs4Fault.{Nfs4Fault}
 use Rattle.acl_wire.specs.declared.fault.Nfs4Fault.TheVariants as faults
 use Rattle.acl_wire.specs.declared.raw_ace.Purpose.TheVariants.{Decide}

@@ -4,20 +4,18 @@ use Rattle.std.specs.Prelude.{Result, Ok, Err, if◌then◌else◌, length}
 use Rattle.acl_names.specs.Bits.{without}
 use Rattle.acl_names.specs.Steps.{◌>>=◌}
 use Rattle.acl_nfs4.specs.Ace.{Nfsace4, ace_of}
-use Rattle.acl_nfs4.specs.Inheritance.{inherited_list}
 use Rattle.acl_nfs4.specs.ModeChange.{with_mode}
 use Rattle.acl_nfs4.specs.declared.ace.AceType.TheVariants.{Allow}
 use Rattle.acl_nfs4.specs.declared.inheritance.Kind.{Kind}
 use Rattle.acl_nfs4.specs.declared.inheritance.Kind.TheVariants.{File, Dir}
 use Rattle.acl_nfs4.specs.declared.who.Who.TheVariants.{Owner, Everyone}
 use Rattle.acl_posix.specs.Mode.{Classes}
-use Rattle.acl_wire.specs.Nfs4.{classes_in, fits, rule_in, with_mode_by}
-use Rattle.acl_wire.specs.RawAces.{list_of}
+use Rattle.acl_wire.specs.Inheritance.{inherited_of}
+use Rattle.acl_wire.specs.ModeChange.{changed, classes_in, rule_in}
 use Rattle.acl_wire.specs.declared.creation.Making.{Making}
 use Rattle.acl_wire.specs.declared.fault.Nfs4Fault.{Nfs4Fault}
 use Rattle.acl_wire.specs.declared.fault.Nfs4Fault.TheVariants as faults
-use Rattle.acl_wire.specs.declared.nfs4.ModeRule.{ModeRule}
-use Rattle.acl_wire.specs.declared.raw_ace.Purpose.TheVariants.{Write}
+use Rattle.acl_wire.specs.declared.mode_change.ModeRule.{ModeRule}
 use Rattle.acl_wire.specs.declared.raw_ace.RawAce.{RawAce}
 
 -- the kind of a number
@@ -28,23 +26,23 @@ kind_in number =
     else Err faults.Argument
 
 -- what is inherited, with the mode set by a rule; nothing if nothing is inherited
-abbrev pub dressed : ModeRule → Classes → List Nfsace4 → Result (Option (List Nfsace4)) Nfs4Fault
-dressed rule mode aces =
-    if length aces == 0 then Ok None
-    else (fits (with_mode_by rule aces mode) >>= λ list. Ok (Some list))
+abbrev pub dressed : ModeRule → Classes → List RawAce → Result (Option (List RawAce)) Nfs4Fault
+dressed rule mode raws =
+    if length raws == 0 then Ok None
+    else (changed rule mode raws >>= λ list. Ok (Some list))
 
 -- the list of what is made in a folder with these entries
-unfoldable pub created_of : List RawAce → Making → Result (Option (List Nfsace4)) Nfs4Fault
+unfoldable pub created_of : List RawAce → Making → Result (Option (List RawAce)) Nfs4Fault
 created_of raws making = do
   kind ← kind_in making.kind
   mode ← classes_in making.mode
   umask ← classes_in making.umask
   rule ← rule_in making.how
-  aces ← list_of Write raws
-  dressed rule mode (inherited_list kind aces)
+  below ← inherited_of kind raws
+  dressed rule mode below
 
 -- its mode, from which the umask is taken where it inherits nothing
-abbrev pub mode_made : Making → Option (List Nfsace4) → ℕ
+abbrev pub mode_made : Making → Option (List RawAce) → ℕ
 mode_made making None = without making.mode making.umask
 mode_made making (Some list) = making.mode
 

@@ -8,10 +8,13 @@ pub mod OnePass
 pub mod RawAces
 pub mod RawAcesWriting
 pub mod Nfs4
-pub mod Creation
 pub mod Decision
 pub mod DecisionSteps
 pub mod Deletion
+pub mod Kept
+pub mod ModeChange
+pub mod Inheritance
+pub mod Creation
 pub mod WireLaws
 pub mod Written
 pub mod Text

@@ -8,8 +8,8 @@ use Rattle.acl_nfs4.specs.Ace.{Nfsace4}
 use Rattle.acl_nfs4.specs.declared.who.Who.{Who}
 use Rattle.acl_nfs4.specs.declared.who.Who.TheVariants.{Owner, Group, Everyone, User, NamedGroup}
 use Rattle.acl_wire.specs.Decision.{value_of}
+use Rattle.acl_wire.specs.Kept.{kept_ace}
 use Rattle.acl_wire.specs.RawAcesWriting.{kind_number}
-use Rattle.acl_wire.specs.Written.{tidied_raw}
 use Rattle.acl_wire.specs.Xdr.{padded}
 use Rattle.acl_wire.specs.declared.fault.Nfs4Fault.{Nfs4Fault}
 use Rattle.acl_wire.specs.declared.fault.Nfs4Fault.TheVariants as faults
@@ -37,10 +37,6 @@ ace_bytes ace = to_be_bytes w32 (kind_number ace.kind) ++ (to_be_bytes w32 ace.f
 
 abbrev pub xdr_of : List Nfsace4 → List ℕ
 xdr_of aces = to_be_bytes w32 (length aces) ++ flat_map ace_bytes aces
-
--- the entry of these numbers as it is written: all bits that have a meaning stay
-abbrev pub kept_ace : RawAce → Nfsace4 → Nfsace4
-kept_ace raw ace = record ace { flags = (tidied_raw raw).flags; mask = raw.mask }
 
 -- the bytes of entries of numbers, each of which can be decided by
 unfoldable pub raws_bytes : List RawAce → Result (List ℕ) Nfs4Fault

@@ -1,18 +1,19 @@
 //! What is made in a folder with an NFSv4 list, and the NFSv4 list of a mode.
 
 ghost use Rattle.std.specs.Prelude.{◌≡◌, ◌≢◌, ◌≤◌, ◌<◌, ◌++◌, ◌∷◌, [], IfErr, IfOk, IfSome, List};
-ghost use Rattle.std.specs.Prelude.{None, Some, false, length, true};
-ghost use Rattle.acl_nfs4.specs.Ace.{Nfsace4, ace_of};
+ghost use Rattle.std.specs.Prelude.{None, Some, false, length, option_map, true};
+ghost use Rattle.acl_nfs4.specs.Ace.{ace_of};
 ghost use Rattle.acl_nfs4.specs.ModeChange.{with_mode};
 ghost use Rattle.acl_nfs4.specs.Who.{is_special};
 ghost use Rattle.acl_nfs4.specs.declared.ace.AceType.TheVariants.{Allow};
 ghost use Rattle.acl_nfs4.specs.declared.limits.TheConstants.{INLINE_ACES};
 ghost use Rattle.acl_wire.specs.Creation.{aces_of_mode, created_of, dressed, kind_in, mode_made};
 ghost use Rattle.acl_wire.specs.RawAces.{Answers};
+ghost use Rattle.acl_wire.specs.declared.raw_ace.RawAce.{RawAce as Raw};
 
-use crate::nfs4::{mode_of_number, rule_of_number, with_mode};
+use crate::mode_change::{changed, mode_of_number, rule_of_number};
 use crate::numbers::without_bits;
-use crate::{ModeRule, Nfs4Error, Nfs4Fault, Purpose, RawAce, read_raw_aces};
+use crate::{ModeRule, Nfs4Error, Nfs4Fault, RawAce, RawAces, raws_inherited};
 use acl_nfs4::{Ace, AceType, Acl4, Flags, Kind, Mask, Who};
 use acl_posix::Mode;
 use bitflags::Flags as FlagSet;
@@ -52,19 +53,20 @@ fn kind_of_number(kind: u32) -> Result<Kind, Nfs4Fault>
 /// What is inherited, with the mode set on it.
 fn dressed(
     alloc: Global,
-    below: Acl4,
+    below: &[RawAce],
     mode: Mode,
     rule: ModeRule,
-) -> Result<Option<Acl4>, Nfs4Error>
-    ensures value { Answers (λ list. list) result (dressed rule mode below) }
-    ensures short { IfOk (dressed rule mode below)
+) -> Result<Option<RawAces>, Nfs4Error>
+    ensures value { Answers (option_map (λ draft. draft.items)) result
+        (dressed rule mode below.now) }
+    ensures short { length below.now ≤ INLINE_ACES → IfOk (dressed rule mode below.now)
         (λ made. IfSome made (λ list. length list ≤ INLINE_ACES))
         → IfErr result (λ error. error ≢ Nfs4Error.Memory) }
 {
-    if below.aces().is_empty() {
+    if below.is_empty() {
         return Ok(None);
     }
-    match with_mode(alloc, below, mode, rule) {
+    match changed(alloc, below, mode, rule) {
         Ok(list) => Ok(Some(list)),
         Err(error) => Err(error),
     }
@@ -80,8 +82,9 @@ pub fn raws_created(
     alloc: Global,
     folder: &[RawAce],
     making: &Making,
-) -> Result<Option<Acl4>, Nfs4Error>
-    ensures value { Answers (λ list. list) result (created_of folder.now making.now) }
+) -> Result<Option<RawAces>, Nfs4Error>
+    ensures value { Answers (option_map (λ draft. draft.items)) result
+        (created_of folder.now making.now) }
     ensures short { length folder.now ≤ INLINE_ACES
         → IfOk (created_of folder.now making.now)
         (λ made. IfSome made (λ list. length list ≤ INLINE_ACES))
@@ -91,13 +94,13 @@ pub fn raws_created(
     let mode = mode_of_number(making.mode)?;
     let _umask = mode_of_number(making.umask)?;
     let rule = rule_of_number(making.how)?;
-    let acl = read_raw_aces(alloc, Purpose::Write, folder)?;
-    dressed(alloc, acl.inherited(alloc, kind)?, mode, rule)
+    let below = raws_inherited(alloc, folder, kind)?;
+    dressed(alloc, below.as_slice(), mode, rule)
 }
 
 /// The mode of what is made, whether it inherits or not: the umask is taken from it if not.
 pub fn mode_made(making: &Making, inherits: bool) -> u32
-    ensures yes { (list : List Nfsace4) → inherits ≡ true
+    ensures yes { (list : List Raw) → inherits ≡ true
         → result ≡ mode_made making.now (Some list) }
     ensures no { inherits ≡ false → result ≡ mode_made making.now None }
 {

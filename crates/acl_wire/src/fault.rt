@@ -82,7 +82,7 @@ pub enum Nfs4Fault {
     /// An entry has a bit of the mask without a name.
     Mask,
     /// An entry has `ACE4_INHERITED_ACE` or a bit of retention, in the place of `Flags` or `Mask`:
-    /// a list that is written wouldn't keep it.
+    /// a text wouldn't keep it.
     Unkept,
     /// It doesn't say whom an entry is about.
     Who,

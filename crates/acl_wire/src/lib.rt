@@ -8,9 +8,11 @@ mod compare;
 mod creation;
 mod decision;
 mod deletion;
+mod draft;
 mod fault;
+mod inheritance;
 mod laws;
-mod nfs4;
+mod mode_change;
 mod numbers;
 mod one_pass;
 mod posix;
@@ -29,9 +31,11 @@ pub use compare::{RawAsker, RawDifference, RawUnlike, raws_difference, xattr_dif
 pub use creation::{Making, acl4_of_mode, mode_made, raws_created};
 pub use decision::{Decided, raws_allow, raws_decide, raws_grant};
 pub use deletion::{raws_delete, xattr_delete};
+pub use draft::{RawAces, write_raws};
 pub use fault::{Nfs4Error, Nfs4Fault, PosixError, PosixFault};
+pub use inheritance::raws_inherited;
 pub use laws::{decision_laws, wire_laws};
-pub use nfs4::{ModeRule, raws_inherited, raws_with_mode};
+pub use mode_change::{ModeRule, raws_with_mode};
 pub use posix::{
     acl_of_mode, acl_of_xattr, xattr_at_creation, xattr_translated, xattr_translated_default,
     xattr_with_mode,

@@ -1,8 +1,8 @@
 //! Numbers in bytes, lowest byte first, and sets of bits.
 
-ghost use Rattle.std.specs.Prelude.{◌≡◌};
+ghost use Rattle.std.specs.Prelude.{◌≡◌, ◌^◌, ℕ};
 ghost use Rattle.std.specs.Int.{w32};
-ghost use Rattle.acl_names.specs.Bits.{without};
+ghost use Rattle.acl_names.specs.Bits.{has, without};
 ghost use Rattle.acl_wire.specs.Numbers.{Reads};
 ghost use Rattle.acl_wire.specs.XattrReading.{number_at};
 
@@ -15,6 +15,14 @@ pub(crate) fn without_bits(bits: u32, removed: u32) -> u32
     ensures { result ≡ without bits removed }
 {
     bits ^ (bits & removed)
+}
+
+/// Whether the bit is in the set.
+#[inline(always)]
+pub(crate) fn has_bit(set: u32, bit: u32) -> bool
+    ensures { (place : ℕ) → bit ≡ 2 ^ place → result ≡ has set place }
+{
+    set & bit == bit
 }
 
 /// The number in the first four bytes, and what stands behind them.

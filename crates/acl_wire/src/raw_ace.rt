@@ -18,7 +18,7 @@ use std::alloc::Global;
 
 /// An entry as numbers (RFC 8881, section 6.2.1).
 #[repr(C)]
-#[derive(Clone, Copy, Debug, PartialEq, Eq)]
+#[derive(Clone, Copy, Debug, Default, PartialEq, Eq)]
 pub struct RawAce {
     /// 0 allows, 1 denies, 2 audits, 3 sounds an alarm.
     pub kind: u32,
@@ -38,8 +38,8 @@ pub enum Purpose {
     /// To be decided by: `ACE4_INHERITED_ACE`, `ACE4_WRITE_RETENTION` and
     /// `ACE4_WRITE_RETENTION_HOLD` are passed over, since they decide nothing that is asked here.
     Decide,
-    /// To be written again in whatever form: these three are the fault `Unkept`, since an `Acl4`
-    /// doesn't keep them.
+    /// To be printed: these three are the fault `Unkept`, since an `Acl4` doesn't keep them, and a
+    /// text has no letters for them.
     Write,
 }
 

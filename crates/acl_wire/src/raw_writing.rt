@@ -42,7 +42,7 @@ fn id_of(who: &Who) -> u32
 }
 
 /// The entry as numbers.
-fn raw_of(ace: &Ace) -> RawAce
+pub(crate) fn raw_of(ace: &Ace) -> RawAce
     ensures { result ≡ raw_of ace.now }
 {
     let who = ace.who();

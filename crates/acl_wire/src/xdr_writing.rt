@@ -4,7 +4,8 @@ ghost use Rattle.std.specs.Prelude.{◌≡◌, ◌≤◌, ◌<◌, ◌^◌, ◌+
 ghost use Rattle.std.specs.Prelude.{OnOk};
 ghost use Rattle.std.specs.Int.{w32, to_be_bytes};
 ghost use Rattle.acl_wire.specs.RawAces.{Answers};
-ghost use Rattle.acl_wire.specs.XdrWriting.{ace_bytes, behind, filled, kept_ace, raws_bytes};
+ghost use Rattle.acl_wire.specs.Kept.{kept_ace};
+ghost use Rattle.acl_wire.specs.XdrWriting.{ace_bytes, behind, filled, raws_bytes};
 ghost use Rattle.acl_wire.specs.XdrWriting.{raws_xdr_of, text_bytes, who_text};
 ghost use Rattle.acl_wire.specs.Xdr.{padded};
 

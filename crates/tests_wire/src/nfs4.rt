@@ -1,10 +1,11 @@
 //! NFSv4 lists in the layout of RFC 8881, section 6.2.1, as XDR (RFC 4506): a count, and for each
 //! entry its type, its flags, its mask and its who, numbers of four bytes with the highest first; a
 //! string has its length before it, and zeros up to a whole group of four bytes behind it.
+use acl_nfs4::Kind;
 use acl_wire::{
     Decided, Making, Nfs4Error, Nfs4Fault, Purpose, RawAce, acl4_of_mode, acl4_of_xdr, mode_made,
-    put_xdr_raws, raws_allow, raws_created, raws_decide, raws_delete, raws_grant, raws_text,
-    raws_xdr, read_raw_aces, write_raw_aces,
+    put_xdr_raws, raws_allow, raws_created, raws_decide, raws_delete, raws_grant, raws_inherited,
+    raws_text, raws_with_mode, raws_xdr, read_raw_aces, write_raw_aces,
 };
 use std::alloc::Global;
 
@@ -282,7 +283,7 @@ fn is_made(alloc: Global, folder: &[RawAce], kind: u32) -> Option<(usize, u32)> 
     };
     let list = raws_created(alloc, folder, &making).ok()?;
     let mode = mode_made(&making, list.is_some());
-    Some((list.map_or(0, |list| list.aces().len()), mode))
+    Some((list.map_or(0, |list| list.len()), mode))
 }
 
 /// Directories inherit the entry of the group 50; with the mode that is its own entry, to read, to
@@ -312,4 +313,42 @@ fn are_of_mode(alloc: Global, attributes: bool) -> Option<usize> {
 fn the_list_of_a_mode(rt: HostRuntime) {
     assert_eq!(rt; are_of_mode(rt.alloc(), false), Some(3));
     assert_eq!(rt; are_of_mode(rt.alloc(), true), Some(5));
+}
+
+/// Reading of the group 50, inherited, with ACE4_WRITE_RETENTION.
+const KEPT: RawAce = RawAce {
+    kind: 0,
+    flags: 0xc0,
+    mask: 0x201,
+    special: 0,
+    id: 50,
+};
+
+/// The entry at a place of what the entries become by a mode, and how many there are.
+fn is_changed(alloc: Global, raws: &[RawAce], how: u32, place: usize) -> Option<(usize, RawAce)> {
+    let made = raws_with_mode(alloc, raws, 0o640, how).ok()?;
+    Some((made.len(), *made.as_slice().get(place)?))
+}
+
+/// The group has no more than it had: the entry stands behind the two of the owner, as it was.
+#[test]
+fn bits_that_a_mode_keeps(rt: HostRuntime) {
+    assert_eq!(rt; is_changed(rt.alloc(), &[KEPT], 0, 2), Some((6, KEPT)));
+    assert_eq!(rt; is_changed(rt.alloc(), &[KEPT], 1, 2), Some((5, KEPT)));
+}
+
+/// The one entry that a file inherits.
+fn is_inherited(alloc: Global, raws: &[RawAce]) -> Option<RawAce> {
+    let below = raws_inherited(alloc, raws, Kind::File).ok()?;
+    below.as_slice().first().copied()
+}
+
+/// Files inherit the entry, which keeps its bits but the flags of inheritance.
+#[test]
+fn bits_that_are_inherited(rt: HostRuntime) {
+    let above = RawAce {
+        flags: 0xc1,
+        ..KEPT
+    };
+    assert_eq!(rt; is_inherited(rt.alloc(), &[above]), Some(KEPT));
 }

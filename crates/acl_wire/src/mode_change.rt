@@ -1,0 +1,321 @@
+//! Setting the mode of a list of numbers, all of whose bits stay (RFC 8881, section 6.4.1.1).
+
+ghost use Rattle.std.specs.Prelude.{◌≡◌, ◌≢◌, ◌≤◌, ◌<◌, ◌↔◌, ◌==◌, ◌||◌, ◌++◌, ℕ, Err, IfErr, IfOk};
+ghost use Rattle.std.specs.Prelude.{IsOk, Ok, OnErr, OnOk, if◌then◌else◌, length};
+ghost use Rattle.acl_names.specs.Bits.{has};
+ghost use Rattle.acl_nfs4.specs.Ace.{decides};
+ghost use Rattle.acl_nfs4.specs.Flags.{directory_inherit, file_inherit};
+ghost use Rattle.acl_nfs4.specs.ModeChange.{for_owner, kept_mask, kept_of_entry, kept_of_list};
+ghost use Rattle.acl_nfs4.specs.declared.limits.TheConstants.{INLINE_ACES, MAX_ACES};
+ghost use Rattle.acl_nfs4.specs.declared.who.Who.{Who};
+ghost use Rattle.acl_posix.specs.Perms.{bits_of};
+ghost use Rattle.acl_wire.specs.Kept.{kept_ace, kept_aces};
+ghost use Rattle.acl_wire.specs.ModeChange.{changed, chmod_of, classes_in, fits, rule_in};
+ghost use Rattle.acl_wire.specs.ModeChange.{with_mode_by};
+ghost use Rattle.acl_wire.specs.RawAces.{Answers, list_of};
+ghost use Rattle.acl_wire.specs.RawAcesWriting.{raw_of, raws_of};
+
+use crate::draft::{Full, RawAces, push, push_aces, push_unless_empty};
+use crate::numbers::{has_bit, without_bits};
+use crate::raw_ace::tidied;
+use crate::raw_writing::raw_of;
+use crate::{Nfs4Error, Nfs4Fault, Purpose, RawAce, read_raw_aces};
+use acl_nfs4::{Ace, AceType, Acl4, Fault4, Who, mask_of, rest_of};
+use acl_posix::{Mode, Perms};
+use bitflags::Flags as FlagSet;
+use std::alloc::Global;
+
+/// The bits of a mask that a file mode speaks of.
+const OF_MODE: u32 = 0x27;
+
+/// `FILE_INHERIT`.
+const FILE_INHERIT: u32 = 0x1;
+
+/// `DIRECTORY_INHERIT`.
+const DIRECTORY_INHERIT: u32 = 0x2;
+
+/// `INHERIT_ONLY`.
+const INHERIT_ONLY: u32 = 0x8;
+
+/// The flags that speak of inheritance.
+const INHERITANCE: u32 = 0xF;
+
+/// The mode of this number, at most octal 777.
+pub(crate) fn mode_of_number(mode: u32) -> Result<Mode, Nfs4Fault>
+    ensures { result ≡ classes_in mode }
+{
+    match u16::try_from(mode) {
+        Ok(bits) => match Mode::from_bits(bits) {
+            Some(mode) => Ok(mode),
+            None => Err(Nfs4Fault::Argument),
+        },
+        Err(_) => Err(Nfs4Fault::Argument),
+    }
+}
+
+/// How a mode is set.
+#[derive(Clone, Copy, Debug, PartialEq, Eq)]
+pub enum ModeRule {
+    /// As the profile says: all that the mode's group lacks is denied to those whom entries name.
+    Profile,
+    /// With no more denials than it takes, so that a mode that is set later can lift the others.
+    Least,
+}
+
+/// The rule of this number.
+pub(crate) fn rule_of_number(how: u32) -> Result<ModeRule, Nfs4Fault>
+    ensures { result ≡ rule_in how }
+{
+    match how {
+        0 => Ok(ModeRule::Profile),
+        1 => Ok(ModeRule::Least),
+        _ => Err(Nfs4Fault::Argument),
+    }
+}
+
+/// Whether an entry of this type with these flags decides.
+#[tactic(auto, unfolding(acl_nfs4::specs::Ace::decides))]
+fn decides(kind: AceType, flags: u32) -> bool
+    ensures { (who : Who) (mask : ℕ) → result ≡ decides (record {
+      kind = kind;
+      flags = flags;
+      who = who;
+      mask = mask;
+    }) }
+{
+    matches!(kind, AceType::Allow | AceType::Deny) && !has_bit(flags, INHERIT_ONLY)
+}
+
+/// Whether an entry with these flags is inherited.
+fn is_inheritable(flags: u32) -> bool
+    ensures { result ≡ (has flags file_inherit || has flags directory_inherit) }
+{
+    has_bit(flags, FILE_INHERIT) || has_bit(flags, DIRECTORY_INHERIT)
+}
+
+/// What the entry with this mask keeps of it, if it decides.
+#[tactic(auto, unfolding(acl_nfs4::specs::ModeChange::kept_mask))]
+fn kept_mask(ace: &Ace, mask: u32, group: Perms) -> u32
+    ensures { (flags : ℕ) → result ≡ kept_mask (bits_of group) (record ace.now {
+      flags = flags;
+      mask = mask;
+    }) }
+{
+    match ace.who() {
+        Who::Owner | Who::Group | Who::Everyone => without_bits(mask, OF_MODE),
+        Who::User(_) | Who::NamedGroup(_) => match ace.kind() {
+            AceType::Allow => without_bits(mask, rest_of(group).bits()),
+            _ => mask,
+        },
+    }
+}
+
+/// The numbers of the entry, with all bits that have a meaning.
+pub(crate) fn kept_raw(raw: &RawAce, ace: &Ace) -> RawAce
+    ensures { result ≡ raw_of (kept_ace raw.now ace.now) }
+{
+    RawAce {
+        flags: tidied(raw).flags,
+        mask: raw.mask,
+        ..raw_of(ace)
+    }
+}
+
+/// What an entry leaves beside a mode, with all bits that have a meaning: one that doesn't decide
+/// stays; one that is inherited too becomes one entry for each; and what takes effect keeps no bit
+/// that the mode takes.
+fn push_kept_of(draft: &mut RawAces, raw: &RawAce, ace: &Ace, group: Perms) -> Result<(), Full>
+    ensures ok { OnOk result (draft.new.items ≡ draft.old.items
+        ++ raws_of (kept_of_entry (bits_of group) (kept_ace raw.now ace.now))) }
+    ensures full { OnErr result (MAX_ACES < length (draft.old.items
+        ++ raws_of (kept_of_entry (bits_of group) (kept_ace raw.now ace.now)))) }
+{
+    let kept = kept_raw(raw, ace);
+    if !decides(ace.kind(), kept.flags) {
+        return push(draft, kept);
+    }
+    let mask = kept_mask(ace, kept.mask, group);
+    if is_inheritable(kept.flags) {
+        let flags = kept.flags | INHERIT_ONLY;
+        push(draft, RawAce { flags, ..kept })?;
+        let flags = without_bits(kept.flags, INHERITANCE);
+        return push_unless_empty(
+            draft,
+            RawAce {
+                flags,
+                mask,
+                ..kept
+            },
+        );
+    }
+    push_unless_empty(draft, RawAce { mask, ..kept })
+}
+
+/// What the old entries leave.
+fn push_kept(draft: &mut RawAces, raws: &[RawAce], aces: &[Ace], group: Perms) -> Result<(), Full>
+    requires { length raws.now ≡ length aces.now }
+    ensures ok { OnOk result (draft.new.items ≡ draft.old.items
+        ++ raws_of (kept_of_list (bits_of group) (kept_aces raws.now aces.now))) }
+    ensures full { OnErr result (MAX_ACES < length (draft.old.items
+        ++ raws_of (kept_of_list (bits_of group) (kept_aces raws.now aces.now)))) }
+{
+    for (place, raw) in raws.iter().enumerate() {
+        push_kept_of(draft, raw, &aces[place], group)?;
+    }
+    Ok(())
+}
+
+/// What stands in front, what the old entries leave, and what stands behind.
+fn assembled(
+    front: &[Ace],
+    raws: &[RawAce],
+    aces: &[Ace],
+    group: Perms,
+    back: &[Ace],
+) -> Result<RawAces, Full>
+    requires { length raws.now ≡ length aces.now }
+    ensures ok { IfOk result (λ draft. draft.items ≡ raws_of (front.now
+        ++ (kept_of_list (bits_of group) (kept_aces raws.now aces.now) ++ back.now))) }
+    ensures full { OnErr result (MAX_ACES < length (front.now
+        ++ (kept_of_list (bits_of group) (kept_aces raws.now aces.now) ++ back.now))) }
+    ensures few { IfOk result (λ draft. length draft.items ≤ MAX_ACES) }
+{
+    let mut draft = RawAces::new();
+    push_aces(&mut draft, front)?;
+    push_kept(&mut draft, raws, aces, group)?;
+    push_aces(&mut draft, back)?;
+    // There are no more than it has room for.
+    let _len = draft.len();
+    Ok(draft)
+}
+
+/// How many entries of these bits there are: one if there is any.
+fn count_of(bits: u32) -> usize
+    ensures value { result ≡ (if bits == 0 then 0 else 1) }
+    ensures few { result ≤ 1 }
+{
+    if bits == 0 { 0 } else { 1 }
+}
+
+/// How many entries stand in front.
+fn front_len(user: Perms) -> usize
+    ensures value { result ≡ length (for_owner (bits_of user)) }
+    ensures few { result ≤ 2 }
+{
+    count_of(mask_of(user).bits()) + count_of(rest_of(user).bits())
+}
+
+/// How many entries an entry leaves.
+fn kept_len_of(ace: &Ace, group: Perms) -> usize
+    ensures value { result ≡ length (kept_of_entry (bits_of group) ace.now) }
+    ensures few { result ≤ 2 }
+{
+    let flags = u32::from(ace.flags().bits());
+    if !decides(ace.kind(), flags) {
+        return 1;
+    }
+    let rest = count_of(kept_mask(ace, ace.mask().bits(), group));
+    if is_inheritable(flags) {
+        1 + rest
+    } else {
+        rest
+    }
+}
+
+/// How many entries the old ones leave.
+fn kept_len(aces: &[Ace], group: Perms) -> usize
+    requires { length aces.now ≤ MAX_ACES }
+    ensures value { result ≡ length (kept_of_list (bits_of group) aces.now) }
+    ensures few { result ≤ 256 }
+{
+    let mut len = 0;
+    for ace in aces {
+        len += kept_len_of(ace, group);
+    }
+    len
+}
+
+/// Sets the mode by the rule.
+fn set_mode(alloc: Global, acl: &mut Acl4, mode: Mode, rule: ModeRule) -> Result<(), Fault4>
+    ensures ok { OnOk result (acl.new ≡ with_mode_by rule acl.old mode) }
+    ensures too_many { (result ≡ Err Fault4.TooMany)
+        ↔ (MAX_ACES < length (with_mode_by rule acl.old mode)) }
+    ensures short { length (with_mode_by rule acl.old mode) ≤ INLINE_ACES → IsOk result }
+{
+    match rule {
+        ModeRule::Profile => acl.chmod4(alloc, mode),
+        ModeRule::Least => acl.chmod4_least(alloc, mode),
+    }
+}
+
+/// What the old entries leave, with what stands around it.
+fn with_around(
+    alloc: Global,
+    raws: &[RawAce],
+    aces: &[Ace],
+    base: Acl4,
+    mode: Mode,
+    rule: ModeRule,
+) -> Result<RawAces, Nfs4Error>
+    requires read { list_of Purpose.Decide raws.now ≡ Ok aces.now }
+    requires base { base ≡ aces.now }
+    ensures value { Answers (λ draft. draft.items) result
+        (fits (with_mode_by rule (kept_aces raws.now aces.now) mode)) }
+    ensures short { length (with_mode_by rule (kept_aces raws.now aces.now) mode) ≤ INLINE_ACES
+        → IfErr result (λ error. error ≢ Nfs4Error.Memory) }
+{
+    let mut around = base;
+    let front = front_len(mode.user);
+    let behind = front + kept_len(around.aces(), mode.group);
+    match set_mode(alloc, &mut around, mode, rule) {
+        Ok(()) => {}
+        Err(Fault4::TooMany) => return Err(Nfs4Error::Fault(Nfs4Fault::TooMany)),
+        Err(Fault4::Memory) => return Err(Nfs4Error::Memory),
+    }
+    let around = around.aces();
+    match assembled(&around[..front], raws, aces, mode.group, &around[behind..]) {
+        Ok(draft) => Ok(draft),
+        Err(_) => Err(Nfs4Error::Fault(Nfs4Fault::TooMany)),
+    }
+}
+
+/// The list with the mode set by the rule.
+#[tactic(auto, unfolding(crate::specs::ModeChange::changed))]
+pub(crate) fn changed(
+    alloc: Global,
+    raws: &[RawAce],
+    mode: Mode,
+    rule: ModeRule,
+) -> Result<RawAces, Nfs4Error>
+    ensures value { Answers (λ draft. draft.items) result (changed rule mode raws.now) }
+    ensures short { length raws.now ≤ INLINE_ACES
+        → IfOk (changed rule mode raws.now) (λ made. length made ≤ INLINE_ACES)
+        → IfErr result (λ error. error ≢ Nfs4Error.Memory) }
+{
+    let acl = read_raw_aces(alloc, Purpose::Decide, raws)?;
+    // Read again, since one is changed while the other still tells what the entries were.
+    let base = read_raw_aces(alloc, Purpose::Decide, raws)?;
+    with_around(alloc, raws, acl.aces(), base, mode, rule)
+}
+
+/// The list with a mode set (within RFC 8881, section 6.4.1.1), by the rule of this number: 0 is
+/// `Profile`, 1 `Least`. All bits that have a meaning stay. A mode above octal 777, or no rule, is
+/// the fault `Argument`, before all others, and a list that would have more than 128 entries is
+/// `TooMany`. Memory runs out only if the list, or the one that it becomes, has more than
+/// `INLINE_ACES` entries.
+#[tactic(auto, unfolding(crate::specs::ModeChange::chmod_of))]
+pub fn raws_with_mode(
+    alloc: Global,
+    raws: &[RawAce],
+    mode: u32,
+    how: u32,
+) -> Result<RawAces, Nfs4Error>
+    ensures value { Answers (λ draft. draft.items) result (chmod_of raws.now mode how) }
+    ensures short { length raws.now ≤ INLINE_ACES
+        → IfOk (chmod_of raws.now mode how) (λ made. length made ≤ INLINE_ACES)
+        → IfErr result (λ error. error ≢ Nfs4Error.Memory) }
+{
+    let mode = mode_of_number(mode)?;
+    let rule = rule_of_number(how)?;
+    changed(alloc, raws, mode, rule)
+}
