@@ -5,7 +5,7 @@ _aclctl_table() {
     if [[ $option == --perms || $option == --summary ]]; then
         COMPREPLY=()
     elif [[ $current == -* && $option != --listing && $option != --before ]]; then
-        mapfile -t COMPREPLY < <(compgen -W '--before --csv --delete --help --jsonl --listing --perms --summary' -- "$current")
+        mapfile -t COMPREPLY < <(compgen -W '--before --csv --delete --help --jsonl --listing --no-via --perms --summary --via' -- "$current")
     else
         mapfile -t COMPREPLY < <(compgen -f -- "$current")
         compopt -o filenames 2>/dev/null

@@ -7,19 +7,19 @@ _aclctl_options() {
         explain) echo --owner --group --uid --gids --perms --help ;;
         compare) echo --owner --group --help ;;
         run) echo --setup --journal --max-errors --help ;;
-        who) echo --accounts --domain --perms --letters --delete --reach --user --help ;;
-        why) echo --accounts --domain --user --perms --help ;;
-        impact) echo --accounts --domain --reach --all --user --text --exit-code --help ;;
+        who) echo --accounts --domain --perms --letters --delete --reach --via --user --help ;;
+        why) echo --accounts --domain --user --perms --delete --help ;;
+        impact) echo --accounts --accounts-after --domain --reach --all --user --text --exit-code --help ;;
         restore) echo --help ;;
         translate) echo --accounts --domain --form --attributes --print0 --help ;;
         next) echo --user --mode --umask --dir --dirs-only --accounts --domain --help ;;
-        list | dump) echo --setup --help ;;
-        lint) echo --setup --help ;;
+        list | accounts | dump) echo --setup --help ;;
+        lint) echo --accounts --domain --exit-code --setup --help ;;
     esac
 }
 
 # The commands.
-_aclctl_commands='who why impact restore translate next decide explain compare run list dump lint help --version'
+_aclctl_commands='who why impact restore translate next decide explain compare run list accounts dump lint help --version'
 
 # What stands at a place of a command, from 0, options not counted: a style, a file, a command, or else
 # a text.
@@ -71,7 +71,7 @@ _aclctl_place() {
             place=$((place + 1))
         elif [[ $word == -- ]]; then
             is_ended=yes
-        elif [[ ! $word =~ =|^--(nfs4|journal|letters|reach|all|text|exit-code|attributes|print0|dir|dirs-only|help)$ ]]; then
+        elif [[ ! $word =~ =|^--(nfs4|journal|letters|reach|via|all|text|exit-code|attributes|print0|dir|dirs-only|help)$ ]]; then
             option=$word
         fi
     done

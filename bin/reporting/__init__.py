@@ -1,0 +1,1 @@
+"""The parts of bin/report, installed as aclctl-report, and what other scripts share with it."""
